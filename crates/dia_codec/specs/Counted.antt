@@ -1,0 +1,7 @@
+-- What a writer that fails in mid-stream leaves.
+use Rattle.std.specs.Prelude.{ℕ, List, Option, take}
+use Rattle.std.specs.Io.KnownBytes.{Appends}
+
+-- known bytes grow by some first part of bs
+abbrev pub AppendsPart : Option (List ℕ) → Option (List ℕ) → List ℕ → Type 0
+AppendsPart old new bs = (n : ℕ) × Appends old new (take n bs)

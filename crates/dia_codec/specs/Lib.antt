@@ -1,0 +1,6 @@
+pub mod Fields
+pub mod Spelling
+pub mod Reading
+pub mod Written
+pub mod Stream
+pub mod Counted

@@ -1,0 +1,118 @@
+//! Frames from a stream in pieces.
+
+ghost use Rattle.std.specs.Prelude.{◌≡◌, ◌++◌, [], List, ℕ, IfOk, OnOk, OnErr, IfErr, IfSome, IfNone, MatchOption, ◌⊎◌, ◌≤◌, length, take, drop, Some, None, Ok, Err, IsOk};
+ghost use Rattle.dia_codec.specs.Stream.{front_of, Splits};
+ghost use Rattle.dia_codec.specs.Spelling.{IsFrame};
+ghost use Rattle.dia_codec.specs.declared.fault.FrameFault.TheVariants as faults;
+
+use crate::fault::FrameFault;
+use crate::fields::three_at;
+use bytes::{Buf, BytesMut};
+use std::alloc::Global;
+use std::marker::Model;
+
+/// How many bytes the frame at the front has, None where it is not whole.
+#[tactic(auto, unfolding(crate::specs::Stream::front_of))]
+fn whole_len(bytes: &[u8]) -> Result<Option<usize>, FrameFault>
+    ensures whole { IfOk result (λ found. IfSome found (λ n. (n ≤ length bytes.now) × (front_of bytes.now ≡ Ok (Some (take n bytes.now, drop n bytes.now))))) }
+    ensures none { IfOk result (λ found. IfNone found (front_of bytes.now ≡ Ok None)) }
+    ensures err { IfErr result (λ e. front_of bytes.now ≡ Err e) }
+{
+    if bytes.len() < 4 {
+        return Ok(None);
+    }
+    let length = three_at(bytes, 1) as usize;
+    if length < 20 {
+        return Err(FrameFault::ShortLength);
+    }
+    if length % 4 != 0 {
+        return Err(FrameFault::OddLength);
+    }
+    if length > 65_532 {
+        return Err(FrameFault::TooLong);
+    }
+    Ok(if bytes.len() < length {
+        None
+    } else {
+        Some(length)
+    })
+}
+
+/// The bytes of a stream that were fed and not yet handed out.
+#[derive(Debug, Drop)]
+pub struct Assembler {
+    pending: BytesMut,
+    fault: Option<FrameFault>,
+    alloc: Global,
+}
+
+impl Model for Assembler {
+    ghost use Rattle.std.specs.Prelude.{◌≡◌, IfSome, Err};
+    ghost use Rattle.dia_codec.specs.Stream.{Pending, pending_code, front_of};
+
+    ghost Value = { Pending };
+
+    ghost coded = { pending_code };
+
+    ghost view = { λ a. record { bytes = a.pending.items; fault = a.fault } };
+
+    // Only a bad length is kept.
+    ghost invariant = { λ a. IfSome a.fault (λ f. front_of a.pending.items ≡ Err f) };
+}
+
+impl Assembler {
+    /// Nothing was fed.
+    pub fn start(alloc: Global) -> Assembler
+        ensures { result ≡ record { bytes = []; fault = None } }
+    {
+        Assembler {
+            pending: BytesMut::new(alloc),
+            fault: None,
+            alloc,
+        }
+    }
+
+    /// Takes the next piece of the stream, unless `next` has answered a bad length.
+    pub fn feed(&mut self, piece: &[u8]) -> Result<(), FrameFault>
+        ensures sticky { IfSome self.old.fault (λ f. result ≡ Err f) }
+        ensures taken { OnOk result ((self.old.fault ≡ None) × (self.new ≡ record self.old { bytes = self.old.bytes ++ piece.now })) }
+        ensures refused { IfErr result (λ e. (self.new ≡ self.old) × ((self.old.fault ≡ Some e) ⊎ ((self.old.fault ≡ None) × (e ≡ faults.NoMemory)))) }
+    {
+        if let Some(fault) = self.fault {
+            return Err(fault);
+        }
+        self.pending.extend_from_slice(piece)?;
+        Ok(())
+    }
+
+    /// The next whole frame, None if none is whole.
+    pub fn next(&mut self) -> Result<Option<Vec<u8>>, FrameFault>
+        ensures sticky { IfSome self.old.fault (λ f. result ≡ Err f) }
+        ensures none { IfOk result (λ given. IfNone given ((front_of self.old.bytes ≡ Ok None) × (self.new ≡ self.old))) }
+        ensures some { IfOk result (λ given. IfSome given (λ frame. (front_of self.old.bytes ≡ Ok (Some (frame.items, self.new.bytes))) × (self.new.fault ≡ None))) }
+        ensures frame { IfOk result (λ given. IfSome given (λ frame. IsFrame frame.items × (self.old.bytes ≡ frame.items ++ self.new.bytes))) }
+        ensures refused { IfErr result (λ e. ((front_of self.old.bytes ≡ Err e) × (self.new ≡ record self.old { fault = Some e }))
+            ⊎ ((e ≡ faults.NoMemory) × IsOk (front_of self.old.bytes) × (self.new ≡ self.old))) }
+    {
+        if let Some(fault) = self.fault {
+            return Err(fault);
+        }
+        match whole_len(self.pending.as_slice()) {
+            Err(fault) => {
+                self.fault = Some(fault);
+                Err(fault)
+            }
+            Ok(None) => Ok(None),
+            Ok(Some(length)) => {
+                let frame = Vec::from_slice(self.alloc, &self.pending.as_slice()[..length])?;
+                self.pending.advance(length);
+                Ok(Some(frame))
+            }
+        }
+    }
+}
+
+/// A stream is cut into frames in one way.
+pub fn one_cut()
+    ensures { (stream : List ℕ) (frames others : List (List ℕ)) (rest last : List ℕ) → Splits stream frames rest → Splits stream others last → (frames ≡ others) × (rest ≡ last) }
+{}

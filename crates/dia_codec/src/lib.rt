@@ -1,0 +1,21 @@
+//! Diameter messages as bytes.
+#![tactic(auto)]
+
+mod assembling;
+mod counted;
+mod fault;
+mod fields;
+mod message;
+mod reading;
+mod writing;
+
+pub use assembling::Assembler;
+pub use counted::Counted;
+pub use fault::{FrameFault, MsgFault, WriteFault};
+pub use fields::read_header;
+pub use message::{Avp, AvpKey, Flags, Header, Message};
+pub use reading::{read_group, read_message};
+pub use writing::{round_trip, write_message};
+
+#[cfg(test)]
+mod tests;

@@ -1,0 +1,108 @@
+//! Diameter messages as values (RFC 6733, sections 3 and 4).
+
+ghost use Rattle.std.specs.Prelude.{◌≡◌};
+ghost use Rattle.std.specs.Net.Addr.{ipv4_octets};
+ghost use Rattle.std.specs.Option.{option_map};
+
+use crate::fields::word_at;
+use std::net::Ipv4Addr;
+
+/// The command flags of a header (RFC 6733, section 3). The four reserved bits are not kept.
+#[derive(Clone, Copy, Debug, PartialEq, Eq)]
+pub struct Flags {
+    /// The R bit, 0x80: a request, and not an answer.
+    pub request: bool,
+    /// The P bit, 0x40: an agent may proxy, relay or redirect the message.
+    pub proxiable: bool,
+    /// The E bit, 0x20: an answer that tells of a protocol error.
+    pub error: bool,
+    /// The T bit, 0x10: a request that may have been sent before.
+    pub retransmitted: bool,
+}
+
+/// A header but for its version, which is 1, and its length, which the AVPs give (RFC 6733, section 3).
+#[derive(Clone, Copy, Debug, PartialEq, Eq)]
+pub struct Header {
+    pub flags: Flags,
+    /// The command code, three bytes on the wire.
+    pub command: u32,
+    /// The Application-Id.
+    pub application: u32,
+    /// The Hop-by-Hop Identifier, which an answer repeats.
+    pub hop_id: u32,
+    /// The End-to-End Identifier, which an answer repeats.
+    pub end_id: u32,
+}
+
+/// What names an AVP: its code and the vendor that gave the code out (RFC 6733, section 4.1).
+#[derive(Clone, Copy, Debug, PartialEq, Eq)]
+pub struct AvpKey {
+    pub code: u32,
+    /// The vendor's enterprise number, None for the codes of the IETF.
+    pub vendor: Option<u32>,
+}
+
+/// An attribute-value pair (RFC 6733, section 4). Reserved flag bits and padding are not kept.
+#[derive(Debug, Drop)]
+pub struct Avp {
+    pub code: u32,
+    /// The Vendor-Id as it was read; there is one exactly where the V bit, 0x80, is set.
+    pub vendor: Option<u32>,
+    /// The M bit, 0x40: a receiver must understand the AVP.
+    pub mandatory: bool,
+    /// The P bit, 0x20, which RFC 6733 no longer uses.
+    pub protected: bool,
+    /// The bytes after the AVP's header, without padding.
+    pub value: Vec<u8>,
+}
+
+impl Avp {
+    ghost use Rattle.dia_codec.specs.Fields.{key_of, number_of, octets_of};
+    ghost use Rattle.dia_codec.specs.Spelling.{avp_view};
+
+    /// The AVP's name. A Vendor-Id of 0 stands for no vendor (RFC 6733, section 4.1).
+    pub fn key(&self) -> AvpKey
+        ensures { result ≡ key_of (avp_view self.now) }
+    {
+        let vendor = match self.vendor {
+            Some(0) => None,
+            vendor => vendor,
+        };
+        AvpKey {
+            code: self.code,
+            vendor,
+        }
+    }
+
+    /// The value as a number of type Unsigned32, big-endian, None unless it has four bytes (RFC 6733, section 4.2).
+    pub fn number(&self) -> Option<u32>
+        ensures { result ≡ number_of (avp_view self.now) }
+    {
+        if self.value.len() != 4 {
+            return None;
+        }
+        Some(word_at(&self.value, 0))
+    }
+
+    /// The value as a text of type OctetString or UTF8String, whose bytes are not checked.
+    pub fn text(&self) -> &[u8]
+        ensures { result.now ≡ (avp_view self.now).value }
+    {
+        &self.value
+    }
+
+    /// The value as the four bytes of an IPv4 address, None unless it has four.
+    pub fn address(&self) -> Option<Ipv4Addr>
+        ensures { option_map ipv4_octets result ≡ octets_of (avp_view self.now) }
+    {
+        let octets = <[u8; 4]>::try_from(self.value.as_slice()).ok()?;
+        Some(Ipv4Addr::from_octets(octets))
+    }
+}
+
+/// A message: its header, and its AVPs in their order.
+#[derive(Debug, Drop)]
+pub struct Message {
+    pub header: Header,
+    pub avps: Vec<Avp>,
+}
