@@ -1,0 +1,14 @@
+-- Finite sets, each as its one ascending list.
+use Rattle.std.specs.Prelude.{List, [], ◌∷◌}
+use Rattle.std.proofs.Common.{Ordering}
+use Rattle.std.specs.FinMap.Entries.{by_order}
+
+-- the list with x at its place in ascending order, once
+abbrev pub place : {A : Type 0} → (A → A → Ordering) → A → List A → List A
+place cmp x [] = x ∷ []
+place cmp x (y ∷ ys) = by_order (cmp x y) (x ∷ y ∷ ys) (y ∷ ys) (y ∷ place cmp x ys)
+
+-- the set of a list's members as its one ascending list
+abbrev pub ascending : {A : Type 0} → (A → A → Ordering) → List A → List A
+ascending cmp [] = []
+ascending cmp (x ∷ xs) = place cmp x (ascending cmp xs)

@@ -1,0 +1,17 @@
+pub mod Entries
+pub mod Greater
+pub mod Lookups
+pub mod MapLaws
+pub mod Pages
+pub mod Placed
+pub mod Same
+pub mod TagSame
+pub mod Told
+pub mod Tombs
+pub mod Ascending
+pub mod Orders
+pub mod RuleValues
+pub mod Texts
+pub mod Numbers
+pub mod OrderLaws
+pub mod AddressSame

@@ -1,0 +1,28 @@
+//! Joins of replicated facts.
+#![tactic(auto)]
+
+mod apn;
+mod bounded_text;
+mod join;
+mod listed;
+mod map;
+mod ranked;
+mod reg;
+mod subscriber;
+mod tag;
+mod tombed;
+mod tree;
+
+pub use apn::Apn;
+pub use bounded_text::{
+    BoundedText, DiameterIdentity, FilterText, RuleName, SessionId, SubscriptionData,
+};
+pub use join::Join;
+pub use listed::{Listed, Text};
+pub use map::JoinMap;
+pub use ranked::Ranked;
+pub use reg::Reg;
+pub use subscriber::{Subscriber, SubscriptionType};
+pub use tag::Tag;
+pub use tombed::Tombed;
+pub use tree::JoinTree;

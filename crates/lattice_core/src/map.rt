@@ -1,0 +1,149 @@
+//! Maps that are joined entry by entry.
+ghost use Rattle.std.specs.Prelude.{◌≡◌, [], IfOk, IfErr, MatchResult};
+ghost use Rattle.std.specs.Option.{option_copied};
+ghost use Rattle.std.specs.Slice.Iter.{iter_rest};
+ghost use Rattle.lattice_core.specs.Entries.{value_at, IsAscending, IsAt, IsGap, AllValues, put, put_all, map_joined};
+
+use crate::join::Join;
+use crate::ranked::Ranked;
+use std::alloc::{AllocError, Global};
+use std::cmp::Ordering;
+use std::marker::Model;
+use std::slice::Iter;
+
+/// A map, which contracts see as the list of its entries in the order of their keys.
+#[derive(Drop)]
+pub struct JoinMap<K: Ranked, V: Join> {
+    entries: Vec<(K, V)>,
+}
+
+impl<K: Ranked, V: Join> Model for JoinMap<K, V> {
+    ghost use Rattle.std.specs.Prelude.{List};
+    ghost use Rattle.lattice_core.specs.Entries.{IsAscending, AllValues};
+
+    ghost Value = { List (K × V) };
+
+    ghost view = { λ m. m.entries.items };
+
+    ghost invariant = { λ m. IsAscending K.cmp m.entries.items × AllValues V.valid m.entries.items };
+}
+
+impl<K: Ranked, V: Join> JoinMap<K, V> {
+    /// The empty map.
+    pub fn start(alloc: Global) -> JoinMap<K, V>
+        ensures { result ≡ [] }
+    {
+        JoinMap {
+            entries: Vec::new(alloc),
+        }
+    }
+
+    /// The entries, in the order of their keys.
+    pub fn entries(&self) -> &[(K, V)]
+        ensures all { result.now ≡ self.now }
+        ensures ascending { IsAscending K.cmp self.now }
+        ensures valid { AllValues V.valid self.now }
+    {
+        &self.entries
+    }
+
+    /// The entries, in the order of their keys.
+    pub fn iter(&self) -> Iter<'_, (K, V)>
+        ensures { iter_rest result ≡ self.now }
+    {
+        self.entries().iter()
+    }
+
+    /// The value at a key.
+    pub fn get(&self, key: &K) -> Option<&V>
+        ensures { option_copied result ≡ value_at K.cmp self.now key.now }
+    {
+        match self.place(key) {
+            Ok(at) => Some(&self.entries[at].1),
+            Err(_) => None,
+        }
+    }
+
+    /// Joins a value into the one at a key; a refusal changes nothing and gives the value back.
+    pub fn join_at(&mut self, key: K, value: V) -> Result<(), (AllocError, V)>
+        ensures joins { IfOk result (λ _. self.new ≡ put K.cmp V.joined self.old key value) }
+        ensures refused { IfErr result (λ e. (self.new ≡ self.old) × (e.1 ≡ value)) }
+    {
+        value.note_valid();
+        match self.place(&key) {
+            Ok(at) => {
+                let slot = &mut self.entries[at];
+                slot.1.join_in(value)
+            }
+            Err(at) => {
+                if let Err(refused) = self.entries.insert(at, (key, value)) {
+                    let (_, value) = refused.value;
+                    return Err((AllocError, value));
+                }
+                Ok(())
+            }
+        }
+    }
+
+    // Where the key is, or where it would go.
+    fn place(&self, key: &K) -> Result<usize, usize>
+        ensures found { IfOk result (IsAt K.cmp self.now key.now) }
+        ensures absent { IfErr result (IsGap K.cmp self.now key.now) }
+    {
+        self.entries.binary_search_by(
+            |pair: &(K, V)| -> Ordering
+                ensures { result ≡ K.cmp pair.now.0 key.entry.now }
+            { pair.0.cmp(key) },
+        )
+    }
+}
+
+// An equal map.
+fn copy_entries<K: Ranked, V: Join>(map: &JoinMap<K, V>) -> Result<JoinMap<K, V>, AllocError>
+    ensures { IfOk result (λ m. m ≡ map.now) }
+{
+    let mut entries = Vec::with_capacity(*map.entries.allocator(), map.entries.len())?;
+    for entry in map.entries() {
+        let key = entry.0.try_copy()?;
+        let value = entry.1.try_copy()?;
+        entries.push((key, value))?;
+    }
+    Ok(JoinMap { entries })
+}
+
+impl<K: Ranked, V: Join> Join for JoinMap<K, V> {
+    ghost use Rattle.lattice_core.specs.MapLaws.{map_comm, map_assoc, map_idem, map_closed};
+
+    ghost joined = { map_joined K.cmp V.joined };
+
+    ghost valid = { λ m. IsAscending K.cmp m × AllValues V.valid m };
+
+    ghost commutative = { map_comm K.cmp V.joined K.total K.same V.commutative V.associative };
+
+    ghost associative = { map_assoc K.cmp V.joined K.total K.same V.commutative V.associative };
+
+    ghost idempotent = { map_idem K.cmp V.joined K.total K.same V.commutative V.associative V.valid V.idempotent };
+
+    ghost closed = { map_closed K.cmp V.joined K.total V.valid V.closed };
+
+    fn joined_copy(&self, other: &JoinMap<K, V>) -> Result<JoinMap<K, V>, AllocError> {
+        let _ = &self.entries;
+        let mut both = copy_entries(self)?;
+        for entry in other.entries() {
+            let key = entry.0.try_copy()?;
+            let value = entry.1.try_copy()?;
+            if let Err((refused, _)) = both.join_at(key, value) {
+                return Err(refused);
+            }
+        }
+        Ok(both)
+    }
+
+    fn try_copy(&self) -> Result<JoinMap<K, V>, AllocError> {
+        copy_entries(self)
+    }
+
+    fn note_valid(&self) {
+        let _ = self.entries();
+    }
+}

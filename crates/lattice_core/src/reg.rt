@@ -1,0 +1,94 @@
+//! A register: the value with the greatest tag.
+ghost use Rattle.std.specs.Prelude.{◌≡◌, Option, Some, None};
+ghost use Rattle.std.specs.Option.{option_copied};
+ghost use Rattle.lattice_core.specs.Told.{told_joined, told_comm, told_assoc, told_idem};
+
+use crate::join::Join;
+use crate::ranked::Ranked;
+use crate::tag::Tag;
+use std::alloc::AllocError;
+use std::cmp::Ordering;
+use std::marker::Model;
+
+/// The greatest pair of a tag and a value that was put, or nothing.
+#[derive(Drop)]
+pub struct Reg<T> {
+    held: Option<(Tag, T)>,
+}
+
+impl<T> Model for Reg<T> {
+    ghost use Rattle.std.specs.Prelude.{Option};
+    ghost use Rattle.lattice_core.specs.declared.tag.Tag.{Tag};
+
+    ghost Value = { Option (Tag × T) };
+
+    ghost view = { λ r. r.held };
+}
+
+impl<T: Ranked> Reg<T> {
+    pub fn start() -> Reg<T>
+        ensures { result ≡ None }
+    {
+        Reg { held: None }
+    }
+
+    pub fn get(&self) -> Option<&(Tag, T)>
+        ensures { option_copied result ≡ self.now }
+    {
+        self.held.as_ref()
+    }
+
+    pub fn put(&mut self, tag: Tag, value: T)
+        ensures { self.new ≡ told_joined T.cmp self.old (Some (tag, value)) }
+    {
+        self.put_held(Some((tag, value)));
+    }
+
+    /// Joins another register into this one.
+    pub fn join_reg(&mut self, other: Reg<T>)
+        ensures { self.new ≡ told_joined T.cmp self.old other }
+    {
+        self.put_held(other.held);
+    }
+
+    fn put_held(&mut self, told: Option<(Tag, T)>)
+        ensures { self.new ≡ told_joined T.cmp self.old told }
+    {
+        if self.held.cmp(&told) == Ordering::Less {
+            self.held = told;
+        }
+    }
+}
+
+impl<T: Ranked> Join for Reg<T> {
+    ghost joined = { told_joined T.cmp };
+
+    ghost valid = { λ _. Unit {0} };
+
+    ghost commutative = { told_comm T.total T.same };
+
+    ghost associative = { told_assoc T.total };
+
+    ghost idempotent = { λ x _. told_idem T.total x };
+
+    ghost closed = { λ _ _ _ _. tt };
+
+    fn joined_copy(&self, other: &Reg<T>) -> Result<Reg<T>, AllocError> {
+        let mut both = self.try_copy()?;
+        both.put_held(other.held.try_copy()?);
+        Ok(both)
+    }
+
+    fn join_in(&mut self, other: Reg<T>) -> Result<(), (AllocError, Reg<T>)> {
+        self.put_held(other.held);
+        Ok(())
+    }
+
+    fn try_copy(&self) -> Result<Reg<T>, AllocError> {
+        Ok(Reg {
+            held: self.held.try_copy()?,
+        })
+    }
+
+    fn note_valid(&self) {}
+}
