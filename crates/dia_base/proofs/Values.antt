@@ -1,0 +1,46 @@
+-- What stands at a key, AVP by AVP.
+use Rattle.std.proofs.Common.{◌≡◌, ◌<◌, ◌≤◌, ℕ, ◌+◌, Bool, true, false, List, [], ◌∷◌, ◌++◌, length, get_or, take, drop, map, refl, sym, ap, ◌∙◌, arith, length-append, if◌then◌else◌, Option, Some, None, is_some}
+use Rattle.std.specs.Option.{option_to_list}
+use Rattle.std.specs.List.{filter_map}
+use Rattle.std.proofs.lemmas.List.{take-append-drop, map-append, append-nil, length_push}
+use Rattle.std.proofs.lemmas.List.Elements.{filter_map-append}
+use Rattle.dia_codec.specs.declared.message.Avp.{Avp}
+use Rattle.dia_codec.specs.declared.message.AvpKey.{AvpKey}
+use Rattle.dia_codec.specs.Fields.{AvpValue, key_of}
+use Rattle.dia_codec.specs.Spelling.{avp_view, avp_views}
+use Rattle.dia_codec.proofs.Lengths.{views_more}
+use Rattle.dia_base.specs.Rows.{values_of, value_if, same_key}
+
+-- an AVP with the key adds its value
+pub values_keyed : (key : AvpKey) (avps : List Avp) (i : ℕ) (a : Avp) → i < length avps → a ≡ get_or avps i a → same_key (key_of (avp_view a)) key ≡ true → values_of key (avp_views (take (i + 1) avps)) ≡ values_of key (avp_views (take i avps)) ++ a.value.items ∷ []
+values_keyed key avps i a lt is keyed =
+    let more = ap (values_of key) (views_more avps i a lt is) ∙ filter_map-append (value_if key) (avp_views (take i avps)) (avp_view a ∷ []) in
+    rw keyed at more
+
+-- an AVP with another key adds nothing
+pub values_other : (key : AvpKey) (avps : List Avp) (i : ℕ) (a : Avp) → i < length avps → a ≡ get_or avps i a → same_key (key_of (avp_view a)) key ≡ false → values_of key (avp_views (take (i + 1) avps)) ≡ values_of key (avp_views (take i avps))
+values_other key avps i a lt is other =
+    let more = ap (values_of key) (views_more avps i a lt is) ∙ filter_map-append (value_if key) (avp_views (take i avps)) (avp_view a ∷ []) in
+    (rw other at more) ∙ append-nil _
+
+-- the values of the first AVPs are among those of all
+pub values_front : (key : AvpKey) (avps : List Avp) (i : ℕ) → length (values_of key (avp_views (take i avps))) ≤ length (values_of key (avp_views avps))
+values_front key avps i =
+    let parts : avp_views avps ≡ avp_views (take i avps) ++ avp_views (drop i avps) = ap avp_views (sym (take-append-drop i avps)) ∙ map-append avp_view (take i avps) (drop i avps) in
+    let values = ap (values_of key) parts ∙ filter_map-append (value_if key) (avp_views (take i avps)) (avp_views (drop i avps)) in
+    let lengths = ap length values ∙ length-append (values_of key (avp_views (take i avps))) (values_of key (avp_views (drop i avps))) in
+    omega (arith, lengths)
+
+-- one value more than one is more than one
+pub two_values : (key : AvpKey) (avps : List Avp) (i : ℕ) (a : Avp) → i < length avps → a ≡ get_or avps i a → same_key (key_of (avp_view a)) key ≡ true → (found : Option (List ℕ)) → is_some found ≡ true → values_of key (avp_views (take i avps)) ≡ option_to_list found → 1 < length (values_of key (avp_views avps))
+two_values key avps i a lt is keyed None some so_far = absurd (cc)
+two_values key avps i a lt is keyed (Some value) some so_far =
+    let more = ap length (values_keyed key avps i a lt is keyed) ∙ length_push _ a.value.items in
+    let front = values_front key avps (i + 1) in
+    let one : length (values_of key (avp_views (take i avps))) ≡ 1 = ap length so_far in
+    omega (arith, more, front, one)
+
+-- the first value is the one that was found
+pub first_found : (values : List (List ℕ)) (found : Option (List ℕ)) (value : List ℕ) → is_some found ≡ false → values ≡ option_to_list found → values ++ value ∷ [] ≡ option_to_list (Some value)
+first_found values None value none so_far = ap (λ (front : List (List ℕ)). front ++ value ∷ []) so_far
+first_found values (Some other) value none so_far = absurd (cc)
