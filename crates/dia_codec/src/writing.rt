@@ -11,7 +11,7 @@ use crate::message::{Avp, Flags, Header, Message};
 use std::alloc::{AllocError, Global};
 
 /// The most bytes that a message may have.
-const MOST: usize = 65_532;
+pub(crate) const MOST: usize = 65_532;
 
 fn bit_if(is: bool, bit: u8) -> u8
     ensures { result ≡ bit_if is bit }
@@ -29,7 +29,7 @@ fn flag_byte(flags: Flags) -> u8
 }
 
 /// How many bytes an AVP has without its padding.
-fn own_len(avp: &Avp) -> usize
+pub(crate) fn own_len(avp: &Avp) -> usize
     requires { length avp.now.value.items ≤ 65532 }
     ensures { result ≡ own_len (avp_view avp.now) }
 {
@@ -38,7 +38,7 @@ fn own_len(avp: &Avp) -> usize
 }
 
 /// How many bytes fill up to a multiple of four.
-fn padding(length: usize) -> usize
+pub(crate) fn padding(length: usize) -> usize
     ensures { result ≡ padding length }
 {
     (4 - length % 4) % 4
@@ -108,7 +108,7 @@ fn avp_flag_byte(avp: &Avp) -> u8
     bit_if(avp.vendor.is_some(), 0x80) | bit_if(avp.mandatory, 0x40) | bit_if(avp.protected, 0x20)
 }
 
-fn put_avp(out: &mut Vec<u8>, avp: &Avp) -> Result<(), AllocError>
+pub(crate) fn put_avp(out: &mut Vec<u8>, avp: &Avp) -> Result<(), AllocError>
     requires { length avp.now.value.items ≤ 65532 }
     ensures written { OnOk result (out.new.items ≡ out.old.items ++ written_avp (avp_view avp.now)) }
     ensures fits { OnOk result (FitsAvp (avp_view avp.now)) }
