@@ -2,10 +2,17 @@
 //! judged row by row (RFC 6733).
 #![tactic(auto)]
 
+mod answer;
 pub mod codes;
 mod identity;
 mod refusal;
 mod rows;
+mod writer;
 
+pub use answer::{answer_header, is_protocol_error, put_origin, put_result, refusal_answer};
 pub use identity::Identity;
 pub use refusal::{ReadFault, Refusal};
+pub use rows::{
+    optional_address, required_number, required_number_within, required_text,
+};
+pub use writer::AvpWriter;
