@@ -7,12 +7,14 @@ pub mod codes;
 mod identity;
 mod refusal;
 mod rows;
+mod subscriptions;
 mod writer;
 
 pub use answer::{answer_header, is_protocol_error, put_origin, put_result, refusal_answer};
 pub use identity::Identity;
 pub use refusal::{ReadFault, Refusal};
 pub use rows::{
-    optional_address, required_number, required_number_within, required_text,
+    base_key, count_of, optional_address, optional_apn, required_number, required_number_within, required_text,
 };
+pub use subscriptions::read_subscriptions;
 pub use writer::AvpWriter;

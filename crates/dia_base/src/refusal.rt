@@ -2,7 +2,7 @@
 ghost use Rattle.std.specs.Prelude.{◌≡◌, true, false};
 ghost use Rattle.dia_base.specs.declared.refusal.ReadFault.TheVariants as faults;
 
-use std::alloc::AllocError;
+use std::alloc::{AllocError, AllocFailed};
 
 /// The result of a refused request.
 #[derive(Clone, Copy, Debug, PartialEq, Eq)]
@@ -56,6 +56,14 @@ impl From<AllocError> for ReadFault {
     ghost from_gives = { λ _ fault. fault ≡ faults.NoMemory };
 
     fn from(_refused: AllocError) -> ReadFault {
+        ReadFault::NoMemory
+    }
+}
+
+impl<T: Drop> From<AllocFailed<T>> for ReadFault {
+    ghost from_gives = { λ _ fault. fault ≡ faults.NoMemory };
+
+    fn from(_refused: AllocFailed<T>) -> ReadFault {
         ReadFault::NoMemory
     }
 }

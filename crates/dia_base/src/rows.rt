@@ -3,7 +3,8 @@ ghost use Rattle.std.specs.Prelude.{◌≡◌, ◌<◌, ◌≤◌, ℕ, List, []
 ghost use Rattle.std.specs.Option.{option_to_list};
 ghost use Rattle.std.specs.Net.Addr.{ipv4_octets};
 ghost use Rattle.dia_codec.specs.Spelling.{avp_views};
-ghost use Rattle.dia_base.specs.Rows.{values_of, value_of, number_at, row_refusal, plain_refusal, Number, NumberWithin, TextWithin, Address, too_often, IsRefusal};
+ghost use Rattle.lattice_core.specs.Texts.{folded};
+ghost use Rattle.dia_base.specs.Rows.{base_key, values_of, value_of, number_at, row_refusal, plain_refusal, Number, NumberWithin, TextWithin, Address, too_often, IsRefusal};
 ghost use Rattle.dia_base.specs.declared.refusal.Refusal.{Refusal};
 
 use crate::codes::results::{
@@ -11,9 +12,29 @@ use crate::codes::results::{
 };
 use crate::refusal::{ReadFault, Refusal};
 use dia_codec::{Avp, AvpKey};
-use lattice_core::BoundedText;
+use lattice_core::{Apn, BoundedText};
 use std::alloc::Global;
 use std::net::Ipv4Addr;
+
+/// The name of an AVP of RFC 6733 or another document of the IETF.
+pub const fn base_key(code: u32) -> AvpKey
+    ensures { result ≡ base_key code }
+{
+    AvpKey { code, vendor: None }
+}
+
+/// How many AVPs have a key.
+pub fn count_of(avps: &[Avp], key: AvpKey) -> usize
+    ensures { result ≡ length (values_of key (avp_views avps.now)) }
+{
+    let mut count = 0;
+    for avp in avps {
+        if avp.key() == key {
+            count += 1;
+        }
+    }
+    count
+}
 
 /// The AVP with a key, which may stand once at most.
 fn at_most_once(avps: &[Avp], key: AvpKey) -> Result<Option<&Avp>, Refusal>
@@ -110,4 +131,20 @@ pub fn optional_address(avps: &[Avp], key: AvpKey) -> Result<Option<Ipv4Addr>, R
         return Err(Refusal::base(INVALID_AVP_VALUE));
     };
     Ok(Some(address))
+}
+
+/// Reads an access point name, which may stand once. Its ASCII capitals are folded to small letters.
+#[tactic(auto, unfolding(crate::specs::Rows::row_refusal))]
+pub fn optional_apn(alloc: Global, avps: &[Avp], key: AvpKey) -> Result<Option<Apn>, ReadFault>
+    ensures read { IfOk result (λ apn. (row_refusal key 0 1 (plain_refusal (TextWithin 1 255)) (avp_views avps.now) ≡ None) × (apn ≡ option_map folded (value_of key (avp_views avps.now)))) }
+    ensures refused { IfErr result (λ fault. IsRefusal fault (row_refusal key 0 1 (plain_refusal (TextWithin 1 255)) (avp_views avps.now))) }
+{
+    let found = at_most_once(avps, key)?;
+    let Some(avp) = found else {
+        return Ok(None);
+    };
+    let Some(apn) = Apn::folded(alloc, avp.text())? else {
+        return Err(ReadFault::Refused(Refusal::base(INVALID_AVP_VALUE)));
+    };
+    Ok(Some(apn))
 }

@@ -1,0 +1,53 @@
+//! The subscribers that a request names (Subscription-Id, RFC 8506, 8.46).
+ghost use Rattle.std.specs.Prelude.{◌≡◌, map, IfOk, IfErr, Some, None};
+ghost use Rattle.dia_codec.specs.Spelling.{avp_views};
+ghost use Rattle.dia_base.specs.Rows.{base_key, values_of, row_refusal, grouped_refusal, plain_refusal, Group, IsRefusal};
+ghost use Rattle.dia_base.specs.Subscriptions.{subscription_rows, subscriber_of};
+
+use crate::codes::avps::{SUBSCRIPTION_ID, SUBSCRIPTION_ID_DATA, SUBSCRIPTION_ID_TYPE};
+use crate::codes::results::{AVP_OCCURS_TOO_MANY_TIMES, INVALID_AVP_LENGTH};
+use crate::refusal::{ReadFault, Refusal};
+use crate::rows::{base_key, count_of, required_number_within, required_text};
+use dia_codec::{Avp, MsgFault, read_group};
+use lattice_core::{Subscriber, SubscriptionType};
+use std::alloc::Global;
+
+/// How many Subscription-Ids a request may have: this project's own limit.
+const MOST: usize = 16;
+
+/// Reads the value of a Subscription-Id.
+#[tactic(auto, unfolding(crate::specs::Rows::row_refusal))]
+fn read_subscription(alloc: Global, value: &[u8]) -> Result<Subscriber, ReadFault>
+    ensures read { IfOk result (λ subscriber. (grouped_refusal plain_refusal (Group subscription_rows) value.now ≡ None) × (subscriber ≡ subscriber_of value.now)) }
+    ensures refused { IfErr result (λ fault. IsRefusal fault (grouped_refusal plain_refusal (Group subscription_rows) value.now)) }
+{
+    let avps = match read_group(alloc, value) {
+        Ok(avps) => avps,
+        Err(MsgFault::NoMemory) => return Err(ReadFault::NoMemory),
+        Err(_) => return Err(ReadFault::Refused(Refusal::base(INVALID_AVP_LENGTH))),
+    };
+    let number = required_number_within(&avps, base_key(SUBSCRIPTION_ID_TYPE), 0, 4)?;
+    let data = required_text(alloc, &avps, base_key(SUBSCRIPTION_ID_DATA))?;
+    let Some(kind) = SubscriptionType::from_number(number) else {
+        unreachable!()
+    };
+    Ok(Subscriber::of(kind, data))
+}
+
+/// Reads the subscribers that a request names, at most sixteen times, in the order in which they stand.
+pub fn read_subscriptions(alloc: Global, avps: &[Avp]) -> Result<Vec<Subscriber>, ReadFault>
+    ensures read { IfOk result (λ subscribers. (row_refusal (base_key 443) 0 16 (grouped_refusal plain_refusal (Group subscription_rows)) (avp_views avps.now) ≡ None) × (subscribers.items ≡ map subscriber_of (values_of (base_key 443) (avp_views avps.now)))) }
+    ensures refused { IfErr result (λ fault. IsRefusal fault (row_refusal (base_key 443) 0 16 (grouped_refusal plain_refusal (Group subscription_rows)) (avp_views avps.now))) }
+{
+    let key = base_key(SUBSCRIPTION_ID);
+    if count_of(avps, key) > MOST {
+        return Err(ReadFault::Refused(Refusal::base(AVP_OCCURS_TOO_MANY_TIMES)));
+    }
+    let mut subscribers = Vec::new(alloc);
+    for avp in avps {
+        if avp.key() == key {
+            subscribers.push(read_subscription(alloc, avp.text())?)?;
+        }
+    }
+    Ok(subscribers)
+}
