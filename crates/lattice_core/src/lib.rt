@@ -2,7 +2,7 @@
 #![tactic(auto)]
 
 mod apn;
-mod bounded_text;
+mod bounded_list;
 mod join;
 mod listed;
 mod map;
@@ -14,9 +14,7 @@ mod tombed;
 mod tree;
 
 pub use apn::Apn;
-pub use bounded_text::{
-    BoundedText, DiameterIdentity, FilterText, RuleName, SessionId, SubscriptionData,
-};
+pub use bounded_list::{BoundedList, BoundedText, DiameterIdentity, FilterText, Filters, RuleName, SessionId, SubscriptionData};
 pub use join::Join;
 pub use listed::{Listed, Text};
 pub use map::JoinMap;
