@@ -15,3 +15,4 @@ pub mod Texts
 pub mod Numbers
 pub mod OrderLaws
 pub mod AddressSame
+pub mod RuleViews

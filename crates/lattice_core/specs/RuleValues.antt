@@ -37,3 +37,7 @@ rule_cmp x y =
     (ordering_then (nat_cmp x.max_ul y.max_ul)
     (ordering_then (nat_cmp x.max_dl y.max_dl)
     (nat_cmp x.precedence y.precedence)))))))))
+
+-- what is removed, and then what is installed
+abbrev pub delta_cmp : DeltaValue → DeltaValue → Ordering
+delta_cmp x y = ordering_then (slice_cmp text_cmp x.removed y.removed) (slice_cmp rule_cmp x.installed y.installed)

@@ -1,6 +1,6 @@
 //! Access point names.
 ghost use Rattle.std.specs.Prelude.{◌≡◌, ◌<◌, ◌≤◌, length, IfOk};
-ghost use Rattle.lattice_core.specs.Texts.{text_within, folded};
+ghost use Rattle.lattice_core.specs.Texts.{one_to, folded};
 
 use crate::listed::{Listed, Text};
 use crate::ranked::Ranked;
@@ -31,7 +31,7 @@ impl Model for Apn {
 impl Apn {
     /// The name of these bytes; `None` where there are none or more than 255 of them.
     pub fn folded(alloc: Global, bytes: &[u8]) -> Result<Option<Apn>, AllocError>
-        ensures { IfOk result (λ apn. apn ≡ text_within 255 (folded bytes.now)) }
+        ensures { IfOk result (λ apn. apn ≡ one_to 255 (folded bytes.now)) }
     {
         if bytes.is_empty() || bytes.len() > 255 {
             return Ok(None);

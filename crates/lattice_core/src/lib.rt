@@ -2,27 +2,36 @@
 #![tactic(auto)]
 
 mod apn;
-mod bounded_text;
+mod bounded_list;
+mod bounded_number;
+mod delta;
 mod join;
 mod listed;
 mod map;
 mod ranked;
 mod reg;
+mod rule;
 mod subscriber;
+mod subscribers;
 mod tag;
 mod tombed;
 mod tree;
 
 pub use apn::Apn;
-pub use bounded_text::{
-    BoundedText, DiameterIdentity, FilterText, RuleName, SessionId, SubscriptionData,
+pub use bounded_list::{
+    BoundedList, BoundedText, DiameterIdentity, FilterText, Filters, RuleName, SessionId,
+    SubscriptionData,
 };
+pub use bounded_number::{BoundedNumber, PriorityLevel, QosClass};
+pub use delta::Delta;
 pub use join::Join;
 pub use listed::{Listed, Text};
 pub use map::JoinMap;
 pub use ranked::Ranked;
 pub use reg::Reg;
+pub use rule::{FlowStatus, Preemption, RetentionPriority, Rule, RuleQos};
 pub use subscriber::{Subscriber, SubscriptionType};
+pub use subscribers::Subscribers;
 pub use tag::Tag;
 pub use tombed::Tombed;
 pub use tree::JoinTree;

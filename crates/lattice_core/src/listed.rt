@@ -24,16 +24,25 @@ impl<T> Model for Listed<T> {
 }
 
 impl<T> Listed<T> {
+    /// The list of these values.
     pub fn of(items: Vec<T>) -> Listed<T>
         ensures { result ≡ items.items }
     {
         Listed { items }
     }
 
+    /// The values.
     pub fn as_slice(&self) -> &[T]
         ensures { result.now ≡ self.now }
     {
         self.items.as_slice()
+    }
+
+    /// The values, out of the list.
+    pub fn into_vec(self) -> Vec<T>
+        ensures { result.items ≡ self }
+    {
+        self.items
     }
 }
 

@@ -3,7 +3,7 @@ ghost use Rattle.std.specs.Prelude.{◌≡◌, ◌<◌, ◌≤◌, length, IfSom
 ghost use Rattle.lattice_core.specs.Numbers.{subscription_number};
 ghost use Rattle.lattice_core.specs.Orders.{subscriber_cmp};
 
-use crate::bounded_text::SubscriptionData;
+use crate::bounded_list::SubscriptionData;
 use crate::ranked::Ranked;
 use std::alloc::AllocError;
 use std::cmp::Ordering;

@@ -1,0 +1,100 @@
+//! The subscribers of a session.
+ghost use Rattle.std.specs.Prelude.{◌≡◌, ◌<◌, ◌≤◌, length, IfOk};
+ghost use Rattle.lattice_core.specs.Ascending.{place, ascending};
+ghost use Rattle.lattice_core.specs.Orders.{subscriber_cmp};
+ghost use Rattle.lattice_core.specs.Texts.{one_to};
+
+use crate::listed::Listed;
+use crate::ranked::Ranked;
+use crate::subscriber::Subscriber;
+use std::alloc::{AllocError, Global};
+use std::cmp::Ordering;
+use std::marker::Model;
+
+/// A set of 1 to 16 subscribers, which contracts see as its one ascending list. Ordered as these lists, member by member, a prefix first.
+#[derive(Drop, PartialEq, Eq, PartialOrd, Ord)]
+pub struct Subscribers {
+    list: Listed<Subscriber>,
+}
+
+impl Model for Subscribers {
+    ghost use Rattle.std.specs.Prelude.{◌≡◌, ℕ, List, ◌<◌, ◌≤◌, length};
+    ghost use Rattle.lattice_core.specs.Ascending.{ascending};
+    ghost use Rattle.lattice_core.specs.Orders.{subscriber_cmp};
+
+    ghost Value = { List (ℕ × List ℕ) };
+
+    ghost view = { λ s. s.list };
+
+    ghost inverse = { λ list. record { list = list } };
+
+    ghost invariant = { λ s. (0 < length s.list) × (length s.list ≤ 16) × (ascending subscriber_cmp s.list ≡ s.list) };
+}
+
+impl Subscribers {
+    /// The set of these subscribers; `None` where there are none or more than 16 different ones.
+    pub fn of(alloc: Global, given: Vec<Subscriber>) -> Result<Option<Subscribers>, AllocError>
+        ensures { IfOk result (λ set. set ≡ one_to 16 (ascending subscriber_cmp given.items)) }
+    {
+        let members = ascending_of(alloc, given)?;
+        if members.is_empty() || members.len() > 16 {
+            return Ok(None);
+        }
+        Ok(Some(Subscribers {
+            list: Listed::of(members),
+        }))
+    }
+
+    /// The subscribers, in ascending order.
+    pub fn as_slice(&self) -> &[Subscriber]
+        ensures members { result.now ≡ self.now }
+        ensures not_empty { 0 < length self.now }
+        ensures within { length self.now ≤ 16 }
+        ensures ascending { ascending subscriber_cmp self.now ≡ self.now }
+    {
+        self.list.as_slice()
+    }
+}
+
+impl Ranked for Subscribers {
+    ghost use Rattle.lattice_core.specs.Same.{list_same};
+    ghost use Rattle.lattice_core.specs.OrderLaws.{subscriber_same};
+
+    ghost same = { list_same subscriber_same };
+
+    fn try_copy(&self) -> Result<Subscribers, AllocError> {
+        Ok(Subscribers {
+            list: self.list.try_copy()?,
+        })
+    }
+}
+
+// The values in ascending order, each once.
+fn ascending_of<T: Ranked>(alloc: Global, given: Vec<T>) -> Result<Vec<T>, AllocError>
+    ensures { IfOk result (λ members. members.items ≡ ascending T.cmp given.items) }
+{
+    let mut left = given;
+    let mut members = Vec::with_capacity(alloc, left.len())?;
+    while let Some(value) = left.pop() {
+        place_in(&mut members, value)?;
+    }
+    Ok(members)
+}
+
+// Puts a value before the first member that isn't below it, unless it is that member.
+fn place_in<T: Ranked>(members: &mut Vec<T>, value: T) -> Result<(), AllocError>
+    ensures { IfOk result (λ _. members.new.items ≡ place T.cmp value members.old.items) }
+{
+    for at in 0..members.len() {
+        match value.cmp(&members[at]) {
+            Ordering::Less => {
+                members.insert(at, value)?;
+                return Ok(());
+            }
+            Ordering::Equal => return Ok(()),
+            Ordering::Greater => {}
+        }
+    }
+    members.push(value)?;
+    Ok(())
+}
