@@ -7,6 +7,7 @@ mod fault;
 mod fields;
 mod message;
 mod reading;
+mod stream;
 mod writing;
 
 pub use assembling::Assembler;
@@ -15,6 +16,7 @@ pub use fault::{FrameFault, MsgFault, WriteFault};
 pub use fields::read_header;
 pub use message::{Avp, AvpKey, Flags, Header, Message};
 pub use reading::{read_group, read_message};
+pub use stream::{FramedStream, StreamEnd, frames_of, one_cut};
 pub use writing::{round_trip, write_message};
 
 #[cfg(test)]
