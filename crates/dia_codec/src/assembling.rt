@@ -1,7 +1,7 @@
 //! Frames from a stream in pieces.
 
-ghost use Rattle.std.specs.Prelude.{◌≡◌, ◌++◌, [], List, ℕ, IfOk, OnOk, OnErr, IfErr, IfSome, IfNone, MatchOption, ◌⊎◌, ◌≤◌, length, take, drop, Some, None, Ok, Err, IsOk};
-ghost use Rattle.dia_codec.specs.Stream.{front_of, Splits};
+ghost use Rattle.std.specs.Prelude.{◌≡◌, ◌==◌, ◌++◌, [], IfOk, OnOk, IfErr, IfSome, IfNone, ◌⊎◌, ◌≤◌, length, take, drop, Some, None, Ok, Err, IsOk};
+ghost use Rattle.dia_codec.specs.Stream.{front_of};
 ghost use Rattle.dia_codec.specs.Spelling.{IsFrame};
 ghost use Rattle.dia_codec.specs.declared.fault.FrameFault.TheVariants as faults;
 
@@ -72,6 +72,13 @@ impl Assembler {
         }
     }
 
+    /// Whether all that was fed has been handed out.
+    pub fn is_empty(&self) -> bool
+        ensures { result ≡ (length self.now.bytes == 0) }
+    {
+        self.pending.is_empty()
+    }
+
     /// Takes the next piece of the stream, unless `next` has answered a bad length.
     pub fn feed(&mut self, piece: &[u8]) -> Result<(), FrameFault>
         ensures sticky { IfSome self.old.fault (λ f. result ≡ Err f) }
@@ -111,8 +118,3 @@ impl Assembler {
         }
     }
 }
-
-/// A stream is cut into frames in one way.
-pub fn one_cut()
-    ensures { (stream : List ℕ) (frames others : List (List ℕ)) (rest last : List ℕ) → Splits stream frames rest → Splits stream others last → (frames ≡ others) × (rest ≡ last) }
-{}

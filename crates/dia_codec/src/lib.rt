@@ -8,6 +8,7 @@ mod fields;
 mod group;
 mod message;
 mod reading;
+mod stream;
 mod writing;
 
 pub use assembling::Assembler;
@@ -17,6 +18,7 @@ pub use fields::read_header;
 pub use group::write_group;
 pub use message::{Avp, AvpKey, Flags, Header, Message};
 pub use reading::{read_group, read_message};
+pub use stream::{FramedStream, StreamEnd, frames_of, one_cut};
 pub use writing::{round_trip, write_message};
 
 #[cfg(test)]
