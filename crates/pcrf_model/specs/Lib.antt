@@ -1,0 +1,9 @@
+pub mod Facts
+pub mod Holdings
+pub mod Operations
+pub mod Paths
+pub mod Requests
+pub mod Sessions
+pub mod Sets
+pub mod Values
+pub mod Views

@@ -1,0 +1,3 @@
+//! The definitions of the product: sessions, bindings, rules and differences as a model, and its laws.
+#![tactic(auto)]
+
