@@ -14,6 +14,8 @@ pub mod Pushing
 pub mod Refusals
 pub mod Requests
 pub mod Rules
+pub mod Samples
+pub mod Scenes
 pub mod Serving
 pub mod Sessions
 pub mod Sets
