@@ -1,0 +1,96 @@
+-- Cursors: what a site took of each maker's operations, and what it knows that its peers took of its own (this project's profile).
+use Rattle.std.specs.Prelude.{ℕ, ◌+◌, max, ◌==◌, Bool, true, false, cond, ◌&&◌, List, replicate, length, nat_lt, nat_le, slice_index_or, slice_set, Option, Some, None}
+use Rattle.pcrf_model.specs.Letters.{AckValue, LetterBody, Range, Snapshot, Acknowledgement, LetterValue, letter_from}
+use Rattle.pcrf_model.specs.Steps.{SiteEvent, AskOwn, AskWhole, SiteReply}
+
+-- an epoch, and how many operations of it were taken
+pub record Cursor : Type 0 where
+  pub epoch : ℕ
+  pub cursor : ℕ
+
+-- The site and its epoch; for each of the 16 sites as a maker how much was taken of it; for each as a peer how much it said it took, if it said so.
+pub record CursorsValue : Type 0 where
+  pub site : ℕ
+  pub epoch : ℕ
+  pub makers : List Cursor
+  pub peers : List (Option Cursor)
+
+abbrev pub nothing_taken : Cursor
+nothing_taken = record { epoch = 0; cursor = 0 }
+
+abbrev pub start_cursors : ℕ → ℕ → CursorsValue
+start_cursors site epoch = record { site = site; epoch = epoch; makers = replicate 16 nothing_taken; peers = replicate 16 None }
+
+abbrev pub maker_entry : CursorsValue → ℕ → Cursor
+maker_entry c maker = slice_index_or c.makers maker nothing_taken
+
+abbrev pub peer_entry : CursorsValue → ℕ → Option Cursor
+peer_entry c peer = slice_index_or c.peers peer None
+
+-- ---- making a letter for a peer
+
+-- the whole state where nothing is known to be taken, else the operations past the cursor
+abbrev pub asked_of : Option Cursor → SiteEvent
+asked_of None = AskWhole
+asked_of (Some c) = cond (c.cursor == 0) AskWhole (AskOwn c.cursor)
+
+-- what the site is asked, to make a letter for the peer
+abbrev pub ask : CursorsValue → ℕ → SiteEvent
+ask c peer = asked_of (peer_entry c peer)
+
+-- the letter that the site's reply makes, where operations were asked for from that position on
+abbrev pub letter_of : CursorsValue → ℕ → ℕ → SiteReply → Option LetterValue
+letter_of c edition from reply = letter_from edition c.site c.epoch from reply
+
+-- ---- having taken a letter whole
+
+-- the entry in the letter's epoch: an older epoch's gives way
+abbrev pub in_epoch : ℕ → Cursor → Cursor
+in_epoch epoch x = cond (nat_lt x.epoch epoch) (record { epoch = epoch; cursor = 0 }) x
+
+-- a snapshot raises the cursor to the length of the log, a range that begins at it or before raises it to its end
+abbrev pub raised_by : LetterBody → ℕ → ℕ
+raised_by (Range from os) cursor = cond (nat_le from cursor) (max cursor (from + length os)) cursor
+raised_by (Snapshot h n) cursor = max cursor n
+raised_by (Acknowledgement m e n) cursor = cursor
+
+-- a letter of an older epoch changes nothing
+abbrev pub maker_after : LetterValue → Cursor → Cursor
+maker_after l x = cond (nat_lt l.epoch x.epoch) x
+    (let y : Cursor = in_epoch l.epoch x in record { epoch = y.epoch; cursor = raised_by l.body y.cursor })
+
+abbrev pub is_acknowledgement : LetterBody → Bool
+is_acknowledgement (Range from os) = false
+is_acknowledgement (Snapshot h n) = false
+is_acknowledgement (Acknowledgement m e n) = true
+
+-- an acknowledgement is not of its sender's operations, and changes nothing here
+abbrev pub took : CursorsValue → LetterValue → CursorsValue
+took c l = cond (is_acknowledgement l.body) c (record c { makers = slice_set c.makers l.site (maker_after l (maker_entry c l.site)) })
+
+-- ---- acknowledgements
+
+-- what the site tells a maker that it took of it
+abbrev pub ack_of : CursorsValue → ℕ → AckValue
+ack_of c maker = record { sender = c.site; sender_epoch = c.epoch; maker = maker; maker_epoch = (maker_entry c maker).epoch; cursor = (maker_entry c maker).cursor }
+
+abbrev pub ack_letter : ℕ → AckValue → LetterValue
+ack_letter edition a = record { edition = edition; site = a.sender; epoch = a.sender_epoch; body = Acknowledgement a.maker a.maker_epoch a.cursor }
+
+-- the acknowledgement that a letter carries, if it is one
+abbrev pub carried_ack : LetterValue → LetterBody → Option AckValue
+carried_ack l (Range from os) = None
+carried_ack l (Snapshot h n) = None
+carried_ack l (Acknowledgement m e n) = Some (record { sender = l.site; sender_epoch = l.epoch; maker = m; maker_epoch = e; cursor = n })
+
+-- a first entry, or one of a greater epoch of the sender, replaces; one of the same epoch raises the cursor; an older one changes nothing
+abbrev pub peer_after : AckValue → Option Cursor → Option Cursor
+peer_after a None = Some (record { epoch = a.sender_epoch; cursor = a.cursor })
+peer_after a (Some x) =
+    cond (nat_lt x.epoch a.sender_epoch) (Some (record { epoch = a.sender_epoch; cursor = a.cursor }))
+    (cond (x.epoch == a.sender_epoch) (Some (record { epoch = x.epoch; cursor = max x.cursor a.cursor })) (Some x))
+
+-- at a site that isn't its maker in that epoch it changes nothing
+abbrev pub acked : CursorsValue → AckValue → CursorsValue
+acked c a = cond (a.maker == c.site && a.maker_epoch == c.epoch)
+    (record c { peers = slice_set c.peers a.sender (peer_after a (peer_entry c a.sender)) }) c

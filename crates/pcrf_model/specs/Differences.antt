@@ -1,0 +1,69 @@
+-- What a gateway was told, and how that differs from the rules that hold (TS 29.212, 4.5.2: Charging-Rule-Remove and -Install).
+use Rattle.std.specs.Prelude.{ℕ, ◌+◌, ◌-◌, ◌==◌, Bool, cond, not, ◌&&◌, List, [], ◌∷◌, ◌++◌, map, take, drop, length, Option, Some, None}
+use Rattle.std.proofs.Common.{Ordering}
+use Rattle.std.specs.Ordering.{is_eq}
+use Rattle.std.specs.List.{list_any, filter, filter_map}
+use Rattle.lattice_core.specs.Orders.{pair_cmp, text_cmp}
+use Rattle.lattice_core.specs.Ascending.{ascending}
+use Rattle.lattice_core.specs.RuleValues.{RuleValue, DeltaValue, rule_cmp}
+use Rattle.pcrf_model.specs.Sessions.{Session, session_cmp}
+use Rattle.pcrf_model.specs.Paths.{Step, RuleName}
+use Rattle.pcrf_model.specs.Values.{Value, Told}
+use Rattle.pcrf_model.specs.Views.{View, Shown}
+
+-- a name, and the rule that was told under it
+abbrev pub ToldRule : Type 0
+ToldRule = List ℕ × RuleValue
+
+abbrev pub told_cmp : ToldRule → ToldRule → Ordering
+told_cmp = pair_cmp text_cmp rule_cmp
+
+abbrev pub told_entry : List Step → Value → Option ToldRule
+told_entry (RuleName n ∷ []) (Told r) = Some (n, r)
+told_entry steps x = None
+
+-- the names that show a rule, ascending, each with its rule
+unfoldable pub told : View → Session → List ToldRule
+told v s = filter_map (λ (x : Shown). cond (is_eq (session_cmp x.0.session s)) (told_entry x.0.steps x.1.1) None) v.all
+
+abbrev pub told_name_of : ToldRule → List ℕ
+told_name_of p = p.0
+
+abbrev pub has_name : List ℕ → RuleValue → Bool
+has_name n r = is_eq (text_cmp r.name n)
+
+-- just this rule was told under its name
+abbrev pub holds : List ToldRule → RuleValue → Bool
+holds t r = list_any (λ (p : ToldRule). is_eq (text_cmp p.0 r.name) && is_eq (rule_cmp p.1 r)) t
+
+-- the names told that the rules lack, ascending, to be removed; the rules that were not told just so, in their order, to be installed
+abbrev pub difference : List ToldRule → List RuleValue → DeltaValue
+difference t rs = record {
+  removed = filter (λ n. not (list_any (has_name n) rs)) (map told_name_of t);
+  installed = filter (λ r. not (holds t r)) rs
+}
+
+-- the first n entries, the removed names before the installed rules
+abbrev pub first : ℕ → DeltaValue → DeltaValue
+first n d = record { removed = take n d.removed; installed = take (n - length d.removed) d.installed }
+
+-- the entries past the first n
+abbrev pub rest : ℕ → DeltaValue → DeltaValue
+rest n d = record { removed = drop n d.removed; installed = drop (n - length d.removed) d.installed }
+
+-- nothing is to be removed or installed
+abbrev pub is_empty : DeltaValue → Bool
+is_empty d = length d.removed + length d.installed == 0
+
+-- ---- what the gateway has after it was told a difference
+
+abbrev pub as_told : RuleValue → ToldRule
+as_told r = (r.name, r)
+
+-- neither removed nor installed anew
+abbrev pub stays : DeltaValue → ToldRule → Bool
+stays d p = not (list_any (λ n. is_eq (text_cmp n p.0)) d.removed) && not (list_any (has_name p.0) d.installed)
+
+-- without the removed names, and with the installed rules in place
+abbrev pub apply : List ToldRule → DeltaValue → List ToldRule
+apply t d = ascending told_cmp (filter (stays d) t ++ map as_told d.installed)

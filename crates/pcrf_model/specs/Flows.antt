@@ -1,0 +1,83 @@
+-- What a flow of an AF session shows: its status, its class and its rates (TS 29.214, 4.4.1, 5.3.11 and 5.3.12; TS 29.213, 6.3), and the rule made of them.
+use Rattle.std.specs.Prelude.{ℕ, Bool, true, false, cond, ◌==◌, List, ◌++◌, min, Option, Some, None, codes, decimal}
+use Rattle.std.proofs.Common.{option_map, option_and_then, unwrap_or}
+use Rattle.lattice_core.specs.RuleValues.{RuleValue}
+use Rattle.pcrf_model.specs.Sessions.{Session}
+use Rattle.pcrf_model.specs.Paths.{FieldName, MediaType, FlowDescriptions, FlowUsage, FlowStatus, MaxRateUp, MaxRateDown, component_part, flow_part}
+use Rattle.pcrf_model.specs.Views.{View, value, number, as_filters}
+use Rattle.pcrf_model.specs.Tables.{Class, MediaRow, Tables, media_row}
+
+-- an AF session, a Media-Component-Number and a Flow-Number
+pub record FlowId : Type 0 where
+  pub session : Session
+  pub component : ℕ
+  pub flow : ℕ
+
+abbrev pub or_else : {A : Type 0} → Option A → Option A → Option A
+or_else None y = y
+or_else (Some x) y = Some x
+
+-- what the flow's own field shows, as a number
+abbrev pub of_flow : View → FlowId → FieldName → Option ℕ
+of_flow v i f = number v (flow_part i.session i.component i.flow f)
+
+-- what its component's field shows
+abbrev pub of_component : View → FlowId → FieldName → Option ℕ
+of_component v i f = number v (component_part i.session i.component f)
+
+abbrev pub filters : View → FlowId → Option (List (List ℕ))
+filters v i = option_and_then as_filters (value v (flow_part i.session i.component i.flow FlowDescriptions))
+
+abbrev pub has_usage : View → FlowId → ℕ → Bool
+has_usage v i u = unwrap_or (option_map (λ n. n == u) (of_flow v i FlowUsage)) false
+
+-- Flow-Usage RTCP
+abbrev pub is_rtcp : View → FlowId → Bool
+is_rtcp v i = has_usage v i 1
+
+-- Flow-Usage AF_SIGNALLING
+abbrev pub is_signalling : View → FlowId → Bool
+is_signalling v i = has_usage v i 2
+
+-- the flow's, else the component's, else ENABLED
+abbrev pub flow_status : View → FlowId → ℕ
+flow_status v i = unwrap_or (or_else (of_flow v i FlowStatus) (of_component v i FlowStatus)) 2
+
+-- the Media-Type of its component, where none shows the greatest
+abbrev pub media_type : View → FlowId → ℕ
+media_type v i = unwrap_or (of_component v i MediaType) 0xFFFFFFFF
+
+-- the class of its service: that of signalling, or that of its media, if it has one
+abbrev pub class_of : Tables → View → FlowId → Option Class
+class_of t v i = cond (is_signalling v i) (Some t.signalling) (option_map (λ (r : MediaRow). r.class) (media_row t (media_type v i)))
+
+-- the rate that requests gave it, by the field of its direction: its own, else, unless it is RTCP, its component's
+abbrev pub given_rate : View → FlowId → FieldName → Option ℕ
+given_rate v i f = or_else (of_flow v i f) (cond (is_rtcp v i) None (of_component v i f))
+
+-- the rate that is asked: the one given, else for RTCP the operator's, else the cap
+abbrev pub asked_rate : Tables → View → FlowId → FieldName → ℕ → ℕ
+asked_rate t v i f cap = unwrap_or (given_rate v i f) (cond (is_rtcp v i) t.rtcp_bps cap)
+
+-- the lesser of the rate asked and the cap
+abbrev pub flow_rate : Tables → View → FlowId → FieldName → ℕ → ℕ
+flow_rate t v i f cap = min (asked_rate t v i f cap) cap
+
+-- `af/` Session-Id `/` component `/` flow (this project's profile)
+abbrev pub flow_rule_name : FlowId → List ℕ
+flow_rule_name i = codes "af/" ++ i.session.id ++ codes "/" ++ decimal i.component ++ codes "/" ++ decimal i.flow
+
+-- The rule of a flow with filters and a class (TS 29.213, 6.3): what its written form adds, the guaranteed rates, follows from the class.
+abbrev pub flow_rule : Tables → View → FlowId → List (List ℕ) → Class → RuleValue
+flow_rule t v i f c = record {
+  name = flow_rule_name i;
+  status = flow_status v i;
+  filters = f;
+  qci = c.qci;
+  priority = c.priority;
+  capability = c.capability;
+  vulnerability = c.vulnerability;
+  max_ul = flow_rate t v i MaxRateUp c.max_ul;
+  max_dl = flow_rate t v i MaxRateDown c.max_dl;
+  precedence = c.precedence
+}

@@ -1,0 +1,56 @@
+-- Pushes: what a site tells gateways of its own accord, by a re-authorisation request (TS 29.212, 4.5.2 and 5.6.4).
+use Rattle.std.specs.Prelude.{ℕ, ◌==◌, Bool, true, false, not, ◌&&◌, List, [], Option, Some, None, find}
+use Rattle.std.proofs.Common.{option_map, unwrap_or}
+use Rattle.std.specs.Ordering.{is_eq}
+use Rattle.lattice_core.specs.Orders.{text_cmp}
+use Rattle.lattice_core.specs.RuleValues.{DeltaValue}
+use Rattle.pcrf_model.specs.Sessions.{Session, is_gx}
+use Rattle.pcrf_model.specs.Paths.{host, realm}
+use Rattle.pcrf_model.specs.Holdings.{Holding}
+use Rattle.pcrf_model.specs.Operations.{Operation}
+use Rattle.pcrf_model.specs.Views.{View, view, text}
+use Rattle.pcrf_model.specs.Live.{is_live, home}
+use Rattle.pcrf_model.specs.Tables.{Tables}
+use Rattle.pcrf_model.specs.Rules.{rules}
+use Rattle.pcrf_model.specs.Differences.{told, difference, is_empty}
+use Rattle.pcrf_model.specs.Making.{told_facts, next_tag, next_operation}
+use Rattle.pcrf_model.specs.Serving.{delta_of}
+
+-- what is pushed: the Session-Id, the host and the realm of the session, and the entries of its difference
+pub record PushValue : Type 0 where
+  pub session : List ℕ
+  pub host : List ℕ
+  pub realm : List ℕ
+  pub delta : DeltaValue
+
+-- the session's host is the given one, any where none is given
+abbrev pub is_of_host : View → Option (List ℕ) → Session → Bool
+is_of_host v None s = true
+is_of_host v (Some name) s = unwrap_or (option_map (λ x. is_eq (text_cmp x name)) (text v (host s))) false
+
+abbrev pub is_home : ℕ → View → Session → Bool
+is_home i v s = unwrap_or (option_map (λ n. n == i) (home v s)) false
+
+-- a live Gx session whose home is site i, of that host, whose gateway was not told its rules
+abbrev pub is_due : Tables → ℕ → View → Option (List ℕ) → Session → Bool
+is_due t i v name s = is_gx s.kind && is_live v s && is_home i v s && is_of_host v name s && not (is_empty (difference (told v s) (rules t v s)))
+
+-- the one with the least Session-Id
+unfoldable pub due : Tables → ℕ → View → Option (List ℕ) → Option Session
+due t i v name = find (is_due t i v name) v.sessions
+
+abbrev pub push_to : Tables → View → Session → PushValue
+push_to t v s = record { session = s.id; host = unwrap_or (text v (host s)) []; realm = unwrap_or (text v (realm s)) []; delta = delta_of t v s }
+
+-- what is pushed, and the operation that is added; both none where nothing is due
+pub record PushOutcome : Type 0 where
+  pub pushed : Option PushValue
+  pub added : Option Operation
+
+unfoldable pub push : Tables → ℕ → Holding → Option (List ℕ) → PushOutcome
+push t i h name =
+    let v : View = view h.facts in
+    record {
+      pushed = option_map (push_to t v) (due t i v name);
+      added = option_map (λ s. next_operation i h 0 s (told_facts s (next_tag i h 0) (delta_of t v s))) (due t i v name)
+    }

@@ -1,0 +1,121 @@
+-- The refusals by what a site holds, in order: the first that applies counts.
+use Rattle.std.specs.Prelude.{ℕ, ◌+◌, ◌-◌, ◌^◌, ◌==◌, Bool, true, false, cond, not, ◌&&◌, ◌||◌, List, [], ◌∷◌, ◌++◌, Option, Some, None, is_some, is_none}
+use Rattle.std.proofs.Common.{option_map, option_and_then, unwrap_or}
+use Rattle.std.specs.List.{list_any}
+use Rattle.pcrf_model.specs.Sessions.{Session, gx, af}
+use Rattle.pcrf_model.specs.Holdings.{Holding}
+use Rattle.pcrf_model.specs.Views.{View, view}
+use Rattle.pcrf_model.specs.Live.{is_live}
+use Rattle.pcrf_model.specs.Bindings.{bind}
+use Rattle.pcrf_model.specs.Tables.{Tables, media_row, apn_row}
+use Rattle.pcrf_model.specs.Requests.{RequestKind, Initial, Update, Termination, CcrValue, ComponentValue, AarValue, StrValue, BaseKind, CapabilitiesExchange, DeviceWatchdog, DisconnectPeer, RefusalValue}
+use Rattle.pcrf_model.specs.Making.{is_removed, aar_facts, next_tag}
+
+-- ---- their codes
+
+-- DIAMETER_UNKNOWN_SESSION_ID (RFC 6733, 7.1.5)
+abbrev pub unknown_session_id : RefusalValue
+unknown_session_id = record { code = 5002; experimental = false }
+
+-- DIAMETER_AUTHORIZATION_REJECTED (RFC 6733, 7.1.5)
+abbrev pub authorization_rejected : RefusalValue
+authorization_rejected = record { code = 5003; experimental = false }
+
+-- DIAMETER_MISSING_AVP (RFC 6733, 7.1.5)
+abbrev pub missing_avp : RefusalValue
+missing_avp = record { code = 5005; experimental = false }
+
+-- DIAMETER_NO_COMMON_APPLICATION (RFC 6733, 7.1.5)
+abbrev pub no_common_application : RefusalValue
+no_common_application = record { code = 5010; experimental = false }
+
+-- DIAMETER_UNABLE_TO_COMPLY (RFC 6733, 7.1.5)
+abbrev pub unable_to_comply : RefusalValue
+unable_to_comply = record { code = 5012; experimental = false }
+
+-- REQUESTED_SERVICE_NOT_AUTHORIZED (TS 29.214, 5.5)
+abbrev pub service_not_authorized : RefusalValue
+service_not_authorized = record { code = 5063; experimental = true }
+
+-- IP-CAN_SESSION_NOT_AVAILABLE (TS 29.214, 5.5)
+abbrev pub session_not_available : RefusalValue
+session_not_available = record { code = 5065; experimental = true }
+
+-- DIAMETER_ERROR_INITIAL_PARAMETERS (TS 29.212, 5.5.3)
+abbrev pub initial_parameters : RefusalValue
+initial_parameters = record { code = 5140; experimental = true }
+
+-- ---- in order
+
+-- the first refusal whose cause stands
+abbrev pub first_cause : List (Bool × RefusalValue) → Option RefusalValue
+first_cause [] = None
+first_cause (x ∷ xs) = cond x.0 (Some x.1) (first_cause xs)
+
+-- counters end at 2 ^ 63 - 1 (this project's profile)
+abbrev pub is_clock_full : Holding → Bool
+is_clock_full h = h.clock == 2 ^ 63 - 1
+
+abbrev pub has_no_row : Tables → List ℕ → Bool
+has_no_row t name = is_none (apn_row t name)
+
+-- the request names an access point without a row
+abbrev pub names_no_row : Tables → Option (List ℕ) → Bool
+names_no_row t apn = unwrap_or (option_map (has_no_row t) apn) false
+
+-- an initial request has to give all three (TS 29.212, 4.5.1)
+abbrev pub lacks_parameters : CcrValue → Bool
+lacks_parameters q = is_none q.address || is_none q.apn || is_empty q.subscribers
+  where
+    is_empty : {A : Type 0} → List A → Bool
+    is_empty [] = true
+    is_empty (x ∷ xs) = false
+
+abbrev pub ccr_causes : Tables → Holding → View → CcrValue → RequestKind → List (Bool × RefusalValue)
+ccr_causes t h v q Initial =
+    (v.ended (gx q.session), unknown_session_id)
+    ∷ (lacks_parameters q, initial_parameters)
+    ∷ (names_no_row t q.apn, authorization_rejected)
+    ∷ (is_clock_full h, unable_to_comply) ∷ []
+ccr_causes t h v q Update =
+    (not (is_live v (gx q.session)), unknown_session_id)
+    ∷ (names_no_row t q.apn, authorization_rejected)
+    ∷ (is_clock_full h, unable_to_comply) ∷ []
+ccr_causes t h v q Termination =
+    (not (is_live v (gx q.session)), unknown_session_id)
+    ∷ (is_clock_full h, unable_to_comply) ∷ []
+
+unfoldable pub ccr_refusal : Tables → Holding → CcrValue → Option RefusalValue
+ccr_refusal t h q = first_cause (ccr_causes t h (view h.facts) q q.kind)
+
+-- a component that is not removed has a Media-Type without a row
+abbrev pub has_no_class : Tables → ComponentValue → Bool
+has_no_class t c = not (is_removed c.status) && unwrap_or (option_map (λ m. is_none (media_row t m)) c.media) false
+
+-- with the facts of the request added, its session is bound to none (TS 29.213, 5.2)
+abbrev pub binds_to_none : ℕ → Holding → AarValue → Bool
+binds_to_none i h q = is_none (bind (view (h.facts ++ aar_facts q (next_tag i h 0))) (af q.session))
+
+abbrev pub aar_causes : Tables → ℕ → Holding → View → AarValue → List (Bool × RefusalValue)
+aar_causes t i h v q =
+    (v.ended (af q.session), unknown_session_id)
+    ∷ (not (is_live v (af q.session)) && is_none q.address, missing_avp)
+    ∷ (list_any (has_no_class t) q.components, service_not_authorized)
+    ∷ (binds_to_none i h q, session_not_available)
+    ∷ (is_clock_full h, unable_to_comply) ∷ []
+
+unfoldable pub aar_refusal : Tables → ℕ → Holding → AarValue → Option RefusalValue
+aar_refusal t i h q = first_cause (aar_causes t i h (view h.facts) q)
+
+unfoldable pub str_refusal : Holding → StrValue → Option RefusalValue
+str_refusal h q = first_cause ((not (is_live (view h.facts) (af q.session)), unknown_session_id) ∷ (is_clock_full h, unable_to_comply) ∷ [])
+
+-- Gx and Rx (TS 29.212, 5.1; TS 29.214, 5.1), and a relay's (RFC 6733, 2.4)
+abbrev pub is_common : ℕ → Bool
+is_common a = a == 16777238 || a == 16777236 || a == 0xFFFFFFFF
+
+-- a capabilities exchange has to advertise an application in common (RFC 6733, 5.3)
+abbrev pub base_refusal : BaseKind → Option RefusalValue
+base_refusal (CapabilitiesExchange applications) = cond (list_any is_common applications) None (Some no_common_application)
+base_refusal DeviceWatchdog = None
+base_refusal DisconnectPeer = None

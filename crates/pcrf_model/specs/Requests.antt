@@ -1,0 +1,77 @@
+-- The requests that a site serves, as read, and their refusals: plain values without memory.
+use Rattle.std.specs.Prelude.{ℕ, Bool, List, Option}
+use Rattle.pcrf_model.specs.Values.{Subscriber}
+
+-- CC-Request-Type (RFC 8506, 8.3) as far as Gx has it: INITIAL_REQUEST 1, UPDATE_REQUEST 2, TERMINATION_REQUEST 3
+pub data RequestKind : Type 0 where
+  Initial Update Termination : RequestKind
+
+-- A credit control request (TS 29.212, 5.6.2): Session-Id, Origin-Host, Origin-Realm, CC-Request-Type, CC-Request-Number, Framed-IP-Address
+-- as four octets, Called-Station-Id in small letters, and the Subscription-Ids, ascending, without repeats, empty where none was given.
+pub record CcrValue : Type 0 where
+  pub session : List ℕ
+  pub host : List ℕ
+  pub realm : List ℕ
+  pub kind : RequestKind
+  pub number : ℕ
+  pub address : Option (List ℕ)
+  pub apn : Option (List ℕ)
+  pub subscribers : List Subscriber
+
+-- A flow (Media-Sub-Component, TS 29.214, 5.3.18): Flow-Number, Flow-Descriptions as bytes (none, one or two), Flow-Usage and Flow-Status
+-- as AVP values, Max-Requested-Bandwidth-UL and -DL in bit/s.
+pub record FlowValue : Type 0 where
+  pub number : ℕ
+  pub filters : List (List ℕ)
+  pub usage : Option ℕ
+  pub status : Option ℕ
+  pub rate_up : Option ℕ
+  pub rate_down : Option ℕ
+
+-- A media component (Media-Component-Description, TS 29.214, 5.3.16): Media-Component-Number, Media-Type and Flow-Status as AVP values,
+-- the rates in bit/s, and its flows in the order of the request.
+pub record ComponentValue : Type 0 where
+  pub number : ℕ
+  pub media : Option ℕ
+  pub status : Option ℕ
+  pub rate_up : Option ℕ
+  pub rate_down : Option ℕ
+  pub flows : List FlowValue
+
+-- An AA request of Rx (TS 29.214, 5.6.1): as above, with its components in the order of the request.
+pub record AarValue : Type 0 where
+  pub session : List ℕ
+  pub host : List ℕ
+  pub realm : List ℕ
+  pub address : Option (List ℕ)
+  pub apn : Option (List ℕ)
+  pub subscribers : List Subscriber
+  pub components : List ComponentValue
+
+-- A session termination request of Rx (TS 29.214, 5.6.5).
+pub record StrValue : Type 0 where
+  pub session : List ℕ
+  pub host : List ℕ
+  pub realm : List ℕ
+
+-- A request of the base protocol (RFC 6733, 5.3 to 5.5): Origin-Host and Origin-Realm, and of a capabilities exchange the applications
+-- that it advertises (Auth-Application-Id, alone and within Vendor-Specific-Application-Id), in the order in which they stand.
+pub data BaseKind : Type 0 where
+  CapabilitiesExchange : List ℕ → BaseKind
+  DeviceWatchdog DisconnectPeer : BaseKind
+
+pub record BaseValue : Type 0 where
+  pub kind : BaseKind
+  pub host : List ℕ
+  pub realm : List ℕ
+
+pub data RequestValue : Type 0 where
+  Ccr : CcrValue → RequestValue
+  Aar : AarValue → RequestValue
+  Str : StrValue → RequestValue
+  Base : BaseValue → RequestValue
+
+-- A Result-Code, or the Experimental-Result-Code of vendor 3GPP (RFC 6733, 7.1 and 7.6).
+pub record RefusalValue : Type 0 where
+  pub code : ℕ
+  pub experimental : Bool

@@ -1,0 +1,121 @@
+-- The operator tables, the requests and the rules of the worked examples.
+use Rattle.std.specs.Prelude.{ℕ, zero, suc, Bool, true, false, List, [], ◌∷◌, ◌++◌, Option, Some, None, codes}
+use Rattle.lattice_core.specs.RuleValues.{RuleValue, DeltaValue}
+use Rattle.pcrf_model.specs.Sessions.{Session, gx, af}
+use Rattle.pcrf_model.specs.Values.{Subscriber}
+use Rattle.pcrf_model.specs.Tables.{Class, MediaRow, Quality, OperatorRule, ApnRow, Listed, Tables}
+use Rattle.pcrf_model.specs.Requests.{RequestKind, Initial, Update, Termination, CcrValue, FlowValue, ComponentValue, AarValue, StrValue, BaseValue, CapabilitiesExchange, RequestValue, Ccr, Aar, Str, Base}
+
+-- ---- an operator with telephony
+
+abbrev pub signalling_class : Class
+signalling_class = record { qci = 5; priority = 9; capability = 1; vulnerability = 0; max_ul = 32000; max_dl = 32000; precedence = 50 }
+
+abbrev pub audio_class : Class
+audio_class = record { qci = 1; priority = 2; capability = 0; vulnerability = 1; max_ul = 64000; max_dl = 64000; precedence = 100 }
+
+abbrev pub sip_class : Class
+sip_class = record { qci = 5; priority = 9; capability = 1; vulnerability = 0; max_ul = 32000; max_dl = 32000; precedence = 40 }
+
+abbrev pub ims_quality : Quality
+ims_quality = record { qci = 5; priority = 9; capability = 1; vulnerability = 0; ambr_ul = 1000000; ambr_dl = 2000000 }
+
+abbrev pub any_to_any : List ℕ
+any_to_any = codes "permit out ip from any to any"
+
+abbrev pub operator : Tables
+operator = record {
+  edition = 7;
+  rtcp_bps = 5000;
+  signalling = signalling_class;
+  media = record { media = 0; class = audio_class } ∷ [];
+  apns = Listed (
+    record { name = codes "ims"; default = Some ims_quality; rules = record { name = codes "sip"; class = sip_class; status = 2; filters = any_to_any ∷ [] } ∷ [] }
+    ∷ record { name = codes "net"; default = None; rules = [] } ∷ [])
+}
+
+-- ---- subscribers, addresses and sessions
+
+abbrev pub imsi : Subscriber
+imsi = (1, codes "001010000000001")
+
+abbrev pub e164 : Subscriber
+e164 = (0, codes "15550001")
+
+abbrev pub host_address : ℕ → List ℕ
+host_address n = 10 ∷ 0 ∷ 0 ∷ n ∷ []
+
+abbrev pub first_session : Session
+first_session = gx (codes "gw;1;1")
+
+abbrev pub second_session : Session
+second_session = gx (codes "gw;1;2")
+
+abbrev pub call_session : Session
+call_session = af (codes "af;1")
+
+-- ---- requests of the gateway
+
+abbrev pub initial : Session → List ℕ → RequestValue
+initial s a = Ccr (record { session = s.id; host = codes "gw"; realm = codes "r"; kind = Initial; number = 0; address = Some a; apn = Some (codes "ims"); subscribers = e164 ∷ imsi ∷ [] })
+
+-- an initial request by its address, access point and subscribers, each if it gives them
+abbrev pub initial_with : Option (List ℕ) → Option (List ℕ) → List Subscriber → RequestValue
+initial_with a n ids = Ccr (record { session = first_session.id; host = codes "gw"; realm = codes "r"; kind = Initial; number = 0; address = a; apn = n; subscribers = ids })
+
+abbrev pub update : ℕ → Option (List ℕ) → RequestValue
+update n a = Ccr (record { session = first_session.id; host = codes "gw"; realm = codes "r"; kind = Update; number = n; address = a; apn = None; subscribers = [] })
+
+abbrev pub termination : Session → ℕ → RequestValue
+termination s n = Ccr (record { session = s.id; host = codes "gw"; realm = codes "r"; kind = Termination; number = n; address = None; apn = None; subscribers = [] })
+
+-- ---- requests of the application function
+
+abbrev pub call : Option (List ℕ) → List ComponentValue → RequestValue
+call a cs = Aar (record { session = call_session.id; host = codes "af"; realm = codes "r"; address = a; apn = None; subscribers = []; components = cs })
+
+-- a component of another media type, with that Flow-Status
+abbrev pub other_media : ℕ → ComponentValue
+other_media s = record { number = 1; media = Some 9; status = Some s; rate_up = None; rate_down = None; flows = [] }
+
+-- a capabilities exchange of these applications
+abbrev pub capabilities : List ℕ → RequestValue
+capabilities applications = Base (record { kind = CapabilitiesExchange applications; host = codes "gw"; realm = codes "r" })
+
+abbrev pub hang_up : RequestValue
+hang_up = Str (record { session = call_session.id; host = codes "af"; realm = codes "r" })
+
+abbrev pub uplink : List ℕ
+uplink = codes "permit in ip from any to any"
+
+-- an audio component: a flow both ways, and its RTCP flow with a status of its own
+abbrev pub audio : ComponentValue
+audio = record { number = 1; media = Some 0; status = None; rate_up = Some 41000; rate_down = Some 80000; flows =
+    record { number = 1; filters = uplink ∷ any_to_any ∷ []; usage = None; status = None; rate_up = None; rate_down = None }
+    ∷ record { number = 2; filters = uplink ∷ []; usage = Some 1; status = Some 2; rate_up = None; rate_down = None } ∷ [] }
+
+-- the component again, with its Flow-Status and nothing else
+abbrev pub status_only : ℕ → ComponentValue
+status_only s = record { number = 1; media = None; status = Some s; rate_up = None; rate_down = None; flows = [] }
+
+-- flows 1 to n, each with one filter, the last first
+abbrev pub numbered_flows : ℕ → List FlowValue
+numbered_flows zero = []
+numbered_flows (suc n) = record { number = suc n; filters = uplink ∷ []; usage = None; status = None; rate_up = None; rate_down = None } ∷ numbered_flows n
+
+abbrev pub many_flows : ℕ → ComponentValue
+many_flows n = record { number = 2; media = Some 0; status = None; rate_up = None; rate_down = None; flows = numbered_flows n }
+
+-- ---- the rules that come of them
+
+abbrev pub sip_rule : RuleValue
+sip_rule = record { name = codes "op/sip"; status = 2; filters = any_to_any ∷ []; qci = 5; priority = 9; capability = 1; vulnerability = 0; max_ul = 32000; max_dl = 32000; precedence = 40 }
+
+abbrev pub audio_rule : ℕ → RuleValue
+audio_rule s = record { name = codes "af/af;1/1/1"; status = s; filters = uplink ∷ any_to_any ∷ []; qci = 1; priority = 2; capability = 0; vulnerability = 1; max_ul = 41000; max_dl = 64000; precedence = 100 }
+
+abbrev pub rtcp_rule : RuleValue
+rtcp_rule = record { name = codes "af/af;1/1/2"; status = 2; filters = uplink ∷ []; qci = 1; priority = 2; capability = 0; vulnerability = 1; max_ul = 5000; max_dl = 5000; precedence = 100 }
+
+abbrev pub delta : List (List ℕ) → List RuleValue → DeltaValue
+delta names rs = record { removed = names; installed = rs }

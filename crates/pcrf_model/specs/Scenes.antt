@@ -1,0 +1,187 @@
+-- What the sites of the worked examples went through.
+use Rattle.std.specs.Prelude.{ℕ, List, [], ◌∷◌, Option, Some, None, codes, length, slice_get}
+use Rattle.std.proofs.Common.{option_map}
+use Rattle.lattice_core.specs.RuleValues.{RuleValue, DeltaValue}
+use Rattle.lattice_core.specs.declared.tag.Tag.{Tag}
+use Rattle.pcrf_model.specs.Sessions.{Session}
+use Rattle.pcrf_model.specs.Paths.{address}
+use Rattle.pcrf_model.specs.Values.{Value, Address}
+use Rattle.pcrf_model.specs.Facts.{Field}
+use Rattle.pcrf_model.specs.Holdings.{Holding, nothing_held, union, kept_of}
+use Rattle.pcrf_model.specs.Operations.{Operation, holding_of}
+use Rattle.pcrf_model.specs.Views.{View, view}
+use Rattle.pcrf_model.specs.Tables.{Quality}
+use Rattle.pcrf_model.specs.Requests.{RequestValue, RefusalValue}
+use Rattle.pcrf_model.specs.Serving.{AnswerValue, OnGx, Granted, Rejected, serve}
+use Rattle.pcrf_model.specs.Pushing.{PushValue, push}
+use Rattle.pcrf_model.specs.Steps.{SiteState, adding}
+use Rattle.pcrf_model.specs.Samples.{operator, imsi, first_session, second_session, call_session, host_address, initial, update, termination, call, hang_up, audio, status_only, many_flows, ims_quality}
+
+-- ---- one step of a site
+
+abbrev pub empty_site : SiteState
+empty_site = record { holding = nothing_held; log = [] }
+
+-- what site i answers
+abbrev pub answers : ℕ → SiteState → RequestValue → AnswerValue
+answers i s q = (serve operator i s.holding q).answer
+
+-- site i after the request
+abbrev pub serves : ℕ → SiteState → RequestValue → SiteState
+serves i s q = adding s (serve operator i s.holding q).added
+
+-- what site i pushes to any host
+abbrev pub pushes : ℕ → SiteState → Option PushValue
+pushes i s = (push operator i s.holding None).pushed
+
+-- site i after the push
+abbrev pub pushed : ℕ → SiteState → SiteState
+pushed i s = adding s (push operator i s.holding None).added
+
+-- with operations of another site
+abbrev pub taking : SiteState → List Operation → SiteState
+taking s os = record s { holding = union s.holding (holding_of os) }
+
+abbrev pub seen : SiteState → View
+seen s = view s.holding.facts
+
+abbrev pub granted : DeltaValue → AnswerValue
+granted d = OnGx (Granted d (Some ims_quality))
+
+abbrev pub rejected : RefusalValue → AnswerValue
+rejected r = OnGx (Rejected r)
+
+-- a push to the gateway of the first session
+abbrev pub push_of : DeltaValue → Option PushValue
+push_of d = Some (record { session = first_session.id; host = codes "gw"; realm = codes "r"; delta = d })
+
+abbrev pub count_installed : Option PushValue → Option ℕ
+count_installed = option_map (λ p. length p.delta.installed)
+
+-- the counter of the first operation that the site made
+abbrev pub first_counter : SiteState → Option ℕ
+first_counter s = option_map (λ (o : Operation). o.counter) (slice_get s.log 0)
+
+-- ---- the first session at site 0, and its call
+
+abbrev pub one : SiteState
+one = serves 0 empty_site (initial first_session (host_address 1))
+
+abbrev pub with_call : SiteState
+with_call = serves 0 one (call (Some (host_address 1)) (audio ∷ []))
+
+abbrev pub call_pushed : SiteState
+call_pushed = pushed 0 with_call
+
+-- the component's status is changed alone
+abbrev pub disabled : SiteState
+disabled = serves 0 call_pushed (call None (status_only 3 ∷ []))
+
+-- the component is removed, that is pushed, and it is described again
+abbrev pub component_removed : SiteState
+component_removed = serves 0 call_pushed (call None (status_only 4 ∷ []))
+
+abbrev pub described_again : SiteState
+described_again = serves 0 (pushed 0 component_removed) (call None (audio ∷ []))
+
+-- ---- another session of the same address
+
+abbrev pub two_sessions : SiteState
+two_sessions = serves 0 one (initial second_session (host_address 1))
+
+abbrev pub bound_to_second : SiteState
+bound_to_second = serves 0 two_sessions (call (Some (host_address 1)) [])
+
+abbrev pub second_ended : SiteState
+second_ended = serves 0 bound_to_second (termination second_session 1)
+
+-- two sessions under equal stamps, for the site restarted in between and took its own letter
+abbrev pub equal_stamps : SiteState
+equal_stamps = serves 0 (taking (serves 0 empty_site (initial second_session (host_address 1))) one.log) (call (Some (host_address 1)) [])
+
+-- ---- the first session ends under its call
+abbrev pub ended_under_call : SiteState
+ended_under_call = serves 0 with_call (termination first_session 1)
+
+-- ---- updates out of order
+
+abbrev pub updated : SiteState
+updated = serves 0 one (update 2 (Some (host_address 2)))
+
+abbrev pub updated_late : SiteState
+updated_late = serves 0 updated (update 1 (Some (host_address 3)))
+
+abbrev pub overshadowed : SiteState
+overshadowed = serves 0 (serves 0 one (update 5 None)) (update 4 None)
+
+-- ---- two sites
+
+-- site 1 took what the first session made, and serves an update of it
+abbrev pub other : SiteState
+other = taking empty_site one.log
+
+abbrev pub other_updated : SiteState
+other_updated = serves 1 other (update 9 None)
+
+abbrev pub ended_there : SiteState
+ended_there = serves 0 one (termination first_session 3)
+
+abbrev pub ended_and_told : SiteState
+ended_and_told = taking ended_there other_updated.log
+
+-- site 1 serves an update whose number is 1
+abbrev pub moved : SiteState
+moved = serves 1 other (update 1 None)
+
+-- the call ends at site 0, and each takes what the other made
+abbrev pub hung_up : SiteState
+hung_up = serves 0 call_pushed hang_up
+
+abbrev pub first_after_hang_up : SiteState
+first_after_hang_up = taking hung_up moved.log
+
+abbrev pub other_after_hang_up : SiteState
+other_after_hang_up = taking moved hung_up.log
+
+-- the call is served at site 1, which took what the first session made
+abbrev pub call_elsewhere : SiteState
+call_elsewhere = serves 1 other (call (Some (host_address 1)) (audio ∷ []))
+
+-- site 2 takes the call first, and the session later
+abbrev pub call_alone : SiteState
+call_alone = taking empty_site call_elsewhere.log
+
+abbrev pub call_and_session : SiteState
+call_and_session = taking call_alone one.log
+
+-- ---- equal stamps with different contents
+
+abbrev pub after_restart : SiteState
+after_restart = serves 0 empty_site (initial first_session (host_address 9))
+
+abbrev pub older_first : SiteState
+older_first = taking (taking (taking (taking empty_site one.log) one.log) after_restart.log) after_restart.log
+
+abbrev pub newer_first : SiteState
+newer_first = taking (taking (taking (taking empty_site after_restart.log) after_restart.log) one.log) one.log
+
+-- ---- the last counter
+
+abbrev pub last_counter : Operation
+last_counter =
+    let t : Tag = record { number = 0; counter = 9223372036854775807; site = 1 } in
+    record { counter = 9223372036854775807; site = 1; number = 0; session = second_session; facts = Field (address second_session) t (Address (host_address 2)) ∷ [] }
+
+abbrev pub at_the_end : SiteState
+at_the_end = taking one (last_counter ∷ [])
+
+-- ---- more rules than a message carries
+
+abbrev pub many_rules : SiteState
+many_rules = serves 0 one (call (Some (host_address 1)) (many_flows 50 ∷ []))
+
+abbrev pub first_forty : SiteState
+first_forty = pushed 0 many_rules
+
+abbrev pub all_fifty : SiteState
+all_fifty = pushed 0 first_forty

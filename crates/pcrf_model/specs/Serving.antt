@@ -1,0 +1,99 @@
+-- What a site answers to a request, and the operation that the request makes there.
+use Rattle.std.specs.Prelude.{ℕ, List, [], ◌++◌, Option, Some, None}
+use Rattle.std.proofs.Common.{option_map, unwrap_or}
+use Rattle.lattice_core.specs.RuleValues.{DeltaValue}
+use Rattle.pcrf_model.specs.Sessions.{Session, gx, af}
+use Rattle.pcrf_model.specs.Holdings.{Holding}
+use Rattle.pcrf_model.specs.Operations.{Operation, with_operation}
+use Rattle.pcrf_model.specs.Views.{View, view}
+use Rattle.pcrf_model.specs.Tables.{Quality, Tables}
+use Rattle.pcrf_model.specs.Rules.{rules, quality_of}
+use Rattle.pcrf_model.specs.Differences.{told, difference, first}
+use Rattle.pcrf_model.specs.Requests.{RequestKind, Initial, Update, Termination, CcrValue, AarValue, StrValue, BaseValue, RequestValue, Ccr, Aar, Str, Base, RefusalValue}
+use Rattle.pcrf_model.specs.Making.{ccr_fields, told_facts, end_facts, aar_facts, next_tag, next_operation}
+use Rattle.pcrf_model.specs.Refusals.{ccr_refusal, aar_refusal, str_refusal, base_refusal}
+
+-- an answer on Gx: granted, with a difference and the default quality of service, or refused
+pub data GxAnswer : Type 0 where
+  Granted : DeltaValue → Option Quality → GxAnswer
+  Rejected : RefusalValue → GxAnswer
+
+-- what a site answers to a request: on Gx, on Rx (done or refused), or of the base protocol the Result-Code
+pub data AnswerValue : Type 0 where
+  OnGx : GxAnswer → AnswerValue
+  Done : AnswerValue
+  Refused : RefusalValue → AnswerValue
+  OnBase : ℕ → AnswerValue
+
+-- an answer, and the operation that is added; a refused request adds none
+pub record Outcome : Type 0 where
+  pub answer : AnswerValue
+  pub added : Option Operation
+
+-- how many entries of a difference a message carries (this project's profile)
+abbrev pub delta_limit : ℕ
+delta_limit = 40
+
+-- no names and no rules
+abbrev pub empty_delta : DeltaValue
+empty_delta = record { removed = []; installed = [] }
+
+-- DIAMETER_SUCCESS (RFC 6733, 7.1.2)
+abbrev pub success : ℕ
+success = 2001
+
+-- what the gateway is to be told of a session: the first entries of the difference
+abbrev pub delta_of : Tables → View → Session → DeltaValue
+delta_of t v s = first delta_limit (difference (told v s) (rules t v s))
+
+-- An initial request or an update that is accepted: its fields, and what the gateway is told on the holding with these fields;
+-- the difference and the default quality of service that the session then shows are answered.
+unfoldable pub provisioned : Tables → ℕ → Holding → CcrValue → Outcome
+provisioned t i h q =
+    let s : Session = gx q.session in
+    let fields = ccr_fields q (next_tag i h q.number) in
+    let v : View = view (h.facts ++ fields) in
+    let d : DeltaValue = delta_of t v s in
+    record {
+      answer = OnGx (Granted d (quality_of t v s));
+      added = Some (next_operation i h q.number s (fields ++ told_facts s (next_tag i h 0) d))
+    }
+
+-- a termination that is accepted: the end alone
+abbrev pub terminated : ℕ → Holding → CcrValue → Outcome
+terminated i h q = record { answer = OnGx (Granted empty_delta None); added = Some (next_operation i h q.number (gx q.session) (end_facts (gx q.session))) }
+
+abbrev pub accepted_ccr : Tables → ℕ → Holding → CcrValue → RequestKind → Outcome
+accepted_ccr t i h q Initial = provisioned t i h q
+accepted_ccr t i h q Update = provisioned t i h q
+accepted_ccr t i h q Termination = terminated i h q
+
+-- refused, with nothing added, or accepted
+abbrev pub refused_or : (RefusalValue → AnswerValue) → Option RefusalValue → Outcome → Outcome
+refused_or as_answer None accepted = accepted
+refused_or as_answer (Some r) accepted = record { answer = as_answer r; added = None }
+
+unfoldable pub serve_ccr : Tables → ℕ → Holding → CcrValue → Outcome
+serve_ccr t i h q = refused_or (λ r. OnGx (Rejected r)) (ccr_refusal t h q) (accepted_ccr t i h q q.kind)
+
+unfoldable pub serve_aar : Tables → ℕ → Holding → AarValue → Outcome
+serve_aar t i h q = refused_or Refused (aar_refusal t i h q) (record { answer = Done; added = Some (next_operation i h 0 (af q.session) (aar_facts q (next_tag i h 0))) })
+
+unfoldable pub serve_str : ℕ → Holding → StrValue → Outcome
+serve_str i h q = refused_or Refused (str_refusal h q) (record { answer = Done; added = Some (next_operation i h 0 (af q.session) (end_facts (af q.session))) })
+
+-- a base request adds nothing
+abbrev pub serve_base : BaseValue → Outcome
+serve_base q = record { answer = OnBase (unwrap_or (option_map (λ (r : RefusalValue). r.code) (base_refusal q.kind)) success); added = None }
+
+-- what site i, which holds h, answers and adds
+abbrev pub serve : Tables → ℕ → Holding → RequestValue → Outcome
+serve t i h (Ccr q) = serve_ccr t i h q
+serve t i h (Aar q) = serve_aar t i h q
+serve t i h (Str q) = serve_str i h q
+serve t i h (Base q) = serve_base q
+
+-- with the operation, if there is one
+abbrev pub with_added : Holding → Option Operation → Holding
+with_added h None = h
+with_added h (Some o) = with_operation h o

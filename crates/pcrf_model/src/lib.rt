@@ -1,0 +1,4 @@
+//! The definitions of the product: sessions, bindings, rules and differences as a model, and its laws.
+#![tactic(auto)]
+
+pub mod rows;
