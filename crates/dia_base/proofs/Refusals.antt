@@ -58,3 +58,11 @@ pub row_refused_at : (key : AvpKey) (least most : ℕ) (judge : List ℕ → Opt
 row_refused_at key least most judge avps i a NoMemory enough within lt is keyed none refused = tt
 row_refused_at key least most judge avps i a (Refused refusal) enough within lt is keyed none refused =
     row_judged key least most judge (avp_views avps) enough within ∙ refused_at key judge avps i a refusal lt is keyed none refused
+
+-- a row that isn't refused stands not too often
+pub granted_within : (key : AvpKey) (least most : ℕ) (judge : List ℕ → Option Refusal) (avps : List AvpValue) → row_refusal key least most judge avps ≡ None → length (values_of key avps) ≤ most
+unfolding row_refusal
+granted_within key least most judge avps granted = elim (nat_lt most (length (values_of key avps))) as (λ (above : Bool). nat_lt most (length (values_of key avps)) ≡ above → length (values_of key avps) ≤ most) [
+  | true ↦ λ above. absurd (let too : Some too_often ≡ None = (rw above at granted) in cc)
+  | false ↦ λ above. grind (arith, nat_tests)
+] refl

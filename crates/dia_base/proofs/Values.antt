@@ -1,12 +1,11 @@
 -- What stands at a key, AVP by AVP.
-use Rattle.std.proofs.Common.{◌≡◌, ◌<◌, ◌≤◌, ℕ, ◌+◌, Bool, true, false, List, [], ◌∷◌, ◌++◌, length, get_or, take, drop, map, refl, sym, ap, ◌∙◌, arith, length-append, if◌then◌else◌, Option, Some, None, is_some}
+use Rattle.std.proofs.Common.{◌≡◌, ◌<◌, ◌≤◌, ℕ, ◌+◌, true, false, List, [], ◌∷◌, ◌++◌, length, get_or, take, drop, sym, ap, ◌∙◌, arith, length-append, Option, Some, None, is_some}
 use Rattle.std.specs.Option.{option_to_list}
-use Rattle.std.specs.List.{filter_map}
 use Rattle.std.proofs.lemmas.List.{take-append-drop, map-append, append-nil, length_push}
 use Rattle.std.proofs.lemmas.List.Elements.{filter_map-append}
 use Rattle.dia_codec.specs.declared.message.Avp.{Avp}
 use Rattle.dia_codec.specs.declared.message.AvpKey.{AvpKey}
-use Rattle.dia_codec.specs.Fields.{AvpValue, key_of}
+use Rattle.dia_codec.specs.Fields.{key_of}
 use Rattle.dia_codec.specs.Spelling.{avp_view, avp_views}
 use Rattle.dia_codec.proofs.Lengths.{views_more}
 use Rattle.dia_base.specs.Rows.{values_of, value_if, same_key}

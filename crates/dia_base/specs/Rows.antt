@@ -1,6 +1,6 @@
 -- What a command's grammar asks of a message's AVPs (RFC 6733, 3.2), as rows of a table, and the first refusal of
 -- what breaks it (7.1.5).
-use Rattle.std.specs.Prelude.{◌≡◌, ℕ, Bool, true, false, ◌&&◌, ◌==◌, nat_lt, nat_le, if◌then◌else◌, List, [], ◌∷◌, length, Option, Some, None, option_map, ⊤}
+use Rattle.std.specs.Prelude.{◌≡◌, ℕ, Bool, false, ◌&&◌, ◌==◌, nat_lt, nat_le, if◌then◌else◌, List, [], ◌∷◌, length, Option, Some, None, option_map, ⊤}
 use Rattle.std.specs.List.{filter_map}
 use Rattle.dia_codec.specs.declared.message.AvpKey.{AvpKey}
 use Rattle.std.specs.Option.{option_eq}

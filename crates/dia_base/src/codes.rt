@@ -20,19 +20,33 @@ pub mod commands {
 /// AVP codes (RFC 6733, 4.5; RFC 4006, 8; RFC 2865, 5).
 pub mod avps {
     pub const FRAMED_IP_ADDRESS: u32 = 8;
+
     pub const CALLED_STATION_ID: u32 = 30;
+
     pub const AUTH_APPLICATION_ID: u32 = 258;
+
     pub const SESSION_ID: u32 = 263;
+
     pub const ORIGIN_HOST: u32 = 264;
+
     pub const VENDOR_ID: u32 = 266;
+
     pub const RESULT_CODE: u32 = 268;
+
     pub const ORIGIN_REALM: u32 = 296;
+
     pub const EXPERIMENTAL_RESULT: u32 = 297;
+
     pub const EXPERIMENTAL_RESULT_CODE: u32 = 298;
+
     pub const CC_REQUEST_NUMBER: u32 = 415;
+
     pub const CC_REQUEST_TYPE: u32 = 416;
+
     pub const SUBSCRIPTION_ID: u32 = 443;
+
     pub const SUBSCRIPTION_ID_DATA: u32 = 444;
+
     pub const SUBSCRIPTION_ID_TYPE: u32 = 450;
 }
 

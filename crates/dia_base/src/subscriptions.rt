@@ -1,15 +1,15 @@
 //! The subscribers that a request names (Subscription-Id, RFC 8506, 8.46).
-ghost use Rattle.std.specs.Prelude.{◌≡◌, map, IfOk, IfErr, Some, None};
+ghost use Rattle.std.specs.Prelude.{◌≡◌, [], map, unwrap_or, IfOk, IfErr, None};
 ghost use Rattle.dia_codec.specs.Spelling.{avp_views};
 ghost use Rattle.dia_base.specs.Rows.{base_key, values_of, row_refusal, grouped_refusal, plain_refusal, Group, IsRefusal};
-ghost use Rattle.dia_base.specs.Subscriptions.{subscription_rows, subscriber_of};
+ghost use Rattle.dia_base.specs.Subscriptions.{subscription_rows, subscriber_of, subscribers_of};
 
 use crate::codes::avps::{SUBSCRIPTION_ID, SUBSCRIPTION_ID_DATA, SUBSCRIPTION_ID_TYPE};
 use crate::codes::results::{AVP_OCCURS_TOO_MANY_TIMES, INVALID_AVP_LENGTH};
 use crate::refusal::{ReadFault, Refusal};
 use crate::rows::{base_key, count_of, required_number_within, required_text};
 use dia_codec::{Avp, MsgFault, read_group};
-use lattice_core::{Subscriber, SubscriptionType};
+use lattice_core::{Subscriber, Subscribers, SubscriptionType};
 use std::alloc::Global;
 
 /// How many Subscription-Ids a request may have: this project's own limit.
@@ -35,7 +35,7 @@ fn read_subscription(alloc: Global, value: &[u8]) -> Result<Subscriber, ReadFaul
 }
 
 /// Reads the subscribers that a request names, at most sixteen times, in the order in which they stand.
-pub fn read_subscriptions(alloc: Global, avps: &[Avp]) -> Result<Vec<Subscriber>, ReadFault>
+fn read_subscriptions(alloc: Global, avps: &[Avp]) -> Result<Vec<Subscriber>, ReadFault>
     ensures read { IfOk result (λ subscribers. (row_refusal (base_key 443) 0 16 (grouped_refusal plain_refusal (Group subscription_rows)) (avp_views avps.now) ≡ None) × (subscribers.items ≡ map subscriber_of (values_of (base_key 443) (avp_views avps.now)))) }
     ensures refused { IfErr result (λ fault. IsRefusal fault (row_refusal (base_key 443) 0 16 (grouped_refusal plain_refusal (Group subscription_rows)) (avp_views avps.now))) }
 {
@@ -50,4 +50,14 @@ pub fn read_subscriptions(alloc: Global, avps: &[Avp]) -> Result<Vec<Subscriber>
         }
     }
     Ok(subscribers)
+}
+
+/// Reads the subscribers that a request names, each once; None where it names none.
+pub fn read_subscribers(alloc: Global, avps: &[Avp]) -> Result<Option<Subscribers>, ReadFault>
+    ensures read { IfOk result (λ set. (row_refusal (base_key 443) 0 16 (grouped_refusal plain_refusal (Group subscription_rows)) (avp_views avps.now) ≡ None) × (unwrap_or set [] ≡ subscribers_of (avp_views avps.now))) }
+    ensures refused { IfErr result (λ fault. IsRefusal fault (row_refusal (base_key 443) 0 16 (grouped_refusal plain_refusal (Group subscription_rows)) (avp_views avps.now))) }
+{
+    let given = read_subscriptions(alloc, avps)?;
+    let set = Subscribers::of(alloc, given)?;
+    Ok(set)
 }

@@ -1,8 +1,7 @@
-use Rattle.std.proofs.Common.{◌≡◌, ◌<◌, ◌++◌, ◌∷◌, [], ℕ, List, Err, subst, arith, rules, refl, ◌∙◌}
+use Rattle.std.proofs.Common.{◌≡◌, ◌<◌, ◌∷◌, [], ℕ, List, subst, arith, rules, refl, ◌∙◌}
 use Rattle.std.specs.List.{sum_by}
 use Rattle.dia_codec.specs.Fields.{AvpValue}
 use Rattle.dia_codec.specs.Written.{word_bytes, padded_len}
-use Rattle.dia_codec.specs.declared.fault.WriteFault.TheVariants.{TooLong}
 use Rattle.dia_base.specs.Answers.{number_avp}
 use Rattle.dia_base.proofs.answer.experimental_result.Goals as goal
 

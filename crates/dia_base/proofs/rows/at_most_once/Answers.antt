@@ -1,5 +1,4 @@
 use Rattle.std.proofs.Common.{◌≡◌, ◌<◌, true, false, length, get_or, is_some, option_map, ◌∙◌, rules}
-use Rattle.dia_codec.specs.declared.message.Avp.{Avp}
 use Rattle.dia_codec.specs.Fields.{key_of}
 use Rattle.dia_codec.specs.Spelling.{avp_view}
 use Rattle.dia_base.specs.Rows.{same_key}
@@ -21,12 +20,12 @@ loop-avp-preserved c =
     let is : c.avp-item.result ≡ get_or c.args.avps.now c.loop-avp.avp-index c.avp-item.result = search rules in
     elim c.if-eq.branch [
       | then-eq+else-is_some w ↦
-        let keyed : same_key (key_of (avp_view c.avp-item.result)) c.args.key ≡ true = search rules in
-        let none : is_some (option_map (λ avp. avp.now.value.items) c.loop-avp.found) ≡ false = search rules in
-        let more = values_keyed c.args.key c.args.avps.now c.loop-avp.avp-index c.avp-item.result lt is keyed in
-        let first = first_found _ _ c.avp-item.result.value.items none c.loop-avp.invariant in
-        rw w.found-is (more ∙ first)
+          let keyed : same_key (key_of (avp_view c.avp-item.result)) c.args.key ≡ true = search rules in
+          let none : is_some (option_map (λ avp. avp.now.value.items) c.loop-avp.found) ≡ false = search rules in
+          let more = values_keyed c.args.key c.args.avps.now c.loop-avp.avp-index c.avp-item.result lt is keyed in
+          let first = first_found _ _ c.avp-item.result.value.items none c.loop-avp.invariant in
+          rw w.found-is (more ∙ first)
       | else-eq w ↦
-        let other : same_key (key_of (avp_view c.avp-item.result)) c.args.key ≡ false = search rules in
-        rw w.found-is (values_other c.args.key c.args.avps.now c.loop-avp.avp-index c.avp-item.result lt is other ∙ c.loop-avp.invariant)
+          let other : same_key (key_of (avp_view c.avp-item.result)) c.args.key ≡ false = search rules in
+          rw w.found-is (values_other c.args.key c.args.avps.now c.loop-avp.avp-index c.avp-item.result lt is other ∙ c.loop-avp.invariant)
     ]

@@ -13,11 +13,11 @@ loop-avp-preserved c =
     let is : c.avp-item.result ≡ get_or c.args.avps.now c.loop-avp.avp-index c.avp-item.result = search rules in
     elim c.if-eq.branch [
       | then-eq w ↦
-        let keyed : same_key (key_of (avp_view c.avp-item.result)) c.args.key ≡ true = search rules in
-        let more = ap length (values_keyed c.args.key c.args.avps.now c.loop-avp.avp-index c.avp-item.result lt is keyed) ∙ length_push _ c.avp-item.result.value.items in
-        record { counted = omega (arith, more); within = omega arith }
+          let keyed : same_key (key_of (avp_view c.avp-item.result)) c.args.key ≡ true = search rules in
+          let more = ap length (values_keyed c.args.key c.args.avps.now c.loop-avp.avp-index c.avp-item.result lt is keyed) ∙ length_push _ c.avp-item.result.value.items in
+          record { counted = omega (arith, more); within = omega arith }
       | else-eq w ↦
-        let other : same_key (key_of (avp_view c.avp-item.result)) c.args.key ≡ false = search rules in
-        let same = ap length (values_other c.args.key c.args.avps.now c.loop-avp.avp-index c.avp-item.result lt is other) in
-        record { counted = omega (arith, same); within = omega arith }
+          let other : same_key (key_of (avp_view c.avp-item.result)) c.args.key ≡ false = search rules in
+          let same = ap length (values_other c.args.key c.args.avps.now c.loop-avp.avp-index c.avp-item.result lt is other) in
+          record { counted = omega (arith, same); within = omega arith }
     ]

@@ -1,11 +1,10 @@
-use Rattle.std.proofs.Common.{◌≡◌, ◌<◌, ◌≤◌, ◌++◌, ◌∷◌, [], ℕ, List, Option, None, true, false, length, get_or, take, map, ap, sym, ◌∙◌, arith, rules}
+use Rattle.std.proofs.Common.{◌≡◌, ◌<◌, ◌≤◌, ◌++◌, ◌∷◌, [], ℕ, List, Option, true, false, length, take, ap, ◌∙◌, arith, rules}
 use Rattle.std.proofs.lemmas.List.{take_all, map-append}
 use Rattle.std.proofs.lemmas.Result.{err_from_is_err_and}
-use Rattle.dia_codec.specs.declared.message.Avp.{Avp}
 use Rattle.dia_codec.specs.Fields.{key_of}
 use Rattle.dia_codec.specs.Spelling.{avp_view, avp_views}
 use Rattle.dia_base.specs.declared.refusal.Refusal.{Refusal}
-use Rattle.dia_base.specs.Rows.{base_key, same_key, values_of, first_refusal, row_refusal, grouped_refusal, plain_refusal, Group}
+use Rattle.dia_base.specs.Rows.{base_key, same_key, values_of, grouped_refusal, plain_refusal, Group}
 use Rattle.dia_base.specs.Subscriptions.{subscription_rows, subscriber_of}
 use Rattle.dia_base.proofs.Values.{values_keyed, values_other}
 use Rattle.dia_base.proofs.Refusals.{first_refusal_push, row_refused_at, row_too_often, row_judged}
@@ -31,16 +30,16 @@ pub loop-avp-preserved : goal.loop-avp-preserved
 loop-avp-preserved c =
     elim c.if-eq.branch [
       | then-eq+in_ok-read_subscription+in_ok-push w ↦
-        let keyed : same_key (key_of (avp_view c.avp-item.result)) c.base_key-key.result ≡ true = search rules in
-        let more = values_keyed c.base_key-key.result c.args.avps.now c.loop-avp.avp-index c.avp-item.result c.loop-avp-test.true c.avp-item.is keyed in
-        record {
-          granted = rw more (first_refusal_push judge _ c.avp-item.result.value.items c.loop-avp.invariant.granted (search rules));
-          read = rw (w.subscribers-is, w.in_ok-push.ensures.items, w.in_ok-read_subscription.ensures.read.1, w.text.ensures, more, map-append) (ap (λ (front : List (ℕ × List ℕ)). front ++ subscriber_of c.avp-item.result.value.items ∷ []) c.loop-avp.invariant.read);
-        }
+          let keyed : same_key (key_of (avp_view c.avp-item.result)) c.base_key-key.result ≡ true = search rules in
+          let more = values_keyed c.base_key-key.result c.args.avps.now c.loop-avp.avp-index c.avp-item.result c.loop-avp-test.true c.avp-item.is keyed in
+          record {
+            granted = rw more (first_refusal_push judge _ c.avp-item.result.value.items c.loop-avp.invariant.granted (search rules));
+            read = rw (w.subscribers-is, w.in_ok-push.ensures.items, w.in_ok-read_subscription.ensures.read.1, w.text.ensures, more, map-append) (ap (λ (front : List (ℕ × List ℕ)). front ++ subscriber_of c.avp-item.result.value.items ∷ []) c.loop-avp.invariant.read);
+          }
       | else-eq w ↦
-        let other : same_key (key_of (avp_view c.avp-item.result)) c.base_key-key.result ≡ false = search rules in
-        let same = values_other c.base_key-key.result c.args.avps.now c.loop-avp.avp-index c.avp-item.result c.loop-avp-test.true c.avp-item.is other in
-        record { granted = rw same c.loop-avp.invariant.granted; read = rw (w.subscribers-is, same) c.loop-avp.invariant.read }
+          let other : same_key (key_of (avp_view c.avp-item.result)) c.base_key-key.result ≡ false = search rules in
+          let same = values_other c.base_key-key.result c.args.avps.now c.loop-avp.avp-index c.avp-item.result c.loop-avp-test.true c.avp-item.is other in
+          record { granted = rw same c.loop-avp.invariant.granted; read = rw (w.subscribers-is, same) c.loop-avp.invariant.read }
     ]
 
 pub returns-clause-read : goal.returns-clause-read

@@ -1,0 +1,58 @@
+//! Answers to credit control requests (TS 29.212, 5.6.3).
+ghost use Rattle.std.specs.Prelude.{◌≡◌, IfOk};
+ghost use Rattle.dia_codec.specs.Spelling.{message_view};
+ghost use Rattle.gx_profile.specs.Answers.{cca, result_of};
+
+use crate::ccr::Ccr;
+use dia_base::codes::{GX, avps, results};
+use dia_base::{
+    AvpWriter, Identity, Refusal, answer_header, is_protocol_error, put_origin, put_result,
+};
+use dia_codec::{Header, Message};
+use std::alloc::{AllocError, Global};
+
+/// What a site answers to a credit control request.
+#[derive(Clone, Copy, Debug, PartialEq, Eq)]
+pub enum GxReply {
+    /// The request is accepted.
+    Granted,
+    /// The request is refused, and has changed nothing.
+    Refused(Refusal),
+}
+
+impl GxReply {
+    /// The result that the answer tells: DIAMETER_SUCCESS, or the refusal.
+    pub fn result_of(&self) -> Refusal
+        ensures { result ≡ result_of self.now }
+    {
+        match self {
+            GxReply::Granted => Refusal::base(results::SUCCESS),
+            GxReply::Refused(refusal) => *refusal,
+        }
+    }
+}
+
+/// The answer to a credit control request that was read.
+#[tactic(auto, unfolding(crate::specs::Answers::cca))]
+pub fn write_cca(
+    alloc: Global,
+    identity: &Identity,
+    header: &Header,
+    ccr: &Ccr,
+    reply: &GxReply,
+) -> Result<Message, AllocError>
+    ensures { IfOk result (λ message. message_view message ≡ cca identity.now header.now ccr.now reply.now) }
+{
+    let told = reply.result_of();
+    let mut out = AvpWriter::start(alloc);
+    out.text(avps::SESSION_ID, ccr.session.as_slice())?;
+    out.number(avps::AUTH_APPLICATION_ID, GX)?;
+    put_origin(&mut out, identity)?;
+    put_result(alloc, &mut out, told)?;
+    out.number(avps::CC_REQUEST_TYPE, ccr.kind.number())?;
+    out.number(avps::CC_REQUEST_NUMBER, ccr.number)?;
+    Ok(Message {
+        header: answer_header(header, is_protocol_error(told.code)),
+        avps: out.into_avps(),
+    })
+}

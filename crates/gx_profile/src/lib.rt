@@ -1,0 +1,8 @@
+//! The Gx profile: what is read of a credit control request, and the bytes of its answer (TS 29.212).
+#![tactic(auto)]
+
+mod answer;
+mod ccr;
+
+pub use answer::{GxReply, write_cca};
+pub use ccr::{Ccr, RequestKind, read_ccr};
