@@ -1,0 +1,45 @@
+-- Operations as the definitions have them.
+use Rattle.std.specs.Prelude.{ℕ, List, map, Some}
+use Rattle.std.specs.Net.Addr.{ipv4_octets}
+use Rattle.lattice_core.specs.declared.tag.Tag.{Tag}
+use Rattle.lattice_core.specs.Ascending.{ascending}
+use Rattle.pcrf_model.specs.Sessions.{gx}
+use Rattle.pcrf_model.specs.Facts.{Fact, fact_cmp}
+use Rattle.pcrf_model.specs.Requests.{CcrValue, Initial}
+use Rattle.pcrf_model.specs.Making.{ccr_fields}
+use Rattle.pcrf_model.specs.Holdings.{Holding}
+use Rattle.pcrf_model.specs.Operations.{Operation, holding_of}
+use Rattle.pcrf_world.specs.declared.operation.GxFields.{GxFields}
+
+-- a stamp, the gateway's session and its fields
+pub record OperationValue : Type 0 where
+  pub tag : Tag
+  pub session : List ℕ
+  pub fields : GxFields
+
+-- the initial request that sets the fields
+abbrev pub initial_request : OperationValue → CcrValue
+initial_request o = record {
+  session = o.session;
+  host = o.fields.host;
+  realm = o.fields.realm;
+  kind = Initial;
+  number = o.tag.number;
+  address = Some (ipv4_octets o.fields.address);
+  apn = Some o.fields.apn;
+  subscribers = o.fields.subscribers;
+}
+
+-- the operation of an accepted initial request, in the definitions' words
+abbrev pub operation_of : OperationValue → Operation
+operation_of o = record {
+  counter = o.tag.counter;
+  site = o.tag.site;
+  number = o.tag.number;
+  session = gx o.session;
+  facts = ascending fact_cmp (ccr_fields (initial_request o) o.tag);
+}
+
+-- what operations say
+abbrev pub held : List OperationValue → Holding
+held operations = holding_of (map operation_of operations)

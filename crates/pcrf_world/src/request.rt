@@ -1,0 +1,16 @@
+//! What a site is asked to serve, and what it replies.
+use gx_profile::{Ccr, GxReply};
+
+/// A request as it was read.
+#[derive(Drop)]
+pub enum Request {
+    /// A credit control request of a gateway.
+    Ccr(Ccr),
+}
+
+/// What a site replies to a request of the same kind.
+#[derive(Clone, Copy, Debug, PartialEq, Eq)]
+pub enum Reply {
+    /// To a credit control request.
+    Gx(GxReply),
+}
