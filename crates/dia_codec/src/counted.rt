@@ -42,6 +42,19 @@ impl<D> Counted<D> {
     {
         self.calls
     }
+
+    /// Remembers a call that has failed.
+    fn noted<T>(&mut self, given: io::Result<T>) -> io::Result<T>
+        ensures same { result ≡ given }
+        ensures failed { OnErr given (self.new.failed ≡ true) }
+        ensures kept { OnOk given (self.new.failed ≡ self.old.failed) }
+        ensures others { (self.new.inner ≡ self.old.inner) × (self.new.calls ≡ self.old.calls) }
+    {
+        if given.is_err() {
+            self.failed = true;
+        }
+        given
+    }
 }
 
 impl<R: Read> Read for Counted<R> {
@@ -56,10 +69,7 @@ impl<R: Read> Read for Counted<R> {
     {
         self.calls = self.calls.saturating_add(1);
         let result = self.inner.read(buf);
-        if result.is_err() {
-            self.failed = true;
-        }
-        result
+        self.noted(result)
     }
 }
 
@@ -76,17 +86,11 @@ impl<W: Write> Write for Counted<W> {
         ensures kept { OnOk result (self.new.failed ≡ self.old.failed) }
         ensures calls { self.new.calls ≡ self.old.calls }
     {
-        match self.inner.write(buf) {
-            Ok(0) if !buf.is_empty() => {
-                self.failed = true;
-                Err(io::Error::from(ErrorKind::WriteZero))
-            }
-            Ok(n) => Ok(n),
-            Err(error) => {
-                self.failed = true;
-                Err(error)
-            }
-        }
+        let result = match self.inner.write(buf) {
+            Ok(0) if !buf.is_empty() => Err(io::Error::from(ErrorKind::WriteZero)),
+            result => result,
+        };
+        self.noted(result)
     }
 
     fn flush(&mut self) -> io::Result<()>
@@ -96,10 +100,7 @@ impl<W: Write> Write for Counted<W> {
         ensures calls { self.new.calls ≡ self.old.calls }
     {
         let result = self.inner.flush();
-        if result.is_err() {
-            self.failed = true;
-        }
-        result
+        self.noted(result)
     }
 
     fn write_all(&mut self, buf: &[u8]) -> io::Result<()>

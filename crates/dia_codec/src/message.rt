@@ -78,10 +78,11 @@ impl Avp {
     pub fn number(&self) -> Option<u32>
         ensures { result ≡ number_of (avp_view self.now) }
     {
-        if self.value.len() != 4 {
+        let bytes = self.text();
+        if bytes.len() != 4 {
             return None;
         }
-        Some(word_at(&self.value, 0))
+        Some(word_at(bytes, 0))
     }
 
     /// The value as a text of type OctetString or UTF8String, whose bytes are not checked.
@@ -95,7 +96,7 @@ impl Avp {
     pub fn address(&self) -> Option<Ipv4Addr>
         ensures { option_map ipv4_octets result ≡ octets_of (avp_view self.now) }
     {
-        let octets = <[u8; 4]>::try_from(self.value.as_slice()).ok()?;
+        let octets = <[u8; 4]>::try_from(self.text()).ok()?;
         Some(Ipv4Addr::from_octets(octets))
     }
 }

@@ -29,7 +29,10 @@ pub struct FramedStream {
 }
 
 /// Takes each whole frame that stands at the front.
-fn take_frames(assembler: &mut Assembler, frames: &mut Vec<Vec<u8>>) -> Result<StreamEnd, AllocError>
+fn take_frames(
+    assembler: &mut Assembler,
+    frames: &mut Vec<Vec<u8>>,
+) -> Result<StreamEnd, AllocError>
     requires sound { assembler.old.fault ≡ None }
     requires each { AllByRecursion IsFrame (frame_bytes frames.old.items) }
     ensures splits { IfOk result (λ end. Splits (stream_of (frame_bytes frames.old.items) assembler.old.bytes)
@@ -78,5 +81,4 @@ pub fn one_cut()
         → Splits stream frames rest → Splits stream others last → (frames ≡ others) × (rest ≡ last) }
     ensures cuts { (stream : List ℕ) (frames others : List (List ℕ)) (end last : StreamEnd)
         → CutsInto stream frames end → CutsInto stream others last → (frames ≡ others) × (end ≡ last) }
-{
-}
+{}
