@@ -1,0 +1,14 @@
+//! The program `pcrf`.
+#![tactic(auto)]
+
+mod run;
+
+use std::process::ExitCode;
+
+fn main(rt: HostRuntime) -> ExitCode {
+    let Ok(words) = run::words(&rt) else {
+        return ExitCode::from(run::NO_MEMORY);
+    };
+    let status = run::run(&rt, words.as_slice(), rt.stdin(), rt.stdout(), rt.stderr());
+    ExitCode::from(status)
+}

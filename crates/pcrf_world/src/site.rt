@@ -1,0 +1,214 @@
+//! One site, which keeps a plain list of the operations that it took.
+ghost use Rattle.std.specs.Prelude.{◌≡◌, ◌≤◌, ◌<◌, ◌^◌, [], ◌++◌, length, take, IfOk, OnOk, OnErr, IfErr};
+
+use crate::operation::{GxFields, Operation, copy_all};
+use crate::request::{Reply, Request};
+use dia_base::Refusal;
+use dia_base::codes::results::{INITIAL_PARAMETERS, UNABLE_TO_COMPLY};
+use gx_profile::{Ccr, GxReply, RequestKind};
+use lattice_core::{Apn, Ranked, Reg, SessionId, Tag};
+use std::alloc::{AllocError, Global};
+use std::cmp::Ordering;
+use std::marker::Model;
+use std::net::Ipv4Addr;
+
+/// The last counter of any operation: this project's own limit.
+const LAST_COUNTER: u64 = 9_223_372_036_854_775_807;
+
+/// A site of a world: its number, the operations that it took, and those that it made itself, each in order.
+#[derive(Drop)]
+pub struct PlainSite {
+    alloc: Global,
+    number: u8,
+    taken: Vec<Operation>,
+    log: Vec<Operation>,
+}
+
+impl Model for PlainSite {
+    ghost use Rattle.pcrf_world.specs.Sites.{SiteValue};
+
+    ghost Value = { SiteValue };
+
+    ghost view = { λ s. record { number = s.number; taken = s.taken.items; log = s.log.items } };
+}
+
+/// A gateway's session as a site shows it.
+#[derive(Drop)]
+pub struct GxSession {
+    session: SessionId,
+    address: Reg<Ipv4Addr>,
+    apn: Reg<Apn>,
+    home: Reg<u32>,
+}
+
+impl GxSession {
+    /// The session.
+    pub fn session(&self) -> &SessionId {
+        &self.session
+    }
+
+    /// The address that it shows.
+    pub fn address(&self) -> Option<Ipv4Addr> {
+        Some(self.address.get()?.1)
+    }
+
+    /// The access point name that it shows.
+    pub fn apn(&self) -> Option<&Apn> {
+        Some(&self.apn.get()?.1)
+    }
+
+    /// The site that served its last request.
+    pub fn home(&self) -> Option<u8> {
+        Some(self.home.get()?.0.site)
+    }
+
+    fn start(session: SessionId) -> GxSession {
+        GxSession {
+            session,
+            address: Reg::start(),
+            apn: Reg::start(),
+            home: Reg::start(),
+        }
+    }
+
+    fn add(&mut self, tag: Tag, fields: &GxFields) -> Result<(), AllocError> {
+        let apn = fields.apn.try_copy()?;
+        self.address.put(tag, fields.address);
+        self.apn.put(tag, apn);
+        self.home.put(tag, 1);
+        Ok(())
+    }
+}
+
+impl PlainSite {
+    ghost use Rattle.pcrf_world.specs.Sites.{SiteValue};
+
+    /// A site that took nothing.
+    pub fn start(alloc: Global, number: u8) -> PlainSite
+        ensures { result ≡ record { number = number; taken = []; log = [] } }
+    {
+        PlainSite {
+            alloc,
+            number,
+            taken: Vec::new(alloc),
+            log: Vec::new(alloc),
+        }
+    }
+
+    /// The greatest counter of the operations that were taken, 0 at first.
+    pub fn clock(&self) -> u64 {
+        let mut clock = 0;
+        for operation in &self.taken {
+            clock = operation.tag().counter.max(clock);
+        }
+        clock
+    }
+
+    /// The gateways' sessions with what they show, ascending by Session-Id.
+    pub fn gx(&self) -> Result<Vec<GxSession>, AllocError> {
+        let mut sessions = Vec::new(self.alloc);
+        for operation in &self.taken {
+            add_to(&mut sessions, operation)?;
+        }
+        Ok(sessions)
+    }
+
+    /// The operations that the site made itself.
+    pub fn own(&self) -> Result<Vec<Operation>, AllocError>
+        ensures { IfOk result (λ own. own.items ≡ self.now.log) }
+    {
+        copy_all(self.alloc, self.log.as_slice())
+    }
+
+    /// Serves a request. An error changes nothing.
+    pub fn serve(&mut self, request: &Request) -> Result<Reply, AllocError> {
+        let Request::Ccr(ccr) = request;
+        Ok(Reply::Gx(self.serve_ccr(ccr)?))
+    }
+
+    /// Serves a credit control request: updates and terminations are not served yet.
+    fn serve_ccr(&mut self, ccr: &Ccr) -> Result<GxReply, AllocError> {
+        if ccr.kind != RequestKind::Initial {
+            return Ok(GxReply::Refused(Refusal::base(UNABLE_TO_COMPLY)));
+        }
+        let Some(fields) = initial_fields(ccr)? else {
+            return Ok(GxReply::Refused(Refusal::experimental(INITIAL_PARAMETERS)));
+        };
+        let clock = self.clock();
+        if clock >= LAST_COUNTER {
+            return Ok(GxReply::Refused(Refusal::base(UNABLE_TO_COMPLY)));
+        }
+        let tag = Tag {
+            number: ccr.number,
+            counter: clock + 1,
+            site: self.number,
+        };
+        self.add(Operation::of(tag, ccr.session.try_copy()?, fields))?;
+        Ok(GxReply::Granted)
+    }
+
+    /// Adds an operation of the site's own, or changes nothing.
+    fn add(&mut self, operation: Operation) -> Result<(), AllocError> {
+        let copy = operation.try_copy()?;
+        self.log.try_reserve(1)?;
+        self.taken.push(copy)?;
+        self.log.push(operation).unwrap();
+        Ok(())
+    }
+
+    /// Takes operations in order. An error tells how many stand taken.
+    pub fn take_all(&mut self, operations: &[Operation]) -> Result<(), (usize, AllocError)> {
+        for (count, operation) in operations.iter().enumerate() {
+            if self.take(operation).is_err() {
+                return Err((count, AllocError));
+            }
+        }
+        Ok(())
+    }
+
+    /// Takes one operation, or changes nothing.
+    fn take(&mut self, operation: &Operation) -> Result<(), AllocError> {
+        let copy = operation.try_copy()?;
+        self.taken.push(copy)?;
+        Ok(())
+    }
+}
+
+/// The fields that an initial request sets, None where it lacks one that it must have (TS 29.212, 4.5.1).
+fn initial_fields(ccr: &Ccr) -> Result<Option<GxFields>, AllocError> {
+    let (Some(address), Some(apn), Some(subscribers)) = (ccr.address, &ccr.apn, &ccr.subscribers)
+    else {
+        return Ok(None);
+    };
+    Ok(Some(GxFields {
+        address,
+        apn: apn.try_copy()?,
+        subscribers: subscribers.try_copy()?,
+        host: ccr.host.try_copy()?,
+        realm: ccr.realm.try_copy()?,
+    }))
+}
+
+/// Adds an operation to the sessions that it speaks of.
+fn add_to(sessions: &mut Vec<GxSession>, operation: &Operation) -> Result<(), AllocError> {
+    let (tag, fields) = (operation.tag(), operation.fields());
+    for at in 0..sessions.len() {
+        match operation.session().cmp(&sessions[at].session) {
+            Ordering::Greater => {}
+            Ordering::Equal => {
+                let found = &mut sessions[at];
+                return found.add(tag, fields);
+            }
+            Ordering::Less => {
+                let mut session = GxSession::start(operation.session().try_copy()?);
+                session.add(tag, fields)?;
+                sessions.insert(at, session)?;
+                return Ok(());
+            }
+        }
+    }
+    let mut session = GxSession::start(operation.session().try_copy()?);
+    session.add(tag, fields)?;
+    sessions.push(session)?;
+    Ok(())
+}
