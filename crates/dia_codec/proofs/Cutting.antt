@@ -1,27 +1,31 @@
 -- Cutting bytes into AVPs.
-use Rattle.std.proofs.Common.{◌≡◌, ℕ, zero, suc, ◌+◌, ◌≤◌, ◌<◌, Bool, true, false, cond, List, [], ◌∷◌, ◌++◌, length, get_or, take, drop, Option, Some, None, refl, sym, ap, subst, ◌∙◌, append_assoc, arith}
+use Rattle.std.proofs.Common.{◌≡◌, ℕ, zero, suc, ◌+◌, ◌≤◌, ◌<◌, Bool, true, false, cond, List, [], ◌∷◌, ◌++◌, length, take, drop, Option, Some, None, refl, sym, ap, ◌∙◌, append_assoc, arith}
 use Rattle.std.specs.Prelude.{IsSome}
 use Rattle.std.proofs.lemmas.Bool.{ltb-false}
-use Rattle.std.proofs.lemmas.List.{append-nil, length-take, length-drop, get_or-take, nil_from_length}
+use Rattle.std.proofs.lemmas.List.{append-nil, length-take, length-drop, get_or-take, get_or_append_left}
 use Rattle.dia_codec.specs.Fields.{AvpValue, three_at, padding}
 use Rattle.dia_codec.specs.Spelling.{head_len, avp_value}
-use Rattle.dia_codec.specs.Reading.{◌>>=◌, Fails, cut_at, avps_within, avps_of}
+use Rattle.dia_codec.specs.Reading.{◌>>=◌, cut_at, avps_within, avps_of}
 
 -- a test that did not refuse
 pub passed : {A : Type 0} (b : Bool) (y : Option A) (x : A) → cond b None y ≡ Some x → (b ≡ false) × (y ≡ Some x)
 passed true y x e = absurd cc
 passed false y x e = (refl, e)
 
+-- an option with a value, with its type known
 abbrev some : {A : Type 0} → A → Option A
 some x = Some x
 
+-- equal options have equal values
 pub some_is : {A : Type 0} (x y : A) → some x ≡ some y → x ≡ y
 some_is x y e = cc
 
+-- what came of two steps came of each
 pub bind_some : {A B : Type 0} (r : Option A) (f : A → Option B) (y : B) → (r >>= f) ≡ Some y → (x : A) × (r ≡ Some x) × (f x ≡ Some y)
 bind_some (Some x) f y e = (x, refl, e)
 bind_some None f y e = absurd cc
 
+-- what a cut says of the bytes
 pub record IsCut (bytes own rest : List ℕ) : Type 0 where
   pub within : three_at bytes 5 ≤ length bytes
   pub least : 8 ≤ three_at bytes 5
@@ -29,6 +33,7 @@ pub record IsCut (bytes own rest : List ℕ) : Type 0 where
   pub own_is : own ≡ take (three_at bytes 5) bytes
   pub rest_is : rest ≡ drop (three_at bytes 5 + padding (three_at bytes 5)) bytes
 
+-- a cut is one
 pub is_cut : (bytes own rest : List ℕ) → cut_at bytes ≡ Some (own, rest) → IsCut bytes own rest
 unfolding cut_at
 is_cut bytes own rest e =
@@ -45,9 +50,20 @@ is_cut bytes own rest e =
       rest_is = sym (ap (λ (p : List ℕ × List ℕ). p.1) same);
     }
 
+-- a number stands in the bytes before the tail
+pub three_at-append : (own tail : List ℕ) (at : ℕ) → at + 3 ≤ length own → three_at (own ++ tail) at ≡ three_at own at
+unfolding three_at
+three_at-append own tail at le =
+    let a : at < length own = omega arith in
+    let b : at + 1 < length own = omega arith in
+    let c : at + 2 < length own = omega arith in
+    rw (get_or_append_left own tail 0 at a, get_or_append_left own tail 0 (at + 1) b, get_or_append_left own tail 0 (at + 2) c) refl
+
+-- the V bit stands in the first eight bytes
 pub same_head : (n : ℕ) (bytes : List ℕ) → 8 ≤ n → head_len (take n bytes) ≡ head_len bytes
 same_head n bytes le = let lt : 4 < n = omega arith in rw get_or-take refl
 
+-- what is cut off has its whole header
 pub own_whole : (bytes own rest : List ℕ) → cut_at bytes ≡ Some (own, rest) → head_len own ≤ length own
 own_whole bytes own rest e =
     let k = is_cut bytes own rest e in
@@ -56,6 +72,7 @@ own_whole bytes own rest e =
     let v = k.within in
     rw (k.own_is, h, length-take) (omega arith)
 
+-- a cut takes eight bytes at least
 pub shorter : (bytes own rest : List ℕ) → cut_at bytes ≡ Some (own, rest) → length rest + 8 ≤ length bytes
 shorter bytes own rest e =
     let k = is_cut bytes own rest e in
@@ -63,6 +80,7 @@ shorter bytes own rest e =
     let l = k.least in
     rw (k.rest_is, length-drop) (omega arith)
 
+-- steps that agree on what was read before agree
 pub same_after : {A B : Type 0} (r : Option A) (f g : A → Option B) → ((x : A) → r ≡ Some x → f x ≡ g x) → (r >>= f) ≡ (r >>= g)
 same_after (Some x) f g h = h x refl
 same_after None f g h = refl
@@ -88,6 +106,7 @@ avps_step b bytes =
     let e : avps_within (length bytes) x.1 ≡ avps_within (length x.1) x.1 = within_more (length bytes) (length x.1) x.1 (omega arith) (omega arith) in
     rw e refl)
 
+-- no bytes are no AVPs
 pub avps_end : avps_of [] ≡ Some []
 unfolding avps_of avps_within
 avps_end = refl
@@ -98,10 +117,12 @@ avps_end = refl
 abbrev pub with_front : List AvpValue → Option (List AvpValue) → Option (List AvpValue)
 with_front front read = read >>= λ others. Some (front ++ others)
 
+-- one more AVP was read
 regroup : (front : List AvpValue) (a : AvpValue) (read : Option (List AvpValue)) → with_front front (read >>= λ others. Some (a ∷ others)) ≡ with_front (front ++ a ∷ []) read
 regroup front a (Some others) = ap some (simp append_assoc)
 regroup front a None = refl
 
+-- the loop goes on with what follows the cut
 pub goes_on : (front : List AvpValue) (bytes own after : List ℕ) (total : Option (List AvpValue)) → 0 < length bytes → cut_at bytes ≡ Some (own, after)
     → with_front front (avps_of bytes) ≡ total → with_front (front ++ avp_value own ∷ []) (avps_of after) ≡ total
 goes_on front [] own after total left h so_far = absurd (omega arith)
@@ -109,6 +130,7 @@ goes_on front (b ∷ bytes) own after total left h so_far =
     let one : with_front front (avps_of (b ∷ bytes)) ≡ with_front (front ++ avp_value own ∷ []) (avps_of after) = rw (avps_step b bytes, h) (regroup front (avp_value own) (avps_of after)) in
     sym one ∙ so_far
 
+-- where no AVP can be cut off, reading fails
 pub ends : (front : List AvpValue) (bytes : List ℕ) (total : Option (List AvpValue)) → 0 < length bytes → cut_at bytes ≡ None
     → with_front front (avps_of bytes) ≡ total → total ≡ None
 ends front [] total left h so_far = absurd (omega arith)
@@ -116,6 +138,7 @@ ends front (b ∷ bytes) total left h so_far =
     let one : with_front front (avps_of (b ∷ bytes)) ≡ None = rw (avps_step b bytes, h) refl in
     sym so_far ∙ one
 
+-- at the end all AVPs were read
 pub is_done : (front : List AvpValue) (bytes : List ℕ) (total : Option (List AvpValue)) → length bytes ≡ 0 → with_front front (avps_of bytes) ≡ total → total ≡ Some front
 is_done front [] total none so_far = sym so_far ∙ rw avps_end (ap some (append-nil front))
 is_done front (b ∷ bytes) total none so_far = absurd (omega arith)
@@ -125,5 +148,6 @@ pub record IsAfter (bytes rest : List ℕ) : Type 0 where
   pub front : List AvpValue
   pub total : with_front front (avps_of rest) ≡ avps_of bytes
 
+-- AVPs that were read are there
 pub counts : (bytes : List ℕ) (front : List AvpValue) → avps_of bytes ≡ Some front → IsSome (avps_of bytes)
 counts bytes front e = rw e refl

@@ -1,20 +1,23 @@
-//! Frames from a stream in pieces.
+//! Frames from a stream in pieces. A frame is the bytes of one message, cut by its length field alone.
 
-ghost use Rattle.std.specs.Prelude.{◌≡◌, ◌==◌, ◌++◌, [], IfOk, OnOk, IfErr, IfSome, IfNone, ◌⊎◌, ◌≤◌, length, take, drop, Some, None, Ok, Err, IsOk};
+ghost use Rattle.std.specs.Prelude.{◌≡◌, ◌==◌, ◌++◌, [], IfOk, OnOk, IfErr, IfSome, IfNone, ◌⊎◌, ◌≤◌, length, take, drop};
+ghost use Rattle.std.specs.Prelude.{Some, None, Ok, Err, IsOk};
 ghost use Rattle.dia_codec.specs.Stream.{front_of};
 ghost use Rattle.dia_codec.specs.Spelling.{IsFrame};
 ghost use Rattle.dia_codec.specs.declared.fault.FrameFault.TheVariants as faults;
 
 use crate::fault::FrameFault;
-use crate::fields::three_at;
+use crate::fields::{HEADER_BYTES, MOST_BYTES, three_at};
 use bytes::{Buf, BytesMut};
 use std::alloc::Global;
 use std::marker::Model;
 
-/// How many bytes the frame at the front has, None where it is not whole.
+/// How many bytes the frame at the front has, None where it is not whole. Its length is judged once its first four
+/// bytes are there.
 #[tactic(auto, unfolding(crate::specs::Stream::front_of))]
 fn whole_len(bytes: &[u8]) -> Result<Option<usize>, FrameFault>
-    ensures whole { IfOk result (λ found. IfSome found (λ n. (n ≤ length bytes.now) × (front_of bytes.now ≡ Ok (Some (take n bytes.now, drop n bytes.now))))) }
+    ensures whole { IfOk result (λ found. IfSome found (λ n. (n ≤ length bytes.now)
+        × (front_of bytes.now ≡ Ok (Some (take n bytes.now, drop n bytes.now))))) }
     ensures none { IfOk result (λ found. IfNone found (front_of bytes.now ≡ Ok None)) }
     ensures err { IfErr result (λ e. front_of bytes.now ≡ Err e) }
 {
@@ -22,13 +25,13 @@ fn whole_len(bytes: &[u8]) -> Result<Option<usize>, FrameFault>
         return Ok(None);
     }
     let length = three_at(bytes, 1) as usize;
-    if length < 20 {
+    if length < HEADER_BYTES {
         return Err(FrameFault::ShortLength);
     }
     if length % 4 != 0 {
         return Err(FrameFault::OddLength);
     }
-    if length > 65_532 {
+    if length > MOST_BYTES {
         return Err(FrameFault::TooLong);
     }
     Ok(if bytes.len() < length {
@@ -38,7 +41,10 @@ fn whole_len(bytes: &[u8]) -> Result<Option<usize>, FrameFault>
     })
 }
 
-/// The bytes of a stream that were fed and not yet handed out.
+/// The bytes of a stream that were fed and not yet handed out, and the bad length that was answered, if any.
+///
+/// Feeding a piece costs its length, apart from growth of the buffer by doubling. Taking a frame costs its length,
+/// however long the buffer is.
 #[derive(Debug, Drop)]
 pub struct Assembler {
     pending: BytesMut,
@@ -61,7 +67,7 @@ impl Model for Assembler {
 }
 
 impl Assembler {
-    /// Nothing was fed.
+    /// An assembler to which nothing was fed.
     pub fn start(alloc: Global) -> Assembler
         ensures { result ≡ record { bytes = []; fault = None } }
     {
@@ -82,8 +88,10 @@ impl Assembler {
     /// Takes the next piece of the stream, unless `next` has answered a bad length.
     pub fn feed(&mut self, piece: &[u8]) -> Result<(), FrameFault>
         ensures sticky { IfSome self.old.fault (λ f. result ≡ Err f) }
-        ensures taken { OnOk result ((self.old.fault ≡ None) × (self.new ≡ record self.old { bytes = self.old.bytes ++ piece.now })) }
-        ensures refused { IfErr result (λ e. (self.new ≡ self.old) × ((self.old.fault ≡ Some e) ⊎ ((self.old.fault ≡ None) × (e ≡ faults.NoMemory)))) }
+        ensures taken { OnOk result ((self.old.fault ≡ None)
+            × (self.new ≡ record self.old { bytes = self.old.bytes ++ piece.now })) }
+        ensures refused { IfErr result (λ e. (self.new ≡ self.old)
+            × ((self.old.fault ≡ Some e) ⊎ ((self.old.fault ≡ None) × (e ≡ faults.NoMemory)))) }
     {
         if let Some(fault) = self.fault {
             return Err(fault);
@@ -92,13 +100,17 @@ impl Assembler {
         Ok(())
     }
 
-    /// The next whole frame, None if none is whole.
+    /// The next whole frame, None if none is whole. A bad length at the front is answered now, and by each later call.
     pub fn next(&mut self) -> Result<Option<Vec<u8>>, FrameFault>
         ensures sticky { IfSome self.old.fault (λ f. result ≡ Err f) }
-        ensures none { IfOk result (λ given. IfNone given ((front_of self.old.bytes ≡ Ok None) × (self.new ≡ self.old))) }
-        ensures some { IfOk result (λ given. IfSome given (λ frame. (front_of self.old.bytes ≡ Ok (Some (frame.items, self.new.bytes))) × (self.new.fault ≡ None))) }
-        ensures frame { IfOk result (λ given. IfSome given (λ frame. IsFrame frame.items × (self.old.bytes ≡ frame.items ++ self.new.bytes))) }
-        ensures refused { IfErr result (λ e. ((front_of self.old.bytes ≡ Err e) × (self.new ≡ record self.old { fault = Some e }))
+        ensures none { IfOk result (λ given. IfNone given ((front_of self.old.bytes ≡ Ok None)
+            × (self.new ≡ self.old))) }
+        ensures some { IfOk result (λ given. IfSome given (λ frame.
+            (front_of self.old.bytes ≡ Ok (Some (frame.items, self.new.bytes))) × (self.new.fault ≡ None))) }
+        ensures frame { IfOk result (λ given. IfSome given (λ frame.
+            IsFrame frame.items × (self.old.bytes ≡ frame.items ++ self.new.bytes))) }
+        ensures refused { IfErr result (λ e.
+            ((front_of self.old.bytes ≡ Err e) × (self.new ≡ record self.old { fault = Some e }))
             ⊎ ((e ≡ faults.NoMemory) × IsOk (front_of self.old.bytes) × (self.new ≡ self.old))) }
     {
         if let Some(fault) = self.fault {

@@ -6,8 +6,9 @@ ghost use Rattle.dia_codec.specs.Spelling.{avp_views};
 ghost use Rattle.dia_codec.specs.Written.{padded_len, written_avp};
 
 use crate::fault::WriteFault;
+use crate::fields::{MOST_BYTES, padding};
 use crate::message::Avp;
-use crate::writing::{MOST, own_len, padding, put_avp};
+use crate::writing::{own_len, put_avp};
 use std::alloc::{AllocError, Global};
 
 /// How many bytes the AVPs have with their padding, None above the most that a message may have.
@@ -16,12 +17,12 @@ fn avps_len(avps: &[Avp]) -> Option<usize>
 {
     let mut length = 0;
     for avp in avps {
-        if avp.value.len() > MOST {
+        if avp.value.len() > MOST_BYTES {
             return None;
         }
         let own = own_len(avp);
         length += own + padding(own);
-        if length > MOST {
+        if length > MOST_BYTES {
             return None;
         }
     }

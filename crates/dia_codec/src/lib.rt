@@ -1,4 +1,10 @@
-//! Diameter messages as bytes.
+//! Diameter messages as bytes (RFC 6733, sections 3 and 4).
+//!
+//! `read_message` and `read_group` read exactly what `specs/Spelling.antt` calls a spelling, and tell the first fault
+//! of anything else. `write_message` writes one spelling of each message, with all padding and with zeros where the
+//! bits are free, so that `read_message` gives the message back (`round_trip`). An `Assembler` cuts a stream into
+//! messages by their length fields, however its bytes come, and `frames_of` does so for a whole stream. `Counted` wraps
+//! a reader or a writer, and remembers whether a call of it has failed.
 #![tactic(auto)]
 
 mod assembling;

@@ -28,14 +28,15 @@ pub struct FramedStream {
     pub end: StreamEnd,
 }
 
-/// Takes each whole frame that stands at the front.
+/// Takes each whole frame that stands at the front, and tells what is left.
 fn take_frames(
     assembler: &mut Assembler,
     frames: &mut Vec<Vec<u8>>,
 ) -> Result<StreamEnd, AllocError>
     requires sound { assembler.old.fault ≡ None }
     requires each { AllByRecursion IsFrame (frame_bytes frames.old.items) }
-    ensures splits { IfOk result (λ end. Splits (stream_of (frame_bytes frames.old.items) assembler.old.bytes)
+    ensures splits { IfOk result (λ end.
+        Splits (stream_of (frame_bytes frames.old.items) assembler.old.bytes)
         (frame_bytes frames.new.items) assembler.new.bytes) }
     ensures end { IfOk result (λ end. end ≡ end_of assembler.new.bytes) }
     ensures fault { IfOk result (λ end. assembler.new.fault ≡ fault_of end) }
@@ -56,7 +57,7 @@ fn take_frames(
     }
 }
 
-/// The frames of a stream that comes in pieces. How it was cut makes no difference.
+/// The frames of a stream that comes in pieces. How it was cut makes no difference: see `one_cut`.
 pub fn frames_of(alloc: Global, pieces: &[&[u8]]) -> Result<FramedStream, AllocError>
     ensures { IfOk result (λ s. CutsInto (joined pieces.now) (frame_bytes s.frames.items) s.end) }
 {
@@ -75,10 +76,12 @@ pub fn frames_of(alloc: Global, pieces: &[&[u8]]) -> Result<FramedStream, AllocE
     Ok(FramedStream { frames, end })
 }
 
-/// A stream is cut into frames in one way, and has one end.
+/// A law: a stream is cut into frames in one way, and has one end.
 pub fn one_cut()
     ensures splits { (stream : List ℕ) (frames others : List (List ℕ)) (rest last : List ℕ)
-        → Splits stream frames rest → Splits stream others last → (frames ≡ others) × (rest ≡ last) }
+        → Splits stream frames rest → Splits stream others last
+        → (frames ≡ others) × (rest ≡ last) }
     ensures cuts { (stream : List ℕ) (frames others : List (List ℕ)) (end last : StreamEnd)
-        → CutsInto stream frames end → CutsInto stream others last → (frames ≡ others) × (end ≡ last) }
+        → CutsInto stream frames end → CutsInto stream others last
+        → (frames ≡ others) × (end ≡ last) }
 {}

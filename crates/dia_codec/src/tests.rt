@@ -41,8 +41,6 @@ fn messages_are_read_and_written_again(rt: HostRuntime) -> Result<(), Fail> {
         AA_REFUSAL.as_slice(),
     ] {
         let message = read_message(rt.alloc(), bytes)?;
-        assert!(rt; message.header.command < 0x100_0000);
-        assert!(rt; !(message.header.flags.request && message.header.flags.error));
         let written = write_message(rt.alloc(), &message)?;
         assert_eq!(rt; written.as_slice(), bytes);
     }
@@ -256,8 +254,6 @@ fn what_is_free_is_written_as_zero(rt: HostRuntime) -> Result<(), Fail> {
     bytes[30] = 0xff;
     bytes[43] = 0xff;
     let message = read_message(rt.alloc(), &bytes)?;
-    assert!(rt; message.header.command < 0x100_0000);
-    assert!(rt; !(message.header.flags.request && message.header.flags.error));
     let written = write_message(rt.alloc(), &message)?;
     assert_eq!(rt; written.as_slice(), DEVICE_WATCHDOG_REQUEST.as_slice());
     Ok(())
@@ -275,8 +271,6 @@ fn a_message_has_at_most_65532_bytes(rt: HostRuntime) -> Result<(), Fail> {
             protected: false,
             value: vec![in rt.alloc(); 0; length]?,
         })?;
-        message.header.command = 280;
-        message.header.flags.error = false;
         match write_message(rt.alloc(), &message) {
             Ok(bytes) => {
                 assert!(rt; fits);

@@ -1,24 +1,26 @@
-//! Messages as bytes.
+//! Messages as bytes (RFC 6733, sections 3 and 4).
 
 ghost use Rattle.std.specs.Prelude.{◌≡◌, ◌+◌, ◌≤◌, ◌<◌, ◌^◌, ◌++◌, ◌&&◌, ◌↔◌, false, length, IfOk, IfSome, OnOk, MatchOption, IsErrOf, Ok};
 ghost use Rattle.dia_codec.specs.Fields.{MessageValue, padding};
 ghost use Rattle.dia_codec.specs.Reading.{message_of};
 ghost use Rattle.dia_codec.specs.Spelling.{avp_view, message_view, SpellsMessage};
-ghost use Rattle.dia_codec.specs.Written.{bit_if, flag_byte, vendor_bytes, word_bytes, three_bytes, avp_flag_byte, own_len, padded_len, written_own, written_avp, written_header, written_len, written, Fits, FitsAvp, FitsNumbers};
+ghost use Rattle.dia_codec.specs.Written.{bit_if, flag_byte, avp_flag_byte, vendor_bytes, word_bytes, three_bytes};
+ghost use Rattle.dia_codec.specs.Written.{own_len, padded_len, written_len, written_own, written_avp, written_header, written};
+ghost use Rattle.dia_codec.specs.Written.{Fits, FitsAvp, FitsNumbers};
 
 use crate::fault::WriteFault;
+use crate::fields::{HEADER_BYTES, MOST_BYTES, padding};
 use crate::message::{Avp, Flags, Header, Message};
 use std::alloc::{AllocError, Global};
 
-/// The most bytes that a message may have.
-pub(crate) const MOST: usize = 65_532;
-
+/// A flag's bit, where the flag is set.
 fn bit_if(is: bool, bit: u8) -> u8
     ensures { result ≡ bit_if is bit }
 {
     if is { bit } else { 0 }
 }
 
+/// A header's fifth byte, with zeros for the reserved bits.
 fn flag_byte(flags: Flags) -> u8
     ensures { result ≡ flag_byte flags }
 {
@@ -28,7 +30,7 @@ fn flag_byte(flags: Flags) -> u8
         | bit_if(flags.retransmitted, 0x10)
 }
 
-/// How many bytes an AVP has without its padding.
+/// How many bytes an AVP has without its padding, as its length field says.
 pub(crate) fn own_len(avp: &Avp) -> usize
     requires { length avp.now.value.items ≤ 65532 }
     ensures { result ≡ own_len (avp_view avp.now) }
@@ -37,31 +39,26 @@ pub(crate) fn own_len(avp: &Avp) -> usize
     head + avp.value.len()
 }
 
-/// How many bytes fill up to a multiple of four.
-pub(crate) fn padding(length: usize) -> usize
-    ensures { result ≡ padding length }
-{
-    (4 - length % 4) % 4
-}
-
 /// How many bytes the message has, None above the most.
 fn written_len(message: &Message) -> Option<usize>
-    ensures { MatchOption result (65532 < written_len (message_view message.now)) (λ n. (n ≡ written_len (message_view message.now)) × (n ≤ 65532)) }
+    ensures { MatchOption result (65532 < written_len (message_view message.now))
+        (λ n. (n ≡ written_len (message_view message.now)) × (n ≤ 65532)) }
 {
-    let mut length = 20;
+    let mut length = HEADER_BYTES;
     for avp in &message.avps {
-        if avp.value.len() > MOST {
+        if avp.value.len() > MOST_BYTES {
             return None;
         }
         let own = own_len(avp);
         length += own + padding(own);
-        if length > MOST {
+        if length > MOST_BYTES {
             return None;
         }
     }
     Some(length)
 }
 
+/// Adds the last three bytes of a number, big-endian.
 #[tactic(auto, unfolding(crate::specs::Written::three_bytes))]
 fn put_three(out: &mut Vec<u8>, number: u32) -> Result<(), AllocError>
     ensures { OnOk result (out.new.items ≡ out.old.items ++ three_bytes number) }
@@ -69,6 +66,7 @@ fn put_three(out: &mut Vec<u8>, number: u32) -> Result<(), AllocError>
     out.extend_from_slice(&number.to_be_bytes()[1..])
 }
 
+/// Adds the four bytes of a number, big-endian.
 #[tactic(auto, unfolding(crate::specs::Written::word_bytes))]
 fn put_word(out: &mut Vec<u8>, number: u32) -> Result<(), AllocError>
     ensures written { OnOk result (out.new.items ≡ out.old.items ++ word_bytes number) }
@@ -77,6 +75,7 @@ fn put_word(out: &mut Vec<u8>, number: u32) -> Result<(), AllocError>
     out.extend_from_slice(&number.to_be_bytes())
 }
 
+/// Adds a header, with the length of the whole message.
 fn put_header(out: &mut Vec<u8>, length: u32, header: &Header) -> Result<(), AllocError>
     requires { header.now.command < 2 ^ 24 }
     ensures written { OnOk result (out.new.items ≡ out.old.items ++ written_header length header.now) }
@@ -92,6 +91,7 @@ fn put_header(out: &mut Vec<u8>, length: u32, header: &Header) -> Result<(), All
     Ok(())
 }
 
+/// Adds the Vendor-Id, if there is one.
 fn put_vendor(out: &mut Vec<u8>, vendor: Option<u32>) -> Result<(), AllocError>
     ensures written { OnOk result (out.new.items ≡ out.old.items ++ vendor_bytes vendor) }
     ensures fits { OnOk result (IfSome vendor (λ number. number < 2 ^ 32)) }
@@ -102,12 +102,14 @@ fn put_vendor(out: &mut Vec<u8>, vendor: Option<u32>) -> Result<(), AllocError>
     Ok(())
 }
 
+/// An AVP's fifth byte, with zeros for the reserved bits.
 fn avp_flag_byte(avp: &Avp) -> u8
     ensures { result ≡ avp_flag_byte (avp_view avp.now) }
 {
     bit_if(avp.vendor.is_some(), 0x80) | bit_if(avp.mandatory, 0x40) | bit_if(avp.protected, 0x20)
 }
 
+/// Adds an AVP and its padding.
 pub(crate) fn put_avp(out: &mut Vec<u8>, avp: &Avp) -> Result<(), AllocError>
     requires { length avp.now.value.items ≤ 65532 }
     ensures written { OnOk result (out.new.items ≡ out.old.items ++ written_avp (avp_view avp.now)) }
@@ -123,15 +125,19 @@ pub(crate) fn put_avp(out: &mut Vec<u8>, avp: &Avp) -> Result<(), AllocError>
     Ok(())
 }
 
-/// The one written spelling of a message.
+/// The written spelling of a message: with all padding, and with zeros where its bits and bytes are free.
+///
+/// A command has three bytes, and no request has the error flag (RFC 6733, section 3).
 pub fn write_message(alloc: Global, message: &Message) -> Result<Vec<u8>, WriteFault>
     requires command { message.now.header.command < 2 ^ 24 }
-    requires flags { (message.now.header.flags.request && message.now.header.flags.error) ≡ false }
+    requires flags { (message.now.header.flags.request && message.now.header.flags.error)
+        ≡ false }
     ensures written { IfOk result (λ v. v.items ≡ written (message_view message.now)) }
-    // What has no spelling is refused, and nothing else but for want of memory.
-    ensures fits { OnOk result (Fits (message_view message.now)) }
-    ensures too_long { IsErrOf result WriteFault.TooLong ↔ (65532 < written_len (message_view message.now)) }
     ensures spelled { IfOk result (λ v. SpellsMessage v.items (message_view message.now)) }
+    ensures fits { OnOk result (Fits (message_view message.now)) }
+
+    ensures too_long { IsErrOf result WriteFault.TooLong
+        ↔ (65532 < written_len (message_view message.now)) }
 {
     let Some(length) = written_len(message) else {
         return Err(WriteFault::TooLong);
@@ -144,7 +150,7 @@ pub fn write_message(alloc: Global, message: &Message) -> Result<Vec<u8>, WriteF
     Ok(out)
 }
 
-/// What was written is read again.
+/// A law: what was written is read again, as the same message.
 pub fn round_trip()
     ensures { (m : MessageValue) → Fits m → message_of (written m) ≡ Ok m }
 {}

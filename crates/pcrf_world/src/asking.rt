@@ -1,5 +1,6 @@
 //! From the bytes of a message to the request that it asks to serve, and from the reply to the bytes of the answer.
-ghost use Rattle.std.specs.Prelude.{◌≡◌, ◌<◌, ◌^◌, ◌&&◌, false};
+ghost use Rattle.std.specs.Prelude.{◌≡◌, ◌<◌, ◌^◌, ◌&&◌, false, IfOk};
+ghost use Rattle.pcrf_world.specs.Asking.{HeaderFits};
 
 use crate::request::{Reply, Request};
 use dia_base::codes::results::{
@@ -78,7 +79,9 @@ fn read_body(alloc: Global, message: &Message) -> Result<Request, ReadFault> {
 
 /// What a frame asks for: an answer of the peer's is passed over, whatever else is wrong with it; then the first of
 /// these refuses: the version, the flags, the lengths of the AVPs, the application, the command, the command's table.
-pub fn read_request(alloc: Global, frame: &[u8]) -> Result<Asked, AllocError> {
+pub fn read_request(alloc: Global, frame: &[u8]) -> Result<Asked, AllocError>
+    ensures command { IfOk result HeaderFits }
+{
     let Some((first, rest)) = frame.split_first_chunk::<20>() else {
         return Ok(Asked::Silent);
     };

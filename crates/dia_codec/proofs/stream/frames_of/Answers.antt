@@ -1,6 +1,5 @@
 use Rattle.std.proofs.Common.{◌≡◌, ◌<◌, ◌+◌, ◌++◌, [], List, ℕ, Bor, length, get_or, take, drop, rules, refl, sym, subst, ◌∙◌}
 use Rattle.dia_codec.specs.Stream.{CutsInto, end_of, frame_bytes, joined}
-use Rattle.dia_codec.specs.declared.stream.StreamEnd.{StreamEnd}
 use Rattle.dia_codec.specs.declared.stream.StreamEnd.TheVariants.{Bad}
 use Rattle.dia_codec.proofs.Frames.{no_stream, piece_taken, joined-take-drop, bad_cuts, not_bad}
 use Rattle.dia_codec.proofs.stream.frames_of.Goals as goal
