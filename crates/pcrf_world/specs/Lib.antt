@@ -1,3 +1,5 @@
 pub mod Asking
 pub mod Operations
 pub mod Sites
+pub mod Worlds
+pub mod Steps

@@ -1,9 +1,104 @@
--- Sites as the list of what they took.
-use Rattle.std.specs.Prelude.{ℕ, List}
-use Rattle.pcrf_world.specs.Operations.{OperationValue}
+-- Sites as the list of what they took, and what they reply and add by the definitions.
+use Rattle.std.specs.Prelude.{ℕ, List, [], ◌∷◌, ◌++◌, map, Option, Some, None}
+use Rattle.std.proofs.Common.{option_and_then}
+use Rattle.lattice_core.specs.declared.tag.Tag.{Tag}
+use Rattle.pcrf_model.specs.Sessions.{Session, gx}
+use Rattle.pcrf_model.specs.Paths.{address, apn}
+use Rattle.pcrf_model.specs.Views.{View, view, value, as_address, text}
+use Rattle.pcrf_model.specs.Live.{home}
+use Rattle.pcrf_model.specs.Holdings.{Holding}
+use Rattle.pcrf_model.specs.Operations.{Operation, holding_of}
+use Rattle.pcrf_model.specs.Tables.{open_tables}
+use Rattle.pcrf_model.specs.Requests.{RequestKind, Initial, Update, Termination, CcrValue, RefusalValue}
+use Rattle.pcrf_model.specs.Refusals.{ccr_refusal, unable_to_comply}
+use Rattle.pcrf_model.specs.Making.{ccr_fields, next_tag, next_operation}
+use Rattle.dia_base.specs.declared.refusal.Refusal.{Refusal}
+use Rattle.gx_profile.specs.declared.answer.GxReply.{GxReply}
+use Rattle.gx_profile.specs.declared.answer.GxReply.TheVariants.{Granted, Refused}
+use Rattle.gx_profile.specs.Requests.{ccr_view}
+use Rattle.pcrf_world.specs.declared.request.Request.{Request}
+use Rattle.pcrf_world.specs.declared.request.Request.TheVariants.{Ccr}
+use Rattle.pcrf_world.specs.declared.request.Reply.{Reply}
+use Rattle.pcrf_world.specs.declared.request.Reply.TheVariants.{Gx}
+
+-- ---- what is replied
+
+abbrev pub refusal_of : RefusalValue → Refusal
+refusal_of r = record { code = r.code; experimental = r.experimental }
+
+-- granted, or the first refusal
+abbrev pub granted_unless : Option RefusalValue → GxReply
+granted_unless None = Granted
+granted_unless (Some r) = Refused (refusal_of r)
+
+-- The refusal of a request: an initial one by what the site holds, where every access point has a row; updates and
+-- terminations are not served yet.
+abbrev pub first_refusal : Holding → CcrValue → RequestKind → Option RefusalValue
+first_refusal h q Initial = ccr_refusal open_tables h q
+first_refusal h q Update = Some unable_to_comply
+first_refusal h q Termination = Some unable_to_comply
+
+abbrev pub ccr_reply : Holding → CcrValue → GxReply
+ccr_reply h q = granted_unless (first_refusal h q q.kind)
+
+-- what a single site that holds this replies
+abbrev pub reply_of : Holding → Request → Reply
+reply_of h (Ccr q) = Gx (ccr_reply h (ccr_view q))
+
+-- ---- what is added
+
+-- the operation of an initial request that is accepted: the fields that it sets
+abbrev pub made_by : ℕ → Holding → CcrValue → Operation
+made_by i h q = next_operation i h q.number (gx q.session) (ccr_fields q (next_tag i h q.number))
+
+abbrev pub made_if : ℕ → Holding → CcrValue → GxReply → List Operation
+made_if i h q Granted = made_by i h q ∷ []
+made_if i h q (Refused r) = []
+
+-- the operations that a reply adds at site i, which holds this: one where the request is granted, and else none
+abbrev pub added : ℕ → Holding → Request → Reply → List Operation
+added i h (Ccr q) (Gx reply) = made_if i h (ccr_view q) reply
+
+-- ---- a site
 
 -- a site's number, the operations that it took, and those that it made itself, each in order
 pub record SiteValue : Type 0 where
   pub number : ℕ
-  pub taken : List OperationValue
-  pub log : List OperationValue
+  pub taken : List Operation
+  pub log : List Operation
+
+-- a site that took nothing
+abbrev pub fresh : ℕ → SiteValue
+fresh number = record { number = number; taken = []; log = [] }
+
+-- what a site holds
+abbrev pub site_holding : SiteValue → Holding
+site_holding s = holding_of s.taken
+
+-- with operations of its own
+abbrev pub makes : List Operation → SiteValue → SiteValue
+makes os s = record s { taken = s.taken ++ os; log = s.log ++ os }
+
+-- the site after its reply
+abbrev pub served : SiteValue → Request → Reply → SiteValue
+served s q reply = makes (added s.number (site_holding s) q reply) s
+
+-- with operations of a letter
+abbrev pub takes : List Operation → SiteValue → SiteValue
+takes os s = record s { taken = s.taken ++ os }
+
+-- ---- what is shown
+
+-- a gateway's session: its address, its access point name and its home, where it shows them
+pub record GxShown : Type 0 where
+  pub session : List ℕ
+  pub address : Option (List ℕ)
+  pub apn : Option (List ℕ)
+  pub home : Option ℕ
+
+abbrev pub shown_gx : View → Session → GxShown
+shown_gx v s = record { session = s.id; address = option_and_then as_address (value v (address s)); apn = text v (apn s); home = home v s }
+
+-- every session that a holding knows, ascending; all are gateways' as yet
+abbrev pub shown_sessions : Holding → List GxShown
+shown_sessions h = map (shown_gx (view h.facts)) (view h.facts).sessions

@@ -1,5 +1,5 @@
 //! Scripts of a world: one command a line, and what it prints.
-ghost use Rattle.std.specs.Prelude.{◌≡◌, ◌≢◌, ◌≤◌, ◌^◌, ◌⊎◌, true, IfErr, IsErrOf};
+ghost use Rattle.std.specs.Prelude.{◌≡◌, ◌≢◌, ◌≤◌, ◌<◌, ◌^◌, ◌⊎◌, true, IfErr, IsErrOf};
 
 use crate::asking::{Asked, read_request, write_refusal, write_reply};
 use crate::lines::{Line, LineFault, read_line};
@@ -201,7 +201,9 @@ fn put_served(
     header: &Header,
     request: Request,
     out: &mut String,
-) -> Result<(), LineFault> {
+) -> Result<(), LineFault>
+    requires { header.now.command < 2 ^ 24 }
+{
     let event = WorldEvent::Serve(i, request);
     let answer = world.step(&event);
     if let (Ok(Outcome::Replied(reply)), WorldEvent::Serve(_, request)) = (answer, &event) {

@@ -2,15 +2,15 @@ use Rattle.std.proofs.Common.{◌≡◌, ◌<◌, length, get_or, arith, rules}
 use Rattle.dia_codec.proofs.Lengths.{so_far_le}
 use Rattle.dia_codec.proofs.group.avps_len.Goals as goal
 
-pub returns-then-len-gt-MOST : goal.returns-then-len-gt-MOST
-returns-then-len-gt-MOST c =
+pub returns-then-len-gt-MOST_BYTES : goal.returns-then-len-gt-MOST_BYTES
+returns-then-len-gt-MOST_BYTES c =
     let lt : c.loop-avp.avp-index < length c.args.avps.now = search rules in
     let is : c.avp-item.result ≡ get_or c.args.avps.now c.loop-avp.avp-index c.avp-item.result = search rules in
     let le = so_far_le c.args.avps.now c.loop-avp.avp-index c.avp-item.result lt is in
     omega arith
 
-pub returns-then-length-gt-MOST : goal.returns-then-length-gt-MOST
-returns-then-length-gt-MOST c =
+pub returns-then-length-gt-MOST_BYTES : goal.returns-then-length-gt-MOST_BYTES
+returns-then-length-gt-MOST_BYTES c =
     let lt : c.loop-avp.avp-index < length c.args.avps.now = search rules in
     let is : c.avp-item.result ≡ get_or c.args.avps.now c.loop-avp.avp-index c.avp-item.result = search rules in
     let le = so_far_le c.args.avps.now c.loop-avp.avp-index c.avp-item.result lt is in
