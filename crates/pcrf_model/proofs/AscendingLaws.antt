@@ -1,0 +1,88 @@
+-- The ascending list of a set: two lists of one set give the same.
+use Rattle.std.proofs.Common.{◌≡◌, ℕ, Bool, true, false, cond, List, [], ◌∷◌, ◌⊎◌, ◌↔◌, inl, inr, refl, sym, ap, ◌∙◌, subst, true≢false, Ordering, Less, Equal, Greater}
+use Rattle.std.specs.Ordering.{ordering_reverse, is_lt, is_eq}
+use Rattle.std.specs.Cmp.{IsTotalOrder, tied_itself}
+use Rattle.std.specs.FinMap.Entries.{by_order}
+use Rattle.lattice_core.specs.Ascending.{place, ascending}
+use Rattle.pcrf_model.specs.Sets.{In, Same}
+use Rattle.pcrf_model.proofs.SetLaws.{Same-back, Same-through, clash}
+use Rattle.pcrf_model.proofs.Ranked.{IsRanked}
+
+module _ {A : Type 0} (cmp : A → A → Ordering) (o : IsRanked cmp) where
+  abbrev IsBelowAll : A → List A → Type 0
+  IsBelowAll x xs = (y : A) → In y xs → cmp x y ≡ Less
+
+  abbrev IsAscending : List A → Type 0
+  IsAscending [] = Unit {0}
+  IsAscending (x ∷ xs) = IsBelowAll x xs × IsAscending xs
+
+  turned : (x y : A) → cmp x y ≡ Greater → cmp y x ≡ Less
+  turned x y e = o.total.antisymm y x ∙ ap ordering_reverse e
+
+  not_both : {P : Type 0} (x y : A) → cmp x y ≡ Less → cmp y x ≡ Less → P
+  not_both x y h k = clash _ (ap is_lt (o.total.trans x y x h k)) (ap is_lt (tied_itself o.total x))
+
+  place-In : (x y : A) (ys : List A) → In y (place cmp x ys) ↔ (y ≡ x) ⊎ In y ys
+  place-In x y [] = (λ h. h, λ h. h)
+  place-In x y (z ∷ zs) =
+      let ih = place-In x y zs in
+      elim (cmp x z) as (λ r. cmp x z ≡ r → In y (by_order r (x ∷ z ∷ zs) (z ∷ zs) (z ∷ place cmp x zs)) ↔ (y ≡ x) ⊎ In y (z ∷ zs)) [
+        | Less ↦ λ _. (λ h. h, λ h. h)
+        | Equal ↦ λ e. (λ h. inr h, elim [ inl q ↦ inl (q ∙ o.same x z e) | inr h ↦ h ])
+        | Greater ↦ λ _. (
+            elim [ inl q ↦ inr (inl q) | inr h ↦ swap_in (ih.0 h) ],
+            elim [ inl q ↦ inr (ih.1 (inl q)) | inr (inl q) ↦ inl q | inr (inr h) ↦ inr (ih.1 (inr h)) ])
+      ] refl
+    where
+      swap_in : (y ≡ x) ⊎ In y zs → (y ≡ x) ⊎ In y (z ∷ zs)
+      swap_in (inl q) = inl q
+      swap_in (inr h) = inr (inr h)
+
+  below_place : (x z : A) (zs : List A) → cmp x z ≡ Less → IsBelowAll x zs → IsBelowAll x (place cmp z zs)
+  below_place x z zs l b y i = elim ((place-In z y zs).0 i) [ inl q ↦ ap (cmp x) q ∙ l | inr h ↦ b y h ]
+
+  below_more : (x z : A) (zs : List A) → cmp x z ≡ Less → IsBelowAll z zs → IsBelowAll x (z ∷ zs)
+  below_more x z zs l b y (inl q) = ap (cmp x) q ∙ l
+  below_more x z zs l b y (inr h) = o.total.trans x z y l (b y h)
+
+  place-ascending : (x : A) (ys : List A) → IsAscending ys → IsAscending (place cmp x ys)
+  place-ascending x [] s = (λ y i. absurd i, tt)
+  place-ascending x (z ∷ zs) s = elim (cmp x z) as (λ r. cmp x z ≡ r → IsAscending (by_order r (x ∷ z ∷ zs) (z ∷ zs) (z ∷ place cmp x zs))) [
+      | Less ↦ λ e. (below_more x z zs e s.0, s)
+      | Equal ↦ λ e. s
+      | Greater ↦ λ e. (below_place z x zs (turned x z e) s.0, place-ascending x zs s.1)
+    ] refl
+
+  pub ascending-In : (xs : List A) → Same (ascending cmp xs) xs
+  ascending-In [] y = (λ h. h, λ h. h)
+  ascending-In (x ∷ xs) y =
+      let p = place-In x y (ascending cmp xs) in
+      let ih = ascending-In xs y in
+      (λ h. elim (p.0 h) [ inl q ↦ inl q | inr i ↦ inr (ih.0 i) ], elim [ inl q ↦ p.1 (inl q) | inr i ↦ p.1 (inr (ih.1 i)) ])
+
+  pub ascending-ascending : (xs : List A) → IsAscending (ascending cmp xs)
+  ascending-ascending [] = tt
+  ascending-ascending (x ∷ xs) = place-ascending x (ascending cmp xs) (ascending-ascending xs)
+
+  heads : (x y : A) (xs ys : List A) → IsBelowAll x xs → IsBelowAll y ys → In x (y ∷ ys) → In y (x ∷ xs) → x ≡ y
+  heads x y xs ys b c (inl q) j = q
+  heads x y xs ys b c (inr i) (inl q) = sym q
+  heads x y xs ys b c (inr i) (inr j) = not_both x y (b y j) (c x i)
+
+  tail : (x y : A) (xs ys : List A) → IsBelowAll x xs → x ≡ y → (z : A) → In z xs → In z (y ∷ ys) → In z ys
+  tail x y xs ys b e z i (inl q) = clash _ (ap is_lt (b z i)) (ap is_lt (ap (cmp x) (q ∙ sym e) ∙ tied_itself o.total x))
+  tail x y xs ys b e z i (inr j) = j
+
+  pub same_ascending : (xs ys : List A) → IsAscending xs → IsAscending ys → Same xs ys → xs ≡ ys
+  same_ascending [] [] s t e = refl
+  same_ascending [] (y ∷ ys) s t e = absurd ((e y).1 (inl refl))
+  same_ascending (x ∷ xs) [] s t e = absurd ((e x).0 (inl refl))
+  same_ascending (x ∷ xs) (y ∷ ys) s t e =
+      let q = heads x y xs ys s.0 t.0 ((e x).0 (inl refl)) ((e y).1 (inl refl)) in
+      let r = same_ascending xs ys s.1 t.1 (λ z. (λ i. tail x y xs ys s.0 q z i ((e z).0 (inr i)), λ i. tail y x ys xs t.0 (sym q) z i ((e z).1 (inr i)))) in
+      λ i. q i ∷ r i
+
+  pub ascending-Same : (xs ys : List A) → Same xs ys → ascending cmp xs ≡ ascending cmp ys
+  ascending-Same xs ys e =
+      same_ascending _ _ (ascending-ascending xs) (ascending-ascending ys)
+      (Same-through _ xs _ (ascending-In xs) (Same-through xs ys _ e (Same-back _ _ (ascending-In ys))))
