@@ -110,6 +110,18 @@ holding_of-Same xs ys s =
     let e : (holding_of xs).facts ≡ (holding_of ys).facts = sym (holding_sorted xs) ∙ q ∙ holding_sorted ys in
     λ i. record { facts = e i; clock = c i }
 
+-- the holding of two lists is the union of theirs
+pub holding_of-append : (xs ys : List Operation) → holding_of (xs ++ ys) ≡ union (holding_of xs) (holding_of ys)
+holding_of-append [] ys = same_holding_of (sym (holding_sorted ys)) (omega arith)
+  where
+    same_holding_of : (holding_of ys).facts ≡ ascending fact_cmp (holding_of ys).facts → (holding_of ys).clock ≡ max 0 (holding_of ys).clock → holding_of ys ≡ union nothing_held (holding_of ys)
+    same_holding_of q e = λ i. record { facts = q i; clock = e i }
+holding_of-append (o ∷ xs) ys =
+    ap (λ (h : Holding). with_operation h o) (holding_of-append xs ys)
+    ∙ union_assoc (holding_of xs) (holding_of ys) (record { facts = o.facts; clock = o.counter })
+    ∙ ap (λ (h : Holding). union (holding_of xs) h) (union_comm (holding_of ys) (record { facts = o.facts; clock = o.counter }))
+    ∙ sym (union_assoc (holding_of xs) (record { facts = o.facts; clock = o.counter }) (holding_of ys))
+
 -- ---- what is read of kept facts with more
 pub view_sorted : (xs : List Fact) → view (ascending fact_cmp (kept xs)) ≡ view xs
 view_sorted xs = view-Same (ascending fact_cmp (kept xs)) (kept xs) (sorted-In (kept xs)) ∙ view-kept xs

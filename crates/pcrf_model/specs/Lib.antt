@@ -4,6 +4,7 @@ pub mod Differences
 pub mod Facts
 pub mod Flows
 pub mod Holdings
+pub mod Laws
 pub mod Letters
 pub mod Live
 pub mod Making

@@ -1,0 +1,93 @@
+-- The laws of the definitions.
+use Rattle.std.specs.Prelude.{◌≡◌, ℕ, List, ◌++◌, Option}
+use Rattle.pcrf_model.specs.Sets.{Same}
+use Rattle.pcrf_model.specs.Sessions.{Session}
+use Rattle.pcrf_model.specs.Paths.{Path}
+use Rattle.pcrf_model.specs.Values.{Entry}
+use Rattle.pcrf_model.specs.Facts.{Fact}
+use Rattle.pcrf_model.specs.Holdings.{kept, Holding, union, kept_of}
+use Rattle.pcrf_model.specs.Operations.{Operation, holding_of}
+use Rattle.pcrf_model.specs.Views.{View, view}
+use Rattle.pcrf_model.specs.Live.{is_live, is_partial, home}
+use Rattle.pcrf_model.specs.Bindings.{matches, bind}
+use Rattle.pcrf_model.specs.Tables.{Tables}
+use Rattle.pcrf_model.specs.Rules.{rules}
+use Rattle.pcrf_model.specs.Differences.{told, difference}
+use Rattle.pcrf_model.specs.OperatorValues.{operator_value}
+use Rattle.pcrf_model.specs.Requests.{RequestValue}
+use Rattle.pcrf_model.specs.Serving.{serve}
+use Rattle.pcrf_model.specs.Pushing.{push}
+
+-- ---- what is kept
+
+-- what is kept of the kept facts and others is what is kept of them all
+abbrev pub KeepsUnions : Type 0
+KeepsUnions = (xs ys : List Fact) → Same (kept (kept xs ++ ys)) (kept (xs ++ ys))
+
+-- the same of holdings
+abbrev pub KeepsUnionsOfHoldings : Type 0
+KeepsUnionsOfHoldings = (h k : Holding) → kept_of (union (kept_of h) k) ≡ kept_of (union h k)
+
+-- keeping twice is keeping once
+abbrev pub KeepsOnce : Type 0
+KeepsOnce = (h : Holding) → kept_of (kept_of h) ≡ kept_of h
+
+-- ---- unions
+
+abbrev pub UnionIsCommutative : Type 0
+UnionIsCommutative = (h k : Holding) → union h k ≡ union k h
+
+abbrev pub UnionIsAssociative : Type 0
+UnionIsAssociative = (h k l : Holding) → union (union h k) l ≡ union h (union k l)
+
+-- the union with itself keeps what it keeps
+abbrev pub UnionIsIdempotent : Type 0
+UnionIsIdempotent = (h : Holding) → kept_of (union h h) ≡ kept_of h
+
+-- the holding of operations depends on the set of them alone
+abbrev pub OnlyOperationsCount : Type 0
+OnlyOperationsCount = (xs ys : List Operation) → Same xs ys → holding_of xs ≡ holding_of ys
+
+-- the operations of two lists hold the union of what each holds
+abbrev pub HoldsTheUnion : Type 0
+HoldsTheUnion = (xs ys : List Operation) → holding_of (xs ++ ys) ≡ union (holding_of xs) (holding_of ys)
+
+-- ---- what is read
+
+-- the kept facts have the view of all
+abbrev pub KeptShowsTheSame : Type 0
+KeptShowsTheSame = (facts : List Fact) → view (kept facts) ≡ view facts
+
+-- only the members of a list of facts count for its view
+abbrev pub OnlyMembersCount : Type 0
+OnlyMembersCount = (xs ys : List Fact) → Same xs ys → view xs ≡ view ys
+
+-- all that is read of the two views is the same: what paths show, sessions live, ended and partial, homes, matches, bindings, rules, told entries, differences
+pub record ReadsTheSame (v w : View) : Type 0 where
+  pub paths : (p : Path) → v.shows p ≡ w.shows p
+  pub ends : (s : Session) → v.ended s ≡ w.ended s
+  pub lives : (s : Session) → is_live v s ≡ is_live w s
+  pub partials : (s : Session) → is_partial v s ≡ is_partial w s
+  pub homes : (s : Session) → home v s ≡ home w s
+  pub candidates : (a s : Session) → matches v a s ≡ matches w a s
+  pub bindings : (a : Session) → bind v a ≡ bind w a
+  pub lists : (t : Tables) (s : Session) → rules t v s ≡ rules t w s
+  pub entries : (s : Session) → told v s ≡ told w s
+  pub differences : (t : Tables) (s : Session) → difference (told v s) (rules t v s) ≡ difference (told w s) (rules t w s)
+
+abbrev pub KeptReadsTheSame : Type 0
+KeptReadsTheSame = (facts : List Fact) → ReadsTheSame (view (kept facts)) (view facts)
+
+abbrev pub MembersReadTheSame : Type 0
+MembersReadTheSame = (xs ys : List Fact) → Same xs ys → ReadsTheSame (view xs) (view ys)
+
+-- an operator sees the same of what is kept
+abbrev pub KeptHasTheSameValue : Type 0
+KeptHasTheSameValue = (t : Tables) (h : Holding) → operator_value t (kept_of h) ≡ operator_value t h
+
+-- a site answers and adds the same to what is kept
+abbrev pub KeptServesTheSame : Type 0
+KeptServesTheSame = (t : Tables) (i : ℕ) (h : Holding) (q : RequestValue) → serve t i (kept_of h) q ≡ serve t i h q
+
+abbrev pub KeptPushesTheSame : Type 0
+KeptPushesTheSame = (t : Tables) (i : ℕ) (h : Holding) (name : Option (List ℕ)) → push t i (kept_of h) name ≡ push t i h name

@@ -1,0 +1,48 @@
+//! The laws of the definitions, each the contract of a function without a body.
+
+ghost use Rattle.pcrf_model.specs.Laws.{KeepsUnions, KeepsUnionsOfHoldings, KeepsOnce, UnionIsCommutative, UnionIsAssociative, UnionIsIdempotent, OnlyOperationsCount, HoldsTheUnion, KeptShowsTheSame, OnlyMembersCount, KeptReadsTheSame, MembersReadTheSame, KeptHasTheSameValue, KeptServesTheSame, KeptPushesTheSame};
+
+/// What is kept of what was kept and of more is what is kept of all.
+pub fn keeping_keeps_unions()
+    ensures facts { KeepsUnions }
+    ensures holdings { KeepsUnionsOfHoldings }
+    ensures once { KeepsOnce }
+{
+}
+
+/// The union of holdings is commutative, associative, and idempotent on what is kept.
+pub fn union_is_a_join()
+    ensures commutative { UnionIsCommutative }
+    ensures associative { UnionIsAssociative }
+    ensures idempotent { UnionIsIdempotent }
+{
+}
+
+/// What operations make depends on the set of them alone, and of two sets together it is the union.
+pub fn only_the_set_of_operations_counts()
+    ensures same { OnlyOperationsCount }
+    ensures union { HoldsTheUnion }
+{
+}
+
+/// The kept facts show what all facts show, and only the set of facts counts.
+pub fn kept_facts_show_the_same()
+    ensures kept { KeptShowsTheSame }
+    ensures members { OnlyMembersCount }
+{
+}
+
+/// All that is read of facts is the same on what is kept of them, and on any list with the same members.
+pub fn kept_facts_read_the_same()
+    ensures kept { KeptReadsTheSame }
+    ensures members { MembersReadTheSame }
+    ensures value { KeptHasTheSameValue }
+{
+}
+
+/// A site answers, adds and pushes the same on what is kept of what it took.
+pub fn kept_facts_serve_the_same()
+    ensures requests { KeptServesTheSame }
+    ensures pushes { KeptPushesTheSame }
+{
+}
