@@ -1,18 +1,21 @@
 -- The ascending list of a set: two lists of one set give the same.
-use Rattle.std.proofs.Common.{◌≡◌, ℕ, Bool, true, false, cond, List, [], ◌∷◌, ◌⊎◌, ◌↔◌, inl, inr, refl, sym, ap, ◌∙◌, subst, true≢false, Ordering, Less, Equal, Greater}
+use Rattle.std.proofs.Common.{◌≡◌, ℕ, zero, suc, drop, Bool, true, false, cond, List, [], ◌∷◌, ◌⊎◌, ◌↔◌, inl, inr, refl, sym, ap, ◌∙◌, subst, true≢false, Ordering, Less, Equal, Greater}
 use Rattle.std.specs.Ordering.{ordering_reverse, is_lt, is_eq}
 use Rattle.std.specs.Cmp.{IsTotalOrder, tied_itself}
 use Rattle.std.specs.FinMap.Entries.{by_order}
 use Rattle.lattice_core.specs.Ascending.{place, ascending}
-use Rattle.pcrf_model.specs.Sets.{In, Same}
-use Rattle.pcrf_model.proofs.SetLaws.{Same-back, Same-through, clash}
+use Rattle.std.specs.List.{filter}
+use Rattle.pcrf_model.specs.Sets.{In, Same, Distinct}
+use Rattle.pcrf_model.proofs.SetLaws.{Same-back, Same-through, clash, filter-In}
 use Rattle.pcrf_model.proofs.Ranked.{IsRanked}
 
 module _ {A : Type 0} (cmp : A → A → Ordering) (o : IsRanked cmp) where
-  abbrev IsBelowAll : A → List A → Type 0
+  -- below each member
+  abbrev pub IsBelowAll : A → List A → Type 0
   IsBelowAll x xs = (y : A) → In y xs → cmp x y ≡ Less
 
-  abbrev IsAscending : List A → Type 0
+  -- each below all that follow
+  abbrev pub IsAscending : List A → Type 0
   IsAscending [] = Unit {0}
   IsAscending (x ∷ xs) = IsBelowAll x xs × IsAscending xs
 
@@ -86,3 +89,24 @@ module _ {A : Type 0} (cmp : A → A → Ordering) (o : IsRanked cmp) where
   ascending-Same xs ys e =
       same_ascending _ _ (ascending-ascending xs) (ascending-ascending ys)
       (Same-through _ xs _ (ascending-In xs) (Same-through xs ys _ e (Same-back _ _ (ascending-In ys))))
+
+  -- ---- parts of ascending lists
+
+  pub filter-ascending : (p : A → Bool) (xs : List A) → IsAscending xs → IsAscending (filter p xs)
+  filter-ascending p [] s = tt
+  filter-ascending p (x ∷ xs) s = elim (p x) as (λ b. IsAscending (cond b (x ∷ filter p xs) (filter p xs))) [
+    | true ↦ (λ y i. s.0 y (filter-In p y xs i).0, filter-ascending p xs s.1)
+    | false ↦ filter-ascending p xs s.1
+  ]
+
+  pub drop-ascending : (n : ℕ) (xs : List A) → IsAscending xs → IsAscending (drop n xs)
+  drop-ascending zero xs s = s
+  drop-ascending (suc n) [] s = tt
+  drop-ascending (suc n) (x ∷ xs) s = drop-ascending n xs s.1
+
+  pub Distinct-ascending : (xs : List A) → IsAscending xs → Distinct xs
+  Distinct-ascending [] s = tt
+  Distinct-ascending (x ∷ xs) s = (λ i. clash _ (ap is_lt (s.0 x i)) (ap is_lt (tied_itself o.total x)), Distinct-ascending xs s.1)
+
+  pub ascending-itself : (xs : List A) → IsAscending xs → ascending cmp xs ≡ xs
+  ascending-itself xs s = same_ascending _ _ (ascending-ascending xs) s (ascending-In xs)

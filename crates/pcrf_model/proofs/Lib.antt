@@ -1,5 +1,8 @@
 pub mod AscendingLaws
+pub mod DifferenceLaws
+pub mod DistinctLaws
 pub mod FactLaws
+pub mod FirstEntries
 pub mod Ranked
 pub mod ReadingLaws
 pub mod SetLaws

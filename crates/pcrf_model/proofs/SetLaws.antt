@@ -1,5 +1,5 @@
 -- Laws of sets as lists.
-use Rattle.std.proofs.Common.{◌≡◌, ℕ, Bool, true, false, cond, not, ◌||◌, ◌&&◌, List, [], ◌∷◌, ◌++◌, ◌⊎◌, ◌↔◌, Option, Some, None, inl, inr, refl, sym, ap, ◌∙◌, subst, true≢false, Ordering, Less, Equal, Greater}
+use Rattle.std.proofs.Common.{◌≡◌, ℕ, Bool, true, false, cond, not, ◌||◌, ◌&&◌, List, [], ◌∷◌, ◌++◌, map, ◌⊎◌, ◌↔◌, Option, Some, None, inl, inr, refl, sym, ap, ◌∙◌, subst, true≢false, Ordering, Less, Equal, Greater}
 use Rattle.std.specs.List.{list_any, filter, filter_map, cons_option}
 use Rattle.std.specs.Ordering.{is_lt, ordering_reverse}
 use Rattle.std.specs.Cmp.{both_ways, IsTotalOrder, tied_itself}
@@ -293,6 +293,22 @@ module _ {A B : Type 0} (h : A → Option B) where
 
   pub filter_map-Same : (xs ys : List A) → Same xs ys → Same (filter_map h xs) (filter_map h ys)
   filter_map-Same xs ys s y = (part xs ys s y, part ys xs (Same-back xs ys s) y)
+
+module _ {A B : Type 0} (f : A → B) where
+  pub In-map : (x : A) (xs : List A) → In x xs → In (f x) (map f xs)
+  In-map x [] h = absurd h
+  In-map x (y ∷ ys) (inl q) = inl (ap f q)
+  In-map x (y ∷ ys) (inr h) = inr (In-map x ys h)
+
+  pub map-In : (z : B) (xs : List A) → In z (map f xs) → (x : A) × In x xs × (z ≡ f x)
+  map-In z [] h = absurd h
+  map-In z (y ∷ ys) (inl q) = (y, inl refl, q)
+  map-In z (y ∷ ys) (inr h) = let r = map-In z ys h in (r.0, inr r.1, r.2)
+
+  pub map-Same : (xs ys : List A) → Same xs ys → Same (map f xs) (map f ys)
+  map-Same xs ys s z = (
+    λ h. let r = map-In z xs h in subst (λ (w : B). In w (map f ys)) (sym r.2) (In-map r.0 ys ((s r.0).0 r.1)),
+    λ h. let r = map-In z ys h in subst (λ (w : B). In w (map f xs)) (sym r.2) (In-map r.0 xs ((s r.0).1 r.1)))
 
 -- ---- parts that have nothing to do with each other
 module _ {A : Type 0} (below : A → A → Bool) where

@@ -11,7 +11,7 @@ use Rattle.pcrf_model.specs.Values.{Entry, entry_cmp}
 use Rattle.pcrf_model.specs.Facts.{Fact, Gone, Field, session_of, is_shaded_by}
 use Rattle.pcrf_model.specs.Holdings.{kept, blocks, is_gone, entry_at, value_at, shown}
 use Rattle.pcrf_model.specs.Views.{View, Shown, shown_cmp, view, showing}
-use Rattle.pcrf_model.proofs.SetLaws.{clash, maximal-In, top_of, filter_map-Same, filter_map-In, In-filter_map, In-any}
+use Rattle.pcrf_model.proofs.SetLaws.{clash, maximal-In, top_of, filter_map-Same, filter_map-In, In-filter_map, In-any, In-map, map-In, map-Same}
 use Rattle.pcrf_model.proofs.Ranked.{IsRanked, pair_ranked}
 use Rattle.pcrf_model.proofs.FactLaws.{session_ranked, path_ranked, entry_ranked, eq_is, shaded_irr, shaded_trans, above_at}
 use Rattle.pcrf_model.proofs.ShownLaws.{is_gone-kept, is_gone-Same, shown-kept, shown-Same}
@@ -19,22 +19,6 @@ use Rattle.pcrf_model.proofs.AscendingLaws.{ascending-Same}
 
 shown_ranked : IsRanked shown_cmp
 shown_ranked = pair_ranked path_ranked entry_ranked
-
-module _ {A B : Type 0} (f : A → B) where
-  pub In-map : (x : A) (xs : List A) → In x xs → In (f x) (map f xs)
-  In-map x [] h = absurd h
-  In-map x (y ∷ ys) (inl q) = inl (ap f q)
-  In-map x (y ∷ ys) (inr h) = inr (In-map x ys h)
-
-  pub map-In : (z : B) (xs : List A) → In z (map f xs) → (x : A) × In x xs × (z ≡ f x)
-  map-In z [] h = absurd h
-  map-In z (y ∷ ys) (inl q) = (y, inl refl, q)
-  map-In z (y ∷ ys) (inr h) = let r = map-In z ys h in (r.0, inr r.1, r.2)
-
-  pub map-Same : (xs ys : List A) → Same xs ys → Same (map f xs) (map f ys)
-  map-Same xs ys s z = (
-    λ h. let r = map-In z xs h in subst (λ (w : B). In w (map f ys)) (sym r.2) (In-map r.0 ys ((s r.0).0 r.1)),
-    λ h. let r = map-In z ys h in subst (λ (w : B). In w (map f xs)) (sym r.2) (In-map r.0 xs ((s r.0).1 r.1)))
 
 -- ---- the same set
 pub view-Same : (xs ys : List Fact) → Same xs ys → view xs ≡ view ys

@@ -1,6 +1,8 @@
 -- The laws of the definitions.
-use Rattle.std.specs.Prelude.{◌≡◌, ℕ, List, ◌++◌, Option}
-use Rattle.pcrf_model.specs.Sets.{Same}
+use Rattle.std.specs.Prelude.{◌≡◌, ℕ, List, ◌++◌, map, Option}
+use Rattle.lattice_core.specs.Ascending.{ascending}
+use Rattle.lattice_core.specs.RuleValues.{RuleValue}
+use Rattle.pcrf_model.specs.Sets.{In, Same, Distinct}
 use Rattle.pcrf_model.specs.Sessions.{Session}
 use Rattle.pcrf_model.specs.Paths.{Path}
 use Rattle.pcrf_model.specs.Values.{Entry}
@@ -12,7 +14,7 @@ use Rattle.pcrf_model.specs.Live.{is_live, is_partial, home}
 use Rattle.pcrf_model.specs.Bindings.{matches, bind}
 use Rattle.pcrf_model.specs.Tables.{Tables}
 use Rattle.pcrf_model.specs.Rules.{rules}
-use Rattle.pcrf_model.specs.Differences.{told, difference}
+use Rattle.pcrf_model.specs.Differences.{ToldRule, told_cmp, told, told_name_of, rule_name_of, IsTold, difference, first, rest, as_told, apply}
 use Rattle.pcrf_model.specs.OperatorValues.{operator_value}
 use Rattle.pcrf_model.specs.Requests.{RequestValue}
 use Rattle.pcrf_model.specs.Serving.{serve}
@@ -91,3 +93,19 @@ KeptServesTheSame = (t : Tables) (i : ℕ) (h : Holding) (q : RequestValue) → 
 
 abbrev pub KeptPushesTheSame : Type 0
 KeptPushesTheSame = (t : Tables) (i : ℕ) (h : Holding) (name : Option (List ℕ)) → push t i (kept_of h) name ≡ push t i h name
+
+-- ---- differences
+
+-- told the difference, a gateway has just the rules
+abbrev pub DifferenceLeadsThere : Type 0
+DifferenceLeadsThere = (t : List ToldRule) (rs : List RuleValue) → Distinct (map told_name_of t) → Distinct (map rule_name_of rs) →
+    apply t (difference t rs) ≡ ascending told_cmp (map as_told rs)
+
+-- no name is both removed and installed
+abbrev pub NoNameTwice : Type 0
+NoNameTwice = (t : List ToldRule) (rs : List RuleValue) (n : List ℕ) → In n (difference t rs).removed → In n (map rule_name_of (difference t rs).installed) → ⊥
+
+-- told the first entries, what is left of the difference is the rest
+abbrev pub FirstLeavesTheRest : Type 0
+FirstLeavesTheRest = (n : ℕ) (t : List ToldRule) (rs : List RuleValue) → IsTold t → Distinct (map rule_name_of rs) →
+    difference (apply t (first n (difference t rs))) rs ≡ rest n (difference t rs)

@@ -1,6 +1,6 @@
 //! The laws of the definitions, each the contract of a function without a body.
 
-ghost use Rattle.pcrf_model.specs.Laws.{KeepsUnions, KeepsUnionsOfHoldings, KeepsOnce, UnionIsCommutative, UnionIsAssociative, UnionIsIdempotent, OnlyOperationsCount, HoldsTheUnion, KeptShowsTheSame, OnlyMembersCount, KeptReadsTheSame, MembersReadTheSame, KeptHasTheSameValue, KeptServesTheSame, KeptPushesTheSame};
+ghost use Rattle.pcrf_model.specs.Laws.{KeepsUnions, KeepsUnionsOfHoldings, KeepsOnce, UnionIsCommutative, UnionIsAssociative, UnionIsIdempotent, OnlyOperationsCount, HoldsTheUnion, KeptShowsTheSame, OnlyMembersCount, KeptReadsTheSame, MembersReadTheSame, KeptHasTheSameValue, KeptServesTheSame, KeptPushesTheSame, DifferenceLeadsThere, NoNameTwice, FirstLeavesTheRest};
 
 /// What is kept of what was kept and of more is what is kept of all.
 pub fn keeping_keeps_unions()
@@ -44,5 +44,13 @@ pub fn kept_facts_read_the_same()
 pub fn kept_facts_serve_the_same()
     ensures requests { KeptServesTheSame }
     ensures pushes { KeptPushesTheSame }
+{
+}
+
+/// The difference leads from what was told to the rules, names nothing twice, and its first entries leave just its rest.
+pub fn difference_leads_to_the_rules()
+    ensures whole { DifferenceLeadsThere }
+    ensures apart { NoNameTwice }
+    ensures first { FirstLeavesTheRest }
 {
 }
