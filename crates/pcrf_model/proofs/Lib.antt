@@ -1,4 +1,5 @@
 pub mod AscendingLaws
+pub mod BindLaws
 pub mod DifferenceLaws
 pub mod DistinctLaws
 pub mod FactLaws

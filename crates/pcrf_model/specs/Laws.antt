@@ -1,5 +1,6 @@
 -- The laws of the definitions.
-use Rattle.std.specs.Prelude.{◌≡◌, ℕ, List, ◌++◌, map, Option}
+use Rattle.std.specs.Prelude.{◌≡◌, ℕ, true, false, List, ◌++◌, ◌↔◌, map, Option, Some, None}
+use Rattle.std.proofs.Common.{Less}
 use Rattle.lattice_core.specs.Ascending.{ascending}
 use Rattle.lattice_core.specs.RuleValues.{RuleValue}
 use Rattle.pcrf_model.specs.Sets.{In, Same, Distinct}
@@ -11,7 +12,7 @@ use Rattle.pcrf_model.specs.Holdings.{kept, Holding, union, kept_of}
 use Rattle.pcrf_model.specs.Operations.{Operation, holding_of}
 use Rattle.pcrf_model.specs.Views.{View, view}
 use Rattle.pcrf_model.specs.Live.{is_live, is_partial, home}
-use Rattle.pcrf_model.specs.Bindings.{matches, bind}
+use Rattle.pcrf_model.specs.Bindings.{Candidate, candidate_cmp, standing, matches, bind}
 use Rattle.pcrf_model.specs.Tables.{Tables}
 use Rattle.pcrf_model.specs.Rules.{rules}
 use Rattle.pcrf_model.specs.Differences.{ToldRule, told_cmp, told, told_name_of, rule_name_of, IsTold, difference, first, rest, as_told, apply}
@@ -109,3 +110,26 @@ NoNameTwice = (t : List ToldRule) (rs : List RuleValue) (n : List ℕ) → In n 
 abbrev pub FirstLeavesTheRest : Type 0
 FirstLeavesTheRest = (n : ℕ) (t : List ToldRule) (rs : List RuleValue) → IsTold t → Distinct (map rule_name_of rs) →
     difference (apply t (first n (difference t rs))) rs ≡ rest n (difference t rs)
+
+-- ---- bindings
+
+-- r stands above s: by counter and site of its address's tag, and then by its Session-Id
+pub record Exceeds (v : View) (r s : Session) : Type 0 where
+  pub upper : Candidate
+  pub lower : Candidate
+  pub of_upper : standing v r ≡ Some upper
+  pub of_lower : standing v s ≡ Some lower
+  pub above : candidate_cmp lower upper ≡ Less
+
+-- s matches a, and no other that matches exceeds it
+pub record IsBinding (v : View) (a s : Session) : Type 0 where
+  pub fits : matches v a s ≡ true
+  pub no_other : (r : Session) → matches v a r ≡ true → Exceeds v r s → ⊥
+
+-- an AF session is bound to just the session that matches and that no other exceeds
+abbrev pub BindsToTheGreatest : Type 0
+BindsToTheGreatest = (facts : List Fact) (a s : Session) → bind (view facts) a ≡ Some s ↔ IsBinding (view facts) a s
+
+-- it is bound to none just where none matches
+abbrev pub BindsToNoneWhereNoneMatches : Type 0
+BindsToNoneWhereNoneMatches = (facts : List Fact) (a : Session) → bind (view facts) a ≡ None ↔ ((s : Session) → matches (view facts) a s ≡ false)

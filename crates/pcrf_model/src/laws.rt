@@ -1,6 +1,6 @@
 //! The laws of the definitions, each the contract of a function without a body.
 
-ghost use Rattle.pcrf_model.specs.Laws.{KeepsUnions, KeepsUnionsOfHoldings, KeepsOnce, UnionIsCommutative, UnionIsAssociative, UnionIsIdempotent, OnlyOperationsCount, HoldsTheUnion, KeptShowsTheSame, OnlyMembersCount, KeptReadsTheSame, MembersReadTheSame, KeptHasTheSameValue, KeptServesTheSame, KeptPushesTheSame, DifferenceLeadsThere, NoNameTwice, FirstLeavesTheRest};
+ghost use Rattle.pcrf_model.specs.Laws.{KeepsUnions, KeepsUnionsOfHoldings, KeepsOnce, UnionIsCommutative, UnionIsAssociative, UnionIsIdempotent, OnlyOperationsCount, HoldsTheUnion, KeptShowsTheSame, OnlyMembersCount, KeptReadsTheSame, MembersReadTheSame, KeptHasTheSameValue, KeptServesTheSame, KeptPushesTheSame, DifferenceLeadsThere, NoNameTwice, FirstLeavesTheRest, BindsToTheGreatest, BindsToNoneWhereNoneMatches};
 
 /// What is kept of what was kept and of more is what is kept of all.
 pub fn keeping_keeps_unions()
@@ -52,5 +52,12 @@ pub fn difference_leads_to_the_rules()
     ensures whole { DifferenceLeadsThere }
     ensures apart { NoNameTwice }
     ensures first { FirstLeavesTheRest }
+{
+}
+
+/// An AF session is bound to just the Gx session that matches and that no other one that matches exceeds, and to none just where none matches.
+pub fn binding_is_the_greatest_match()
+    ensures greatest { BindsToTheGreatest }
+    ensures none { BindsToNoneWhereNoneMatches }
 {
 }
