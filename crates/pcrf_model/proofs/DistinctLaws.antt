@@ -48,6 +48,13 @@ module _ {A : Type 0} where
   Distinct-of_map f [] d = tt
   Distinct-of_map f (x ∷ xs) d = (λ i. d.0 (In-map f x xs i), Distinct-of_map f xs d.1)
 
+  -- keys of distinct members are distinct, where members of one key are one
+  pub Distinct-map : {B : Type 0} (f : A → B) (xs : List A) → Distinct xs → ((x y : A) → In x xs → In y xs → f x ≡ f y → x ≡ y) → Distinct (map f xs)
+  Distinct-map f [] d one = tt
+  Distinct-map f (x ∷ xs) d one = (
+    λ i. let r = map-In f (f x) xs i in d.0 (subst (λ (z : A). In z xs) (sym (one x r.0 (inl refl) (inr r.1) r.2)) r.1),
+    Distinct-map f xs d.1 (λ y z i j. one y z (inr i) (inr j)))
+
   -- a filter by all but the first n that another filter keeps gives what that filter keeps past them
   module _ (p q : A → Bool) where
 

@@ -4,8 +4,10 @@ pub mod DifferenceLaws
 pub mod DistinctLaws
 pub mod FactLaws
 pub mod FirstEntries
+pub mod NameLaws
 pub mod Ranked
 pub mod ReadingLaws
+pub mod RuleNames
 pub mod SetLaws
 pub mod ShownLaws
 pub mod UnionLaws

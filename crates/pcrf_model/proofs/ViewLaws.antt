@@ -17,7 +17,7 @@ use Rattle.pcrf_model.proofs.FactLaws.{session_ranked, path_ranked, entry_ranked
 use Rattle.pcrf_model.proofs.ShownLaws.{is_gone-kept, is_gone-Same, shown-kept, shown-Same}
 use Rattle.pcrf_model.proofs.AscendingLaws.{ascending-Same}
 
-shown_ranked : IsRanked shown_cmp
+pub shown_ranked : IsRanked shown_cmp
 shown_ranked = pair_ranked path_ranked entry_ranked
 
 -- ---- the same set

@@ -1,19 +1,19 @@
 -- The laws of the definitions.
-use Rattle.std.specs.Prelude.{◌≡◌, ℕ, true, false, List, ◌++◌, ◌↔◌, map, Option, Some, None}
+use Rattle.std.specs.Prelude.{◌≡◌, ℕ, ◌<◌, ◌^◌, [], ◌∷◌, true, false, List, ◌++◌, ◌↔◌, map, Option, Some, None}
 use Rattle.std.proofs.Common.{Less}
 use Rattle.lattice_core.specs.Ascending.{ascending}
 use Rattle.lattice_core.specs.RuleValues.{RuleValue}
 use Rattle.pcrf_model.specs.Sets.{In, Same, Distinct}
 use Rattle.pcrf_model.specs.Sessions.{Session}
-use Rattle.pcrf_model.specs.Paths.{Path}
+use Rattle.pcrf_model.specs.Paths.{Step, Component, Flow, Part, RuleName, Path}
 use Rattle.pcrf_model.specs.Values.{Entry}
-use Rattle.pcrf_model.specs.Facts.{Fact}
+use Rattle.pcrf_model.specs.Facts.{Fact, path_of}
 use Rattle.pcrf_model.specs.Holdings.{kept, Holding, union, kept_of}
 use Rattle.pcrf_model.specs.Operations.{Operation, holding_of}
 use Rattle.pcrf_model.specs.Views.{View, view}
 use Rattle.pcrf_model.specs.Live.{is_live, is_partial, home}
 use Rattle.pcrf_model.specs.Bindings.{Candidate, candidate_cmp, standing, matches, bind}
-use Rattle.pcrf_model.specs.Tables.{Tables}
+use Rattle.pcrf_model.specs.Tables.{OperatorRule, ApnRow, Tables, apn_row}
 use Rattle.pcrf_model.specs.Rules.{rules}
 use Rattle.pcrf_model.specs.Differences.{ToldRule, told_cmp, told, told_name_of, rule_name_of, IsTold, difference, first, rest, as_told, apply}
 use Rattle.pcrf_model.specs.OperatorValues.{operator_value}
@@ -133,3 +133,24 @@ BindsToTheGreatest = (facts : List Fact) (a s : Session) → bind (view facts) a
 -- it is bound to none just where none matches
 abbrev pub BindsToNoneWhereNoneMatches : Type 0
 BindsToNoneWhereNoneMatches = (facts : List Fact) (a : Session) → bind (view facts) a ≡ None ↔ ((s : Session) → matches (view facts) a s ≡ false)
+
+-- ---- names of rules
+
+-- the operator gives no access point two rules of one name
+abbrev pub NamesRulesApart : Tables → Type 0
+NamesRulesApart t = (name : List ℕ) (row : ApnRow) → apn_row t name ≡ Some row → Distinct (map (λ (r : OperatorRule). r.name) row.rules)
+
+-- component and flow numbers are those of their AVPs, of 32 bits (TS 29.214, 5.3.9 and 5.3.17)
+abbrev pub FitTheirAvps : List Step → Type 0
+FitTheirAvps [] = Unit {0}
+FitTheirAvps (Component n ∷ steps) = (n < 2 ^ 32) × FitTheirAvps steps
+FitTheirAvps (Flow n ∷ steps) = (n < 2 ^ 32) × FitTheirAvps steps
+FitTheirAvps (Part f ∷ steps) = FitTheirAvps steps
+FitTheirAvps (RuleName n ∷ steps) = FitTheirAvps steps
+
+abbrev pub NumbersFit : List Fact → Type 0
+NumbersFit facts = (f : Fact) → In f facts → FitTheirAvps (path_of f).steps
+
+-- no two rules of a session have one name
+abbrev pub RuleNamesDiffer : Type 0
+RuleNamesDiffer = (t : Tables) (facts : List Fact) (s : Session) → NamesRulesApart t → NumbersFit facts → Distinct (map rule_name_of (rules t (view facts) s))
