@@ -1,7 +1,7 @@
 -- The ascending list of a set: two lists of one set give the same.
-use Rattle.std.proofs.Common.{◌≡◌, ℕ, zero, suc, drop, Bool, true, false, cond, List, [], ◌∷◌, ◌⊎◌, ◌↔◌, inl, inr, refl, sym, ap, ◌∙◌, subst, true≢false, Ordering, Less, Equal, Greater}
-use Rattle.std.specs.Ordering.{ordering_reverse, is_lt, is_eq}
-use Rattle.std.specs.Cmp.{IsTotalOrder, tied_itself}
+use Rattle.std.proofs.Common.{◌≡◌, ℕ, zero, suc, drop, Bool, true, false, cond, List, [], ◌∷◌, ◌⊎◌, ◌↔◌, inl, inr, refl, sym, ap, ◌∙◌, Ordering, Less, Equal, Greater}
+use Rattle.std.specs.Ordering.{ordering_reverse, is_lt}
+use Rattle.std.specs.Cmp.{tied_itself}
 use Rattle.std.specs.FinMap.Entries.{by_order}
 use Rattle.lattice_core.specs.Ascending.{place, ascending}
 use Rattle.std.specs.List.{filter}
@@ -33,8 +33,9 @@ module _ {A : Type 0} (cmp : A → A → Ordering) (o : IsRanked cmp) where
         | Less ↦ λ _. (λ h. h, λ h. h)
         | Equal ↦ λ e. (λ h. inr h, elim [ inl q ↦ inl (q ∙ o.same x z e) | inr h ↦ h ])
         | Greater ↦ λ _. (
-            elim [ inl q ↦ inr (inl q) | inr h ↦ swap_in (ih.0 h) ],
-            elim [ inl q ↦ inr (ih.1 (inl q)) | inr (inl q) ↦ inl q | inr (inr h) ↦ inr (ih.1 (inr h)) ])
+          elim [ inl q ↦ inr (inl q) | inr h ↦ swap_in (ih.0 h) ],
+          elim [ inl q ↦ inr (ih.1 (inl q)) | inr (inl q) ↦ inl q | inr (inr h) ↦ inr (ih.1 (inr h)) ],
+        )
       ] refl
     where
       swap_in : (y ≡ x) ⊎ In y zs → (y ≡ x) ⊎ In y (z ∷ zs)
@@ -51,10 +52,10 @@ module _ {A : Type 0} (cmp : A → A → Ordering) (o : IsRanked cmp) where
   place-ascending : (x : A) (ys : List A) → IsAscending ys → IsAscending (place cmp x ys)
   place-ascending x [] s = (λ y i. absurd i, tt)
   place-ascending x (z ∷ zs) s = elim (cmp x z) as (λ r. cmp x z ≡ r → IsAscending (by_order r (x ∷ z ∷ zs) (z ∷ zs) (z ∷ place cmp x zs))) [
-      | Less ↦ λ e. (below_more x z zs e s.0, s)
-      | Equal ↦ λ e. s
-      | Greater ↦ λ e. (below_place z x zs (turned x z e) s.0, place-ascending x zs s.1)
-    ] refl
+    | Less ↦ λ e. (below_more x z zs e s.0, s)
+    | Equal ↦ λ e. s
+    | Greater ↦ λ e. (below_place z x zs (turned x z e) s.0, place-ascending x zs s.1)
+  ] refl
 
   pub ascending-In : (xs : List A) → Same (ascending cmp xs) xs
   ascending-In [] y = (λ h. h, λ h. h)

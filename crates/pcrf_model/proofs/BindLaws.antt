@@ -1,9 +1,8 @@
 -- A binding is the greatest session that matches.
-use Rattle.std.proofs.Common.{◌≡◌, ℕ, Bool, true, false, cond, not, ◌&&◌, List, [], ◌∷◌, map, ◌⊎◌, ◌↔◌, Option, Some, None, is_some, inl, inr, refl, sym, ap, ◌∙◌, subst, option_map, Ordering, Less, Equal, Greater}
+use Rattle.std.proofs.Common.{◌≡◌, Bool, true, false, cond, not, ◌&&◌, List, [], ◌∷◌, map, ◌↔◌, Option, Some, None, is_some, refl, sym, ap, ◌∙◌, subst, option_map, Ordering, Less, Equal, Greater}
 use Rattle.std.specs.Ordering.{is_eq, is_lt}
 use Rattle.std.specs.Cmp.{first_so, second_so}
-use Rattle.std.specs.List.{list_any, filter_map}
-use Rattle.lattice_core.specs.Ascending.{ascending}
+use Rattle.std.specs.List.{filter_map}
 use Rattle.lattice_core.specs.declared.tag.Tag.{Tag}
 use Rattle.pcrf_model.specs.Sets.{In, best, greatest}
 use Rattle.pcrf_model.specs.Sessions.{Kind, Gx, Af, Session, session_cmp, gx, is_gx}
@@ -14,7 +13,7 @@ use Rattle.pcrf_model.specs.Holdings.{is_gone, entry_at, value_at, shown}
 use Rattle.pcrf_model.specs.Views.{View, view, has}
 use Rattle.pcrf_model.specs.Live.{is_live, has_what_it_needs}
 use Rattle.pcrf_model.specs.Bindings.{Candidate, candidate_cmp, standing, candidate, matches, bind}
-use Rattle.pcrf_model.specs.Laws.{Exceeds, IsBinding}
+use Rattle.pcrf_model.specs.Laws.{IsBinding}
 use Rattle.pcrf_model.proofs.SetLaws.{clash, is_false, best-in, best-top, both_top, less_irr, less_trans, In-filter_map, filter_map-In, In-map}
 use Rattle.pcrf_model.proofs.Ranked.{IsRanked, nat_ranked, text_ranked, pair_ranked}
 use Rattle.pcrf_model.proofs.FactLaws.{path_ranked, session_ranked, entry_ranked, eq_is}
@@ -30,9 +29,10 @@ module _ {A : Type 0} (cmp : A → A → Ordering) (o : IsRanked cmp) where
   greatest_is : (xs : List A) (c : A) → greatest cmp xs ≡ Some c → In c xs × ((y : A) → In y xs → is_lt (cmp c y) ≡ false)
   greatest_is [] c e = absurd (cc)
   greatest_is (x ∷ xs) c e =
-      let same : best (λ a b. is_lt (cmp a b)) x xs ≡ c = cc in
-      (subst (λ (z : A). In z (x ∷ xs)) same (best-in (λ a b. is_lt (cmp a b)) (less_irr cmp o.total o.same) (less_trans cmp o.total o.same) x xs),
-       λ y i. subst (λ (z : A). is_lt (cmp z y) ≡ false) same (best-top (λ a b. is_lt (cmp a b)) (less_irr cmp o.total o.same) (less_trans cmp o.total o.same) x xs y i))
+      let same : best (λ a b. is_lt (cmp a b)) x xs ≡ c = cc in (
+        subst (λ (z : A). In z (x ∷ xs)) same (best-in (λ a b. is_lt (cmp a b)) (less_irr cmp o.total o.same) (less_trans cmp o.total o.same) x xs),
+        λ y i. subst (λ (z : A). is_lt (cmp z y) ≡ false) same (best-top (λ a b. is_lt (cmp a b)) (less_irr cmp o.total o.same) (less_trans cmp o.total o.same) x xs y i),
+      )
 
   greatest_some : (xs : List A) (x : A) → In x xs → (c : A) × (greatest cmp xs ≡ Some c)
   greatest_some [] x i = absurd i
@@ -50,9 +50,9 @@ not_blocked false x e h = h
 
 entry_there : (p q : Path) (t : Tag) (v : Value) (e : Entry) → entry_at p (Field q t v) ≡ Some e → p ≡ q
 entry_there p q t v e = elim (is_eq (path_cmp p q)) as (λ b. is_eq (path_cmp p q) ≡ b → cond b (Some (t, v)) None ≡ Some e → p ≡ q) [
-    | true ↦ λ h _. eq_is path_ranked p q h
-    | false ↦ λ _ h. absurd (cc)
-  ] refl
+  | true ↦ λ h _. eq_is path_ranked p q h
+  | false ↦ λ _ h. absurd (cc)
+] refl
 
 fact_there : (facts : List Fact) (p : Path) (e : Entry) → shown facts p ≡ Some e → (f : Fact) × In f facts × (session_of f ≡ p.session)
 fact_there facts p e h =
@@ -156,12 +156,12 @@ module _ (facts : List Fact) (a : Session) where
       record {
         fits = subst (λ (z : Session). matches v a z ≡ true) same w.1;
         no_other = λ r m x.
-          let own : standing v s ≡ Some b.0 = subst (λ (z : Session). standing v z ≡ Some b.0) same w.2 in
-          let low : x.lower ≡ b.0 = some_same _ _ (sym x.of_lower ∙ own) in
-          let e = shows_address r m in
-          let up : x.upper ≡ stands r e.0 = some_same _ _ (sym x.of_upper ∙ standing_of r e.0 e.1) in
-          let below : candidate_cmp b.0 (stands r e.0) ≡ Less = (λ i. candidate_cmp (sym low i) (sym up i)) ∙ x.above in
-          clash _ (ap is_lt below) (g.1 (stands r e.0) (candidate-In r m))
+            let own : standing v s ≡ Some b.0 = subst (λ (z : Session). standing v z ≡ Some b.0) same w.2 in
+            let low : x.lower ≡ b.0 = some_same _ _ (sym x.of_lower ∙ own) in
+            let e = shows_address r m in
+            let up : x.upper ≡ stands r e.0 = some_same _ _ (sym x.of_upper ∙ standing_of r e.0 e.1) in
+            let below : candidate_cmp b.0 (stands r e.0) ≡ Less = (λ i. candidate_cmp (sym low i) (sym up i)) ∙ x.above in
+            clash _ (ap is_lt below) (g.1 (stands r e.0) (candidate-In r m));
       }
 
   lt_or : (r : Ordering) → is_lt r ≡ true → r ≡ Less
@@ -178,15 +178,20 @@ module _ (facts : List Fact) (a : Session) where
       let g = greatest_is candidate_cmp candidate_ranked cs c.0 c.1 in
       let w = whose c.0 g.0 in
       let not_above : is_lt (candidate_cmp (stands s e.0) c.0) ≡ false = is_false _ (λ l. x.no_other w.0 w.1 (record {
-        upper = c.0; lower = stands s e.0; of_upper = w.2; of_lower = standing_of s e.0 e.1; above = lt_or _ l })) in
+        upper = c.0;
+        lower = stands s e.0;
+        of_upper = w.2;
+        of_lower = standing_of s e.0 e.1;
+        above = lt_or _ l;
+      })) in
       let same : stands s e.0 ≡ c.0 = both_top candidate_cmp candidate_ranked.total candidate_ranked.same (stands s e.0) c.0 not_above (g.1 (stands s e.0) i) in
       ap (option_map (λ (z : Candidate). gx z.1.1)) c.1 ∙ ap (λ (z : Candidate). Some (gx z.1.1)) (sym same) ∙ ap Some (gx_is s s.kind refl (of_gx v a s x.fits))
 
   none_onward : bind v a ≡ None → (s : Session) → matches v a s ≡ false
   unfolding bind
   none_onward h s = is_false _ (λ m.
-    let c = greatest_some candidate_cmp candidate_ranked cs (stands s (shows_address s m).0) (candidate-In s m) in
-    not_none (sym (ap (option_map (λ (z : Candidate). gx z.1.1)) c.1) ∙ h))
+      let c = greatest_some candidate_cmp candidate_ranked cs (stands s (shows_address s m).0) (candidate-In s m) in
+      not_none (sym (ap (option_map (λ (z : Candidate). gx z.1.1)) c.1) ∙ h))
     where
       not_none : {A : Type 0} {x : A} → Some x ≡ None → ⊥
       not_none k = cc
@@ -194,9 +199,9 @@ module _ (facts : List Fact) (a : Session) where
   none_backward : ((s : Session) → matches v a s ≡ false) → bind v a ≡ None
   unfolding bind
   none_backward h = elim (greatest candidate_cmp cs) as (λ x. greatest candidate_cmp cs ≡ x → option_map (λ (z : Candidate). gx z.1.1) x ≡ None) [
-      | None ↦ λ _. refl
-      | Some c ↦ λ k. let w = whose c (greatest_is candidate_cmp candidate_ranked cs c k).0 in clash _ w.1 (h w.0)
-    ] refl
+    | None ↦ λ _. refl
+    | Some c ↦ λ k. let w = whose c (greatest_is candidate_cmp candidate_ranked cs c k).0 in clash _ w.1 (h w.0)
+  ] refl
 
 pub bind-greatest : (facts : List Fact) (a s : Session) → bind (view facts) a ≡ Some s ↔ IsBinding (view facts) a s
 bind-greatest facts a s = (onward facts a s, backward facts a s)

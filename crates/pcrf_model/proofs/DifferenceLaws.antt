@@ -1,18 +1,18 @@
 -- What a difference leads to, and what its first entries leave of it.
-use Rattle.std.proofs.Common.{◌≡◌, ℕ, zero, suc, ◌-◌, Bool, true, false, not, ◌&&◌, List, [], ◌∷◌, ◌++◌, map, take, drop, length, ◌⊎◌, ◌↔◌, inl, inr, refl, sym, ap, ◌∙◌, subst, filter, Ordering, Less, Equal, Greater}
-use Rattle.std.specs.Ordering.{is_eq, is_lt, ordering_then}
-use Rattle.std.specs.Cmp.{first_so, second_so, tied_itself}
+use Rattle.std.proofs.Common.{◌≡◌, ℕ, Bool, true, false, not, ◌&&◌, List, ◌++◌, map, ◌⊎◌, inl, inr, refl, sym, ap, ◌∙◌, subst, filter}
+use Rattle.std.specs.Ordering.{is_eq}
+use Rattle.std.specs.Cmp.{first_so, second_so}
 use Rattle.std.specs.List.{list_any}
 use Rattle.lattice_core.specs.Orders.{text_cmp}
 use Rattle.lattice_core.specs.Ascending.{ascending}
 use Rattle.lattice_core.specs.RuleValues.{RuleValue, DeltaValue, rule_cmp}
 use Rattle.pcrf_model.specs.Sets.{In, Same, Distinct}
-use Rattle.pcrf_model.specs.Differences.{ToldRule, told_cmp, told_name_of, rule_name_of, IsTold, has_name, holds, difference, first, rest, as_told, stays, apply}
+use Rattle.pcrf_model.specs.Differences.{ToldRule, told_cmp, told_name_of, rule_name_of, has_name, holds, difference, as_told, stays, apply}
 use Rattle.pcrf_model.proofs.SetLaws.{clash, is_false, In-left, In-right, In-cases, In-filter, filter-In, In-any, any-In, any-none, In-map, map-In}
-use Rattle.pcrf_model.proofs.DistinctLaws.{take_or_drop, take-In, drop-In, not_in_both, Distinct-filter, one_of_key, Distinct-of_map, filter_past}
+use Rattle.pcrf_model.proofs.DistinctLaws.{one_of_key}
 use Rattle.pcrf_model.proofs.Ranked.{IsRanked, text_ranked, pair_ranked}
 use Rattle.pcrf_model.proofs.FactLaws.{rule_ranked, eq_is, eq_itself, both}
-use Rattle.pcrf_model.proofs.AscendingLaws.{IsAscending, IsBelowAll, ascending-In, ascending-ascending, ascending-Same, same_ascending}
+use Rattle.pcrf_model.proofs.AscendingLaws.{ascending-In, ascending-ascending, same_ascending}
 
 pub not_true : (b : Bool) → not b ≡ true → b ≡ false
 not_true true h = clash false h refl
@@ -123,16 +123,16 @@ module _ (t : List ToldRule) (rs : List RuleValue) where
     -- an entry that stays is one of the rules
     stays_rule : (q : ToldRule) → In q t → stays (difference t rs) q ≡ true → In q (map as_told rs)
     stays_rule q i s = elim (split (list_any (has_name q.0) rs)) [
-        | inl y ↦
+      | inl y ↦
           let r = who_has q.0 rs y in
           elim (split (holds t r.0)) [
             | inl h ↦ subst (λ (p : ToldRule). In p (map as_told rs)) (same_told (as_told r.0) q (held t r.0 h) i r.2) (In-map as_told r.0 rs r.1)
             | inr h ↦ clash (list_any (has_name q.0) (difference t rs).installed)
-              (In-any (has_name q.0) r.0 (difference t rs).installed (In-filter is_new r.0 rs r.1 (ap not h)) (ap (λ (m : List ℕ). is_eq (text_cmp m q.0)) r.2 ∙ eq_itself text_ranked q.0))
-              (not_true _ (second_so (not (list_any (λ n. is_eq (text_cmp n q.0)) (difference t rs).removed)) _ s))
+                (In-any (has_name q.0) r.0 (difference t rs).installed (In-filter is_new r.0 rs r.1 (ap not h)) (ap (λ (m : List ℕ). is_eq (text_cmp m q.0)) r.2 ∙ eq_itself text_ranked q.0))
+                (not_true _ (second_so (not (list_any (λ n. is_eq (text_cmp n q.0)) (difference t rs).removed)) _ s))
           ]
-        | inr y ↦ absurd (not_removed t (difference t rs) q s (In-filter lacks q.0 (map told_name_of t) (In-map told_name_of q t i) (ap not y)))
-      ]
+      | inr y ↦ absurd (not_removed t (difference t rs) q s (In-filter lacks q.0 (map told_name_of t) (In-map told_name_of q t i) (ap not y)))
+    ]
 
     same_pairs : Same (apply t (difference t rs)) (map as_told rs)
     same_pairs q = (
@@ -140,12 +140,13 @@ module _ (t : List ToldRule) (rs : List RuleValue) where
         | inl r ↦ stays_rule q r.0 r.1
         | inr r ↦ subst (λ (p : ToldRule). In p (map as_told rs)) (sym r.2) (In-map as_told r.0 rs (installed-In r.0 r.1).0)
       ],
-      λ h. let r = map-In as_told q rs h in subst (λ (p : ToldRule). In p (apply t (difference t rs))) (sym r.2) (back r.0 r.1))
+      λ h. let r = map-In as_told q rs h in subst (λ (p : ToldRule). In p (apply t (difference t rs))) (sym r.2) (back r.0 r.1),
+    )
       where
         back : (x : RuleValue) → In x rs → In (as_told x) (apply t (difference t rs))
         back x i = elim (split (holds t x)) [
           | inl h ↦ stays_in t (difference t rs) (as_told x) (held t x h)
-            (stays_if t (difference t rs) (as_told x) (λ j. lacks_none x i (removed-In x.name j).1) (none_anew x i h (difference t rs).installed (λ y j. j)))
+              (stays_if t (difference t rs) (as_told x) (λ j. lacks_none x i (removed-In x.name j).1) (none_anew x i h (difference t rs).installed (λ y j. j)))
           | inr h ↦ installed_in t (difference t rs) x (In-filter is_new x rs i (ap not h))
         ]
 

@@ -2,7 +2,7 @@
 use Rattle.std.proofs.Common.{◌≡◌, ℕ, zero, suc, Bool, true, false, cond, List, [], ◌∷◌, map, take, drop, ◌⊎◌, inl, inr, refl, sym, ap, ◌∙◌, subst}
 use Rattle.std.specs.List.{filter}
 use Rattle.pcrf_model.specs.Sets.{In, Distinct}
-use Rattle.pcrf_model.proofs.SetLaws.{clash, is_false, filter-In, In-map, map-In}
+use Rattle.pcrf_model.proofs.SetLaws.{clash, filter-In, In-map, map-In}
 
 module _ {A : Type 0} where
   pub take_or_drop : (n : ℕ) (x : A) (xs : List A) → In x xs → In x (take n xs) ⊎ In x (drop n xs)
@@ -53,11 +53,11 @@ module _ {A : Type 0} where
   Distinct-map f [] d one = tt
   Distinct-map f (x ∷ xs) d one = (
     λ i. let r = map-In f (f x) xs i in d.0 (subst (λ (z : A). In z xs) (sym (one x r.0 (inl refl) (inr r.1) r.2)) r.1),
-    Distinct-map f xs d.1 (λ y z i j. one y z (inr i) (inr j)))
+    Distinct-map f xs d.1 (λ y z i j. one y z (inr i) (inr j)),
+  )
 
   -- a filter by all but the first n that another filter keeps gives what that filter keeps past them
   module _ (p q : A → Bool) where
-
     -- what the second keeps of xs is told by what the first keeps, and its first n
     abbrev NotFirst : ℕ → List A → List A → Type 0
     NotFirst n xs fs = (x : A) → In x xs → q x ≡ true → In x (take n fs) → ⊥
@@ -66,22 +66,22 @@ module _ {A : Type 0} where
     ElseKept n xs fs = (x : A) → In x xs → p x ≡ true → (In x (take n fs) → ⊥) → q x ≡ true
 
     one_more : (n : ℕ) (x : A) (xs : List A) (u v : Bool) → p x ≡ u → q x ≡ v → (In x xs → ⊥)
-      → (q x ≡ true → p x ≡ true)
-      → NotFirst n (x ∷ xs) (cond u (x ∷ filter p xs) (filter p xs))
-      → ElseKept n (x ∷ xs) (cond u (x ∷ filter p xs) (filter p xs))
-      → ((m : ℕ) → NotFirst m xs (filter p xs) → ElseKept m xs (filter p xs) → filter q xs ≡ drop m (filter p xs))
-      → cond v (x ∷ filter q xs) (filter q xs) ≡ drop n (cond u (x ∷ filter p xs) (filter p xs))
+        → (q x ≡ true → p x ≡ true)
+        → NotFirst n (x ∷ xs) (cond u (x ∷ filter p xs) (filter p xs))
+        → ElseKept n (x ∷ xs) (cond u (x ∷ filter p xs) (filter p xs))
+        → ((m : ℕ) → NotFirst m xs (filter p xs) → ElseKept m xs (filter p xs) → filter q xs ≡ drop m (filter p xs))
+        → cond v (x ∷ filter q xs) (filter q xs) ≡ drop n (cond u (x ∷ filter p xs) (filter p xs))
     one_more n x xs false true e f new a b c before = clash (p x) (a f) e
     one_more n x xs false false e f new a b c before = before n (λ y i. b y (inr i)) (λ y i. c y (inr i))
     one_more zero x xs true true e f new a b c before = ap (λ (l : List A). x ∷ l) (before zero (λ y i t j. absurd j) (λ y i t k. c y (inr i) t (λ j. absurd j)))
     one_more zero x xs true false e f new a b c before = clash (q x) (c x (inl refl) e (λ j. absurd j)) f
     one_more (suc n) x xs true true e f new a b c before = absurd (b x (inl refl) f (inl refl))
     one_more (suc n) x xs true false e f new a b c before = before n
-      (λ y i t j. b y (inr i) t (inr j))
-      (λ y i t k. c y (inr i) t (elim [ inl r ↦ new (subst (λ (z : A). In z xs) r i) | inr j ↦ k j ]))
+        (λ y i t j. b y (inr i) t (inr j))
+        (λ y i t k. c y (inr i) t (elim [ inl r ↦ new (subst (λ (z : A). In z xs) r i) | inr j ↦ k j ]))
 
     pub filter_past : (n : ℕ) (xs : List A) → Distinct xs → ((x : A) → In x xs → q x ≡ true → p x ≡ true)
-      → NotFirst n xs (filter p xs) → ElseKept n xs (filter p xs) → filter q xs ≡ drop n (filter p xs)
+        → NotFirst n xs (filter p xs) → ElseKept n xs (filter p xs) → filter q xs ≡ drop n (filter p xs)
     filter_past zero [] d a b c = refl
     filter_past (suc n) [] d a b c = refl
     filter_past n (x ∷ xs) d a b c = one_more n x xs (p x) (q x) refl refl d.0 (a x (inl refl)) b c (λ m. filter_past m xs d.1 (λ y i. a y (inr i)))

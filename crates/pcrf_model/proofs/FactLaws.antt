@@ -1,14 +1,14 @@
 -- The orders of facts and their parts, and that overshadowing is a strict order.
-use Rattle.std.proofs.Common.{◌≡◌, ℕ, zero, suc, ◌<◌, ◌&&◌, cond, ◌==◌, List, [], ◌∷◌, length, true, false, Bool, ◌⊎◌, inl, inr, refl, sym, ap, ◌∙◌, subst, Ordering, Equal, nat_lt, arith, ltb-true, lt-ltb, ltb-false, lt_trans, lt_irrefl}
-use Rattle.std.specs.Ordering.{is_eq, is_lt, nat_cmp, on}
+use Rattle.std.proofs.Common.{◌≡◌, ℕ, zero, suc, ◌<◌, ◌&&◌, cond, ◌==◌, List, [], ◌∷◌, length, true, false, Bool, ◌⊎◌, inl, inr, refl, sym, ap, subst, Ordering, ltb-true, lt-ltb, lt_trans, lt_irrefl}
+use Rattle.std.specs.Ordering.{is_eq}
 use Rattle.std.specs.Cmp.{first_so, second_so, Equal-is, tied_itself}
-use Rattle.lattice_core.specs.Orders.{pair_cmp, either_cmp, text_cmp, subscriber_cmp}
+use Rattle.lattice_core.specs.Orders.{subscriber_cmp}
 use Rattle.lattice_core.specs.RuleValues.{RuleValue, rule_cmp}
 use Rattle.lattice_core.specs.declared.tag.Tag.{Tag}
 use Rattle.lattice_core.specs.Told.{tag_cmp}
 use Rattle.pcrf_model.specs.Sessions.{Kind, Gx, Af, Session, kind_number, session_cmp}
 use Rattle.pcrf_model.specs.Paths.{FieldName, FramedIpAddress, CalledStationId, SubscriptionIds, OriginHost, OriginRealm, RequestType, MediaType, FlowDescriptions, FlowUsage, FlowStatus, MaxRateUp, MaxRateDown, field_number, Step, Component, Flow, Part, RuleName, step_key, step_cmp, Path, path_cmp, is_front, is_at_or_above, is_above}
-use Rattle.pcrf_model.specs.Values.{Subscriber, Value, Number, Text, Address, Subscribers, Filters, Untold, Told, ValueKey, value_key, value_cmp, Entry, entry_cmp}
+use Rattle.pcrf_model.specs.Values.{Value, Number, Text, Address, Subscribers, Filters, Untold, Told, ValueKey, value_key, value_cmp, Entry, entry_cmp}
 use Rattle.pcrf_model.specs.Facts.{Fact, Gone, Field, session_of, fact_code, fact_key, fact_cmp, is_shaded_by}
 use Rattle.pcrf_model.proofs.Ranked.{IsRanked, nat_ranked, list_ranked, text_ranked, pair_ranked, either_ranked, on_ranked}
 use Rattle.pcrf_model.proofs.SetLaws.{clash, is_false, less_irr, less_trans}

@@ -1,35 +1,35 @@
 -- The first entries of a difference leave the rest of it as the next difference.
-use Rattle.std.proofs.Common.{◌≡◌, ℕ, ◌-◌, Bool, true, false, not, List, [], ◌∷◌, ◌++◌, map, take, drop, length, ◌⊎◌, ◌↔◌, inl, inr, refl, sym, ap, ◌∙◌, subst, filter, Ordering, Less, Equal, Greater}
+use Rattle.std.proofs.Common.{◌≡◌, ℕ, ◌-◌, true, not, List, [], ◌∷◌, ◌++◌, map, take, drop, length, inl, inr, refl, sym, ap, ◌∙◌, subst, filter, Less, Equal, Greater}
 use Rattle.std.specs.Ordering.{is_eq, is_lt, ordering_then}
 use Rattle.std.specs.Cmp.{second_so, tied_itself}
 use Rattle.std.specs.List.{list_any}
 use Rattle.lattice_core.specs.Orders.{text_cmp}
-use Rattle.lattice_core.specs.Ascending.{ascending}
 use Rattle.lattice_core.specs.RuleValues.{RuleValue, DeltaValue, rule_cmp}
 use Rattle.pcrf_model.specs.Sets.{In, Same, Distinct}
 use Rattle.pcrf_model.specs.Differences.{ToldRule, told_cmp, told_name_of, rule_name_of, IsTold, has_name, holds, difference, first, rest, as_told, stays, apply}
 use Rattle.pcrf_model.proofs.SetLaws.{clash, is_false, In-filter, filter-In, In-any, In-map, map-In}
-use Rattle.pcrf_model.proofs.DistinctLaws.{take_or_drop, take-In, drop-In, not_in_both, one_of_key, Distinct-of_map, filter_past}
+use Rattle.pcrf_model.proofs.DistinctLaws.{take_or_drop, take-In, drop-In, not_in_both, Distinct-of_map, filter_past}
 use Rattle.pcrf_model.proofs.Ranked.{text_ranked}
-use Rattle.pcrf_model.proofs.FactLaws.{rule_ranked, eq_itself}
-use Rattle.pcrf_model.proofs.AscendingLaws.{IsAscending, IsBelowAll, ascending-ascending, same_ascending, filter-ascending, drop-ascending, Distinct-ascending}
-use Rattle.pcrf_model.proofs.DifferenceLaws.{not_true, split, told_ranked, has_none, held, holds_one, stays_if, not_removed, there, stays_in, installed_in, lacks, is_new, removed-In, installed-In, lacks_none, same_rule, same_told, none_anew}
+use Rattle.pcrf_model.proofs.FactLaws.{eq_itself}
+use Rattle.pcrf_model.proofs.AscendingLaws.{IsAscending, ascending-ascending, same_ascending, filter-ascending, drop-ascending, Distinct-ascending}
+use Rattle.pcrf_model.proofs.DifferenceLaws.{not_true, split, told_ranked, held, holds_one, stays_if, not_removed, there, stays_in, installed_in, lacks, removed-In, installed-In, lacks_none, same_rule, same_told, none_anew}
 
 -- the name is below, where the entries are in order and no two have one name
 name_below : (p q : ToldRule) → told_cmp p q ≡ Less → (p.0 ≡ q.0 → p ≡ q) → text_cmp p.0 q.0 ≡ Less
 name_below p q l one = elim (text_cmp p.0 q.0) as (λ r. text_cmp p.0 q.0 ≡ r → ordering_then r (rule_cmp p.1 q.1) ≡ Less → r ≡ Less) [
-    | Less ↦ λ _ _. refl
-    | Equal ↦ λ e _. clash _ (ap is_lt l) (ap is_lt (ap (told_cmp p) (sym (one (text_ranked.same p.0 q.0 e))) ∙ tied_itself told_ranked.total p))
-    | Greater ↦ λ _ m. m
-  ] refl l
+  | Less ↦ λ _ _. refl
+  | Equal ↦ λ e _. clash _ (ap is_lt l) (ap is_lt (ap (told_cmp p) (sym (one (text_ranked.same p.0 q.0 e))) ∙ tied_itself told_ranked.total p))
+  | Greater ↦ λ _ m. m
+] refl l
 
 -- the names of entries in order are in order
 names_ascending : (us : List ToldRule) → IsAscending told_cmp told_ranked us → ((p q : ToldRule) → In p us → In q us → p.0 ≡ q.0 → p ≡ q) → IsAscending text_cmp text_ranked (map told_name_of us)
 names_ascending [] s one = tt
 names_ascending (p ∷ ps) s one = (
   (λ y i. let r = map-In told_name_of y ps i in
-    subst (λ (z : List ℕ). text_cmp p.0 z ≡ Less) (sym r.2) (name_below p r.0 (s.0 r.0 r.1) (one p r.0 (inl refl) (inr r.1)))),
-  names_ascending ps s.1 (λ q r i j. one q r (inr i) (inr j)))
+      subst (λ (z : List ℕ). text_cmp p.0 z ≡ Less) (sym r.2) (name_below p r.0 (s.0 r.0 r.1) (one p r.0 (inl refl) (inr r.1)))),
+  names_ascending ps s.1 (λ q r i j. one q r (inr i) (inr j)),
+)
 
 module _ (n : ℕ) (t : List ToldRule) (rs : List RuleValue) (w : IsTold t) (g : Distinct (map rule_name_of rs)) where
   abbrev removed : List (List ℕ)
@@ -53,7 +53,7 @@ module _ (n : ℕ) (t : List ToldRule) (rs : List RuleValue) (w : IsTold t) (g :
   -- a rule that was told is told still
   still : (x : RuleValue) → In x rs → holds t x ≡ true → holds u x ≡ true
   still x i h = holds_one u x (stays_in t e (as_told x) (held t x h)
-    (stays_if t e (as_told x) (λ j. lacks_none t rs x i (removed-In t rs x.name (take-In n x.name removed j)).1)
+      (stays_if t e (as_told x) (λ j. lacks_none t rs x i (removed-In t rs x.name (take-In n x.name removed j)).1)
       (none_anew t rs w.one_each g x i h e.installed (λ y j. take-In k y installed j))))
 
   was_new : (x : RuleValue) → In x rs → not (holds u x) ≡ true → not (holds t x) ≡ true
@@ -92,8 +92,8 @@ module _ (n : ℕ) (t : List ToldRule) (rs : List RuleValue) (w : IsTold t) (g :
       -- an entry that stays has no installed rule's name
       apart : (p : ToldRule) (x : RuleValue) → stays e p ≡ true → In x (take k installed) → p.0 ≡ x.name → ⊥
       apart p x s m q = clash (list_any (has_name p.0) e.installed)
-        (In-any (has_name p.0) x e.installed m (ap (λ (z : List ℕ). is_eq (text_cmp x.name z)) q ∙ eq_itself text_ranked x.name))
-        (not_true _ (second_so (not (list_any (λ m. is_eq (text_cmp m p.0)) e.removed)) _ s))
+          (In-any (has_name p.0) x e.installed m (ap (λ (z : List ℕ). is_eq (text_cmp x.name z)) q ∙ eq_itself text_ranked x.name))
+          (not_true _ (second_so (not (list_any (λ m. is_eq (text_cmp m p.0)) e.removed)) _ s))
 
   old_names : IsAscending text_cmp text_ranked (map told_name_of t)
   old_names = names_ascending t (subst (IsAscending told_cmp told_ranked) w.in_order (ascending-ascending told_cmp told_ranked t)) (same_told t rs w.one_each g)
@@ -125,8 +125,8 @@ module _ (n : ℕ) (t : List ToldRule) (rs : List RuleValue) (w : IsTold t) (g :
           let p = map-In told_name_of x t r.0 in
           let gone : In p.0.0 (take n removed) → ⊥ = λ i. not_in_both n x removed (Distinct-ascending text_cmp text_ranked removed removed_ascending) (subst (λ (z : List ℕ). In z (take n removed)) (sym p.2) i) h in
           let new : In p.0.0 (map rule_name_of e.installed) → ⊥ = λ i.
-            let s = map-In rule_name_of p.0.0 e.installed i in
-            lacks_none t rs s.0 (installed-In t rs s.0 (take-In k s.0 installed s.1)).0 (subst (λ (z : List ℕ). lacks t rs z ≡ true) (p.2 ∙ s.2) r.1) in
+          let s = map-In rule_name_of p.0.0 e.installed i in
+          lacks_none t rs s.0 (installed-In t rs s.0 (take-In k s.0 installed s.1)).0 (subst (λ (z : List ℕ). lacks t rs z ≡ true) (p.2 ∙ s.2) r.1) in
           In-filter (lacks t rs) x (map told_name_of u)
           (subst (λ (z : List ℕ). In z (map told_name_of u)) (sym p.2) (In-map told_name_of p.0 u (stays_in t e p.0 p.1 (stays_if t e p.0 gone new))))
           r.1

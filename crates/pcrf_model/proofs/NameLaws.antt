@@ -1,13 +1,11 @@
 -- The names of the rules of one session differ: an operator's begin otherwise than a flow's, and a flow's name tells its session and its numbers,
 -- which are cut from the back, for a Session-Id may hold the slash that parts them.
-use Rattle.std.proofs.Common.{◌≡◌, ℕ, ◌<◌, ◌≤◌, ◌^◌, Bool, true, false, cond, not, ◌&&◌, List, [], ◌∷◌, ◌++◌, map, ◌⊎◌, ◌↔◌, Option, Some, None, inl, inr, refl, sym, ap, ◌∙◌, subst, option_map, option_and_then, unwrap_or, decimal, arith, Ordering, append_assoc}
+use Rattle.std.proofs.Common.{◌≡◌, ℕ, ◌<◌, ◌^◌, List, [], ◌∷◌, ◌++◌, inl, inr, refl, sym, ◌∙◌, subst, decimal, arith, append_assoc}
 use Rattle.std.specs.Prelude.{codes}
-use Rattle.std.proofs.lemmas.List.{append_cancel_left}
 use Rattle.std.proofs.lemmas.Fmt.{decimal_injective, decimal_is_IsNumeral}
 use Rattle.std.proofs.lemmas.Str.Parse.{digit_from_value}
 use Rattle.std.specs.Str.Parse.{AllDigits}
-use Rattle.pcrf_model.specs.Sets.{In, Distinct}
-use Rattle.pcrf_model.proofs.SetLaws.{clash, map-In}
+use Rattle.pcrf_model.specs.Sets.{In}
 
 -- ---- cutting from the back
 
@@ -48,10 +46,10 @@ same_number m n p q = decimal_injective m n (omega (arith, p)) (omega (arith, q)
 
 -- an id, a component and a flow are told by their text
 pub parts_of_name : (xs ys : List ℕ) (c d m n : ℕ) → c < 2 ^ 32 → d < 2 ^ 32 → m < 2 ^ 32 → n < 2 ^ 32
-  → xs ++ codes "/" ++ decimal c ++ codes "/" ++ decimal m ≡ ys ++ codes "/" ++ decimal d ++ codes "/" ++ decimal n → (xs ≡ ys) × (c ≡ d) × (m ≡ n)
+    → xs ++ codes "/" ++ decimal c ++ codes "/" ++ decimal m ≡ ys ++ codes "/" ++ decimal d ++ codes "/" ++ decimal n → (xs ≡ ys) × (c ≡ d) × (m ≡ n)
 parts_of_name xs ys c d m n hc hd hm hn e =
     let outer = cut (xs ++ codes "/" ++ decimal c) (ys ++ codes "/" ++ decimal d) (decimal m) (decimal n) (decimal_has_no_slash m hm) (decimal_has_no_slash n hn)
-      (sym (append_assoc (xs ++ codes "/" ++ decimal c) (codes "/") (decimal m)) ∙ e ∙ append_assoc (ys ++ codes "/" ++ decimal d) (codes "/") (decimal n)) in
+    (sym (append_assoc (xs ++ codes "/" ++ decimal c) (codes "/") (decimal m)) ∙ e ∙ append_assoc (ys ++ codes "/" ++ decimal d) (codes "/") (decimal n)) in
     let inner = cut xs ys (decimal c) (decimal d) (decimal_has_no_slash c hc) (decimal_has_no_slash d hd)
-      (sym (append_assoc xs (codes "/") (decimal c)) ∙ outer.0 ∙ append_assoc ys (codes "/") (decimal d)) in
+    (sym (append_assoc xs (codes "/") (decimal c)) ∙ outer.0 ∙ append_assoc ys (codes "/") (decimal d)) in
     (inner.0, same_number c d hc hd inner.1, same_number m n hm hn outer.1)

@@ -1,6 +1,6 @@
 -- The orders are total, and their equals are the same value.
-use Rattle.std.proofs.Common.{◌≡◌, ℕ, List, ◌⊎◌, inl, inr, refl, sym, ap, ◌∙◌, true≢false, Ordering, Less, Equal, Greater}
-use Rattle.std.specs.Ordering.{ordering_then, ordering_reverse, nat_cmp, on, then_cmp, is_lt, is_eq, is_gt}
+use Rattle.std.proofs.Common.{◌≡◌, ◌⊎◌, inl, inr, refl, sym, ap, ◌∙◌, Ordering, Less, Equal}
+use Rattle.std.specs.Ordering.{ordering_reverse, nat_cmp, on}
 use Rattle.std.specs.Cmp.{IsTotalOrder}
 use Rattle.std.proofs.lemmas.Cmp.{on_total, then_total, nat_cmp_total, lists_total}
 use Rattle.std.specs.Cmp.Lexicographic.{slice_cmp}
@@ -23,13 +23,13 @@ text_ranked = list_ranked nat_ranked
 pub pair_ranked : {A B : Type 0} {R : A → A → Ordering} {S : B → B → Ordering} → IsRanked R → IsRanked S → IsRanked (pair_cmp R S)
 pair_ranked {A = A} {B = B} o p = record {
   total = then_total (on_total (λ (x : A × B). x.0) o.total) (on_total (λ (x : A × B). x.1) p.total);
-  same = pair_same o.same p.same
+  same = pair_same o.same p.same;
 }
 
 pub on_ranked : {A B : Type 0} (key : A → B) (back : B → A) → ((x : A) → back (key x) ≡ x) → {R : B → B → Ordering} → IsRanked R → IsRanked (on key R)
 on_ranked key back undo o = record {
   total = on_total key o.total;
-  same = λ x y e. sym (undo x) ∙ ap back (o.same _ _ e) ∙ undo y
+  same = λ x y e. sym (undo x) ∙ ap back (o.same _ _ e) ∙ undo y;
 }
 
 module _ {A B : Type 0} {R : A → A → Ordering} {S : B → B → Ordering} (o : IsRanked R) (p : IsRanked S) where

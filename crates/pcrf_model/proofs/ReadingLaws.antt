@@ -1,12 +1,8 @@
 -- What is read of a view, and what a site does, is the same on the kept facts.
-use Rattle.std.proofs.Common.{◌≡◌, ℕ, List, ◌++◌, Option, refl, sym, ap, ◌∙◌, ◌&&◌, ◌||◌, Bool, not}
-use Rattle.std.specs.List.{list_any}
-use Rattle.std.proofs.Common.{is_none}
-use Rattle.lattice_core.specs.Ascending.{ascending}
+use Rattle.std.proofs.Common.{◌≡◌, ℕ, List, Option, refl, ap}
 use Rattle.pcrf_model.specs.Sets.{Same}
-use Rattle.pcrf_model.specs.Sessions.{Session, gx, af}
-use Rattle.pcrf_model.specs.Facts.{Fact, fact_cmp}
-use Rattle.pcrf_model.specs.Holdings.{kept, Holding, union, kept_of}
+use Rattle.pcrf_model.specs.Facts.{Fact}
+use Rattle.pcrf_model.specs.Holdings.{kept, Holding, kept_of}
 use Rattle.pcrf_model.specs.Views.{View, view}
 use Rattle.pcrf_model.specs.Live.{is_live, is_partial, home}
 use Rattle.pcrf_model.specs.Bindings.{matches, bind}
@@ -14,11 +10,11 @@ use Rattle.pcrf_model.specs.Tables.{Tables}
 use Rattle.pcrf_model.specs.Rules.{rules}
 use Rattle.pcrf_model.specs.Differences.{told, difference}
 use Rattle.pcrf_model.specs.OperatorValues.{OperatorValue, operator_value, session_values}
-use Rattle.pcrf_model.specs.Requests.{RequestKind, Initial, Update, Termination, CcrValue, AarValue, StrValue, RequestValue, Ccr, Aar, Str, Base, RefusalValue}
+use Rattle.pcrf_model.specs.Requests.{RequestKind, Initial, Update, Termination, CcrValue, AarValue, StrValue, RequestValue, Ccr, Aar, Str, Base}
 use Rattle.pcrf_model.specs.Making.{ccr_fields, aar_facts, next_tag}
-use Rattle.pcrf_model.specs.Refusals.{first_cause, ccr_causes, ccr_refusal, aar_causes, aar_refusal, str_refusal}
-use Rattle.pcrf_model.specs.Serving.{Outcome, accepted_ccr, refused_or, serve, serve_ccr, serve_aar, serve_str, provisioned}
-use Rattle.pcrf_model.specs.Pushing.{PushOutcome, push}
+use Rattle.pcrf_model.specs.Refusals.{ccr_refusal, aar_refusal, str_refusal}
+use Rattle.pcrf_model.specs.Serving.{accepted_ccr, serve, serve_ccr, serve_aar, serve_str, provisioned}
+use Rattle.pcrf_model.specs.Pushing.{push}
 use Rattle.pcrf_model.specs.Laws.{ReadsTheSame}
 use Rattle.pcrf_model.proofs.ViewLaws.{view-Same, view-kept}
 use Rattle.pcrf_model.proofs.UnionLaws.{view_sorted, view_with}
@@ -35,7 +31,7 @@ reads v w e = record {
   bindings = λ a. ap (λ (z : View). bind z a) e;
   lists = λ t s. ap (λ (z : View). rules t z s) e;
   entries = λ s. ap (λ (z : View). told z s) e;
-  differences = λ t s. ap (λ (z : View). difference (told z s) (rules t z s)) e
+  differences = λ t s. ap (λ (z : View). difference (told z s) (rules t z s)) e;
 }
 
 pub reads-kept : (facts : List Fact) → ReadsTheSame (view (kept facts)) (view facts)

@@ -1,21 +1,21 @@
 -- No two rules of a session have one name.
-use Rattle.std.proofs.Common.{◌≡◌, ℕ, ◌<◌, ◌^◌, Bool, true, false, cond, not, ◌&&◌, List, [], ◌∷◌, ◌++◌, map, ◌⊎◌, ◌↔◌, Option, Some, None, inl, inr, refl, sym, ap, ◌∙◌, subst, option_map, option_and_then, unwrap_or, decimal, arith, Ordering}
+use Rattle.std.proofs.Common.{◌≡◌, ℕ, ◌<◌, ◌^◌, Bool, true, false, cond, not, List, [], ◌∷◌, ◌++◌, map, Option, Some, None, inl, inr, refl, sym, ap, ◌∙◌, subst, option_map, option_and_then, unwrap_or, decimal, arith}
 use Rattle.std.specs.Prelude.{codes}
-use Rattle.std.specs.Ordering.{is_eq, nat_cmp}
+use Rattle.std.specs.Ordering.{is_eq}
 use Rattle.std.specs.Cmp.{first_so}
 use Rattle.std.specs.List.{filter_map}
 use Rattle.std.proofs.lemmas.List.{append_cancel_left}
 use Rattle.lattice_core.specs.Ascending.{ascending}
-use Rattle.lattice_core.specs.RuleValues.{RuleValue, rule_cmp}
+use Rattle.lattice_core.specs.RuleValues.{RuleValue}
 use Rattle.pcrf_model.specs.Sets.{In, Distinct}
 use Rattle.pcrf_model.specs.Sessions.{Kind, Gx, Af, Session, session_cmp, is_gx}
-use Rattle.pcrf_model.specs.Paths.{FlowDescriptions, Step, Component, Flow, Part, RuleName, Path, apn}
+use Rattle.pcrf_model.specs.Paths.{FlowDescriptions, Step, Component, Flow, Part, Path, apn}
 use Rattle.pcrf_model.specs.Values.{Entry}
 use Rattle.pcrf_model.specs.Facts.{Fact, Gone, Field, path_of}
 use Rattle.pcrf_model.specs.Holdings.{shown}
 use Rattle.pcrf_model.specs.Views.{View, Shown, shown_cmp, showing, view, text}
 use Rattle.pcrf_model.specs.Live.{is_live}
-use Rattle.pcrf_model.specs.Bindings.{matches, bind, is_bound_to}
+use Rattle.pcrf_model.specs.Bindings.{bind, is_bound_to}
 use Rattle.pcrf_model.specs.Tables.{OperatorRule, ApnRow, Class, Tables, apn_row}
 use Rattle.pcrf_model.specs.Flows.{FlowId, filters, class_of, flow_rule_name, flow_rule}
 use Rattle.pcrf_model.specs.Rules.{flow_at, rule_of, rule_at, apn_of, operator_rule, operator_rules, flow_rules, listed_cmp, rules}
@@ -77,7 +77,7 @@ numbers_of a steps i fit h = absurd (cc)
 
 -- the rule of a flow has the flow's name
 name_of : (t : Tables) (v : View) (i : FlowId) (fs : Option (List (List ℕ))) (cl : Option Class) (x : RuleValue)
-  → option_and_then (λ f. option_map (λ c. flow_rule t v i f c) cl) fs ≡ Some x → x.name ≡ flow_rule_name i
+    → option_and_then (λ f. option_map (λ c. flow_rule t v i f c) cl) fs ≡ Some x → x.name ≡ flow_rule_name i
 name_of t v i None cl x h = absurd (cc)
 name_of t v i (Some f) None x h = absurd (cc)
 name_of t v i (Some f) (Some c) x h = sym (ap rule_name_of (some_same (flow_rule t v i f c) x h))
@@ -135,7 +135,7 @@ module _ (t : Tables) (facts : List Fact) (s : Session) (fit : NumbersFit facts)
         gives = f.2;
         kind = ap (λ (z : Session). z.kind) n.0 ∙ bound_kind r.0.0.session b.0;
         low_component = n.1;
-        low_flow = n.2
+        low_flow = n.2;
       }
 
   named_flow : (x : RuleValue) (o : OfFlow t v x) → x.name ≡ flow_rule_name o.flow
@@ -144,9 +144,9 @@ module _ (t : Tables) (facts : List Fact) (s : Session) (fit : NumbersFit facts)
   one_flow : (x y : RuleValue) → OfFlow t v x → OfFlow t v y → x.name ≡ y.name → x ≡ y
   one_flow x y o p e =
       let text = append_cancel_left (codes "af/")
-        (o.flow.session.id ++ codes "/" ++ decimal o.flow.component ++ codes "/" ++ decimal o.flow.flow)
-        (p.flow.session.id ++ codes "/" ++ decimal p.flow.component ++ codes "/" ++ decimal p.flow.flow)
-        (sym (named_flow x o) ∙ e ∙ named_flow y p) in
+      (o.flow.session.id ++ codes "/" ++ decimal o.flow.component ++ codes "/" ++ decimal o.flow.flow)
+      (p.flow.session.id ++ codes "/" ++ decimal p.flow.component ++ codes "/" ++ decimal p.flow.flow)
+      (sym (named_flow x o) ∙ e ∙ named_flow y p) in
       let parts = parts_of_name o.flow.session.id p.flow.session.id o.flow.component p.flow.component o.flow.flow p.flow.flow o.low_component p.low_component o.low_flow p.low_flow text in
       let kinds : o.flow.session.kind ≡ p.flow.session.kind = o.kind ∙ sym p.kind in
       let same : o.flow ≡ p.flow = λ i. record { session = record { kind = kinds i; id = parts.0 i }; component = parts.1 i; flow = parts.2 i } in
@@ -186,8 +186,8 @@ module _ (t : Tables) (facts : List Fact) (s : Session) (fit : NumbersFit facts)
 
     all_differ : Distinct (map rule_name_of all_rules)
     all_differ = Distinct-map rule_name_of all_rules
-      (Distinct-ascending listed_cmp listed_ranked all_rules (ascending-ascending listed_cmp listed_ranked (operator_rules t v s ++ flow_rules t v s)))
-      (λ x y i j. one_rule x y (listed x i) (listed y j))
+        (Distinct-ascending listed_cmp listed_ranked all_rules (ascending-ascending listed_cmp listed_ranked (operator_rules t v s ++ flow_rules t v s)))
+        (λ x y i j. one_rule x y (listed x i) (listed y j))
 
     names_differ : Distinct (map rule_name_of (rules t v s))
     unfolding rules

@@ -1,5 +1,5 @@
 -- Laws of sets as lists.
-use Rattle.std.proofs.Common.{◌≡◌, ℕ, Bool, true, false, cond, not, ◌||◌, ◌&&◌, List, [], ◌∷◌, ◌++◌, map, ◌⊎◌, ◌↔◌, Option, Some, None, inl, inr, refl, sym, ap, ◌∙◌, subst, true≢false, Ordering, Less, Equal, Greater}
+use Rattle.std.proofs.Common.{◌≡◌, Bool, true, false, cond, not, ◌||◌, List, [], ◌∷◌, ◌++◌, map, ◌⊎◌, Option, Some, None, inl, inr, refl, sym, ap, ◌∙◌, subst, true≢false, Ordering, Less, Equal, Greater}
 use Rattle.std.specs.List.{list_any, filter, filter_map, cons_option}
 use Rattle.std.specs.Ordering.{is_lt, ordering_reverse}
 use Rattle.std.specs.Cmp.{both_ways, IsTotalOrder, tied_itself}
@@ -48,20 +48,20 @@ module _ {A : Type 0} where
     pub In-filter : (x : A) (xs : List A) → In x xs → p x ≡ true → In x (filter p xs)
     In-filter x [] h t = h
     In-filter x (y ∷ ys) (inl e) t = elim (p y) as (λ b. p y ≡ b → In x (cond b (y ∷ filter p ys) (filter p ys))) [
-        | true ↦ λ _. inl e
-        | false ↦ λ f. clash (p y) (ap p (sym e) ∙ t) f
-      ] refl
+      | true ↦ λ _. inl e
+      | false ↦ λ f. clash (p y) (ap p (sym e) ∙ t) f
+    ] refl
     In-filter x (y ∷ ys) (inr h) t = elim (p y) as (λ b. In x (cond b (y ∷ filter p ys) (filter p ys))) [
-        | true ↦ inr (In-filter x ys h t)
-        | false ↦ In-filter x ys h t
-      ]
+      | true ↦ inr (In-filter x ys h t)
+      | false ↦ In-filter x ys h t
+    ]
 
     pub filter-In : (x : A) (xs : List A) → In x (filter p xs) → In x xs × (p x ≡ true)
     filter-In x [] = λ h. absurd h
     filter-In x (y ∷ ys) = elim (p y) as (λ b. p y ≡ b → In x (cond b (y ∷ filter p ys) (filter p ys)) → In x (y ∷ ys) × (p x ≡ true)) [
-        | true ↦ λ t. elim [ inl e ↦ (inl e, ap p e ∙ t) | inr h ↦ let r = filter-In x ys h in (inr r.0, r.1) ]
-        | false ↦ λ _ h. let r = filter-In x ys h in (inr r.0, r.1)
-      ] refl
+      | true ↦ λ t. elim [ inl e ↦ (inl e, ap p e ∙ t) | inr h ↦ let r = filter-In x ys h in (inr r.0, r.1) ]
+      | false ↦ λ _ h. let r = filter-In x ys h in (inr r.0, r.1)
+    ] refl
 
     pub In-any : (x : A) (xs : List A) → In x xs → p x ≡ true → list_any p xs ≡ true
     In-any x [] h t = absurd h
@@ -71,14 +71,14 @@ module _ {A : Type 0} where
     pub any-In : (xs : List A) → list_any p xs ≡ true → (x : A) × In x xs × (p x ≡ true)
     any-In [] h = clash false h refl
     any-In (y ∷ ys) h = elim (or_true (p y) (list_any p ys) h) [
-        | inl t ↦ (y, inl refl, t)
-        | inr t ↦ let r = any-In ys t in (r.0, inr r.1, r.2)
-      ]
+      | inl t ↦ (y, inl refl, t)
+      | inr t ↦ let r = any-In ys t in (r.0, inr r.1, r.2)
+    ]
 
     pub any-Same : (xs ys : List A) → Same xs ys → list_any p xs ≡ list_any p ys
     any-Same xs ys s = both_ways _ _
-      (λ h. let r = any-In xs h in In-any r.0 ys ((s r.0).0 r.1) r.2)
-      (λ h. let r = any-In ys h in In-any r.0 xs ((s r.0).1 r.1) r.2)
+        (λ h. let r = any-In xs h in In-any r.0 ys ((s r.0).0 r.1) r.2)
+        (λ h. let r = any-In ys h in In-any r.0 xs ((s r.0).1 r.1) r.2)
 
     pub none-any : (xs : List A) → list_any p xs ≡ false → (x : A) → In x xs → p x ≡ false
     none-any xs f x h = is_false (p x) (λ t. clash _ (In-any x xs h t) f)
@@ -129,16 +129,16 @@ module _ {A : Type 0} where
     pub best-above : (x : A) (xs : List A) → AtOrBelow x (best below x xs)
     best-above x [] = inl refl
     best-above x (y ∷ ys) = elim (below x y) as (λ b. below x y ≡ b → AtOrBelow x (best below (cond b y x) ys)) [
-        | true ↦ λ e. inr (up_from x y _ e (best-above y ys))
-        | false ↦ λ e. best-above x ys
-      ] refl
+      | true ↦ λ e. inr (up_from x y _ e (best-above y ys))
+      | false ↦ λ e. best-above x ys
+    ] refl
 
     pub best-in : (x : A) (xs : List A) → In (best below x xs) (x ∷ xs)
     best-in x [] = inl refl
     best-in x (y ∷ ys) = elim (below x y) as (λ b. In (best below (cond b y x) ys) (x ∷ y ∷ ys)) [
-        | true ↦ inr (best-in y ys)
-        | false ↦ skip (best-in x ys)
-      ]
+      | true ↦ inr (best-in y ys)
+      | false ↦ skip (best-in x ys)
+    ]
       where
         skip : In (best below x ys) (x ∷ ys) → In (best below x ys) (x ∷ y ∷ ys)
         skip (inl e) = inl e
@@ -148,9 +148,9 @@ module _ {A : Type 0} where
     best-top x [] y (inl e) = ap (below x) e ∙ irr x
     best-top x [] y (inr h) = absurd h
     best-top x (z ∷ zs) y h = elim (below x z) as (λ b. below x z ≡ b → below (best below (cond b z x) zs) y ≡ false) [
-        | true ↦ λ e. rise (λ w i. best-top z zs w i) e h
-        | false ↦ λ f. stay (λ w i. best-top x zs w i) f h
-      ] refl
+      | true ↦ λ e. rise (λ w i. best-top z zs w i) e h
+      | false ↦ λ f. stay (λ w i. best-top x zs w i) f h
+    ] refl
       where
         rise : ((w : A) → In w (z ∷ zs) → below (best below z zs) w ≡ false) → below x z ≡ true → In y (x ∷ z ∷ zs) → below (best below z zs) y ≡ false
         rise ih e (inl q) = ap (below (best below z zs)) q ∙ not_down x z _ e (best-above z zs)
@@ -182,8 +182,8 @@ module _ {A : Type 0} where
     -- a test that passes on upwards sees no difference
     pub any-maximal : (p : A → Bool) → ((x y : A) → p x ≡ true → below x y ≡ true → p y ≡ true) → (xs : List A) → list_any p (maximal below xs) ≡ list_any p xs
     any-maximal p up xs = both_ways _ _
-      (λ h. let r = any-In p (maximal below xs) h in In-any p r.0 xs (maximal-In r.0 xs r.1).0 r.2)
-      (λ h. let r = any-In p xs h in let m = top_of r.0 xs r.1 in In-any p m.0 _ m.1 (passes r.0 m.0 r.2 m.2))
+        (λ h. let r = any-In p (maximal below xs) h in In-any p r.0 xs (maximal-In r.0 xs r.1).0 r.2)
+        (λ h. let r = any-In p xs h in let m = top_of r.0 xs r.1 in In-any p m.0 _ m.1 (passes r.0 m.0 r.2 m.2))
       where
         passes : (x m : A) → p x ≡ true → AtOrBelow x m → p m ≡ true
         passes x m t (inl q) = ap p (sym q) ∙ t
@@ -256,6 +256,7 @@ module _ {A : Type 0} where
       where
         u : A
         u = best less x xs
+
         v : A
         v = best less y ys
 
@@ -277,16 +278,16 @@ module _ {A B : Type 0} (h : A → Option B) where
   In-filter_map x y [] i e = absurd i
   In-filter_map x y (z ∷ zs) (inl q) e = subst (λ (r : Option B). In y (cons_option r (filter_map h zs))) (sym e ∙ ap h q) (inl refl)
   In-filter_map x y (z ∷ zs) (inr i) e = elim (h z) as (λ r. In y (cons_option r (filter_map h zs))) [
-      | None ↦ In-filter_map x y zs i e
-      | Some w ↦ inr (In-filter_map x y zs i e)
-    ]
+    | None ↦ In-filter_map x y zs i e
+    | Some w ↦ inr (In-filter_map x y zs i e)
+  ]
 
   pub filter_map-In : (y : B) (xs : List A) → In y (filter_map h xs) → (x : A) × In x xs × (h x ≡ Some y)
   filter_map-In y [] = λ i. absurd i
   filter_map-In y (z ∷ zs) = elim (h z) as (λ r. h z ≡ r → In y (cons_option r (filter_map h zs)) → (x : A) × In x (z ∷ zs) × (h x ≡ Some y)) [
-      | None ↦ λ _ i. let r = filter_map-In y zs i in (r.0, inr r.1, r.2)
-      | Some w ↦ λ e. elim [ inl q ↦ (z, inl refl, e ∙ ap Some (sym q)) | inr i ↦ let r = filter_map-In y zs i in (r.0, inr r.1, r.2) ]
-    ] refl
+    | None ↦ λ _ i. let r = filter_map-In y zs i in (r.0, inr r.1, r.2)
+    | Some w ↦ λ e. elim [ inl q ↦ (z, inl refl, e ∙ ap Some (sym q)) | inr i ↦ let r = filter_map-In y zs i in (r.0, inr r.1, r.2) ]
+  ] refl
 
   part : (xs ys : List A) → Same xs ys → (y : B) → In y (filter_map h xs) → In y (filter_map h ys)
   part xs ys s y i = let r = filter_map-In y xs i in In-filter_map r.0 y ys ((s r.0).0 r.1) r.2
@@ -308,7 +309,8 @@ module _ {A B : Type 0} (f : A → B) where
   pub map-Same : (xs ys : List A) → Same xs ys → Same (map f xs) (map f ys)
   map-Same xs ys s z = (
     λ h. let r = map-In z xs h in subst (λ (w : B). In w (map f ys)) (sym r.2) (In-map r.0 ys ((s r.0).0 r.1)),
-    λ h. let r = map-In z ys h in subst (λ (w : B). In w (map f xs)) (sym r.2) (In-map r.0 xs ((s r.0).1 r.1)))
+    λ h. let r = map-In z ys h in subst (λ (w : B). In w (map f xs)) (sym r.2) (In-map r.0 xs ((s r.0).1 r.1)),
+  )
 
 -- ---- parts that have nothing to do with each other
 module _ {A : Type 0} (below : A → A → Bool) where
@@ -332,9 +334,9 @@ module _ {A : Type 0} (below : A → A → Bool) (irr : (x : A) → below x x �
       back : In x (maximal below xs ++ maximal below ys) → In x (maximal below (xs ++ ys))
       back h = elim (In-cases x (maximal below xs) (maximal below ys) h) [
         | inl i ↦
-          let r = maximal-In below irr trans x xs i in
-          In-maximal below irr trans x (xs ++ ys) (In-left x xs ys r.0) (λ y j. elim (In-cases y xs ys j) [ inl k ↦ r.1 y k | inr k ↦ a.forth x y r.0 k ])
+            let r = maximal-In below irr trans x xs i in
+            In-maximal below irr trans x (xs ++ ys) (In-left x xs ys r.0) (λ y j. elim (In-cases y xs ys j) [ inl k ↦ r.1 y k | inr k ↦ a.forth x y r.0 k ])
         | inr i ↦
-          let r = maximal-In below irr trans x ys i in
-          In-maximal below irr trans x (xs ++ ys) (In-right x xs ys r.0) (λ y j. elim (In-cases y xs ys j) [ inl k ↦ a.back y x k r.0 | inr k ↦ r.1 y k ])
+            let r = maximal-In below irr trans x ys i in
+            In-maximal below irr trans x (xs ++ ys) (In-right x xs ys r.0) (λ y j. elim (In-cases y xs ys j) [ inl k ↦ a.back y x k r.0 | inr k ↦ r.1 y k ])
       ]

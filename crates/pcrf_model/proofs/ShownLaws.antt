@@ -1,15 +1,14 @@
 -- What shows is the same on the kept facts, and on the same set of facts.
-use Rattle.std.proofs.Common.{◌≡◌, ℕ, Bool, true, false, cond, List, [], ◌∷◌, ◌++◌, ◌⊎◌, ◌↔◌, Option, Some, None, inl, inr, refl, sym, ap, ◌∙◌, subst}
+use Rattle.std.proofs.Common.{◌≡◌, Bool, true, false, cond, List, ◌++◌, ◌⊎◌, Some, None, inl, inr, refl, sym, ap, ◌∙◌, subst}
 use Rattle.std.specs.Ordering.{is_eq, is_lt}
 use Rattle.std.specs.Cmp.{first_so, second_so}
-use Rattle.std.specs.List.{list_any, filter_map}
-use Rattle.pcrf_model.specs.Sets.{In, Same, greatest}
-use Rattle.lattice_core.specs.declared.tag.Tag.{Tag}
+use Rattle.std.specs.List.{filter_map}
+use Rattle.pcrf_model.specs.Sets.{In, Same}
 use Rattle.pcrf_model.specs.Paths.{Path, path_cmp, is_at_or_above}
-use Rattle.pcrf_model.specs.Values.{Value, Entry, entry_cmp}
+use Rattle.pcrf_model.specs.Values.{Entry, entry_cmp}
 use Rattle.pcrf_model.specs.Facts.{Fact, Gone, Field, is_shaded_by}
 use Rattle.pcrf_model.specs.Holdings.{kept, blocks, is_gone, entry_at, value_at, shown}
-use Rattle.pcrf_model.proofs.SetLaws.{clash, In-any, any-Same, maximal-In, top_of, any-maximal, maximal-append, maximal-Same, maximal-maximal, greatest_reached, greatest-Same, In-filter_map, filter_map-In, filter_map-Same, Same-back}
+use Rattle.pcrf_model.proofs.SetLaws.{clash, In-any, any-Same, maximal-In, top_of, any-maximal, maximal-append, maximal-Same, greatest_reached, greatest-Same, In-filter_map, filter_map-In, filter_map-Same}
 use Rattle.pcrf_model.proofs.FactLaws.{path_ranked, entry_ranked, eq_is, above_at, at_through, shaded_irr, shaded_trans}
 
 -- a union with the kept facts keeps what the union keeps
@@ -45,31 +44,32 @@ not_field p q e h = cc
 
 module _ (facts : List Fact) (p : Path) (open_ : is_gone facts p ≡ false) where
   reached : (f m : Fact) (e : Entry) → In f facts → entry_at p f ≡ Some e → In m (kept facts) → (f ≡ m) ⊎ (is_shaded_by f m ≡ true)
-    → (d : Entry) × In d (filter_map (entry_at p) (kept facts)) × ((e ≡ d) ⊎ (is_lt (entry_cmp e d) ≡ true))
+      → (d : Entry) × In d (filter_map (entry_at p) (kept facts)) × ((e ≡ d) ⊎ (is_lt (entry_cmp e d) ≡ true))
   reached f m e i h j (inl q) = (e, In-filter_map (entry_at p) m e (kept facts) j (ap (entry_at p) (sym q) ∙ h), inl refl)
   reached (Gone q) m e i h j (inr s) = not_field p q e h
   reached (Field q t v) (Gone r) e i h j (inr s) =
       let k = some_entry (is_eq (path_cmp p q)) (t, v) e h in
       clash (is_gone facts p)
       (In-any (blocks p) (Gone r) facts (maximal-In is_shaded_by shaded_irr shaded_trans (Gone r) facts j).0
-        (subst (λ (x : Path). is_at_or_above r x ≡ true) (sym (eq_is path_ranked p q k.0)) (above_at r q s)))
+      (subst (λ (x : Path). is_at_or_above r x ≡ true) (sym (eq_is path_ranked p q k.0)) (above_at r q s)))
       open_
   reached (Field q t v) (Field r u w) e i h j (inr s) =
-      let k = some_entry (is_eq (path_cmp p q)) (t, v) e h in
-      ((u, w),
-       In-filter_map (entry_at p) (Field r u w) (u, w) (kept facts) j
-         (ap (λ b. cond b (Some (u, w)) None) (subst (λ (x : Path). is_eq (path_cmp x r) ≡ true) (sym (eq_is path_ranked p q k.0)) (first_so _ _ s))),
-       inr (subst (λ (x : Entry). is_lt (entry_cmp x (u, w)) ≡ true) k.1 (second_so (is_eq (path_cmp q r)) _ s)))
+      let k = some_entry (is_eq (path_cmp p q)) (t, v) e h in (
+        (u, w),
+        In-filter_map (entry_at p) (Field r u w) (u, w) (kept facts) j
+            (ap (λ b. cond b (Some (u, w)) None) (subst (λ (x : Path). is_eq (path_cmp x r) ≡ true) (sym (eq_is path_ranked p q k.0)) (first_so _ _ s))),
+        inr (subst (λ (x : Entry). is_lt (entry_cmp x (u, w)) ≡ true) k.1 (second_so (is_eq (path_cmp q r)) _ s)),
+      )
 
   value_at-kept : value_at (kept facts) p ≡ value_at facts p
   value_at-kept = greatest_reached entry_cmp entry_ranked.total entry_ranked.same _ _
-    (λ e i. let r = filter_map-In (entry_at p) e (kept facts) i in In-filter_map (entry_at p) r.0 e facts (maximal-In is_shaded_by shaded_irr shaded_trans r.0 facts r.1).0 r.2)
-    (λ e i. let r = filter_map-In (entry_at p) e facts i in let t = top_of is_shaded_by shaded_irr shaded_trans r.0 facts r.1 in reached r.0 t.0 e r.1 r.2 t.1 t.2)
+      (λ e i. let r = filter_map-In (entry_at p) e (kept facts) i in In-filter_map (entry_at p) r.0 e facts (maximal-In is_shaded_by shaded_irr shaded_trans r.0 facts r.1).0 r.2)
+      (λ e i. let r = filter_map-In (entry_at p) e facts i in let t = top_of is_shaded_by shaded_irr shaded_trans r.0 facts r.1 in reached r.0 t.0 e r.1 r.2 t.1 t.2)
 
 pub shown-kept : (facts : List Fact) (p : Path) → shown (kept facts) p ≡ shown facts p
 shown-kept facts p =
     ap (λ b. cond b None (value_at (kept facts) p)) (is_gone-kept facts p)
     ∙ (elim (is_gone facts p) as (λ b. is_gone facts p ≡ b → cond b None (value_at (kept facts) p) ≡ cond b None (value_at facts p)) [
-        | true ↦ λ _. refl
-        | false ↦ λ f. value_at-kept facts p f
-      ]) refl
+      | true ↦ λ _. refl
+      | false ↦ λ f. value_at-kept facts p f
+    ]) refl

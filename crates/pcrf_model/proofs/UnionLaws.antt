@@ -1,6 +1,5 @@
 -- Unions and what is kept of them.
-use Rattle.std.proofs.Common.{◌≡◌, ℕ, max, zero, ◌≤◌, List, [], ◌∷◌, ◌++◌, ◌⊎◌, ◌↔◌, inl, inr, refl, sym, ap, ◌∙◌, subst, arith, append_assoc}
-use Rattle.std.specs.Ordering.{is_eq}
+use Rattle.std.proofs.Common.{◌≡◌, ℕ, max, ◌≤◌, List, [], ◌∷◌, ◌++◌, ◌↔◌, inl, inr, refl, sym, ap, ◌∙◌, subst, arith, append_assoc}
 use Rattle.lattice_core.specs.Ascending.{ascending}
 use Rattle.pcrf_model.specs.Sets.{In, Same}
 use Rattle.pcrf_model.specs.Sessions.{Session}
@@ -36,7 +35,7 @@ assoc_Same a b c =
     Same-through (ascending fact_cmp (a ++ b) ++ c) ((a ++ b) ++ c) (a ++ ascending fact_cmp (b ++ c))
     (Same-append (ascending fact_cmp (a ++ b)) c (a ++ b) c (sorted-In (a ++ b)) (Same-itself c))
     (subst (λ (z : List Fact). Same z (a ++ ascending fact_cmp (b ++ c))) (sym (append_assoc a b c))
-      (Same-append a (b ++ c) a (ascending fact_cmp (b ++ c)) (Same-itself a) (Same-back (ascending fact_cmp (b ++ c)) (b ++ c) (sorted-In (b ++ c)))))
+    (Same-append a (b ++ c) a (ascending fact_cmp (b ++ c)) (Same-itself a) (Same-back (ascending fact_cmp (b ++ c)) (b ++ c) (sorted-In (b ++ c)))))
 
 pub union_assoc : (h k l : Holding) → union (union h k) l ≡ union h (union k l)
 union_assoc h k l = same_holding (ascending fact_cmp (h.facts ++ k.facts) ++ l.facts) (h.facts ++ ascending fact_cmp (k.facts ++ l.facts)) _ _ (assoc_Same h.facts k.facts l.facts) (omega arith)
@@ -48,22 +47,22 @@ kept_Same a b =
     Same-through (kept (ascending fact_cmp (ascending fact_cmp (kept a) ++ b))) (kept (kept a ++ b)) (kept (ascending fact_cmp (a ++ b)))
     (kept-Same (ascending fact_cmp (ascending fact_cmp (kept a) ++ b)) (kept a ++ b) outer)
     (Same-through (kept (kept a ++ b)) (kept (a ++ b)) (kept (ascending fact_cmp (a ++ b))) (kept-append a b)
-      (kept-Same (a ++ b) (ascending fact_cmp (a ++ b)) (Same-back (ascending fact_cmp (a ++ b)) (a ++ b) (sorted-In (a ++ b)))))
+    (kept-Same (a ++ b) (ascending fact_cmp (a ++ b)) (Same-back (ascending fact_cmp (a ++ b)) (a ++ b) (sorted-In (a ++ b)))))
 
 pub kept_of-union : (h k : Holding) → kept_of (union (kept_of h) k) ≡ kept_of (union h k)
 kept_of-union h k = same_holding (kept (ascending fact_cmp (ascending fact_cmp (kept h.facts) ++ k.facts))) (kept (ascending fact_cmp (h.facts ++ k.facts))) _ _ (kept_Same h.facts k.facts) refl
 
 pub kept_of_twice : (h : Holding) → kept_of (kept_of h) ≡ kept_of h
 kept_of_twice h = same_holding (kept (ascending fact_cmp (kept h.facts))) (kept h.facts) _ _
-  (Same-through (kept (ascending fact_cmp (kept h.facts))) (kept (kept h.facts)) (kept h.facts)
+    (Same-through (kept (ascending fact_cmp (kept h.facts))) (kept (kept h.facts)) (kept h.facts)
     (kept-Same (ascending fact_cmp (kept h.facts)) (kept h.facts) (sorted-In (kept h.facts)))
     (maximal-maximal is_shaded_by shaded_irr shaded_trans h.facts))
-  refl
+    refl
 
 pub union_twice : (h : Holding) → kept_of (union h h) ≡ kept_of h
 union_twice h = same_holding (kept (ascending fact_cmp (h.facts ++ h.facts))) (kept h.facts) _ _
-  (kept-Same (ascending fact_cmp (h.facts ++ h.facts)) h.facts (Same-through (ascending fact_cmp (h.facts ++ h.facts)) (h.facts ++ h.facts) h.facts (sorted-In (h.facts ++ h.facts)) (Same-twice h.facts)))
-  (omega arith)
+    (kept-Same (ascending fact_cmp (h.facts ++ h.facts)) h.facts (Same-through (ascending fact_cmp (h.facts ++ h.facts)) (h.facts ++ h.facts) h.facts (sorted-In (h.facts ++ h.facts)) (Same-twice h.facts)))
+    (omega arith)
 
 pub view-kept_of : (h : Holding) → view (kept_of h).facts ≡ view h.facts
 view-kept_of h = view-Same (ascending fact_cmp (kept h.facts)) (kept h.facts) (sorted-In (kept h.facts)) ∙ view-kept h.facts
@@ -76,9 +75,10 @@ pub In-holding : (f : Fact) (os : List Operation) → In f (holding_of os).facts
 In-holding f [] = (λ h. absurd h, λ r. absurd r.1)
 In-holding f (o ∷ os) =
     let ih = In-holding f os in
-    let s = sorted-In ((holding_of os).facts ++ o.facts) f in
-    (λ h. elim (In-cases f (holding_of os).facts o.facts (s.0 h)) [ inl a ↦ let r = ih.0 a in (r.0, inr r.1, r.2) | inr a ↦ (o, inl refl, a) ],
-     λ r. s.1 (back (λ q j i. (In-holding f os).1 (q, j, i)) r))
+    let s = sorted-In ((holding_of os).facts ++ o.facts) f in (
+      λ h. elim (In-cases f (holding_of os).facts o.facts (s.0 h)) [ inl a ↦ let r = ih.0 a in (r.0, inr r.1, r.2) | inr a ↦ (o, inl refl, a) ],
+      λ r. s.1 (back (λ q j i. (In-holding f os).1 (q, j, i)) r),
+    )
   where
     back : ((q : Operation) → In q os → In f q.facts → In f (holding_of os).facts) → (q : Operation) × In q (o ∷ os) × In f q.facts → In f ((holding_of os).facts ++ o.facts)
     back before (q, inl e, i) = In-right f (holding_of os).facts o.facts (subst (λ (z : Operation). In f z.facts) e i)

@@ -1,16 +1,15 @@
 -- The view is that of the kept facts, and that of the set.
-use Rattle.std.proofs.Common.{◌≡◌, ℕ, Bool, true, false, cond, List, [], ◌∷◌, ◌++◌, map, ◌⊎◌, ◌↔◌, Option, Some, None, inl, inr, refl, sym, ap, ◌∙◌, subst, option_map}
-use Rattle.std.specs.Ordering.{is_eq, is_lt}
-use Rattle.std.specs.Cmp.{first_so, second_so}
-use Rattle.std.specs.List.{list_any, filter_map}
+use Rattle.std.proofs.Common.{◌≡◌, true, false, cond, List, map, ◌⊎◌, Option, Some, None, inl, inr, refl, sym, ap, ◌∙◌, subst, option_map}
+use Rattle.std.specs.Cmp.{first_so}
+use Rattle.std.specs.List.{filter_map}
 use Rattle.lattice_core.specs.Ascending.{ascending}
-use Rattle.pcrf_model.specs.Sets.{In, Same, greatest}
+use Rattle.pcrf_model.specs.Sets.{In, Same}
 use Rattle.pcrf_model.specs.Sessions.{Session, session_cmp}
-use Rattle.pcrf_model.specs.Paths.{Path, path_cmp, is_at_or_above, is_above, whole}
-use Rattle.pcrf_model.specs.Values.{Entry, entry_cmp}
+use Rattle.pcrf_model.specs.Paths.{Path, whole}
+use Rattle.pcrf_model.specs.Values.{Entry}
 use Rattle.pcrf_model.specs.Facts.{Fact, Gone, Field, session_of, is_shaded_by}
-use Rattle.pcrf_model.specs.Holdings.{kept, blocks, is_gone, entry_at, value_at, shown}
-use Rattle.pcrf_model.specs.Views.{View, Shown, shown_cmp, view, showing}
+use Rattle.pcrf_model.specs.Holdings.{kept, blocks, is_gone, value_at, shown}
+use Rattle.pcrf_model.specs.Views.{Shown, shown_cmp, view, showing}
 use Rattle.pcrf_model.proofs.SetLaws.{clash, maximal-In, top_of, filter_map-Same, filter_map-In, In-filter_map, In-any, In-map, map-In, map-Same}
 use Rattle.pcrf_model.proofs.Ranked.{IsRanked, pair_ranked}
 use Rattle.pcrf_model.proofs.FactLaws.{session_ranked, path_ranked, entry_ranked, eq_is, shaded_irr, shaded_trans, above_at}
@@ -26,14 +25,14 @@ unfolding view
 view-Same xs ys s =
     let shows : shown xs ≡ shown ys = λ i p. shown-Same xs ys p s i in
     let all : ascending shown_cmp (filter_map (showing (shown xs)) xs) ≡ ascending shown_cmp (filter_map (showing (shown ys)) ys) =
-      ap (λ (f : Path → Option Entry). ascending shown_cmp (filter_map (showing f) xs)) shows
-      ∙ ascending-Same shown_cmp shown_ranked _ _ (filter_map-Same (showing (shown ys)) xs ys s) in
+    ap (λ (f : Path → Option Entry). ascending shown_cmp (filter_map (showing f) xs)) shows
+    ∙ ascending-Same shown_cmp shown_ranked _ _ (filter_map-Same (showing (shown ys)) xs ys s) in
     let sessions : ascending session_cmp (map session_of xs) ≡ ascending session_cmp (map session_of ys) = ascending-Same session_cmp session_ranked _ _ (map-Same session_of xs ys s) in
     λ i. record {
       shows = shows i;
       ended = λ a. is_gone-Same xs ys (whole a) s i;
       all = all i;
-      sessions = sessions i
+      sessions = sessions i;
     }
 
 -- ---- the kept facts
@@ -51,9 +50,10 @@ module _ (facts : List Fact) where
   sessions-kept s = (
     λ h. let r = map-In session_of s (kept facts) h in subst (λ (w : Session). In w (map session_of facts)) (sym r.2) (In-map session_of r.0 facts (kept-In r.0 r.1)),
     λ h.
-      let r = map-In session_of s facts h in
-      let t = top_of is_shaded_by shaded_irr shaded_trans r.0 facts r.1 in
-      subst (λ (w : Session). In w (map session_of (kept facts))) (sym (r.2 ∙ up r.0 t.0 t.2)) (In-map session_of t.0 (kept facts) t.1))
+        let r = map-In session_of s facts h in
+        let t = top_of is_shaded_by shaded_irr shaded_trans r.0 facts r.1 in
+        subst (λ (w : Session). In w (map session_of (kept facts))) (sym (r.2 ∙ up r.0 t.0 t.2)) (In-map session_of t.0 (kept facts) t.1),
+  )
     where
       up : (f m : Fact) → (f ≡ m) ⊎ (is_shaded_by f m ≡ true) → session_of f ≡ session_of m
       up f m (inl q) = ap session_of q
@@ -66,15 +66,16 @@ module _ (facts : List Fact) where
   all-kept x = (
     λ h. let r = filter_map-In (showing (shown facts)) x (kept facts) h in In-filter_map (showing (shown facts)) r.0 x facts (kept-In r.0 r.1) r.2,
     λ h.
-      let r = filter_map-In (showing (shown facts)) x facts h in
-      let t = top_of is_shaded_by shaded_irr shaded_trans r.0 facts r.1 in
-      reach r.0 t.0 r.2 t.1 t.2)
+        let r = filter_map-In (showing (shown facts)) x facts h in
+        let t = top_of is_shaded_by shaded_irr shaded_trans r.0 facts r.1 in
+        reach r.0 t.0 r.2 t.1 t.2,
+  )
     where
       open_ : (p : Path) → option_map (λ (e : Entry). (p, e)) (shown facts p) ≡ Some x → is_gone facts p ≡ false
       open_ p e = (elim (is_gone facts p) as (λ b. is_gone facts p ≡ b → option_map (λ (e : Entry). (p, e)) (cond b None (value_at facts p)) ≡ Some x → is_gone facts p ≡ false) [
-          | true ↦ λ _ h. no_entry p x h
-          | false ↦ λ f _. f
-        ]) refl e
+        | true ↦ λ _ h. no_entry p x h
+        | false ↦ λ f _. f
+      ]) refl e
 
       reach : (f m : Fact) → showing (shown facts) f ≡ Some x → In m (kept facts) → (f ≡ m) ⊎ (is_shaded_by f m ≡ true) → In x (filter_map (showing (shown facts)) (kept facts))
       reach f m e i (inl q) = In-filter_map (showing (shown facts)) m x (kept facts) i (ap (showing (shown facts)) (sym q) ∙ e)
@@ -89,12 +90,12 @@ unfolding view
 view-kept facts =
     let shows : shown (kept facts) ≡ shown facts = λ i p. shown-kept facts p i in
     let all : ascending shown_cmp (filter_map (showing (shown (kept facts))) (kept facts)) ≡ ascending shown_cmp (filter_map (showing (shown facts)) facts) =
-      ap (λ (f : Path → Option Entry). ascending shown_cmp (filter_map (showing f) (kept facts))) shows
-      ∙ ascending-Same shown_cmp shown_ranked _ _ (all-kept facts) in
+    ap (λ (f : Path → Option Entry). ascending shown_cmp (filter_map (showing f) (kept facts))) shows
+    ∙ ascending-Same shown_cmp shown_ranked _ _ (all-kept facts) in
     let sessions : ascending session_cmp (map session_of (kept facts)) ≡ ascending session_cmp (map session_of facts) = ascending-Same session_cmp session_ranked _ _ (sessions-kept facts) in
     λ i. record {
       shows = shows i;
       ended = λ a. is_gone-kept facts (whole a) i;
       all = all i;
-      sessions = sessions i
+      sessions = sessions i;
     }

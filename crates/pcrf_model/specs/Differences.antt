@@ -49,7 +49,7 @@ holds t r = list_any (λ (p : ToldRule). is_eq (text_cmp p.0 r.name) && is_eq (r
 abbrev pub difference : List ToldRule → List RuleValue → DeltaValue
 difference t rs = record {
   removed = filter (λ n. not (list_any (has_name n) rs)) (map told_name_of t);
-  installed = filter (λ r. not (holds t r)) rs
+  installed = filter (λ r. not (holds t r)) rs;
 }
 
 -- the first n entries, the removed names before the installed rules

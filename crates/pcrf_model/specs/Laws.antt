@@ -6,7 +6,6 @@ use Rattle.lattice_core.specs.RuleValues.{RuleValue}
 use Rattle.pcrf_model.specs.Sets.{In, Same, Distinct}
 use Rattle.pcrf_model.specs.Sessions.{Session}
 use Rattle.pcrf_model.specs.Paths.{Step, Component, Flow, Part, RuleName, Path}
-use Rattle.pcrf_model.specs.Values.{Entry}
 use Rattle.pcrf_model.specs.Facts.{Fact, path_of}
 use Rattle.pcrf_model.specs.Holdings.{kept, Holding, union, kept_of}
 use Rattle.pcrf_model.specs.Operations.{Operation, holding_of}

@@ -1,5 +1,5 @@
 -- Letters between sites, and what each means (this project's profile).
-use Rattle.std.specs.Prelude.{ℕ, ◌+◌, ◌-◌, ◌^◌, Bool, cond, ◌&&◌, List, [], length, nat_le, Option, Some, None}
+use Rattle.std.specs.Prelude.{ℕ, ◌+◌, ◌-◌, ◌^◌, cond, ◌&&◌, List, [], length, nat_le, Option, Some, None}
 use Rattle.pcrf_model.specs.Holdings.{Holding}
 use Rattle.pcrf_model.specs.Operations.{Operation}
 use Rattle.pcrf_model.specs.Steps.{SiteReply, Own, Copy, range_limit}

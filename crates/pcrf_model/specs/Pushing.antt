@@ -52,5 +52,5 @@ push t i h name =
     let v : View = view h.facts in
     record {
       pushed = option_map (push_to t v) (due t i v name);
-      added = option_map (λ s. next_operation i h 0 s (told_facts s (next_tag i h 0) (delta_of t v s))) (due t i v name)
+      added = option_map (λ s. next_operation i h 0 s (told_facts s (next_tag i h 0) (delta_of t v s))) (due t i v name);
     }

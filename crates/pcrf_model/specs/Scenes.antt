@@ -1,21 +1,19 @@
 -- What the sites of the worked examples went through.
 use Rattle.std.specs.Prelude.{ℕ, List, [], ◌∷◌, Option, Some, None, codes, length, slice_get}
 use Rattle.std.proofs.Common.{option_map}
-use Rattle.lattice_core.specs.RuleValues.{RuleValue, DeltaValue}
+use Rattle.lattice_core.specs.RuleValues.{DeltaValue}
 use Rattle.lattice_core.specs.declared.tag.Tag.{Tag}
-use Rattle.pcrf_model.specs.Sessions.{Session}
 use Rattle.pcrf_model.specs.Paths.{address}
-use Rattle.pcrf_model.specs.Values.{Value, Address}
+use Rattle.pcrf_model.specs.Values.{Address}
 use Rattle.pcrf_model.specs.Facts.{Field}
-use Rattle.pcrf_model.specs.Holdings.{Holding, nothing_held, union, kept_of}
+use Rattle.pcrf_model.specs.Holdings.{nothing_held, union}
 use Rattle.pcrf_model.specs.Operations.{Operation, holding_of}
 use Rattle.pcrf_model.specs.Views.{View, view}
-use Rattle.pcrf_model.specs.Tables.{Quality}
 use Rattle.pcrf_model.specs.Requests.{RequestValue, RefusalValue}
 use Rattle.pcrf_model.specs.Serving.{AnswerValue, OnGx, Granted, Rejected, serve}
 use Rattle.pcrf_model.specs.Pushing.{PushValue, push}
 use Rattle.pcrf_model.specs.Steps.{SiteState, adding}
-use Rattle.pcrf_model.specs.Samples.{operator, imsi, first_session, second_session, call_session, host_address, initial, update, termination, call, hang_up, audio, status_only, many_flows, ims_quality}
+use Rattle.pcrf_model.specs.Samples.{operator, first_session, second_session, host_address, initial, update, termination, call, hang_up, audio, status_only, many_flows, ims_quality}
 
 -- ---- one step of a site
 

@@ -1,5 +1,5 @@
 -- What a site answers to a request, and the operation that the request makes there.
-use Rattle.std.specs.Prelude.{ℕ, List, [], ◌++◌, Option, Some, None}
+use Rattle.std.specs.Prelude.{ℕ, [], ◌++◌, Option, Some, None}
 use Rattle.std.proofs.Common.{option_map, unwrap_or}
 use Rattle.lattice_core.specs.RuleValues.{DeltaValue}
 use Rattle.pcrf_model.specs.Sessions.{Session, gx, af}
@@ -56,7 +56,7 @@ provisioned t i h q =
     let d : DeltaValue = delta_of t v s in
     record {
       answer = OnGx (Granted d (quality_of t v s));
-      added = Some (next_operation i h q.number s (fields ++ told_facts s (next_tag i h 0) d))
+      added = Some (next_operation i h q.number s (fields ++ told_facts s (next_tag i h 0) d));
     }
 
 -- a termination that is accepted: the end alone

@@ -1,5 +1,5 @@
 -- Several sites and the letters between them: what each site took and made, read from the events and the answers alone.
-use Rattle.std.specs.Prelude.{ℕ, zero, suc, Bool, cond, List, [], ◌∷◌, ◌++◌, map, take, drop, length, slice_get, slice_set, Option, Some, None, Result, Ok, Err}
+use Rattle.std.specs.Prelude.{ℕ, zero, suc, List, [], ◌∷◌, ◌++◌, take, drop, length, slice_get, slice_set, Option, Some, None, Result, Ok, Err}
 use Rattle.std.proofs.Common.{option_to_list, option_map, option_and_then, unwrap_or}
 use Rattle.pcrf_model.specs.Holdings.{Holding, kept_of}
 use Rattle.pcrf_model.specs.Operations.{Operation, holding_of}
@@ -7,7 +7,7 @@ use Rattle.pcrf_model.specs.Tables.{Tables}
 use Rattle.pcrf_model.specs.Requests.{RequestValue}
 use Rattle.pcrf_model.specs.Serving.{AnswerValue, serve}
 use Rattle.pcrf_model.specs.Pushing.{PushValue, push}
-use Rattle.pcrf_model.specs.Steps.{SiteState, SiteEvent, AskOwn, AskWhole, SiteReply, Own, Copy, range_limit}
+use Rattle.pcrf_model.specs.Steps.{SiteState, SiteEvent, AskOwn, SiteReply, Own, Copy, range_limit}
 use Rattle.pcrf_model.specs.Letters.{LetterBody, Range, Snapshot, Acknowledgement, LetterValue, meaning}
 use Rattle.pcrf_model.specs.Cursors.{CursorsValue, start_cursors, ask, letter_of, took, ack_of, ack_letter, carried_ack, acked}
 

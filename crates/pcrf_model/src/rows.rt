@@ -22,8 +22,7 @@ pub fn initial_request_installs_the_operators_rule()
     ensures access_point { value (seen one) (apn first_session) ≡ Some (Text (codes "ims")) }
     ensures home { home (seen one) first_session ≡ Some 0 }
     ensures told { told (seen one) first_session ≡ (codes "op/sip", sip_rule) ∷ [] }
-{
-}
+{}
 
 /// The same request again is granted, with nothing to install or remove, and changes the clock alone.
 pub fn repeated_initial_request_installs_nothing()
@@ -31,8 +30,7 @@ pub fn repeated_initial_request_installs_nothing()
     ensures clock { (serves 0 one (initial first_session (host_address 1))).holding.clock ≡ 2 }
     ensures address { value (seen (serves 0 one (initial first_session (host_address 1)))) (address first_session) ≡ Some (Address (host_address 1)) }
     ensures subscribers { value (seen (serves 0 one (initial first_session (host_address 1)))) (subscribers first_session) ≡ Some (Subscribers (e164 ∷ imsi ∷ [])) }
-{
-}
+{}
 
 /// An update with a lower number that comes later is granted, and the address of the higher number stays.
 pub fn late_update_with_a_lower_number_leaves_the_address()
@@ -40,8 +38,7 @@ pub fn late_update_with_a_lower_number_leaves_the_address()
     ensures second { answers 0 updated (update 1 (Some (host_address 3))) ≡ granted (delta [] []) }
     ensures address { value (seen updated_late) (address first_session) ≡ Some (Address (host_address 2)) }
     ensures clock { updated_late.holding.clock ≡ 3 }
-{
-}
+{}
 
 /// A session that ended at one site stays ended, whatever its other site told of it meanwhile.
 pub fn ended_session_is_never_revived()
@@ -49,8 +46,7 @@ pub fn ended_session_is_never_revived()
     ensures ends { answers 0 one (termination first_session 3) ≡ OnGx (Granted (delta [] []) None) }
     ensures again { answers 0 ended_there (initial first_session (host_address 1)) ≡ rejected unknown_session_id }
     ensures after_the_letter { answers 0 ended_and_told (initial first_session (host_address 1)) ≡ rejected unknown_session_id }
-{
-}
+{}
 
 /// An update is refused where the session is unknown, and granted there once the site took what made it; the session is then at home there.
 pub fn update_moves_the_home_once_the_session_is_known()
@@ -58,8 +54,7 @@ pub fn update_moves_the_home_once_the_session_is_known()
     ensures granted { answers 1 other (update 1 None) ≡ granted (delta [] []) }
     ensures home { home (seen moved) first_session ≡ Some 1 }
     ensures clock { moved.holding.clock ≡ 2 }
-{
-}
+{}
 
 /// A call with an audio flow and its RTCP flow is accepted, and its two rules are pushed once.
 pub fn call_is_pushed_once()
@@ -67,15 +62,13 @@ pub fn call_is_pushed_once()
     ensures bound { bind (seen with_call) call_session ≡ Some first_session }
     ensures pushed { pushes 0 with_call ≡ push_of (delta [] (audio_rule 2 ∷ rtcp_rule ∷ [])) }
     ensures next { pushes 0 call_pushed ≡ None }
-{
-}
+{}
 
 /// A component's status alone changes the rules of its flows that have none of their own: filters and rates stay.
 pub fn component_status_alone_changes_its_flows()
     ensures answer { answers 0 call_pushed (call None (status_only 3 ∷ [])) ≡ Done }
     ensures pushed { pushes 0 disabled ≡ push_of (delta [] (audio_rule 3 ∷ [])) }
-{
-}
+{}
 
 /// A component that is removed takes its rules with it, and does not come back when it is described again.
 pub fn removed_component_stays_removed()
@@ -83,8 +76,7 @@ pub fn removed_component_stays_removed()
     ensures pushed { pushes 0 component_removed ≡ push_of (delta (codes "af/af;1/1/1" ∷ codes "af/af;1/1/2" ∷ []) []) }
     ensures again { answers 0 (pushed 0 component_removed) (call None (audio ∷ [])) ≡ Done }
     ensures next { pushes 0 described_again ≡ None }
-{
-}
+{}
 
 /// An initial request that lacks its access point is refused, and so is one for an access point without a row.
 pub fn initial_requests_are_refused_in_order()
@@ -93,8 +85,7 @@ pub fn initial_requests_are_refused_in_order()
     ensures no_subscriber { answers 0 empty_site (initial_with (Some (host_address 1)) (Some (codes "ims")) []) ≡ rejected initial_parameters }
     ensures no_row { answers 0 empty_site (initial_with (Some (host_address 1)) (Some (codes "none")) (imsi ∷ [])) ≡ rejected authorization_rejected }
     ensures nothing { serves 0 empty_site (initial_with (Some (host_address 1)) (Some (codes "none")) (imsi ∷ [])) ≡ empty_site }
-{
-}
+{}
 
 /// A call is refused where its address is nobody's, where its media have no row unless they are removed, and where it gives no address; nothing changes.
 pub fn calls_are_refused_in_order()
@@ -104,31 +95,27 @@ pub fn calls_are_refused_in_order()
     ensures row_before_binding { answers 0 one (call (Some (10 ∷ 9 ∷ 9 ∷ 9 ∷ [])) (other_media 2 ∷ [])) ≡ Refused service_not_authorized }
     ensures removed { answers 0 one (call (Some (host_address 1)) (other_media 4 ∷ [])) ≡ Done }
     ensures no_address { answers 0 one (call None (other_media 2 ∷ [])) ≡ Refused missing_avp }
-{
-}
+{}
 
 /// Of two sessions with the call's address the one whose address was told later has it, and when that ends the other.
 pub fn later_session_has_the_call_until_it_ends()
     ensures later { bind (seen bound_to_second) call_session ≡ Some second_session }
     ensures ended { bind (seen second_ended) call_session ≡ Some first_session }
-{
-}
+{}
 
 /// Under equal counters and sites the greater Session-Id has the call.
 pub fn greater_session_id_has_the_call_under_equal_stamps()
     ensures first { first_counter one ≡ Some 1 }
     ensures second { first_counter (serves 0 empty_site (initial second_session (host_address 1))) ≡ Some 1 }
     ensures bound { bind (seen equal_stamps) call_session ≡ Some second_session }
-{
-}
+{}
 
 /// Two operations under equal stamps, taken in either order, each twice: the same is kept, and the greater address shows.
 pub fn order_of_letters_does_not_count()
     ensures same { kept_of older_first.holding ≡ kept_of newer_first.holding }
     ensures address { value (seen older_first) (address first_session) ≡ Some (Address (host_address 9)) }
     ensures other { value (seen newer_first) (address first_session) ≡ Some (Address (host_address 9)) }
-{
-}
+{}
 
 /// A call is bound once its session is known: a site that took the call first has no rules, and has all three when the session comes; the session's home pushes.
 pub fn call_is_bound_when_its_session_comes()
@@ -138,8 +125,7 @@ pub fn call_is_bound_when_its_session_comes()
     ensures three { rules operator (seen call_and_session) first_session ≡ sip_rule ∷ audio_rule 2 ∷ rtcp_rule ∷ [] }
     ensures elsewhere { pushes 2 call_and_session ≡ None }
     ensures at_home { pushes 0 (taking one call_elsewhere.log) ≡ push_of (delta [] (audio_rule 2 ∷ rtcp_rule ∷ [])) }
-{
-}
+{}
 
 /// When the call ends at one site and the session moves to another, the new home alone takes the rules back.
 pub fn home_that_moved_removes_the_rules()
@@ -147,8 +133,7 @@ pub fn home_that_moved_removes_the_rules()
     ensures hang_up { answers 0 call_pushed hang_up ≡ Done }
     ensures first { pushes 0 first_after_hang_up ≡ None }
     ensures second { pushes 1 other_after_hang_up ≡ push_of (delta (codes "af/af;1/1/1" ∷ codes "af/af;1/1/2" ∷ []) []) }
-{
-}
+{}
 
 /// At the last counter an update is refused and changes nothing; a clock counts operations that nothing shows any more.
 pub fn clock_ends_and_counts_every_operation()
@@ -156,8 +141,7 @@ pub fn clock_ends_and_counts_every_operation()
     ensures nothing { serves 0 at_the_end (update 1 None) ≡ at_the_end }
     ensures clock { overshadowed.holding.clock ≡ 3 }
     ensures snapshot { (union nothing_held (kept_of overshadowed.holding)).clock ≡ 3 }
-{
-}
+{}
 
 /// Fifty rules are pushed by forty, then ten, then none.
 pub fn fifty_rules_take_two_pushes()
@@ -165,20 +149,17 @@ pub fn fifty_rules_take_two_pushes()
     ensures first { count_installed (pushes 0 many_rules) ≡ Some 40 }
     ensures second { count_installed (pushes 0 first_forty) ≡ Some 10 }
     ensures third { pushes 0 all_fifty ≡ None }
-{
-}
+{}
 
 /// A call whose session ended is bound to nothing, and nothing is pushed.
 pub fn ended_session_leaves_its_call_unbound()
     ensures unbound { bind (seen ended_under_call) call_session ≡ None }
     ensures pushed { pushes 0 ended_under_call ≡ None }
     ensures rules { rules operator (seen ended_under_call) first_session ≡ [] }
-{
-}
+{}
 
 /// A capabilities exchange needs an application in common: Gx, Rx or a relay's.
 pub fn capabilities_need_a_common_application()
     ensures none { answers 0 empty_site (capabilities (4 ∷ [])) ≡ OnBase 5010 }
     ensures gx { answers 0 empty_site (capabilities (4 ∷ 16777238 ∷ [])) ≡ OnBase 2001 }
-{
-}
+{}
