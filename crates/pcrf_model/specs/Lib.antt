@@ -13,6 +13,7 @@ pub mod OperatorValues
 pub mod Paths
 pub mod Pushing
 pub mod Refusals
+pub mod Replies
 pub mod Requests
 pub mod Rules
 pub mod Samples

@@ -10,9 +10,9 @@ ghost use Rattle.pcrf_model.specs.Bindings.{bind};
 ghost use Rattle.pcrf_model.specs.Rules.{rules};
 ghost use Rattle.pcrf_model.specs.Differences.{told};
 ghost use Rattle.pcrf_model.specs.Refusals.{unknown_session_id, authorization_rejected, missing_avp, unable_to_comply, service_not_authorized, session_not_available, initial_parameters};
-ghost use Rattle.pcrf_model.specs.Serving.{OnGx, Granted, Done, Refused, OnBase};
+ghost use Rattle.pcrf_model.specs.Replies.{OnGx, Granted, Done, Refused, OnBase};
 ghost use Rattle.pcrf_model.specs.Samples.{operator, imsi, e164, first_session, second_session, call_session, host_address, initial, initial_with, other_media, capabilities, many_flows, update, termination, call, hang_up, audio, status_only, sip_rule, audio_rule, rtcp_rule, delta};
-ghost use Rattle.pcrf_model.specs.Scenes.{empty_site, taking, first_counter, ended_under_call, answers, serves, pushes, pushed, seen, granted, rejected, push_of, count_installed, one, with_call, call_pushed, disabled, component_removed, described_again, two_sessions, bound_to_second, second_ended, equal_stamps, updated, updated_late, overshadowed, other, other_updated, ended_there, ended_and_told, moved, hung_up, first_after_hang_up, other_after_hang_up, call_elsewhere, call_alone, call_and_session, older_first, newer_first, at_the_end, many_rules, first_forty, all_fifty};
+ghost use Rattle.pcrf_model.specs.Scenes.{empty_site, taking, first_counter, ended_under_call, answers, serves, pushes, pushed, seen, granted, rejected, push_of, no_push, count_installed, one, with_call, call_pushed, disabled, component_removed, described_again, two_sessions, bound_to_second, second_ended, equal_stamps, updated, updated_late, overshadowed, other, other_updated, ended_there, ended_and_told, moved, hung_up, first_after_hang_up, other_after_hang_up, call_elsewhere, call_alone, call_and_session, older_first, newer_first, at_the_end, many_rules, first_forty, all_fifty};
 
 /// An initial request is granted: it installs the operator's rule, with the default quality of service, and the session is live there.
 pub fn initial_request_installs_the_operators_rule()
@@ -61,7 +61,7 @@ pub fn call_is_pushed_once()
     ensures answer { answers 0 one (call (Some (host_address 1)) (audio ∷ [])) ≡ Done }
     ensures bound { bind (seen with_call) call_session ≡ Some first_session }
     ensures pushed { pushes 0 with_call ≡ push_of (delta [] (audio_rule 2 ∷ rtcp_rule ∷ [])) }
-    ensures next { pushes 0 call_pushed ≡ None }
+    ensures next { pushes 0 call_pushed ≡ no_push }
 {}
 
 /// A component's status alone changes the rules of its flows that have none of their own: filters and rates stay.
@@ -75,7 +75,7 @@ pub fn removed_component_stays_removed()
     ensures answer { answers 0 call_pushed (call None (status_only 4 ∷ [])) ≡ Done }
     ensures pushed { pushes 0 component_removed ≡ push_of (delta (codes "af/af;1/1/1" ∷ codes "af/af;1/1/2" ∷ []) []) }
     ensures again { answers 0 (pushed 0 component_removed) (call None (audio ∷ [])) ≡ Done }
-    ensures next { pushes 0 described_again ≡ None }
+    ensures next { pushes 0 described_again ≡ no_push }
 {}
 
 /// An initial request that lacks its access point is refused, and so is one for an access point without a row.
@@ -123,7 +123,7 @@ pub fn call_is_bound_when_its_session_comes()
     ensures no_rules { rules operator (seen call_alone) first_session ≡ [] }
     ensures bound { bind (seen call_and_session) call_session ≡ Some first_session }
     ensures three { rules operator (seen call_and_session) first_session ≡ sip_rule ∷ audio_rule 2 ∷ rtcp_rule ∷ [] }
-    ensures elsewhere { pushes 2 call_and_session ≡ None }
+    ensures elsewhere { pushes 2 call_and_session ≡ no_push }
     ensures at_home { pushes 0 (taking one call_elsewhere.log) ≡ push_of (delta [] (audio_rule 2 ∷ rtcp_rule ∷ [])) }
 {}
 
@@ -131,7 +131,7 @@ pub fn call_is_bound_when_its_session_comes()
 pub fn home_that_moved_removes_the_rules()
     ensures update { answers 1 other (update 1 None) ≡ granted (delta [] []) }
     ensures hang_up { answers 0 call_pushed hang_up ≡ Done }
-    ensures first { pushes 0 first_after_hang_up ≡ None }
+    ensures first { pushes 0 first_after_hang_up ≡ no_push }
     ensures second { pushes 1 other_after_hang_up ≡ push_of (delta (codes "af/af;1/1/1" ∷ codes "af/af;1/1/2" ∷ []) []) }
 {}
 
@@ -148,13 +148,13 @@ pub fn fifty_rules_take_two_pushes()
     ensures answer { answers 0 one (call (Some (host_address 1)) (many_flows 50 ∷ [])) ≡ Done }
     ensures first { count_installed (pushes 0 many_rules) ≡ Some 40 }
     ensures second { count_installed (pushes 0 first_forty) ≡ Some 10 }
-    ensures third { pushes 0 all_fifty ≡ None }
+    ensures third { pushes 0 all_fifty ≡ no_push }
 {}
 
 /// A call whose session ended is bound to nothing, and nothing is pushed.
 pub fn ended_session_leaves_its_call_unbound()
     ensures unbound { bind (seen ended_under_call) call_session ≡ None }
-    ensures pushed { pushes 0 ended_under_call ≡ None }
+    ensures pushed { pushes 0 ended_under_call ≡ no_push }
     ensures rules { rules operator (seen ended_under_call) first_session ≡ [] }
 {}
 
