@@ -11,7 +11,7 @@ use Rattle.pcrf_model.proofs.SetLaws.{clash, is_false, In-filter, filter-In, In-
 use Rattle.pcrf_model.proofs.DistinctLaws.{take_or_drop, take-In, drop-In, not_in_both, Distinct-of_map, filter_past}
 use Rattle.pcrf_model.proofs.Ranked.{text_ranked}
 use Rattle.pcrf_model.proofs.FactLaws.{eq_itself}
-use Rattle.pcrf_model.proofs.AscendingLaws.{IsAscending, ascending-ascending, same_ascending, filter-ascending, drop-ascending, Distinct-ascending}
+use Rattle.pcrf_model.proofs.AscendingLaws.{IsAscending, map-ascending, ascending-ascending, same_ascending, filter-ascending, drop-ascending, Distinct-ascending}
 use Rattle.pcrf_model.proofs.DifferenceLaws.{not_true, split, told_ranked, held, holds_one, stays_if, not_removed, there, stays_in, installed_in, lacks, removed-In, installed-In, lacks_none, same_rule, same_told, none_anew}
 
 -- the name is below, where the entries are in order and no two have one name
@@ -23,13 +23,8 @@ name_below p q l one = elim (text_cmp p.0 q.0) as (λ r. text_cmp p.0 q.0 ≡ r 
 ] refl l
 
 -- the names of entries in order are in order
-names_ascending : (us : List ToldRule) → IsAscending told_cmp told_ranked us → ((p q : ToldRule) → In p us → In q us → p.0 ≡ q.0 → p ≡ q) → IsAscending text_cmp text_ranked (map told_name_of us)
-names_ascending [] s one = tt
-names_ascending (p ∷ ps) s one = (
-  (λ y i. let r = map-In told_name_of y ps i in
-      subst (λ (z : List ℕ). text_cmp p.0 z ≡ Less) (sym r.2) (name_below p r.0 (s.0 r.0 r.1) (one p r.0 (inl refl) (inr r.1)))),
-  names_ascending ps s.1 (λ q r i j. one q r (inr i) (inr j)),
-)
+names_ascending : (us : List ToldRule) → IsAscending told_cmp us → ((p q : ToldRule) → In p us → In q us → p.0 ≡ q.0 → p ≡ q) → IsAscending text_cmp (map told_name_of us)
+names_ascending us s one = map-ascending told_cmp text_cmp told_name_of us (λ p q i j l. name_below p q l (one p q i j)) s
 
 module _ (n : ℕ) (t : List ToldRule) (rs : List RuleValue) (w : IsTold t) (g : Distinct (map rule_name_of rs)) where
   abbrev removed : List (List ℕ)
@@ -95,14 +90,14 @@ module _ (n : ℕ) (t : List ToldRule) (rs : List RuleValue) (w : IsTold t) (g :
           (In-any (has_name p.0) x e.installed m (ap (λ (z : List ℕ). is_eq (text_cmp x.name z)) q ∙ eq_itself text_ranked x.name))
           (not_true _ (second_so (not (list_any (λ m. is_eq (text_cmp m p.0)) e.removed)) _ s))
 
-  old_names : IsAscending text_cmp text_ranked (map told_name_of t)
-  old_names = names_ascending t (subst (IsAscending told_cmp told_ranked) w.in_order (ascending-ascending told_cmp told_ranked t)) (same_told t rs w.one_each g)
+  old_names : IsAscending text_cmp (map told_name_of t)
+  old_names = names_ascending t (subst (IsAscending told_cmp) w.in_order (ascending-ascending told_cmp told_ranked t)) (same_told t rs w.one_each g)
 
-  new_names : IsAscending text_cmp text_ranked (map told_name_of u)
+  new_names : IsAscending text_cmp (map told_name_of u)
   new_names = names_ascending u (ascending-ascending told_cmp told_ranked (filter (stays e) t ++ map as_told e.installed)) one_name
 
-  removed_ascending : IsAscending text_cmp text_ranked removed
-  removed_ascending = filter-ascending text_cmp text_ranked (lacks t rs) (map told_name_of t) old_names
+  removed_ascending : IsAscending text_cmp removed
+  removed_ascending = filter-ascending text_cmp (lacks t rs) (map told_name_of t) old_names
 
   same_removed : Same (filter (lacks t rs) (map told_name_of u)) (drop n removed)
   same_removed x = (onward, backward)
@@ -132,7 +127,7 @@ module _ (n : ℕ) (t : List ToldRule) (rs : List RuleValue) (w : IsTold t) (g :
           r.1
 
   removed_next : (difference u rs).removed ≡ drop n removed
-  removed_next = same_ascending text_cmp text_ranked _ _ (filter-ascending text_cmp text_ranked (lacks t rs) (map told_name_of u) new_names) (drop-ascending text_cmp text_ranked n removed removed_ascending) same_removed
+  removed_next = same_ascending text_cmp text_ranked _ _ (filter-ascending text_cmp (lacks t rs) (map told_name_of u) new_names) (drop-ascending text_cmp n removed removed_ascending) same_removed
 
   pub difference-first : difference (apply t (first n (difference t rs))) rs ≡ rest n (difference t rs)
   difference-first = λ i. record { removed = removed_next i; installed = installed_next i }

@@ -10,5 +10,7 @@ pub mod ReadingLaws
 pub mod RuleNames
 pub mod SetLaws
 pub mod ShownLaws
+pub mod StepLaws
+pub mod ToldLaws
 pub mod UnionLaws
 pub mod ViewLaws

@@ -14,7 +14,7 @@ use Rattle.pcrf_model.specs.Requests.{RequestKind, Initial, Update, Termination,
 use Rattle.pcrf_model.specs.Making.{ccr_fields, aar_facts, next_tag}
 use Rattle.pcrf_model.specs.Refusals.{ccr_refusal, aar_refusal, str_refusal}
 use Rattle.pcrf_model.specs.Serving.{accepted_ccr, serve, serve_ccr, serve_aar, serve_str, provisioned}
-use Rattle.pcrf_model.specs.Pushing.{push}
+use Rattle.pcrf_model.specs.Pushing.{push, lacks_counter}
 use Rattle.pcrf_model.specs.Laws.{ReadsTheSame}
 use Rattle.pcrf_model.proofs.ViewLaws.{view-Same, view-kept}
 use Rattle.pcrf_model.proofs.UnionLaws.{view_sorted, view_with}
@@ -89,3 +89,7 @@ serve-kept_of t i h (Base q) = refl
 pub push-kept_of : (t : Tables) (i : ℕ) (h : Holding) (name : Option (List ℕ)) → push t i (kept_of h) name ≡ push t i h name
 unfolding push
 push-kept_of t i h name = rw (view_sorted h.facts) refl
+
+pub lacks_counter-kept_of : (t : Tables) (i : ℕ) (h : Holding) (name : Option (List ℕ)) → lacks_counter t i (kept_of h) name ≡ lacks_counter t i h name
+unfolding lacks_counter
+lacks_counter-kept_of t i h name = rw (view_sorted h.facts) refl

@@ -18,7 +18,9 @@ use Rattle.pcrf_model.specs.Differences.{ToldRule, told_cmp, told, told_name_of,
 use Rattle.pcrf_model.specs.OperatorValues.{operator_value}
 use Rattle.pcrf_model.specs.Requests.{RequestValue}
 use Rattle.pcrf_model.specs.Serving.{serve}
-use Rattle.pcrf_model.specs.Pushing.{push}
+use Rattle.pcrf_model.specs.Pushing.{push, lacks_counter}
+use Rattle.pcrf_model.specs.Replies.{ReplyValue}
+use Rattle.pcrf_model.specs.Steps.{SiteState, kept_state, SiteEvent, MayReply, stepped}
 
 -- ---- what is kept
 
@@ -92,7 +94,12 @@ abbrev pub KeptServesTheSame : Type 0
 KeptServesTheSame = (t : Tables) (i : ℕ) (h : Holding) (q : RequestValue) → serve t i (kept_of h) q ≡ serve t i h q
 
 abbrev pub KeptPushesTheSame : Type 0
-KeptPushesTheSame = (t : Tables) (i : ℕ) (h : Holding) (name : Option (List ℕ)) → push t i (kept_of h) name ≡ push t i h name
+KeptPushesTheSame = (t : Tables) (i : ℕ) (h : Holding) (name : Option (List ℕ)) → (push t i (kept_of h) name ≡ push t i h name) × (lacks_counter t i (kept_of h) name ≡ lacks_counter t i h name)
+
+-- a site that keeps no overshadowed fact may give the same replies, and keeps the same after each event
+abbrev pub KeptStepsTheSame : Type 0
+KeptStepsTheSame = (t : Tables) (i : ℕ) (s : SiteState) (e : SiteEvent) (r : ReplyValue) →
+    (MayReply t i (kept_state s) e r ↔ MayReply t i s e r) × (kept_state (stepped t i (kept_state s) e r) ≡ kept_state (stepped t i s e r))
 
 -- ---- differences
 
@@ -109,6 +116,10 @@ NoNameTwice = (t : List ToldRule) (rs : List RuleValue) (n : List ℕ) → In n 
 abbrev pub FirstLeavesTheRest : Type 0
 FirstLeavesTheRest = (n : ℕ) (t : List ToldRule) (rs : List RuleValue) → IsTold t → Distinct (map rule_name_of rs) →
     difference (apply t (first n (difference t rs))) rs ≡ rest n (difference t rs)
+
+-- the told entries of a session are in order, with no name twice
+abbrev pub ToldIsTold : Type 0
+ToldIsTold = (facts : List Fact) (s : Session) → IsTold (told (view facts) s)
 
 -- ---- bindings
 
@@ -153,3 +164,11 @@ NumbersFit facts = (f : Fact) → In f facts → FitTheirAvps (path_of f).steps
 -- no two rules of a session have one name
 abbrev pub RuleNamesDiffer : Type 0
 RuleNamesDiffer = (t : Tables) (facts : List Fact) (s : Session) → NamesRulesApart t → NumbersFit facts → Distinct (map rule_name_of (rules t (view facts) s))
+
+-- told the difference of a session, its gateway has just its rules, and told the first entries it lacks the rest
+abbrev pub SessionIsTold : Type 0
+SessionIsTold = (t : Tables) (facts : List Fact) (s : Session) (n : ℕ) → NamesRulesApart t → NumbersFit facts →
+    let told_now : List ToldRule = told (view facts) s in
+    let rules_now : List RuleValue = rules t (view facts) s in
+    (apply told_now (difference told_now rules_now) ≡ ascending told_cmp (map as_told rules_now))
+    × (difference (apply told_now (first n (difference told_now rules_now))) rules_now ≡ rest n (difference told_now rules_now))

@@ -23,6 +23,10 @@ pub record SiteState : Type 0 where
   pub holding : Holding
   pub log : List Operation
 
+-- without the overshadowed facts
+abbrev pub kept_state : SiteState → SiteState
+kept_state s = record s { holding = kept_of s.holding }
+
 -- the most operations that are answered at once (this project's profile)
 abbrev pub range_limit : ℕ
 range_limit = 100

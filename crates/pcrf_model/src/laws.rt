@@ -1,6 +1,6 @@
 //! The laws of the definitions, each the contract of a function without a body.
 
-ghost use Rattle.pcrf_model.specs.Laws.{KeepsUnions, KeepsUnionsOfHoldings, KeepsOnce, UnionIsCommutative, UnionIsAssociative, UnionIsIdempotent, OnlyOperationsCount, HoldsTheUnion, KeptShowsTheSame, OnlyMembersCount, KeptReadsTheSame, MembersReadTheSame, KeptHasTheSameValue, KeptServesTheSame, KeptPushesTheSame, DifferenceLeadsThere, NoNameTwice, FirstLeavesTheRest, BindsToTheGreatest, BindsToNoneWhereNoneMatches, RuleNamesDiffer};
+ghost use Rattle.pcrf_model.specs.Laws.{KeepsUnions, KeepsUnionsOfHoldings, KeepsOnce, UnionIsCommutative, UnionIsAssociative, UnionIsIdempotent, OnlyOperationsCount, HoldsTheUnion, KeptShowsTheSame, OnlyMembersCount, KeptReadsTheSame, MembersReadTheSame, KeptHasTheSameValue, KeptServesTheSame, KeptPushesTheSame, KeptStepsTheSame, ToldIsTold, SessionIsTold, DifferenceLeadsThere, NoNameTwice, FirstLeavesTheRest, BindsToTheGreatest, BindsToNoneWhereNoneMatches, RuleNamesDiffer};
 
 /// What is kept of what was kept and of more is what is kept of all.
 pub fn keeping_keeps_unions()
@@ -39,6 +39,7 @@ pub fn kept_facts_read_the_same()
 pub fn kept_facts_serve_the_same()
     ensures requests { KeptServesTheSame }
     ensures pushes { KeptPushesTheSame }
+    ensures steps { KeptStepsTheSame }
 {}
 
 /// The difference leads from what was told to the rules, names nothing twice, and its first entries leave just its rest.
@@ -57,4 +58,11 @@ pub fn binding_is_the_greatest_match()
 /// No two rules of one session have one name.
 pub fn names_of_rules_differ()
     ensures { RuleNamesDiffer }
+{}
+
+/// What a gateway was told of a session is in order, with no name twice; told the difference it has just the session's rules, and told its first
+/// entries it lacks just the rest.
+pub fn gateway_is_told_the_rules()
+    ensures told { ToldIsTold }
+    ensures session { SessionIsTold }
 {}
