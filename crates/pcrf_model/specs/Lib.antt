@@ -5,6 +5,7 @@ pub mod Facts
 pub mod Flows
 pub mod Holdings
 pub mod Laws
+pub mod Letterbox
 pub mod Letters
 pub mod Live
 pub mod Making

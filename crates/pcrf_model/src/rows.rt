@@ -1,6 +1,6 @@
 //! Worked examples: what the definitions give, computed, against what is worked out by hand.
 
-ghost use Rattle.std.specs.Prelude.{◌≡◌, ℕ, List, [], ◌∷◌, Some, None, codes, true, false};
+ghost use Rattle.std.specs.Prelude.{◌≡◌, ℕ, List, [], ◌∷◌, Some, None, codes, true, false, drop};
 ghost use Rattle.pcrf_model.specs.Paths.{address, apn, subscribers};
 ghost use Rattle.pcrf_model.specs.Values.{Text, Address, Subscribers};
 ghost use Rattle.pcrf_model.specs.Holdings.{nothing_held, kept_of, union};
@@ -11,6 +11,11 @@ ghost use Rattle.pcrf_model.specs.Rules.{rules};
 ghost use Rattle.pcrf_model.specs.Differences.{told};
 ghost use Rattle.pcrf_model.specs.Refusals.{unknown_session_id, authorization_rejected, missing_avp, unable_to_comply, service_not_authorized, session_not_available, initial_parameters};
 ghost use Rattle.pcrf_model.specs.Replies.{OnGx, Granted, Done, Refused, OnBase};
+ghost use Rattle.pcrf_model.specs.Serving.{serve};
+ghost use Rattle.pcrf_model.specs.Tables.{open_tables};
+ghost use Rattle.pcrf_model.specs.Letters.{Range, Snapshot, Acknowledgement};
+ghost use Rattle.pcrf_model.specs.Worlds.{by_cursors, whole_log};
+ghost use Rattle.pcrf_model.specs.Letterbox.{letter, range_at, cursor_after, cursor, exchanged, body_of, held_at, count_taken, restarted};
 ghost use Rattle.pcrf_model.specs.Samples.{operator, imsi, e164, first_session, second_session, call_session, host_address, initial, initial_with, other_media, capabilities, many_flows, update, termination, call, hang_up, audio, status_only, sip_rule, audio_rule, rtcp_rule, delta};
 ghost use Rattle.pcrf_model.specs.Scenes.{empty_site, taking, first_counter, ended_under_call, answers, serves, pushes, pushed, seen, granted, rejected, push_of, no_push, count_installed, one, with_call, call_pushed, disabled, component_removed, described_again, two_sessions, bound_to_second, second_ended, equal_stamps, updated, updated_late, overshadowed, other, other_updated, ended_there, ended_and_told, moved, hung_up, first_after_hang_up, other_after_hang_up, call_elsewhere, call_alone, call_and_session, older_first, newer_first, at_the_end, many_rules, first_forty, all_fifty};
 
@@ -162,4 +167,36 @@ pub fn ended_session_leaves_its_call_unbound()
 pub fn capabilities_need_a_common_application()
     ensures none { answers 0 empty_site (capabilities (4 ∷ [])) ≡ OnBase 5010 }
     ensures gx { answers 0 empty_site (capabilities (4 ∷ 16777238 ∷ [])) ≡ OnBase 2001 }
+{}
+
+/// Without operator tables an initial request for any access point is granted, with no rule and no quality of service.
+pub fn without_tables_every_access_point_is_granted()
+    ensures reply { (serve open_tables 0 nothing_held (initial_with (Some (host_address 1)) (Some (codes "anything")) (imsi ∷ []))).reply ≡ OnGx (Granted (delta [] []) None) }
+    ensures parameters { (serve open_tables 0 nothing_held (initial_with (Some (host_address 1)) None (imsi ∷ []))).reply ≡ rejected initial_parameters }
+{}
+
+/// A cursor rises to the end of a range that begins at it or before, not over a gap; a newer epoch begins anew, and an older one changes nothing.
+pub fn cursors_rise_without_gaps()
+    ensures first { cursor_after (range_at 0 ∷ []) ≡ cursor 1 1 }
+    ensures gap { cursor_after (range_at 2 ∷ range_at 0 ∷ []) ≡ cursor 1 1 }
+    ensures next { cursor_after (range_at 1 ∷ range_at 2 ∷ range_at 0 ∷ []) ≡ cursor 1 2 }
+    ensures again { cursor_after (range_at 2 ∷ range_at 1 ∷ range_at 2 ∷ range_at 0 ∷ []) ≡ cursor 1 3 }
+    ensures newer { cursor_after (letter 2 (Snapshot nothing_held 0) ∷ range_at 1 ∷ range_at 0 ∷ []) ≡ cursor 2 0 }
+    ensures older { cursor_after (range_at 0 ∷ letter 2 (Snapshot nothing_held 0) ∷ range_at 1 ∷ range_at 0 ∷ []) ≡ cursor 2 0 }
+{}
+
+/// A peer of which nothing is known gets all that a site holds; once it said what it took it gets what is new; both hold the same in the end.
+pub fn letters_carry_what_the_peer_lacks()
+    ensures first { body_of (exchanged by_cursors) 0 ≡ Some (Snapshot (kept_of one.holding) 1) }
+    ensures said { body_of (exchanged by_cursors) 1 ≡ Some (Acknowledgement 0 1 1) }
+    ensures second { body_of (exchanged by_cursors) 2 ≡ Some (Range 1 (drop 1 (serves 0 one (update 1 None)).log)) }
+    ensures taken { count_taken (exchanged by_cursors) 1 ≡ Some 2 }
+    ensures same { held_at (exchanged by_cursors) 1 ≡ held_at (exchanged by_cursors) 0 }
+    ensures emptied { held_at restarted 0 ≡ Some nothing_held }
+{}
+
+/// Letters of whole logs lead to the same.
+pub fn letters_of_whole_logs_lead_to_the_same()
+    ensures second { body_of (exchanged whole_log) 2 ≡ Some (Range 0 (serves 0 one (update 1 None)).log) }
+    ensures same { held_at (exchanged whole_log) 1 ≡ held_at (exchanged whole_log) 0 }
 {}
