@@ -1,7 +1,7 @@
 -- A binding is the greatest session that matches.
 use Rattle.std.proofs.Common.{◌≡◌, Bool, true, false, cond, not, ◌&&◌, List, [], ◌∷◌, map, ◌↔◌, Option, Some, None, is_some, refl, sym, ap, ◌∙◌, subst, option_map, Ordering, Less, Equal, Greater}
 use Rattle.std.specs.Ordering.{is_eq, is_lt}
-use Rattle.std.specs.Cmp.{first_so, second_so}
+use Rattle.std.specs.Cmp.{first_so, second_so, tied_itself}
 use Rattle.std.specs.List.{filter_map}
 use Rattle.lattice_core.specs.declared.tag.Tag.{Tag}
 use Rattle.pcrf_model.specs.Sets.{In, best, greatest}
@@ -26,7 +26,7 @@ candidate_ranked = pair_ranked nat_ranked (pair_ranked nat_ranked text_ranked)
 
 module _ {A : Type 0} (cmp : A → A → Ordering) (o : IsRanked cmp) where
   -- the greatest is a member, and below none
-  greatest_is : (xs : List A) (c : A) → greatest cmp xs ≡ Some c → In c xs × ((y : A) → In y xs → is_lt (cmp c y) ≡ false)
+  pub greatest_is : (xs : List A) (c : A) → greatest cmp xs ≡ Some c → In c xs × ((y : A) → In y xs → is_lt (cmp c y) ≡ false)
   greatest_is [] c e = absurd (cc)
   greatest_is (x ∷ xs) c e =
       let same : best (λ a b. is_lt (cmp a b)) x xs ≡ c = cc in (
@@ -34,7 +34,7 @@ module _ {A : Type 0} (cmp : A → A → Ordering) (o : IsRanked cmp) where
         λ y i. subst (λ (z : A). is_lt (cmp z y) ≡ false) same (best-top (λ a b. is_lt (cmp a b)) (less_irr cmp o.total o.same) (less_trans cmp o.total o.same) x xs y i),
       )
 
-  greatest_some : (xs : List A) (x : A) → In x xs → (c : A) × (greatest cmp xs ≡ Some c)
+  pub greatest_some : (xs : List A) (x : A) → In x xs → (c : A) × (greatest cmp xs ≡ Some c)
   greatest_some [] x i = absurd i
   greatest_some (y ∷ ys) x i = (best (λ a b. is_lt (cmp a b)) y ys, refl)
 
@@ -54,23 +54,27 @@ entry_there p q t v e = elim (is_eq (path_cmp p q)) as (λ b. is_eq (path_cmp p 
   | false ↦ λ _ h. absurd (cc)
 ] refl
 
-fact_there : (facts : List Fact) (p : Path) (e : Entry) → shown facts p ≡ Some e → (f : Fact) × In f facts × (session_of f ≡ p.session)
+-- a fact that has an entry at a path stands there with it
+pub entry_of : (p : Path) (f : Fact) (e : Entry) → entry_at p f ≡ Some e → f ≡ Field p e.0 e.1
+entry_of p (Gone q) e h = absurd (cc)
+entry_of p (Field q t v) e h =
+    let same = entry_there p q t v e h in
+    let w : Some (t, v) ≡ Some e = sym (ap (λ b. cond b (Some (t, v)) None) (ap is_eq (ap (λ (z : Path). path_cmp z q) same ∙ tied_itself path_ranked.total q))) ∙ h in
+    let x : (t, v) ≡ e = cc in
+    λ i. Field (sym same i) (x i).0 (x i).1
+
+-- where a path shows, a fact stands
+pub fact_there : (facts : List Fact) (p : Path) (e : Entry) → shown facts p ≡ Some e → In (Field p e.0 e.1) facts
 fact_there facts p e h =
     let g = greatest_is entry_cmp entry_ranked (filter_map (entry_at p) facts) e (not_blocked (is_gone facts p) (value_at facts p) e h) in
     let r = filter_map-In (entry_at p) e facts g.0 in
-    (r.0, r.1, whose r.0 r.2)
-  where
-    whose : (f : Fact) → entry_at p f ≡ Some e → session_of f ≡ p.session
-    whose (Gone q) k = absurd (cc)
-    whose (Field q t v) k = ap (λ (z : Path). z.session) (sym (entry_there p q t v e k))
+    subst (λ (f : Fact). In f facts) (entry_of p r.0 e r.2) r.1
 
 -- a session that shows something is among those that have a fact
 shows-In : (facts : List Fact) (p : Path) (e : Entry) → (view facts).shows p ≡ Some e → In p.session (view facts).sessions
 unfolding view
 shows-In facts p e h =
-    let r = fact_there facts p e h in
-    (ascending-In session_cmp session_ranked (map session_of facts) p.session).1
-    (subst (λ (z : Session). In z (map session_of facts)) r.2 (In-map session_of r.0 facts r.1))
+    (ascending-In session_cmp session_ranked (map session_of facts) p.session).1 (In-map session_of (Field p e.0 e.1) facts (fact_there facts p e h))
 
 -- ---- what a match says
 

@@ -11,6 +11,7 @@ pub mod RuleNames
 pub mod SetLaws
 pub mod ShownLaws
 pub mod StepLaws
+pub mod TellingLaws
 pub mod ToldLaws
 pub mod UnionLaws
 pub mod ViewLaws

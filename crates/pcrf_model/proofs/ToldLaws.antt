@@ -61,7 +61,7 @@ module _ (facts : List Fact) (s : Session) where
       at_path None k h = absurd (cc)
       at_path (Some e) k h = subst (λ (z : Shown). shown facts z.0 ≡ Some z.1) (some_same (q, e) x h) k
 
-  all_shows : (x : Shown) → In x v.all → shown facts x.0 ≡ Some x.1
+  pub all_shows : (x : Shown) → In x v.all → shown facts x.0 ≡ Some x.1
   unfolding view
   all_shows x i = let r = filter_map-In (showing (shown facts)) x facts ((ascending-In shown_cmp shown_ranked (filter_map (showing (shown facts)) facts) x).0 i) in shows_it r.0 x r.2
 
