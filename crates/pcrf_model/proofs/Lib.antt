@@ -1,0 +1,17 @@
+pub mod AscendingLaws
+pub mod BindLaws
+pub mod DifferenceLaws
+pub mod DistinctLaws
+pub mod FactLaws
+pub mod FirstEntries
+pub mod NameLaws
+pub mod Ranked
+pub mod ReadingLaws
+pub mod RuleNames
+pub mod SetLaws
+pub mod ShownLaws
+pub mod StepLaws
+pub mod TellingLaws
+pub mod ToldLaws
+pub mod UnionLaws
+pub mod ViewLaws

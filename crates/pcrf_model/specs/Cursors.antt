@@ -1,7 +1,8 @@
 -- Cursors: what a site took of each maker's operations, and what it knows that its peers took of its own (this project's profile).
 use Rattle.std.specs.Prelude.{ℕ, ◌+◌, max, ◌==◌, Bool, true, false, cond, ◌&&◌, List, replicate, length, nat_lt, nat_le, slice_index_or, slice_set, Option, Some, None}
 use Rattle.pcrf_model.specs.Letters.{AckValue, LetterBody, Range, Snapshot, Acknowledgement, LetterValue, letter_from}
-use Rattle.pcrf_model.specs.Steps.{SiteEvent, AskOwn, AskWhole, SiteReply}
+use Rattle.pcrf_model.specs.Replies.{ReplyValue}
+use Rattle.pcrf_model.specs.Steps.{SiteEvent, AskOwn, AskWhole}
 
 -- an epoch, and how many operations of it were taken
 pub record Cursor : Type 0 where
@@ -39,7 +40,7 @@ abbrev pub ask : CursorsValue → ℕ → SiteEvent
 ask c peer = asked_of (peer_entry c peer)
 
 -- the letter that the site's reply makes, where operations were asked for from that position on
-abbrev pub letter_of : CursorsValue → ℕ → ℕ → SiteReply → Option LetterValue
+abbrev pub letter_of : CursorsValue → ℕ → ℕ → ReplyValue → Option LetterValue
 letter_of c edition from reply = letter_from edition c.site c.epoch from reply
 
 -- ---- having taken a letter whole

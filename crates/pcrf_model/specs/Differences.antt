@@ -1,11 +1,12 @@
 -- What a gateway was told, and how that differs from the rules that hold (TS 29.212, 4.5.2: Charging-Rule-Remove and -Install).
-use Rattle.std.specs.Prelude.{ℕ, ◌+◌, ◌-◌, ◌==◌, Bool, cond, not, ◌&&◌, List, [], ◌∷◌, ◌++◌, map, take, drop, length, Option, Some, None}
+use Rattle.std.specs.Prelude.{◌≡◌, ℕ, ◌+◌, ◌-◌, ◌==◌, Bool, cond, not, ◌&&◌, List, [], ◌∷◌, ◌++◌, map, take, drop, length, Option, Some, None}
 use Rattle.std.proofs.Common.{Ordering}
 use Rattle.std.specs.Ordering.{is_eq}
 use Rattle.std.specs.List.{list_any, filter, filter_map}
 use Rattle.lattice_core.specs.Orders.{pair_cmp, text_cmp}
 use Rattle.lattice_core.specs.Ascending.{ascending}
 use Rattle.lattice_core.specs.RuleValues.{RuleValue, DeltaValue, rule_cmp}
+use Rattle.pcrf_model.specs.Sets.{Distinct}
 use Rattle.pcrf_model.specs.Sessions.{Session, session_cmp}
 use Rattle.pcrf_model.specs.Paths.{Step, RuleName}
 use Rattle.pcrf_model.specs.Values.{Value, Told}
@@ -29,6 +30,14 @@ told v s = filter_map (λ (x : Shown). cond (is_eq (session_cmp x.0.session s)) 
 abbrev pub told_name_of : ToldRule → List ℕ
 told_name_of p = p.0
 
+abbrev pub rule_name_of : RuleValue → List ℕ
+rule_name_of r = r.name
+
+-- in order, and no name twice
+pub record IsTold (t : List ToldRule) : Type 0 where
+  pub in_order : ascending told_cmp t ≡ t
+  pub one_each : Distinct (map told_name_of t)
+
 abbrev pub has_name : List ℕ → RuleValue → Bool
 has_name n r = is_eq (text_cmp r.name n)
 
@@ -40,7 +49,7 @@ holds t r = list_any (λ (p : ToldRule). is_eq (text_cmp p.0 r.name) && is_eq (r
 abbrev pub difference : List ToldRule → List RuleValue → DeltaValue
 difference t rs = record {
   removed = filter (λ n. not (list_any (has_name n) rs)) (map told_name_of t);
-  installed = filter (λ r. not (holds t r)) rs
+  installed = filter (λ r. not (holds t r)) rs;
 }
 
 -- the first n entries, the removed names before the installed rules

@@ -14,10 +14,14 @@ pub data Fact : Type 0 where
   Gone : Path → Fact
   Field : Path → Tag → Value → Fact
 
+-- the path on which the fact stands
+abbrev pub path_of : Fact → Path
+path_of (Gone p) = p
+path_of (Field p t v) = p
+
 -- the session of which the fact speaks
 abbrev pub session_of : Fact → Session
-session_of (Gone p) = p.session
-session_of (Field p t v) = p.session
+session_of f = (path_of f).session
 
 -- The second overshadows the first: it is gone above it, or has a greater tag and value on the same path.
 abbrev pub is_shaded_by : Fact → Fact → Bool

@@ -1,5 +1,5 @@
 -- What a set of facts shows, and holdings: the facts that a site holds, with its clock.
-use Rattle.std.specs.Prelude.{ℕ, max, Bool, false, cond, List, [], ◌∷◌, ◌++◌, Option, Some, None}
+use Rattle.std.specs.Prelude.{ℕ, max, Bool, false, cond, List, [], ◌++◌, Option, Some, None}
 use Rattle.std.specs.Ordering.{is_eq}
 use Rattle.std.specs.List.{list_any, filter_map}
 use Rattle.lattice_core.specs.Ascending.{ascending}

@@ -1,8 +1,9 @@
 -- Letters between sites, and what each means (this project's profile).
-use Rattle.std.specs.Prelude.{ℕ, ◌+◌, ◌-◌, ◌^◌, Bool, cond, ◌&&◌, List, [], length, nat_le, Option, Some, None}
+use Rattle.std.specs.Prelude.{ℕ, ◌+◌, ◌-◌, ◌^◌, cond, ◌&&◌, List, [], length, nat_le, Option, Some, None}
 use Rattle.pcrf_model.specs.Holdings.{Holding}
 use Rattle.pcrf_model.specs.Operations.{Operation}
-use Rattle.pcrf_model.specs.Steps.{SiteReply, Own, Copy, range_limit}
+use Rattle.pcrf_model.specs.Replies.{ReplyValue, Own, Copy}
+use Rattle.pcrf_model.specs.Steps.{range_limit}
 
 -- a maker, its epoch, and how many of its operations of that epoch the sender took; the sender and its epoch stand on the letter
 pub record AckValue : Type 0 where
@@ -38,7 +39,7 @@ abbrev pub last_position : ℕ
 last_position = 2 ^ 63 - 1
 
 -- the letter of a reply to one who asked for operations from that position on, or for the whole; none for any other reply, or where a letter can't carry it
-abbrev pub letter_from : ℕ → ℕ → ℕ → ℕ → SiteReply → Option LetterValue
+abbrev pub letter_from : ℕ → ℕ → ℕ → ℕ → ReplyValue → Option LetterValue
 letter_from edition site epoch from (Own os n) =
     cond (nat_le (length os) range_limit && nat_le (from + length os) last_position)
     (Some (record { edition = edition; site = site; epoch = epoch; body = Range from os })) None

@@ -4,6 +4,8 @@ pub mod Differences
 pub mod Facts
 pub mod Flows
 pub mod Holdings
+pub mod Laws
+pub mod Letterbox
 pub mod Letters
 pub mod Live
 pub mod Making
@@ -12,6 +14,7 @@ pub mod OperatorValues
 pub mod Paths
 pub mod Pushing
 pub mod Refusals
+pub mod Replies
 pub mod Requests
 pub mod Rules
 pub mod Samples

@@ -1,16 +1,16 @@
 -- The facts that accepted requests and pushes make.
-use Rattle.std.specs.Prelude.{ℕ, ◌+◌, ◌==◌, Bool, true, false, cond, List, [], ◌∷◌, ◌++◌, map, Option, Some, None}
+use Rattle.std.specs.Prelude.{ℕ, ◌+◌, ◌==◌, Bool, false, cond, List, [], ◌∷◌, ◌++◌, map, Option}
 use Rattle.std.proofs.Common.{option_map, option_to_list, unwrap_or, flat_map}
 use Rattle.lattice_core.specs.Ascending.{ascending}
 use Rattle.lattice_core.specs.RuleValues.{RuleValue, DeltaValue}
 use Rattle.lattice_core.specs.declared.tag.Tag.{Tag}
 use Rattle.pcrf_model.specs.Sessions.{Session, gx, af}
-use Rattle.pcrf_model.specs.Paths.{FieldName, MediaType, FlowDescriptions, FlowUsage, FlowStatus, MaxRateUp, MaxRateDown, Path, whole, address, apn, subscribers, host, realm, last, component, component_part, flow, flow_part, told_name}
-use Rattle.pcrf_model.specs.Values.{Subscriber, Value, Number, Text, Address, Subscribers, Filters, Untold, Told}
+use Rattle.pcrf_model.specs.Paths.{MediaType, FlowDescriptions, FlowUsage, FlowStatus, MaxRateUp, MaxRateDown, Path, whole, address, apn, subscribers, host, realm, last, component, component_part, flow, flow_part, told_name}
+use Rattle.pcrf_model.specs.Values.{Value, Number, Text, Address, Subscribers, Filters, Untold, Told}
 use Rattle.pcrf_model.specs.Facts.{Fact, Gone, Field, fact_cmp}
 use Rattle.pcrf_model.specs.Holdings.{Holding}
 use Rattle.pcrf_model.specs.Operations.{Operation}
-use Rattle.pcrf_model.specs.Requests.{RequestKind, Initial, Update, Termination, CcrValue, FlowValue, ComponentValue, AarValue, StrValue}
+use Rattle.pcrf_model.specs.Requests.{RequestKind, Initial, Update, Termination, CcrValue, FlowValue, ComponentValue, AarValue}
 
 -- the fact that a request gives, if it gives it
 abbrev pub given : {A : Type 0} → Path → Tag → (A → Value) → Option A → List Fact

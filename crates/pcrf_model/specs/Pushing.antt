@@ -1,5 +1,5 @@
 -- Pushes: what a site tells gateways of its own accord, by a re-authorisation request (TS 29.212, 4.5.2 and 5.6.4).
-use Rattle.std.specs.Prelude.{ℕ, ◌==◌, Bool, true, false, not, ◌&&◌, List, [], Option, Some, None, find}
+use Rattle.std.specs.Prelude.{ℕ, ◌==◌, Bool, true, false, not, ◌&&◌, List, [], Option, Some, None, find, is_some}
 use Rattle.std.proofs.Common.{option_map, unwrap_or}
 use Rattle.std.specs.Ordering.{is_eq}
 use Rattle.lattice_core.specs.Orders.{text_cmp}
@@ -14,14 +14,9 @@ use Rattle.pcrf_model.specs.Tables.{Tables}
 use Rattle.pcrf_model.specs.Rules.{rules}
 use Rattle.pcrf_model.specs.Differences.{told, difference, is_empty}
 use Rattle.pcrf_model.specs.Making.{told_facts, next_tag, next_operation}
+use Rattle.pcrf_model.specs.Refusals.{is_clock_full}
+use Rattle.pcrf_model.specs.Replies.{PushValue, Pushed, Outcome}
 use Rattle.pcrf_model.specs.Serving.{delta_of}
-
--- what is pushed: the Session-Id, the host and the realm of the session, and the entries of its difference
-pub record PushValue : Type 0 where
-  pub session : List ℕ
-  pub host : List ℕ
-  pub realm : List ℕ
-  pub delta : DeltaValue
 
 -- the session's host is the given one, any where none is given
 abbrev pub is_of_host : View → Option (List ℕ) → Session → Bool
@@ -42,15 +37,15 @@ due t i v name = find (is_due t i v name) v.sessions
 abbrev pub push_to : Tables → View → Session → PushValue
 push_to t v s = record { session = s.id; host = unwrap_or (text v (host s)) []; realm = unwrap_or (text v (realm s)) []; delta = delta_of t v s }
 
--- what is pushed, and the operation that is added; both none where nothing is due
-pub record PushOutcome : Type 0 where
-  pub pushed : Option PushValue
-  pub added : Option Operation
-
-unfoldable pub push : Tables → ℕ → Holding → Option (List ℕ) → PushOutcome
+-- what is pushed, and the operation that is added; none where nothing is due
+unfoldable pub push : Tables → ℕ → Holding → Option (List ℕ) → Outcome
 push t i h name =
     let v : View = view h.facts in
     record {
-      pushed = option_map (push_to t v) (due t i v name);
+      reply = Pushed (option_map (push_to t v) (due t i v name));
       added = option_map (λ s. next_operation i h 0 s (told_facts s (next_tag i h 0) (delta_of t v s))) (due t i v name)
     }
+
+-- something is due, and no counter is left for it
+unfoldable pub lacks_counter : Tables → ℕ → Holding → Option (List ℕ) → Bool
+lacks_counter t i h name = is_some (due t i (view h.facts) name) && is_clock_full h

@@ -1,8 +1,8 @@
 -- The refusals by what a site holds, in order: the first that applies counts.
-use Rattle.std.specs.Prelude.{ℕ, ◌+◌, ◌-◌, ◌^◌, ◌==◌, Bool, true, false, cond, not, ◌&&◌, ◌||◌, List, [], ◌∷◌, ◌++◌, Option, Some, None, is_some, is_none}
-use Rattle.std.proofs.Common.{option_map, option_and_then, unwrap_or}
+use Rattle.std.specs.Prelude.{ℕ, ◌-◌, ◌^◌, ◌==◌, Bool, true, false, cond, not, ◌&&◌, ◌||◌, List, [], ◌∷◌, ◌++◌, Option, Some, None, is_none}
+use Rattle.std.proofs.Common.{option_map, unwrap_or}
 use Rattle.std.specs.List.{list_any}
-use Rattle.pcrf_model.specs.Sessions.{Session, gx, af}
+use Rattle.pcrf_model.specs.Sessions.{gx, af}
 use Rattle.pcrf_model.specs.Holdings.{Holding}
 use Rattle.pcrf_model.specs.Views.{View, view}
 use Rattle.pcrf_model.specs.Live.{is_live}

@@ -1,5 +1,5 @@
 -- The PCC rules of a Gx session (TS 23.203, 6.3; TS 29.212, 4.3.1).
-use Rattle.std.specs.Prelude.{ℕ, Bool, cond, List, [], ◌∷◌, ◌++◌, map, Option, Some, None, codes}
+use Rattle.std.specs.Prelude.{cond, List, [], ◌∷◌, ◌++◌, map, Option, Some, None, codes}
 use Rattle.std.proofs.Common.{Ordering, option_map, option_and_then, unwrap_or}
 use Rattle.std.specs.Ordering.{nat_cmp, on}
 use Rattle.std.specs.List.{filter_map}
@@ -43,7 +43,7 @@ operator_rule r = record {
   vulnerability = r.class.vulnerability;
   max_ul = r.class.max_ul;
   max_dl = r.class.max_dl;
-  precedence = r.class.precedence
+  precedence = r.class.precedence;
 }
 
 -- the rules that the operator gives each session of its access point

@@ -1,10 +1,10 @@
 -- The operator tables, the requests and the rules of the worked examples.
-use Rattle.std.specs.Prelude.{ℕ, zero, suc, Bool, true, false, List, [], ◌∷◌, ◌++◌, Option, Some, None, codes}
+use Rattle.std.specs.Prelude.{ℕ, zero, suc, List, [], ◌∷◌, Option, Some, None, codes}
 use Rattle.lattice_core.specs.RuleValues.{RuleValue, DeltaValue}
 use Rattle.pcrf_model.specs.Sessions.{Session, gx, af}
 use Rattle.pcrf_model.specs.Values.{Subscriber}
-use Rattle.pcrf_model.specs.Tables.{Class, MediaRow, Quality, OperatorRule, ApnRow, Listed, Tables}
-use Rattle.pcrf_model.specs.Requests.{RequestKind, Initial, Update, Termination, CcrValue, FlowValue, ComponentValue, AarValue, StrValue, BaseValue, CapabilitiesExchange, RequestValue, Ccr, Aar, Str, Base}
+use Rattle.pcrf_model.specs.Tables.{Class, Quality, Listed, Tables}
+use Rattle.pcrf_model.specs.Requests.{Initial, Update, Termination, FlowValue, ComponentValue, CapabilitiesExchange, RequestValue, Ccr, Aar, Str, Base}
 
 -- ---- an operator with telephony
 
@@ -30,8 +30,8 @@ operator = record {
   signalling = signalling_class;
   media = record { media = 0; class = audio_class } ∷ [];
   apns = Listed (
-    record { name = codes "ims"; default = Some ims_quality; rules = record { name = codes "sip"; class = sip_class; status = 2; filters = any_to_any ∷ [] } ∷ [] }
-    ∷ record { name = codes "net"; default = None; rules = [] } ∷ [])
+      record { name = codes "ims"; default = Some ims_quality; rules = record { name = codes "sip"; class = sip_class; status = 2; filters = any_to_any ∷ [] } ∷ [] }
+      ∷ record { name = codes "net"; default = None; rules = [] } ∷ []);
 }
 
 -- ---- subscribers, addresses and sessions
@@ -90,9 +90,16 @@ uplink = codes "permit in ip from any to any"
 
 -- an audio component: a flow both ways, and its RTCP flow with a status of its own
 abbrev pub audio : ComponentValue
-audio = record { number = 1; media = Some 0; status = None; rate_up = Some 41000; rate_down = Some 80000; flows =
-    record { number = 1; filters = uplink ∷ any_to_any ∷ []; usage = None; status = None; rate_up = None; rate_down = None }
-    ∷ record { number = 2; filters = uplink ∷ []; usage = Some 1; status = Some 2; rate_up = None; rate_down = None } ∷ [] }
+audio = record {
+  number = 1;
+  media = Some 0;
+  status = None;
+  rate_up = Some 41000;
+  rate_down = Some 80000;
+  flows =
+      record { number = 1; filters = uplink ∷ any_to_any ∷ []; usage = None; status = None; rate_up = None; rate_down = None }
+      ∷ record { number = 2; filters = uplink ∷ []; usage = Some 1; status = Some 2; rate_up = None; rate_down = None } ∷ [];
+}
 
 -- the component again, with its Flow-Status and nothing else
 abbrev pub status_only : ℕ → ComponentValue

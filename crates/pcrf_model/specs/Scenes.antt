@@ -1,21 +1,20 @@
 -- What the sites of the worked examples went through.
 use Rattle.std.specs.Prelude.{ℕ, List, [], ◌∷◌, Option, Some, None, codes, length, slice_get}
 use Rattle.std.proofs.Common.{option_map}
-use Rattle.lattice_core.specs.RuleValues.{RuleValue, DeltaValue}
+use Rattle.lattice_core.specs.RuleValues.{DeltaValue}
 use Rattle.lattice_core.specs.declared.tag.Tag.{Tag}
-use Rattle.pcrf_model.specs.Sessions.{Session}
 use Rattle.pcrf_model.specs.Paths.{address}
-use Rattle.pcrf_model.specs.Values.{Value, Address}
+use Rattle.pcrf_model.specs.Values.{Address}
 use Rattle.pcrf_model.specs.Facts.{Field}
-use Rattle.pcrf_model.specs.Holdings.{Holding, nothing_held, union, kept_of}
+use Rattle.pcrf_model.specs.Holdings.{nothing_held, union}
 use Rattle.pcrf_model.specs.Operations.{Operation, holding_of}
 use Rattle.pcrf_model.specs.Views.{View, view}
-use Rattle.pcrf_model.specs.Tables.{Quality}
 use Rattle.pcrf_model.specs.Requests.{RequestValue, RefusalValue}
-use Rattle.pcrf_model.specs.Serving.{AnswerValue, OnGx, Granted, Rejected, serve}
-use Rattle.pcrf_model.specs.Pushing.{PushValue, push}
+use Rattle.pcrf_model.specs.Replies.{PushValue, ReplyValue, OnGx, Pushed, Granted, Rejected}
+use Rattle.pcrf_model.specs.Serving.{serve}
+use Rattle.pcrf_model.specs.Pushing.{push}
 use Rattle.pcrf_model.specs.Steps.{SiteState, adding}
-use Rattle.pcrf_model.specs.Samples.{operator, imsi, first_session, second_session, call_session, host_address, initial, update, termination, call, hang_up, audio, status_only, many_flows, ims_quality}
+use Rattle.pcrf_model.specs.Samples.{operator, first_session, second_session, host_address, initial, update, termination, call, hang_up, audio, status_only, many_flows, ims_quality}
 
 -- ---- one step of a site
 
@@ -23,16 +22,16 @@ abbrev pub empty_site : SiteState
 empty_site = record { holding = nothing_held; log = [] }
 
 -- what site i answers
-abbrev pub answers : ℕ → SiteState → RequestValue → AnswerValue
-answers i s q = (serve operator i s.holding q).answer
+abbrev pub answers : ℕ → SiteState → RequestValue → ReplyValue
+answers i s q = (serve operator i s.holding q).reply
 
 -- site i after the request
 abbrev pub serves : ℕ → SiteState → RequestValue → SiteState
 serves i s q = adding s (serve operator i s.holding q).added
 
 -- what site i pushes to any host
-abbrev pub pushes : ℕ → SiteState → Option PushValue
-pushes i s = (push operator i s.holding None).pushed
+abbrev pub pushes : ℕ → SiteState → ReplyValue
+pushes i s = (push operator i s.holding None).reply
 
 -- site i after the push
 abbrev pub pushed : ℕ → SiteState → SiteState
@@ -45,18 +44,23 @@ taking s os = record s { holding = union s.holding (holding_of os) }
 abbrev pub seen : SiteState → View
 seen s = view s.holding.facts
 
-abbrev pub granted : DeltaValue → AnswerValue
+abbrev pub granted : DeltaValue → ReplyValue
 granted d = OnGx (Granted d (Some ims_quality))
 
-abbrev pub rejected : RefusalValue → AnswerValue
+abbrev pub rejected : RefusalValue → ReplyValue
 rejected r = OnGx (Rejected r)
 
 -- a push to the gateway of the first session
-abbrev pub push_of : DeltaValue → Option PushValue
-push_of d = Some (record { session = first_session.id; host = codes "gw"; realm = codes "r"; delta = d })
+abbrev pub push_of : DeltaValue → ReplyValue
+push_of d = Pushed (Some (record { session = first_session.id; host = codes "gw"; realm = codes "r"; delta = d }))
 
-abbrev pub count_installed : Option PushValue → Option ℕ
-count_installed = option_map (λ p. length p.delta.installed)
+abbrev pub no_push : ReplyValue
+no_push = Pushed None
+
+-- how many rules are installed by a push
+abbrev pub count_installed : ReplyValue → Option ℕ
+count_installed (Pushed p) = option_map (λ (x : PushValue). length x.delta.installed) p
+count_installed r = None
 
 -- the counter of the first operation that the site made
 abbrev pub first_counter : SiteState → Option ℕ

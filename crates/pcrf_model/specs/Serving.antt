@@ -1,5 +1,5 @@
--- What a site answers to a request, and the operation that the request makes there.
-use Rattle.std.specs.Prelude.{ℕ, List, [], ◌++◌, Option, Some, None}
+-- Serving: what a site replies to a request, and the operation that the request makes there.
+use Rattle.std.specs.Prelude.{ℕ, [], ◌++◌, Option, Some, None}
 use Rattle.std.proofs.Common.{option_map, unwrap_or}
 use Rattle.lattice_core.specs.RuleValues.{DeltaValue}
 use Rattle.pcrf_model.specs.Sessions.{Session, gx, af}
@@ -10,25 +10,9 @@ use Rattle.pcrf_model.specs.Tables.{Quality, Tables}
 use Rattle.pcrf_model.specs.Rules.{rules, quality_of}
 use Rattle.pcrf_model.specs.Differences.{told, difference, first}
 use Rattle.pcrf_model.specs.Requests.{RequestKind, Initial, Update, Termination, CcrValue, AarValue, StrValue, BaseValue, RequestValue, Ccr, Aar, Str, Base, RefusalValue}
+use Rattle.pcrf_model.specs.Replies.{GxReplyValue, Granted, Rejected, ReplyValue, OnGx, Done, Refused, OnBase, Outcome}
 use Rattle.pcrf_model.specs.Making.{ccr_fields, told_facts, end_facts, aar_facts, next_tag, next_operation}
 use Rattle.pcrf_model.specs.Refusals.{ccr_refusal, aar_refusal, str_refusal, base_refusal}
-
--- an answer on Gx: granted, with a difference and the default quality of service, or refused
-pub data GxAnswer : Type 0 where
-  Granted : DeltaValue → Option Quality → GxAnswer
-  Rejected : RefusalValue → GxAnswer
-
--- what a site answers to a request: on Gx, on Rx (done or refused), or of the base protocol the Result-Code
-pub data AnswerValue : Type 0 where
-  OnGx : GxAnswer → AnswerValue
-  Done : AnswerValue
-  Refused : RefusalValue → AnswerValue
-  OnBase : ℕ → AnswerValue
-
--- an answer, and the operation that is added; a refused request adds none
-pub record Outcome : Type 0 where
-  pub answer : AnswerValue
-  pub added : Option Operation
 
 -- how many entries of a difference a message carries (this project's profile)
 abbrev pub delta_limit : ℕ
@@ -55,13 +39,13 @@ provisioned t i h q =
     let v : View = view (h.facts ++ fields) in
     let d : DeltaValue = delta_of t v s in
     record {
-      answer = OnGx (Granted d (quality_of t v s));
-      added = Some (next_operation i h q.number s (fields ++ told_facts s (next_tag i h 0) d))
+      reply = OnGx (Granted d (quality_of t v s));
+      added = Some (next_operation i h q.number s (fields ++ told_facts s (next_tag i h 0) d));
     }
 
 -- a termination that is accepted: the end alone
 abbrev pub terminated : ℕ → Holding → CcrValue → Outcome
-terminated i h q = record { answer = OnGx (Granted empty_delta None); added = Some (next_operation i h q.number (gx q.session) (end_facts (gx q.session))) }
+terminated i h q = record { reply = OnGx (Granted empty_delta None); added = Some (next_operation i h q.number (gx q.session) (end_facts (gx q.session))) }
 
 abbrev pub accepted_ccr : Tables → ℕ → Holding → CcrValue → RequestKind → Outcome
 accepted_ccr t i h q Initial = provisioned t i h q
@@ -69,24 +53,24 @@ accepted_ccr t i h q Update = provisioned t i h q
 accepted_ccr t i h q Termination = terminated i h q
 
 -- refused, with nothing added, or accepted
-abbrev pub refused_or : (RefusalValue → AnswerValue) → Option RefusalValue → Outcome → Outcome
-refused_or as_answer None accepted = accepted
-refused_or as_answer (Some r) accepted = record { answer = as_answer r; added = None }
+abbrev pub refused_or : (RefusalValue → ReplyValue) → Option RefusalValue → Outcome → Outcome
+refused_or as_reply None accepted = accepted
+refused_or as_reply (Some r) accepted = record { reply = as_reply r; added = None }
 
 unfoldable pub serve_ccr : Tables → ℕ → Holding → CcrValue → Outcome
 serve_ccr t i h q = refused_or (λ r. OnGx (Rejected r)) (ccr_refusal t h q) (accepted_ccr t i h q q.kind)
 
 unfoldable pub serve_aar : Tables → ℕ → Holding → AarValue → Outcome
-serve_aar t i h q = refused_or Refused (aar_refusal t i h q) (record { answer = Done; added = Some (next_operation i h 0 (af q.session) (aar_facts q (next_tag i h 0))) })
+serve_aar t i h q = refused_or Refused (aar_refusal t i h q) (record { reply = Done; added = Some (next_operation i h 0 (af q.session) (aar_facts q (next_tag i h 0))) })
 
 unfoldable pub serve_str : ℕ → Holding → StrValue → Outcome
-serve_str i h q = refused_or Refused (str_refusal h q) (record { answer = Done; added = Some (next_operation i h 0 (af q.session) (end_facts (af q.session))) })
+serve_str i h q = refused_or Refused (str_refusal h q) (record { reply = Done; added = Some (next_operation i h 0 (af q.session) (end_facts (af q.session))) })
 
 -- a base request adds nothing
 abbrev pub serve_base : BaseValue → Outcome
-serve_base q = record { answer = OnBase (unwrap_or (option_map (λ (r : RefusalValue). r.code) (base_refusal q.kind)) success); added = None }
+serve_base q = record { reply = OnBase (unwrap_or (option_map (λ (r : RefusalValue). r.code) (base_refusal q.kind)) success); added = None }
 
--- what site i, which holds h, answers and adds
+-- what site i, which holds h, replies and adds; a refused request adds nothing
 abbrev pub serve : Tables → ℕ → Holding → RequestValue → Outcome
 serve t i h (Ccr q) = serve_ccr t i h q
 serve t i h (Aar q) = serve_aar t i h q

@@ -1,12 +1,12 @@
 -- What is read of a set of facts. All that follows is said of this view.
-use Rattle.std.specs.Prelude.{ℕ, Bool, true, false, List, map, Option, Some, None, is_some}
+use Rattle.std.specs.Prelude.{ℕ, Bool, List, map, Option, Some, None, is_some}
 use Rattle.std.proofs.Common.{Ordering, option_map, option_and_then}
 use Rattle.std.specs.List.{filter_map}
 use Rattle.lattice_core.specs.Orders.{pair_cmp}
 use Rattle.lattice_core.specs.Ascending.{ascending}
 use Rattle.pcrf_model.specs.Sessions.{Session, session_cmp}
 use Rattle.pcrf_model.specs.Paths.{Path, path_cmp, whole}
-use Rattle.pcrf_model.specs.Values.{Subscriber, Value, Number, Text, Address, Subscribers, Filters, Untold, Told, Entry, entry_cmp}
+use Rattle.pcrf_model.specs.Values.{Subscriber, Value, Number, Text, Address, Subscribers, Filters, Entry, entry_cmp}
 use Rattle.pcrf_model.specs.Facts.{Fact, Gone, Field, session_of}
 use Rattle.pcrf_model.specs.Holdings.{is_gone, shown}
 
@@ -34,7 +34,7 @@ view facts = record {
   shows = shown facts;
   ended = λ s. is_gone facts (whole s);
   all = ascending shown_cmp (filter_map (showing (shown facts)) facts);
-  sessions = ascending session_cmp (map session_of facts)
+  sessions = ascending session_cmp (map session_of facts);
 }
 
 -- ---- what a path shows, as a value of its kind

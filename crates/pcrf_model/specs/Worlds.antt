@@ -1,13 +1,14 @@
 -- Several sites and the letters between them: what each site took and made, read from the events and the answers alone.
-use Rattle.std.specs.Prelude.{ℕ, zero, suc, Bool, cond, List, [], ◌∷◌, ◌++◌, map, take, drop, length, slice_get, slice_set, Option, Some, None, Result, Ok, Err}
+use Rattle.std.specs.Prelude.{ℕ, zero, suc, List, [], ◌∷◌, ◌++◌, take, drop, length, slice_get, slice_set, Option, Some, None, Result, Ok, Err}
 use Rattle.std.proofs.Common.{option_to_list, option_map, option_and_then, unwrap_or}
 use Rattle.pcrf_model.specs.Holdings.{Holding, kept_of}
 use Rattle.pcrf_model.specs.Operations.{Operation, holding_of}
 use Rattle.pcrf_model.specs.Tables.{Tables}
 use Rattle.pcrf_model.specs.Requests.{RequestValue}
-use Rattle.pcrf_model.specs.Serving.{AnswerValue, serve}
-use Rattle.pcrf_model.specs.Pushing.{PushValue, push}
-use Rattle.pcrf_model.specs.Steps.{SiteState, SiteEvent, AskOwn, AskWhole, SiteReply, Own, Copy, range_limit}
+use Rattle.pcrf_model.specs.Replies.{PushValue, ReplyValue}
+use Rattle.pcrf_model.specs.Serving.{serve}
+use Rattle.pcrf_model.specs.Pushing.{push}
+use Rattle.pcrf_model.specs.Steps.{SiteState, SiteEvent, AskOwn, own_reply, copy_reply}
 use Rattle.pcrf_model.specs.Letters.{LetterBody, Range, Snapshot, Acknowledgement, LetterValue, meaning}
 use Rattle.pcrf_model.specs.Cursors.{CursorsValue, start_cursors, ask, letter_of, took, ack_of, ack_letter, carried_ack, acked}
 
@@ -23,7 +24,7 @@ pub data WorldEvent : Type 0 where
 
 -- the answer; what was pushed; the number of the new letter; that it was taken; the new epoch
 pub data WorldOutcome : Type 0 where
-  Replied : AnswerValue → WorldOutcome
+  Replied : ReplyValue → WorldOutcome
   PushedOut : Option PushValue → WorldOutcome
   Lettered : ℕ → WorldOutcome
   Merged : WorldOutcome
@@ -82,10 +83,10 @@ state_of s = record { holding = kept_of (held s); log = s.log }
 abbrev pub LetterRule : Type 0
 LetterRule = Tables → SiteTook → ℕ → Option LetterValue
 
--- the site's own operations from a position on, or its whole state, as its reply has them
-abbrev pub own_reply : SiteTook → SiteEvent → SiteReply
-own_reply s (AskOwn p) = Own (take range_limit (drop p s.log)) (length s.log)
-own_reply s e = Copy (kept_of (held s)) (length s.log)
+-- what the site replies to what it is asked for a letter
+abbrev pub asked_reply : SiteTook → SiteEvent → ReplyValue
+asked_reply s (AskOwn p) = own_reply (state_of s) p
+asked_reply s e = copy_reply (state_of s)
 
 abbrev pub asked_from : SiteEvent → ℕ
 asked_from (AskOwn p) = p
@@ -93,7 +94,7 @@ asked_from e = 0
 
 -- by the cursors: a snapshot, or a range from what the peer said it took
 abbrev pub by_cursors : LetterRule
-by_cursors t s peer = letter_of s.cursors t.edition (asked_from (ask s.cursors peer)) (own_reply s (ask s.cursors peer))
+by_cursors t s peer = letter_of s.cursors t.edition (asked_from (ask s.cursors peer)) (asked_reply s (ask s.cursors peer))
 
 -- the range of the whole log, whoever the peer is
 abbrev pub whole_log : LetterRule

@@ -1,0 +1,214 @@
+-- A binding is the greatest session that matches.
+use Rattle.std.proofs.Common.{◌≡◌, Bool, true, false, cond, not, ◌&&◌, List, [], ◌∷◌, map, ◌↔◌, Option, Some, None, is_some, refl, sym, ap, ◌∙◌, subst, option_map, Ordering, Less, Equal, Greater}
+use Rattle.std.specs.Ordering.{is_eq, is_lt}
+use Rattle.std.specs.Cmp.{first_so, second_so, tied_itself}
+use Rattle.std.specs.List.{filter_map}
+use Rattle.lattice_core.specs.declared.tag.Tag.{Tag}
+use Rattle.pcrf_model.specs.Sets.{In, best, greatest}
+use Rattle.pcrf_model.specs.Sessions.{Kind, Gx, Af, Session, session_cmp, gx, is_gx}
+use Rattle.pcrf_model.specs.Paths.{Path, path_cmp, address}
+use Rattle.pcrf_model.specs.Values.{Value, Entry, entry_cmp}
+use Rattle.pcrf_model.specs.Facts.{Fact, Gone, Field, session_of}
+use Rattle.pcrf_model.specs.Holdings.{is_gone, entry_at, value_at, shown}
+use Rattle.pcrf_model.specs.Views.{View, view, has}
+use Rattle.pcrf_model.specs.Live.{is_live, has_what_it_needs}
+use Rattle.pcrf_model.specs.Bindings.{Candidate, candidate_cmp, standing, candidate, matches, bind}
+use Rattle.pcrf_model.specs.Laws.{IsBinding}
+use Rattle.pcrf_model.proofs.SetLaws.{clash, is_false, best-in, best-top, both_top, less_irr, less_trans, In-filter_map, filter_map-In, In-map}
+use Rattle.pcrf_model.proofs.Ranked.{IsRanked, nat_ranked, text_ranked, pair_ranked}
+use Rattle.pcrf_model.proofs.FactLaws.{path_ranked, session_ranked, entry_ranked, eq_is}
+use Rattle.pcrf_model.proofs.AscendingLaws.{ascending-In}
+
+candidate_ranked : IsRanked candidate_cmp
+candidate_ranked = pair_ranked nat_ranked (pair_ranked nat_ranked text_ranked)
+
+-- ---- the greatest of a list
+
+module _ {A : Type 0} (cmp : A → A → Ordering) (o : IsRanked cmp) where
+  -- the greatest is a member, and below none
+  pub greatest_is : (xs : List A) (c : A) → greatest cmp xs ≡ Some c → In c xs × ((y : A) → In y xs → is_lt (cmp c y) ≡ false)
+  greatest_is [] c e = absurd (cc)
+  greatest_is (x ∷ xs) c e =
+      let same : best (λ a b. is_lt (cmp a b)) x xs ≡ c = cc in (
+        subst (λ (z : A). In z (x ∷ xs)) same (best-in (λ a b. is_lt (cmp a b)) (less_irr cmp o.total o.same) (less_trans cmp o.total o.same) x xs),
+        λ y i. subst (λ (z : A). is_lt (cmp z y) ≡ false) same (best-top (λ a b. is_lt (cmp a b)) (less_irr cmp o.total o.same) (less_trans cmp o.total o.same) x xs y i),
+      )
+
+  pub greatest_some : (xs : List A) (x : A) → In x xs → (c : A) × (greatest cmp xs ≡ Some c)
+  greatest_some [] x i = absurd i
+  greatest_some (y ∷ ys) x i = (best (λ a b. is_lt (cmp a b)) y ys, refl)
+
+-- ---- what shows has a fact
+
+some_is : {A : Type 0} (x : Option A) → is_some x ≡ true → (y : A) × (x ≡ Some y)
+some_is None h = clash false h refl
+some_is (Some y) h = (y, refl)
+
+not_blocked : (b : Bool) (x : Option Entry) (e : Entry) → cond b None x ≡ Some e → x ≡ Some e
+not_blocked true x e h = absurd (cc)
+not_blocked false x e h = h
+
+entry_there : (p q : Path) (t : Tag) (v : Value) (e : Entry) → entry_at p (Field q t v) ≡ Some e → p ≡ q
+entry_there p q t v e = elim (is_eq (path_cmp p q)) as (λ b. is_eq (path_cmp p q) ≡ b → cond b (Some (t, v)) None ≡ Some e → p ≡ q) [
+  | true ↦ λ h _. eq_is path_ranked p q h
+  | false ↦ λ _ h. absurd (cc)
+] refl
+
+-- a fact that has an entry at a path stands there with it
+pub entry_of : (p : Path) (f : Fact) (e : Entry) → entry_at p f ≡ Some e → f ≡ Field p e.0 e.1
+entry_of p (Gone q) e h = absurd (cc)
+entry_of p (Field q t v) e h =
+    let same = entry_there p q t v e h in
+    let w : Some (t, v) ≡ Some e = sym (ap (λ b. cond b (Some (t, v)) None) (ap is_eq (ap (λ (z : Path). path_cmp z q) same ∙ tied_itself path_ranked.total q))) ∙ h in
+    let x : (t, v) ≡ e = cc in
+    λ i. Field (sym same i) (x i).0 (x i).1
+
+-- where a path shows, a fact stands
+pub fact_there : (facts : List Fact) (p : Path) (e : Entry) → shown facts p ≡ Some e → In (Field p e.0 e.1) facts
+fact_there facts p e h =
+    let g = greatest_is entry_cmp entry_ranked (filter_map (entry_at p) facts) e (not_blocked (is_gone facts p) (value_at facts p) e h) in
+    let r = filter_map-In (entry_at p) e facts g.0 in
+    subst (λ (f : Fact). In f facts) (entry_of p r.0 e r.2) r.1
+
+-- a session that shows something is among those that have a fact
+shows-In : (facts : List Fact) (p : Path) (e : Entry) → (view facts).shows p ≡ Some e → In p.session (view facts).sessions
+unfolding view
+shows-In facts p e h =
+    (ascending-In session_cmp session_ranked (map session_of facts) p.session).1 (In-map session_of (Field p e.0 e.1) facts (fact_there facts p e h))
+
+-- ---- what a match says
+
+module _ (v : View) (a s : Session) (m : matches v a s ≡ true) where
+  kinds_and_lives : (not (is_gx a.kind) && is_gx s.kind && is_live v a && is_live v s) ≡ true
+  kinds_and_lives = first_so _ _ (first_so _ _ (first_so _ _ m))
+
+  of_gx : is_gx s.kind ≡ true
+  of_gx = second_so (not (is_gx a.kind)) _ (first_so _ _ (first_so _ _ kinds_and_lives))
+
+  live : is_live v s ≡ true
+  live = second_so (not (is_gx a.kind) && is_gx s.kind && is_live v a) _ kinds_and_lives
+
+-- a live Gx session shows an address
+has_address : (v : View) (s : Session) (k : Kind) → is_gx k ≡ true → has_what_it_needs v s k ≡ true → has v (address s) ≡ true
+has_address v s Gx g h = first_so _ _ (first_so _ _ (first_so _ _ (first_so _ _ (first_so _ _ h))))
+has_address v s Af g h = clash false g refl
+
+gx_is : (s : Session) (k : Kind) → s.kind ≡ k → is_gx k ≡ true → gx s.id ≡ s
+gx_is s Gx e g = λ i. record { kind = sym e i; id = s.id }
+gx_is s Af e g = clash false g refl
+
+-- ---- candidates
+
+module _ (facts : List Fact) (a : Session) where
+  abbrev v : View
+  v = view facts
+
+  abbrev cs : List Candidate
+  cs = filter_map (candidate v a) v.sessions
+
+  -- a session that matches shows an address under a tag
+  shows_address : (s : Session) → matches v a s ≡ true → (e : Entry) × (v.shows (address s) ≡ Some e)
+  shows_address s m = some_is (v.shows (address s)) (has_address v s s.kind (of_gx v a s m) (second_so (not (v.ended s)) _ (live v a s m)))
+
+  abbrev stands : Session → Entry → Candidate
+  stands s e = (e.0.counter, (e.0.site, s.id))
+
+  standing_of : (s : Session) (e : Entry) → v.shows (address s) ≡ Some e → standing v s ≡ Some (stands s e)
+  standing_of s e h = ap (option_map (stands s)) h
+
+  candidate_of : (s : Session) (c : Candidate) → matches v a s ≡ true → standing v s ≡ Some c → candidate v a s ≡ Some c
+  candidate_of s c m h = ap (λ b. cond b (standing v s) None) m ∙ h
+
+  -- and is so one of the candidates
+  candidate-In : (s : Session) (m : matches v a s ≡ true) → In (stands s (shows_address s m).0) cs
+  candidate-In s m =
+      let w = shows_address s m in
+      In-filter_map (candidate v a) s (stands s w.0) v.sessions (shows-In facts (address s) w.0 w.1) (candidate_of s (stands s w.0) m (standing_of s w.0 w.1))
+
+  came_from : (b : Bool) (x : Option Candidate) (c : Candidate) → cond b x None ≡ Some c → (b ≡ true) × (x ≡ Some c)
+  came_from true x c h = (refl, h)
+  came_from false x c h = absurd (cc)
+
+  id_of : (s : Session) (x : Option Entry) (c : Candidate) → option_map (stands s) x ≡ Some c → s.id ≡ c.1.1
+  id_of s None c h = absurd (cc)
+  id_of s (Some e) c h = let same : stands s e ≡ c = cc in ap (λ (z : Candidate). z.1.1) same
+
+  -- each candidate is of a session that matches, and names it
+  whose : (c : Candidate) → In c cs → (s : Session) × (matches v a s ≡ true) × (standing v s ≡ Some c) × (gx c.1.1 ≡ s)
+  whose c i =
+      let r = filter_map-In (candidate v a) c v.sessions i in
+      let w = came_from (matches v a r.0) (standing v r.0) c r.2 in
+      (r.0, w.0, w.1, ap gx (sym (id_of r.0 (v.shows (address r.0)) c w.1)) ∙ gx_is r.0 r.0.kind refl (of_gx v a r.0 w.0))
+
+  some_same : {A : Type 0} (x y : A) → Some x ≡ Some y → x ≡ y
+  some_same x y h = cc
+
+  bound_from : (x : Option Candidate) (s : Session) → option_map (λ (c : Candidate). gx c.1.1) x ≡ Some s → (c : Candidate) × (x ≡ Some c) × (gx c.1.1 ≡ s)
+  bound_from None s h = absurd (cc)
+  bound_from (Some c) s h = (c, refl, some_same _ _ h)
+
+  less_lt : (r : Ordering) → r ≡ Less → is_lt r ≡ true
+  less_lt r e = ap is_lt e
+
+  onward : (s : Session) → bind v a ≡ Some s → IsBinding v a s
+  unfolding bind
+  onward s h =
+      let b = bound_from (greatest candidate_cmp cs) s h in
+      let g = greatest_is candidate_cmp candidate_ranked cs b.0 b.1 in
+      let w = whose b.0 g.0 in
+      let same : w.0 ≡ s = sym w.3 ∙ b.2 in
+      record {
+        fits = subst (λ (z : Session). matches v a z ≡ true) same w.1;
+        no_other = λ r m x.
+            let own : standing v s ≡ Some b.0 = subst (λ (z : Session). standing v z ≡ Some b.0) same w.2 in
+            let low : x.lower ≡ b.0 = some_same _ _ (sym x.of_lower ∙ own) in
+            let e = shows_address r m in
+            let up : x.upper ≡ stands r e.0 = some_same _ _ (sym x.of_upper ∙ standing_of r e.0 e.1) in
+            let below : candidate_cmp b.0 (stands r e.0) ≡ Less = (λ i. candidate_cmp (sym low i) (sym up i)) ∙ x.above in
+            clash _ (ap is_lt below) (g.1 (stands r e.0) (candidate-In r m));
+      }
+
+  lt_or : (r : Ordering) → is_lt r ≡ true → r ≡ Less
+  lt_or Less h = refl
+  lt_or Equal h = clash false h refl
+  lt_or Greater h = clash false h refl
+
+  backward : (s : Session) → IsBinding v a s → bind v a ≡ Some s
+  unfolding bind
+  backward s x =
+      let e = shows_address s x.fits in
+      let i = candidate-In s x.fits in
+      let c = greatest_some candidate_cmp candidate_ranked cs (stands s e.0) i in
+      let g = greatest_is candidate_cmp candidate_ranked cs c.0 c.1 in
+      let w = whose c.0 g.0 in
+      let not_above : is_lt (candidate_cmp (stands s e.0) c.0) ≡ false = is_false _ (λ l. x.no_other w.0 w.1 (record {
+        upper = c.0;
+        lower = stands s e.0;
+        of_upper = w.2;
+        of_lower = standing_of s e.0 e.1;
+        above = lt_or _ l;
+      })) in
+      let same : stands s e.0 ≡ c.0 = both_top candidate_cmp candidate_ranked.total candidate_ranked.same (stands s e.0) c.0 not_above (g.1 (stands s e.0) i) in
+      ap (option_map (λ (z : Candidate). gx z.1.1)) c.1 ∙ ap (λ (z : Candidate). Some (gx z.1.1)) (sym same) ∙ ap Some (gx_is s s.kind refl (of_gx v a s x.fits))
+
+  none_onward : bind v a ≡ None → (s : Session) → matches v a s ≡ false
+  unfolding bind
+  none_onward h s = is_false _ (λ m.
+      let c = greatest_some candidate_cmp candidate_ranked cs (stands s (shows_address s m).0) (candidate-In s m) in
+      not_none (sym (ap (option_map (λ (z : Candidate). gx z.1.1)) c.1) ∙ h))
+    where
+      not_none : {A : Type 0} {x : A} → Some x ≡ None → ⊥
+      not_none k = cc
+
+  none_backward : ((s : Session) → matches v a s ≡ false) → bind v a ≡ None
+  unfolding bind
+  none_backward h = elim (greatest candidate_cmp cs) as (λ x. greatest candidate_cmp cs ≡ x → option_map (λ (z : Candidate). gx z.1.1) x ≡ None) [
+    | None ↦ λ _. refl
+    | Some c ↦ λ k. let w = whose c (greatest_is candidate_cmp candidate_ranked cs c k).0 in clash _ w.1 (h w.0)
+  ] refl
+
+pub bind-greatest : (facts : List Fact) (a s : Session) → bind (view facts) a ≡ Some s ↔ IsBinding (view facts) a s
+bind-greatest facts a s = (onward facts a s, backward facts a s)
+
+pub bind-none : (facts : List Fact) (a : Session) → bind (view facts) a ≡ None ↔ ((s : Session) → matches (view facts) a s ≡ false)
+bind-none facts a = (none_onward facts a, none_backward facts a)

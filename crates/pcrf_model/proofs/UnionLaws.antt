@@ -1,0 +1,134 @@
+-- Unions and what is kept of them.
+use Rattle.std.proofs.Common.{◌≡◌, ℕ, max, ◌≤◌, List, [], ◌∷◌, ◌++◌, ◌↔◌, inl, inr, refl, sym, ap, ◌∙◌, subst, arith, append_assoc}
+use Rattle.lattice_core.specs.Ascending.{ascending}
+use Rattle.pcrf_model.specs.Sets.{In, Same}
+use Rattle.pcrf_model.specs.Sessions.{Session}
+use Rattle.pcrf_model.specs.Facts.{Fact, fact_cmp, is_shaded_by}
+use Rattle.pcrf_model.specs.Holdings.{kept, Holding, nothing_held, union, kept_of}
+use Rattle.pcrf_model.specs.Operations.{Operation, with_operation, holding_of}
+use Rattle.pcrf_model.specs.Views.{View, view}
+use Rattle.pcrf_model.specs.Tables.{Tables}
+use Rattle.pcrf_model.specs.Rules.{rules}
+use Rattle.pcrf_model.proofs.SetLaws.{In-left, In-right, In-cases, Same-itself, Same-back, Same-through, Same-append, Same-turn, Same-twice, maximal-maximal}
+use Rattle.pcrf_model.proofs.FactLaws.{fact_ranked, shaded_irr, shaded_trans}
+use Rattle.pcrf_model.proofs.ShownLaws.{kept-append, kept-Same}
+use Rattle.pcrf_model.proofs.AscendingLaws.{ascending-In, ascending-Same}
+use Rattle.pcrf_model.proofs.ViewLaws.{view-Same, view-kept}
+
+sorted-Same : (xs ys : List Fact) → Same xs ys → ascending fact_cmp xs ≡ ascending fact_cmp ys
+sorted-Same = ascending-Same fact_cmp fact_ranked
+
+sorted-In : (xs : List Fact) → Same (ascending fact_cmp xs) xs
+sorted-In = ascending-In fact_cmp fact_ranked
+
+abbrev sorted_holding : List Fact → ℕ → Holding
+sorted_holding fs n = record { facts = ascending fact_cmp fs; clock = n }
+
+same_holding : (fs gs : List Fact) (m n : ℕ) → Same fs gs → m ≡ n → sorted_holding fs m ≡ sorted_holding gs n
+same_holding fs gs m n s e = let q = sorted-Same fs gs s in λ i. record { facts = q i; clock = e i }
+
+pub union_comm : (h k : Holding) → union h k ≡ union k h
+union_comm h k = same_holding (h.facts ++ k.facts) (k.facts ++ h.facts) _ _ (Same-turn h.facts k.facts) (omega arith)
+
+assoc_Same : (a b c : List Fact) → Same (ascending fact_cmp (a ++ b) ++ c) (a ++ ascending fact_cmp (b ++ c))
+assoc_Same a b c =
+    Same-through (ascending fact_cmp (a ++ b) ++ c) ((a ++ b) ++ c) (a ++ ascending fact_cmp (b ++ c))
+    (Same-append (ascending fact_cmp (a ++ b)) c (a ++ b) c (sorted-In (a ++ b)) (Same-itself c))
+    (subst (λ (z : List Fact). Same z (a ++ ascending fact_cmp (b ++ c))) (sym (append_assoc a b c))
+    (Same-append a (b ++ c) a (ascending fact_cmp (b ++ c)) (Same-itself a) (Same-back (ascending fact_cmp (b ++ c)) (b ++ c) (sorted-In (b ++ c)))))
+
+pub union_assoc : (h k l : Holding) → union (union h k) l ≡ union h (union k l)
+union_assoc h k l = same_holding (ascending fact_cmp (h.facts ++ k.facts) ++ l.facts) (h.facts ++ ascending fact_cmp (k.facts ++ l.facts)) _ _ (assoc_Same h.facts k.facts l.facts) (omega arith)
+
+kept_Same : (a b : List Fact) → Same (kept (ascending fact_cmp (ascending fact_cmp (kept a) ++ b))) (kept (ascending fact_cmp (a ++ b)))
+kept_Same a b =
+    let inner : Same (ascending fact_cmp (kept a) ++ b) (kept a ++ b) = Same-append (ascending fact_cmp (kept a)) b (kept a) b (sorted-In (kept a)) (Same-itself b) in
+    let outer : Same (ascending fact_cmp (ascending fact_cmp (kept a) ++ b)) (kept a ++ b) = Same-through (ascending fact_cmp (ascending fact_cmp (kept a) ++ b)) (ascending fact_cmp (kept a) ++ b) (kept a ++ b) (sorted-In (ascending fact_cmp (kept a) ++ b)) inner in
+    Same-through (kept (ascending fact_cmp (ascending fact_cmp (kept a) ++ b))) (kept (kept a ++ b)) (kept (ascending fact_cmp (a ++ b)))
+    (kept-Same (ascending fact_cmp (ascending fact_cmp (kept a) ++ b)) (kept a ++ b) outer)
+    (Same-through (kept (kept a ++ b)) (kept (a ++ b)) (kept (ascending fact_cmp (a ++ b))) (kept-append a b)
+    (kept-Same (a ++ b) (ascending fact_cmp (a ++ b)) (Same-back (ascending fact_cmp (a ++ b)) (a ++ b) (sorted-In (a ++ b)))))
+
+pub kept_of-union : (h k : Holding) → kept_of (union (kept_of h) k) ≡ kept_of (union h k)
+kept_of-union h k = same_holding (kept (ascending fact_cmp (ascending fact_cmp (kept h.facts) ++ k.facts))) (kept (ascending fact_cmp (h.facts ++ k.facts))) _ _ (kept_Same h.facts k.facts) refl
+
+pub kept_of_twice : (h : Holding) → kept_of (kept_of h) ≡ kept_of h
+kept_of_twice h = same_holding (kept (ascending fact_cmp (kept h.facts))) (kept h.facts) _ _
+    (Same-through (kept (ascending fact_cmp (kept h.facts))) (kept (kept h.facts)) (kept h.facts)
+    (kept-Same (ascending fact_cmp (kept h.facts)) (kept h.facts) (sorted-In (kept h.facts)))
+    (maximal-maximal is_shaded_by shaded_irr shaded_trans h.facts))
+    refl
+
+pub union_twice : (h : Holding) → kept_of (union h h) ≡ kept_of h
+union_twice h = same_holding (kept (ascending fact_cmp (h.facts ++ h.facts))) (kept h.facts) _ _
+    (kept-Same (ascending fact_cmp (h.facts ++ h.facts)) h.facts (Same-through (ascending fact_cmp (h.facts ++ h.facts)) (h.facts ++ h.facts) h.facts (sorted-In (h.facts ++ h.facts)) (Same-twice h.facts)))
+    (omega arith)
+
+pub view-kept_of : (h : Holding) → view (kept_of h).facts ≡ view h.facts
+view-kept_of h = view-Same (ascending fact_cmp (kept h.facts)) (kept h.facts) (sorted-In (kept h.facts)) ∙ view-kept h.facts
+
+pub rules-kept_of : (t : Tables) (h : Holding) (s : Session) → rules t (view (kept_of h).facts) s ≡ rules t (view h.facts) s
+rules-kept_of t h s = ap (λ (v : View). rules t v s) (view-kept_of h)
+
+-- ---- the holding of a set of operations
+pub In-holding : (f : Fact) (os : List Operation) → In f (holding_of os).facts ↔ (o : Operation) × In o os × In f o.facts
+In-holding f [] = (λ h. absurd h, λ r. absurd r.1)
+In-holding f (o ∷ os) =
+    let ih = In-holding f os in
+    let s = sorted-In ((holding_of os).facts ++ o.facts) f in (
+      λ h. elim (In-cases f (holding_of os).facts o.facts (s.0 h)) [ inl a ↦ let r = ih.0 a in (r.0, inr r.1, r.2) | inr a ↦ (o, inl refl, a) ],
+      λ r. s.1 (back (λ q j i. (In-holding f os).1 (q, j, i)) r),
+    )
+  where
+    back : ((q : Operation) → In q os → In f q.facts → In f (holding_of os).facts) → (q : Operation) × In q (o ∷ os) × In f q.facts → In f ((holding_of os).facts ++ o.facts)
+    back before (q, inl e, i) = In-right f (holding_of os).facts o.facts (subst (λ (z : Operation). In f z.facts) e i)
+    back before (q, inr j, i) = In-left f (holding_of os).facts o.facts (before q j i)
+
+pub clock_above : (o : Operation) (os : List Operation) → In o os → o.counter ≤ (holding_of os).clock
+clock_above o [] h = absurd h
+clock_above o (p ∷ os) (inl e) = let k : o.counter ≡ p.counter = ap (λ (z : Operation). z.counter) e in omega arith
+clock_above o (p ∷ os) (inr h) = let k = clock_above o os h in omega (arith, k)
+
+pub clock_below : (n : ℕ) (os : List Operation) → ((o : Operation) → In o os → o.counter ≤ n) → (holding_of os).clock ≤ n
+clock_below n [] h = omega arith
+clock_below n (p ∷ os) h = let k = clock_below n os (λ o i. h o (inr i)) in let m = h p (inl refl) in omega (arith, k, m)
+
+part : (xs ys : List Operation) → Same xs ys → (f : Fact) → In f (holding_of xs).facts → In f (holding_of ys).facts
+part xs ys s f i = let r = (In-holding f xs).0 i in (In-holding f ys).1 (r.0, (s r.0).0 r.1, r.2)
+
+-- sorted already: a holding's facts are the ascending list of some list
+holding_sorted : (os : List Operation) → ascending fact_cmp (holding_of os).facts ≡ (holding_of os).facts
+holding_sorted [] = refl
+holding_sorted (o ∷ os) = sorted-Same (ascending fact_cmp ((holding_of os).facts ++ o.facts)) ((holding_of os).facts ++ o.facts) (sorted-In ((holding_of os).facts ++ o.facts))
+
+pub holding_of-Same : (xs ys : List Operation) → Same xs ys → holding_of xs ≡ holding_of ys
+holding_of-Same xs ys s =
+    let low : (holding_of xs).clock ≤ (holding_of ys).clock = clock_below _ xs (λ o i. clock_above o ys ((s o).0 i)) in
+    let high : (holding_of ys).clock ≤ (holding_of xs).clock = clock_below _ ys (λ o i. clock_above o xs ((s o).1 i)) in
+    let c : (holding_of xs).clock ≡ (holding_of ys).clock = omega (arith, low, high) in
+    let q = sorted-Same (holding_of xs).facts (holding_of ys).facts (λ f. (part xs ys s f, part ys xs (Same-back xs ys s) f)) in
+    let e : (holding_of xs).facts ≡ (holding_of ys).facts = sym (holding_sorted xs) ∙ q ∙ holding_sorted ys in
+    λ i. record { facts = e i; clock = c i }
+
+-- the holding of two lists is the union of theirs
+pub holding_of-append : (xs ys : List Operation) → holding_of (xs ++ ys) ≡ union (holding_of xs) (holding_of ys)
+holding_of-append [] ys = same_holding_of (sym (holding_sorted ys)) (omega arith)
+  where
+    same_holding_of : (holding_of ys).facts ≡ ascending fact_cmp (holding_of ys).facts → (holding_of ys).clock ≡ max 0 (holding_of ys).clock → holding_of ys ≡ union nothing_held (holding_of ys)
+    same_holding_of q e = λ i. record { facts = q i; clock = e i }
+holding_of-append (o ∷ xs) ys =
+    ap (λ (h : Holding). with_operation h o) (holding_of-append xs ys)
+    ∙ union_assoc (holding_of xs) (holding_of ys) (record { facts = o.facts; clock = o.counter })
+    ∙ ap (λ (h : Holding). union (holding_of xs) h) (union_comm (holding_of ys) (record { facts = o.facts; clock = o.counter }))
+    ∙ sym (union_assoc (holding_of xs) (record { facts = o.facts; clock = o.counter }) (holding_of ys))
+
+-- ---- what is read of kept facts with more
+pub view_sorted : (xs : List Fact) → view (ascending fact_cmp (kept xs)) ≡ view xs
+view_sorted xs = view-Same (ascending fact_cmp (kept xs)) (kept xs) (sorted-In (kept xs)) ∙ view-kept xs
+
+pub view_with : (xs ys : List Fact) → view (ascending fact_cmp (kept xs) ++ ys) ≡ view (xs ++ ys)
+view_with xs ys =
+    view-Same (ascending fact_cmp (kept xs) ++ ys) (kept xs ++ ys) (Same-append (ascending fact_cmp (kept xs)) ys (kept xs) ys (sorted-In (kept xs)) (Same-itself ys))
+    ∙ sym (view-kept (kept xs ++ ys))
+    ∙ view-Same (kept (kept xs ++ ys)) (kept (xs ++ ys)) (kept-append xs ys)
+    ∙ view-kept (xs ++ ys)

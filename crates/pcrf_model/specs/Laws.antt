@@ -1,0 +1,174 @@
+-- The laws of the definitions.
+use Rattle.std.specs.Prelude.{◌≡◌, ℕ, ◌<◌, ◌^◌, [], ◌∷◌, true, false, List, ◌++◌, ◌↔◌, map, Option, Some, None}
+use Rattle.std.proofs.Common.{Less}
+use Rattle.lattice_core.specs.Ascending.{ascending}
+use Rattle.lattice_core.specs.RuleValues.{RuleValue}
+use Rattle.pcrf_model.specs.Sets.{In, Same, Distinct}
+use Rattle.pcrf_model.specs.Sessions.{Session}
+use Rattle.pcrf_model.specs.Paths.{Step, Component, Flow, Part, RuleName, Path}
+use Rattle.pcrf_model.specs.Facts.{Fact, path_of}
+use Rattle.pcrf_model.specs.Holdings.{kept, Holding, union, kept_of}
+use Rattle.pcrf_model.specs.Operations.{Operation, holding_of}
+use Rattle.pcrf_model.specs.Views.{View, view}
+use Rattle.pcrf_model.specs.Live.{is_live, is_partial, home}
+use Rattle.pcrf_model.specs.Bindings.{Candidate, candidate_cmp, standing, matches, bind}
+use Rattle.pcrf_model.specs.Tables.{OperatorRule, ApnRow, Tables, apn_row}
+use Rattle.pcrf_model.specs.Rules.{rules}
+use Rattle.pcrf_model.specs.Differences.{ToldRule, told_cmp, told, told_name_of, rule_name_of, IsTold, difference, first, rest, as_told, apply}
+use Rattle.pcrf_model.specs.OperatorValues.{operator_value}
+use Rattle.pcrf_model.specs.Requests.{RequestValue}
+use Rattle.pcrf_model.specs.Serving.{serve}
+use Rattle.pcrf_model.specs.Pushing.{push, lacks_counter}
+use Rattle.pcrf_model.specs.Replies.{ReplyValue}
+use Rattle.pcrf_model.specs.Steps.{SiteState, kept_state, SiteEvent, MayReply, stepped}
+
+-- ---- what is kept
+
+-- what is kept of the kept facts and others is what is kept of them all
+abbrev pub KeepsUnions : Type 0
+KeepsUnions = (xs ys : List Fact) → Same (kept (kept xs ++ ys)) (kept (xs ++ ys))
+
+-- the same of holdings
+abbrev pub KeepsUnionsOfHoldings : Type 0
+KeepsUnionsOfHoldings = (h k : Holding) → kept_of (union (kept_of h) k) ≡ kept_of (union h k)
+
+-- keeping twice is keeping once
+abbrev pub KeepsOnce : Type 0
+KeepsOnce = (h : Holding) → kept_of (kept_of h) ≡ kept_of h
+
+-- ---- unions
+
+abbrev pub UnionIsCommutative : Type 0
+UnionIsCommutative = (h k : Holding) → union h k ≡ union k h
+
+abbrev pub UnionIsAssociative : Type 0
+UnionIsAssociative = (h k l : Holding) → union (union h k) l ≡ union h (union k l)
+
+-- the union with itself keeps what it keeps
+abbrev pub UnionIsIdempotent : Type 0
+UnionIsIdempotent = (h : Holding) → kept_of (union h h) ≡ kept_of h
+
+-- the holding of operations depends on the set of them alone
+abbrev pub OnlyOperationsCount : Type 0
+OnlyOperationsCount = (xs ys : List Operation) → Same xs ys → holding_of xs ≡ holding_of ys
+
+-- the operations of two lists hold the union of what each holds
+abbrev pub HoldsTheUnion : Type 0
+HoldsTheUnion = (xs ys : List Operation) → holding_of (xs ++ ys) ≡ union (holding_of xs) (holding_of ys)
+
+-- ---- what is read
+
+-- the kept facts have the view of all
+abbrev pub KeptShowsTheSame : Type 0
+KeptShowsTheSame = (facts : List Fact) → view (kept facts) ≡ view facts
+
+-- only the members of a list of facts count for its view
+abbrev pub OnlyMembersCount : Type 0
+OnlyMembersCount = (xs ys : List Fact) → Same xs ys → view xs ≡ view ys
+
+-- all that is read of the two views is the same: what paths show, sessions live, ended and partial, homes, matches, bindings, rules, told entries, differences
+pub record ReadsTheSame (v w : View) : Type 0 where
+  pub paths : (p : Path) → v.shows p ≡ w.shows p
+  pub ends : (s : Session) → v.ended s ≡ w.ended s
+  pub lives : (s : Session) → is_live v s ≡ is_live w s
+  pub partials : (s : Session) → is_partial v s ≡ is_partial w s
+  pub homes : (s : Session) → home v s ≡ home w s
+  pub candidates : (a s : Session) → matches v a s ≡ matches w a s
+  pub bindings : (a : Session) → bind v a ≡ bind w a
+  pub lists : (t : Tables) (s : Session) → rules t v s ≡ rules t w s
+  pub entries : (s : Session) → told v s ≡ told w s
+  pub differences : (t : Tables) (s : Session) → difference (told v s) (rules t v s) ≡ difference (told w s) (rules t w s)
+
+abbrev pub KeptReadsTheSame : Type 0
+KeptReadsTheSame = (facts : List Fact) → ReadsTheSame (view (kept facts)) (view facts)
+
+abbrev pub MembersReadTheSame : Type 0
+MembersReadTheSame = (xs ys : List Fact) → Same xs ys → ReadsTheSame (view xs) (view ys)
+
+-- an operator sees the same of what is kept
+abbrev pub KeptHasTheSameValue : Type 0
+KeptHasTheSameValue = (t : Tables) (h : Holding) → operator_value t (kept_of h) ≡ operator_value t h
+
+-- a site answers and adds the same to what is kept
+abbrev pub KeptServesTheSame : Type 0
+KeptServesTheSame = (t : Tables) (i : ℕ) (h : Holding) (q : RequestValue) → serve t i (kept_of h) q ≡ serve t i h q
+
+abbrev pub KeptPushesTheSame : Type 0
+KeptPushesTheSame = (t : Tables) (i : ℕ) (h : Holding) (name : Option (List ℕ)) → (push t i (kept_of h) name ≡ push t i h name) × (lacks_counter t i (kept_of h) name ≡ lacks_counter t i h name)
+
+-- a site that keeps no overshadowed fact may give the same replies, and keeps the same after each event
+abbrev pub KeptStepsTheSame : Type 0
+KeptStepsTheSame = (t : Tables) (i : ℕ) (s : SiteState) (e : SiteEvent) (r : ReplyValue) →
+    (MayReply t i (kept_state s) e r ↔ MayReply t i s e r) × (kept_state (stepped t i (kept_state s) e r) ≡ kept_state (stepped t i s e r))
+
+-- ---- differences
+
+-- told the difference, a gateway has just the rules
+abbrev pub DifferenceLeadsThere : Type 0
+DifferenceLeadsThere = (t : List ToldRule) (rs : List RuleValue) → Distinct (map told_name_of t) → Distinct (map rule_name_of rs) →
+    apply t (difference t rs) ≡ ascending told_cmp (map as_told rs)
+
+-- no name is both removed and installed
+abbrev pub NoNameTwice : Type 0
+NoNameTwice = (t : List ToldRule) (rs : List RuleValue) (n : List ℕ) → In n (difference t rs).removed → In n (map rule_name_of (difference t rs).installed) → ⊥
+
+-- told the first entries, what is left of the difference is the rest
+abbrev pub FirstLeavesTheRest : Type 0
+FirstLeavesTheRest = (n : ℕ) (t : List ToldRule) (rs : List RuleValue) → IsTold t → Distinct (map rule_name_of rs) →
+    difference (apply t (first n (difference t rs))) rs ≡ rest n (difference t rs)
+
+-- the told entries of a session are in order, with no name twice
+abbrev pub ToldIsTold : Type 0
+ToldIsTold = (facts : List Fact) (s : Session) → IsTold (told (view facts) s)
+
+-- ---- bindings
+
+-- r stands above s: by counter and site of its address's tag, and then by its Session-Id
+pub record Exceeds (v : View) (r s : Session) : Type 0 where
+  pub upper : Candidate
+  pub lower : Candidate
+  pub of_upper : standing v r ≡ Some upper
+  pub of_lower : standing v s ≡ Some lower
+  pub above : candidate_cmp lower upper ≡ Less
+
+-- s matches a, and no other that matches exceeds it
+pub record IsBinding (v : View) (a s : Session) : Type 0 where
+  pub fits : matches v a s ≡ true
+  pub no_other : (r : Session) → matches v a r ≡ true → Exceeds v r s → ⊥
+
+-- an AF session is bound to just the session that matches and that no other exceeds
+abbrev pub BindsToTheGreatest : Type 0
+BindsToTheGreatest = (facts : List Fact) (a s : Session) → bind (view facts) a ≡ Some s ↔ IsBinding (view facts) a s
+
+-- it is bound to none just where none matches
+abbrev pub BindsToNoneWhereNoneMatches : Type 0
+BindsToNoneWhereNoneMatches = (facts : List Fact) (a : Session) → bind (view facts) a ≡ None ↔ ((s : Session) → matches (view facts) a s ≡ false)
+
+-- ---- names of rules
+
+-- the operator gives no access point two rules of one name
+abbrev pub NamesRulesApart : Tables → Type 0
+NamesRulesApart t = (name : List ℕ) (row : ApnRow) → apn_row t name ≡ Some row → Distinct (map (λ (r : OperatorRule). r.name) row.rules)
+
+-- component and flow numbers are those of their AVPs, of 32 bits (TS 29.214, 5.3.9 and 5.3.17)
+abbrev pub FitTheirAvps : List Step → Type 0
+FitTheirAvps [] = Unit {0}
+FitTheirAvps (Component n ∷ steps) = (n < 2 ^ 32) × FitTheirAvps steps
+FitTheirAvps (Flow n ∷ steps) = (n < 2 ^ 32) × FitTheirAvps steps
+FitTheirAvps (Part f ∷ steps) = FitTheirAvps steps
+FitTheirAvps (RuleName n ∷ steps) = FitTheirAvps steps
+
+abbrev pub NumbersFit : List Fact → Type 0
+NumbersFit facts = (f : Fact) → In f facts → FitTheirAvps (path_of f).steps
+
+-- no two rules of a session have one name
+abbrev pub RuleNamesDiffer : Type 0
+RuleNamesDiffer = (t : Tables) (facts : List Fact) (s : Session) → NamesRulesApart t → NumbersFit facts → Distinct (map rule_name_of (rules t (view facts) s))
+
+-- told the difference of a session, its gateway has just its rules, and told the first entries it lacks the rest
+abbrev pub SessionIsTold : Type 0
+SessionIsTold = (t : Tables) (facts : List Fact) (s : Session) (n : ℕ) → NamesRulesApart t → NumbersFit facts →
+    let told_now : List ToldRule = told (view facts) s in
+    let rules_now : List RuleValue = rules t (view facts) s in
+    (apply told_now (difference told_now rules_now) ≡ ascending told_cmp (map as_told rules_now))
+    × (difference (apply told_now (first n (difference told_now rules_now))) rules_now ≡ rest n (difference told_now rules_now))

@@ -1,0 +1,68 @@
+//! The laws of the definitions, each the contract of a function without a body.
+
+ghost use Rattle.pcrf_model.specs.Laws.{KeepsUnions, KeepsUnionsOfHoldings, KeepsOnce, UnionIsCommutative, UnionIsAssociative, UnionIsIdempotent, OnlyOperationsCount, HoldsTheUnion, KeptShowsTheSame, OnlyMembersCount, KeptReadsTheSame, MembersReadTheSame, KeptHasTheSameValue, KeptServesTheSame, KeptPushesTheSame, KeptStepsTheSame, ToldIsTold, SessionIsTold, DifferenceLeadsThere, NoNameTwice, FirstLeavesTheRest, BindsToTheGreatest, BindsToNoneWhereNoneMatches, RuleNamesDiffer};
+
+/// What is kept of what was kept and of more is what is kept of all.
+pub fn keeping_keeps_unions()
+    ensures facts { KeepsUnions }
+    ensures holdings { KeepsUnionsOfHoldings }
+    ensures once { KeepsOnce }
+{}
+
+/// The union of holdings is commutative, associative, and idempotent on what is kept.
+pub fn union_is_a_join()
+    ensures commutative { UnionIsCommutative }
+    ensures associative { UnionIsAssociative }
+    ensures idempotent { UnionIsIdempotent }
+{}
+
+/// What operations make depends on the set of them alone, and of two sets together it is the union.
+pub fn only_the_set_of_operations_counts()
+    ensures same { OnlyOperationsCount }
+    ensures union { HoldsTheUnion }
+{}
+
+/// The kept facts show what all facts show, and only the set of facts counts.
+pub fn kept_facts_show_the_same()
+    ensures kept { KeptShowsTheSame }
+    ensures members { OnlyMembersCount }
+{}
+
+/// All that is read of facts is the same on what is kept of them, and on any list with the same members.
+pub fn kept_facts_read_the_same()
+    ensures kept { KeptReadsTheSame }
+    ensures members { MembersReadTheSame }
+    ensures value { KeptHasTheSameValue }
+{}
+
+/// A site answers, adds and pushes the same on what is kept of what it took.
+pub fn kept_facts_serve_the_same()
+    ensures requests { KeptServesTheSame }
+    ensures pushes { KeptPushesTheSame }
+    ensures steps { KeptStepsTheSame }
+{}
+
+/// The difference leads from what was told to the rules, names nothing twice, and its first entries leave just its rest.
+pub fn difference_leads_to_the_rules()
+    ensures whole { DifferenceLeadsThere }
+    ensures apart { NoNameTwice }
+    ensures first { FirstLeavesTheRest }
+{}
+
+/// An AF session is bound to just the Gx session that matches and that no other one that matches exceeds, and to none just where none matches.
+pub fn binding_is_the_greatest_match()
+    ensures greatest { BindsToTheGreatest }
+    ensures none { BindsToNoneWhereNoneMatches }
+{}
+
+/// No two rules of one session have one name.
+pub fn names_of_rules_differ()
+    ensures { RuleNamesDiffer }
+{}
+
+/// What a gateway was told of a session is in order, with no name twice; told the difference it has just the session's rules, and told its first
+/// entries it lacks just the rest.
+pub fn gateway_is_told_the_rules()
+    ensures told { ToldIsTold }
+    ensures session { SessionIsTold }
+{}
