@@ -1,5 +1,5 @@
 -- Operations as the definitions have them.
-use Rattle.std.specs.Prelude.{ℕ, List, map, Some}
+use Rattle.std.specs.Prelude.{◌≡◌, ℕ, List, Option, Some, None, true, false}
 use Rattle.std.specs.Net.Addr.{ipv4_octets}
 use Rattle.lattice_core.specs.declared.tag.Tag.{Tag}
 use Rattle.lattice_core.specs.Ascending.{ascending}
@@ -7,8 +7,8 @@ use Rattle.pcrf_model.specs.Sessions.{gx}
 use Rattle.pcrf_model.specs.Facts.{Fact, fact_cmp}
 use Rattle.pcrf_model.specs.Requests.{CcrValue, Initial}
 use Rattle.pcrf_model.specs.Making.{ccr_fields}
-use Rattle.pcrf_model.specs.Holdings.{Holding}
-use Rattle.pcrf_model.specs.Operations.{Operation, holding_of}
+use Rattle.pcrf_model.specs.Refusals.{lacks_parameters}
+use Rattle.pcrf_model.specs.Operations.{Operation}
 use Rattle.pcrf_world.specs.declared.operation.GxFields.{GxFields}
 
 -- a stamp, the gateway's session and its fields
@@ -40,6 +40,9 @@ operation_of o = record {
   facts = ascending fact_cmp (ccr_fields (initial_request o) o.tag);
 }
 
--- what operations say
-abbrev pub held : List OperationValue → Holding
-held operations = holding_of (map operation_of operations)
+-- The fields are those that the request sets; there are none where it lacks one that it must have (TS 29.212, 4.5.1).
+abbrev pub AreFields : CcrValue → Option GxFields → Type 0
+AreFields q None = lacks_parameters q ≡ true
+AreFields q (Some f) =
+    (lacks_parameters q ≡ false) × (q.host ≡ f.host) × (q.realm ≡ f.realm) × (q.address ≡ Some (ipv4_octets f.address))
+    × (q.apn ≡ Some f.apn) × (q.subscribers ≡ f.subscribers)

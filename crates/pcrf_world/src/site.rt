@@ -1,5 +1,8 @@
 //! One site, which keeps a plain list of the operations that it took.
-ghost use Rattle.std.specs.Prelude.{◌≡◌, ◌≤◌, ◌<◌, ◌^◌, [], ◌++◌, length, take, IfOk, OnOk, OnErr, IfErr};
+ghost use Rattle.std.specs.Prelude.{◌≡◌, ◌<◌, ◌^◌, [], ◌∷◌, length, take, map, IfOk, OnOk, OnErr, IfErr};
+ghost use Rattle.gx_profile.specs.Requests.{ccr_view};
+ghost use Rattle.pcrf_model.specs.Operations.{holding_of};
+ghost use Rattle.pcrf_world.specs.Operations.{operation_of, AreFields};
 
 use crate::operation::{GxFields, Operation, copy_all};
 use crate::request::{Reply, Request};
@@ -25,11 +28,13 @@ pub struct PlainSite {
 }
 
 impl Model for PlainSite {
+    ghost use Rattle.std.specs.Prelude.{map};
+    ghost use Rattle.pcrf_world.specs.Operations.{operation_of};
     ghost use Rattle.pcrf_world.specs.Sites.{SiteValue};
 
     ghost Value = { SiteValue };
 
-    ghost view = { λ s. record { number = s.number; taken = s.taken.items; log = s.log.items } };
+    ghost view = { λ s. record { number = s.number; taken = map operation_of s.taken.items; log = map operation_of s.log.items } };
 }
 
 /// A gateway's session as a site shows it.
@@ -81,11 +86,11 @@ impl GxSession {
 }
 
 impl PlainSite {
-    ghost use Rattle.pcrf_world.specs.Sites.{SiteValue};
+    ghost use Rattle.pcrf_world.specs.Sites.{fresh, site_holding, reply_of, ccr_reply, served, makes, takes, made_if};
 
     /// A site that took nothing.
     pub fn start(alloc: Global, number: u8) -> PlainSite
-        ensures { result ≡ record { number = number; taken = []; log = [] } }
+        ensures { result ≡ fresh number }
     {
         PlainSite {
             alloc,
@@ -96,12 +101,11 @@ impl PlainSite {
     }
 
     /// The greatest counter of the operations that were taken, 0 at first.
-    pub fn clock(&self) -> u64 {
-        let mut clock = 0;
-        for operation in &self.taken {
-            clock = operation.tag().counter.max(clock);
-        }
-        clock
+    pub fn clock(&self) -> u64
+        ensures clock { result ≡ (site_holding self.now).clock }
+        ensures bounded { result < 2 ^ 63 }
+    {
+        clock_of(self.taken.as_slice())
     }
 
     /// The gateways' sessions with what they show, ascending by Session-Id.
@@ -115,22 +119,43 @@ impl PlainSite {
 
     /// The operations that the site made itself.
     pub fn own(&self) -> Result<Vec<Operation>, AllocError>
-        ensures { IfOk result (λ own. own.items ≡ self.now.log) }
+        ensures { IfOk result (λ own. map operation_of own.items ≡ self.now.log) }
     {
         copy_all(self.alloc, self.log.as_slice())
     }
 
     /// Serves a request. An error changes nothing.
-    pub fn serve(&mut self, request: &Request) -> Result<Reply, AllocError> {
+    pub fn serve(&mut self, request: &Request) -> Result<Reply, AllocError>
+        ensures reply { IfOk result (λ reply. reply ≡ reply_of (site_holding self.old) request.now) }
+        ensures ok { IfOk result (λ reply. self.new ≡ served self.old request.now reply) }
+        ensures err { OnErr result (self.new ≡ self.old) }
+    {
         let Request::Ccr(ccr) = request;
         Ok(Reply::Gx(self.serve_ccr(ccr)?))
     }
 
     /// Serves a credit control request: updates and terminations are not served yet.
-    fn serve_ccr(&mut self, ccr: &Ccr) -> Result<GxReply, AllocError> {
-        if ccr.kind != RequestKind::Initial {
-            return Ok(GxReply::Refused(Refusal::base(UNABLE_TO_COMPLY)));
+    fn serve_ccr(&mut self, ccr: &Ccr) -> Result<GxReply, AllocError>
+        ensures reply { IfOk result (λ reply. reply ≡ ccr_reply (site_holding self.old) (ccr_view ccr.now)) }
+        ensures ok { IfOk result (λ reply. self.new ≡ makes (made_if self.old.number (site_holding self.old) (ccr_view ccr.now) reply) self.old) }
+        ensures err { OnErr result (self.new ≡ self.old) }
+    {
+        match ccr.kind {
+            RequestKind::Initial => self.serve_initial(ccr),
+            RequestKind::Update | RequestKind::Termination => {
+                Ok(GxReply::Refused(Refusal::base(UNABLE_TO_COMPLY)))
+            }
         }
+    }
+
+    /// Serves an initial request.
+    fn serve_initial(&mut self, ccr: &Ccr) -> Result<GxReply, AllocError>
+        requires { ccr.now.kind ≡ RequestKind.Initial }
+        ensures reply { IfOk result (λ reply. reply ≡ ccr_reply (site_holding self.old) (ccr_view ccr.now)) }
+        ensures ok { IfOk result (λ reply. self.new ≡ makes (made_if self.old.number (site_holding self.old) (ccr_view ccr.now) reply) self.old) }
+        ensures err { OnErr result (self.new ≡ self.old) }
+    {
+        let site = self.number;
         let Some(fields) = initial_fields(ccr)? else {
             return Ok(GxReply::Refused(Refusal::experimental(INITIAL_PARAMETERS)));
         };
@@ -141,14 +166,17 @@ impl PlainSite {
         let tag = Tag {
             number: ccr.number,
             counter: clock + 1,
-            site: self.number,
+            site,
         };
         self.add(Operation::of(tag, ccr.session.try_copy()?, fields))?;
         Ok(GxReply::Granted)
     }
 
     /// Adds an operation of the site's own, or changes nothing.
-    fn add(&mut self, operation: Operation) -> Result<(), AllocError> {
+    fn add(&mut self, operation: Operation) -> Result<(), AllocError>
+        ensures ok { OnOk result (self.new ≡ makes (operation_of operation ∷ []) self.old) }
+        ensures err { OnErr result (self.new ≡ self.old) }
+    {
         let copy = operation.try_copy()?;
         self.log.try_reserve(1)?;
         self.taken.push(copy)?;
@@ -157,7 +185,10 @@ impl PlainSite {
     }
 
     /// Takes operations in order. An error tells how many stand taken.
-    pub fn take_all(&mut self, operations: &[Operation]) -> Result<(), (usize, AllocError)> {
+    pub fn take_all(&mut self, operations: &[Operation]) -> Result<(), (usize, AllocError)>
+        ensures ok { OnOk result (self.new ≡ takes (map operation_of operations.now) self.old) }
+        ensures err { IfErr result (λ e. (e.0 < length operations.now) × (self.new ≡ takes (take e.0 (map operation_of operations.now)) self.old)) }
+    {
         for (count, operation) in operations.iter().enumerate() {
             if self.take(operation).is_err() {
                 return Err((count, AllocError));
@@ -167,15 +198,32 @@ impl PlainSite {
     }
 
     /// Takes one operation, or changes nothing.
-    fn take(&mut self, operation: &Operation) -> Result<(), AllocError> {
+    fn take(&mut self, operation: &Operation) -> Result<(), AllocError>
+        ensures ok { OnOk result (self.new ≡ takes (operation_of operation.now ∷ []) self.old) }
+        ensures err { OnErr result (self.new ≡ self.old) }
+    {
         let copy = operation.try_copy()?;
         self.taken.push(copy)?;
         Ok(())
     }
 }
 
+/// The greatest counter of operations, 0 where there is none.
+fn clock_of(operations: &[Operation]) -> u64
+    ensures clock { result ≡ (holding_of (map operation_of operations.now)).clock }
+    ensures bounded { result < 2 ^ 63 }
+{
+    let mut clock = 0;
+    for operation in operations {
+        clock = operation.tag().counter.max(clock);
+    }
+    clock
+}
+
 /// The fields that an initial request sets, None where it lacks one that it must have (TS 29.212, 4.5.1).
-fn initial_fields(ccr: &Ccr) -> Result<Option<GxFields>, AllocError> {
+fn initial_fields(ccr: &Ccr) -> Result<Option<GxFields>, AllocError>
+    ensures { IfOk result (λ found. AreFields (ccr_view ccr.now) found) }
+{
     let (Some(address), Some(apn), Some(subscribers)) = (ccr.address, &ccr.apn, &ccr.subscribers)
     else {
         return Ok(None);

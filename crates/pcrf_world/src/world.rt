@@ -1,8 +1,12 @@
 //! A world of sites, which serve requests, make letters and take them.
+ghost use Rattle.std.specs.Prelude.{◌≡◌, slice_get, IfOk};
+ghost use Rattle.std.specs.Option.{option_copied};
+
 use crate::operation::Operation;
 use crate::request::{Reply, Request};
 use crate::site::PlainSite;
 use std::alloc::{AllocError, Global};
+use std::marker::Model;
 
 /// What may happen next. Sites are named by their numbers, and letters by theirs, both from 0.
 #[derive(Drop)]
@@ -46,6 +50,16 @@ struct Letter {
     operations: Vec<Operation>,
 }
 
+impl Model for Letter {
+    ghost use Rattle.std.specs.Prelude.{List, map};
+    ghost use Rattle.pcrf_model.specs.Operations.{Operation as Made};
+    ghost use Rattle.pcrf_world.specs.Operations.{operation_of};
+
+    ghost Value = { List Made };
+
+    ghost view = { λ l. map operation_of l.operations.items };
+}
+
 /// Sites, and the letters that they made.
 #[derive(Drop)]
 pub struct World {
@@ -54,9 +68,22 @@ pub struct World {
     letters: Vec<Letter>,
 }
 
+impl Model for World {
+    ghost use Rattle.pcrf_world.specs.Worlds.{WorldValue};
+
+    ghost Value = { WorldValue };
+
+    ghost view = { λ w. record { sites = w.sites.items; letters = w.letters.items } };
+}
+
 impl World {
+    ghost use Rattle.pcrf_world.specs.Worlds.{start, Agree};
+    ghost use Rattle.pcrf_world.specs.Steps.{Gives, GivesAll, stepped, stepped_all};
+
     /// Sites 0 to n - 1, each of which took nothing, and no letter.
-    pub fn start(alloc: Global, n: u8) -> Result<World, AllocError> {
+    pub fn start(alloc: Global, n: u8) -> Result<World, AllocError>
+        ensures { IfOk result (λ world. world ≡ start n) }
+    {
         let mut sites = Vec::new(alloc);
         for number in 0..n {
             sites.push(PlainSite::start(alloc, number))?;
@@ -69,12 +96,17 @@ impl World {
     }
 
     /// The site of a number.
-    pub fn site(&self, i: usize) -> Option<&PlainSite> {
+    pub fn site(&self, i: usize) -> Option<&PlainSite>
+        ensures { option_copied result ≡ slice_get self.now.sites i }
+    {
         self.sites.get(i)
     }
 
     /// Makes one event happen.
-    pub fn step(&mut self, event: &WorldEvent) -> Result<Outcome, WorldFault> {
+    pub fn step(&mut self, event: &WorldEvent) -> Result<Outcome, WorldFault>
+        ensures answer { Gives self.old event.now result }
+        ensures after { self.new ≡ stepped self.old event.now result }
+    {
         match event {
             WorldEvent::Serve(i, request) => self.serve(*i, request),
             WorldEvent::Letter(i, j) => self.letter(*i, *j),
@@ -82,7 +114,10 @@ impl World {
         }
     }
 
-    fn serve(&mut self, i: usize, request: &Request) -> Result<Outcome, WorldFault> {
+    fn serve(&mut self, i: usize, request: &Request) -> Result<Outcome, WorldFault>
+        ensures answer { Gives self.old (WorldEvent.Serve i request.now) result }
+        ensures after { self.new ≡ stepped self.old (WorldEvent.Serve i request.now) result }
+    {
         if i >= self.sites.len() {
             return Err(WorldFault::NoSuchSite);
         }
@@ -93,7 +128,10 @@ impl World {
         Ok(Outcome::Replied(reply))
     }
 
-    fn letter(&mut self, i: usize, j: usize) -> Result<Outcome, WorldFault> {
+    fn letter(&mut self, i: usize, j: usize) -> Result<Outcome, WorldFault>
+        ensures answer { Gives self.old (WorldEvent.Letter i j) result }
+        ensures after { self.new ≡ stepped self.old (WorldEvent.Letter i j) result }
+    {
         if i >= self.sites.len() || j >= self.sites.len() {
             return Err(WorldFault::NoSuchSite);
         }
@@ -107,7 +145,10 @@ impl World {
         }
     }
 
-    fn merge(&mut self, j: usize, k: usize) -> Result<Outcome, WorldFault> {
+    fn merge(&mut self, j: usize, k: usize) -> Result<Outcome, WorldFault>
+        ensures answer { Gives self.old (WorldEvent.Merge j k) result }
+        ensures after { self.new ≡ stepped self.old (WorldEvent.Merge j k) result }
+    {
         if j >= self.sites.len() {
             return Err(WorldFault::NoSuchSite);
         }
@@ -127,7 +168,14 @@ impl World {
         alloc: Global,
         n: u8,
         events: &[WorldEvent],
-    ) -> Result<(World, Vec<Result<Outcome, WorldFault>>), AllocError> {
+    ) -> Result<(World, Vec<Result<Outcome, WorldFault>>), AllocError>
+        // Each answer is one that the definitions give on what the sites took.
+        ensures answers { IfOk result (λ r. GivesAll (start n) events.now r.1.items) }
+        // Each site took what the events and the answers say.
+        ensures taken { IfOk result (λ r. r.0 ≡ stepped_all (start n) events.now r.1.items) }
+        // Any two sites that took the same operations hold the same.
+        ensures same { IfOk result (λ r. Agree r.0) }
+    {
         let mut world = World::start(alloc, n)?;
         let mut answers = Vec::with_capacity(alloc, events.len())?;
         for event in events {

@@ -1,0 +1,19 @@
+//! Runs the script of its standard input, on which the answers of a site are tested, message by message. The bytes of
+//! `stdout` were written out by hand from the tables of the profile, not taken from the program.
+#![tactic(auto)]
+
+use dia_codec::Counted;
+use pcrf_world::{ScriptEnd, run_script};
+use std::process::ExitCode;
+
+#[cfg(test)]
+mod tests;
+
+fn main(rt: HostRuntime) -> ExitCode {
+    let mut reader = Counted::start(rt.stdin());
+    let mut writer = Counted::start(rt.stdout());
+    match run_script(rt.alloc(), &mut reader, &mut writer) {
+        ScriptEnd::Done => ExitCode::SUCCESS,
+        _ => ExitCode::FAILURE,
+    }
+}

@@ -1,0 +1,136 @@
+//! Scripts that end otherwise than by their end.
+use dia_codec::Counted;
+use pcrf_world::{ScriptEnd, run_script};
+use std::alloc::{AllocError, Global};
+use std::io::{self, ErrorKind, Read, Write};
+use std::test::Fail;
+
+/// How a script ends, and what it has printed by then.
+fn run(alloc: Global, script: &[u8]) -> Result<(ScriptEnd, Vec<u8>), AllocError> {
+    let mut out = Vec::new(alloc);
+    let end = {
+        let mut reader = Counted::start(script);
+        let mut writer = Counted::start(&mut out);
+        run_script(alloc, &mut reader, &mut writer)
+    };
+    Ok((end, out))
+}
+
+#[test]
+fn a_bad_line_stops_the_script(rt: HostRuntime) -> Result<(), Fail> {
+    let cases: [(&str, u64, &str); 26] = [
+        ("show 0\n", 1, ""),
+        ("bogus\nsites 1\n", 1, ""),
+        ("sites 0\n", 1, ""),
+        ("sites 17\n", 1, ""),
+        ("sites 01\n", 1, ""),
+        ("sites 1 \n", 1, ""),
+        (" sites 1\n", 1, ""),
+        ("sites  1\n", 1, ""),
+        ("sites 1\r\n", 1, ""),
+        (" \n", 1, ""),
+        ("sites\n", 1, ""),
+        ("sites 1\nsites 1\n", 2, "sites 1\n"),
+        ("sites 1\n\n# comment\nshow\n", 4, "sites 1\n"),
+        ("sites 1\nshow 00\n", 2, "sites 1\n"),
+        ("sites 1\nshow -1\n", 2, "sites 1\n"),
+        ("sites 1\nshow 0 0\n", 2, "sites 1\n"),
+        ("sites 1\nshow 0\nletter 0\nshow 0\n", 3, "sites 1\nclock 0\nend\n"),
+        ("sites 1\nmerge 0\n", 2, "sites 1\n"),
+        ("sites 1\nmsg 0\n", 2, "sites 1\n"),
+        ("sites 1\nmsg 0 \n", 2, "sites 1\n"),
+        ("sites 1\nmsg 0 0\n", 2, "sites 1\n"),
+        ("sites 1\nmsg 0 0g\n", 2, "sites 1\n"),
+        ("sites 1\nmsg 0 01000016\n", 2, "sites 1\n"),
+        ("sites 1\npush 0\n", 2, "sites 1\n"),
+        ("sites 1\nrestart 0\n", 2, "sites 1\n"),
+        ("sites 1\nack 0 0", 2, "sites 1\n"),
+    ];
+    for (script, line, printed) in cases {
+        let (end, out) = run(rt.alloc(), script.as_bytes())?;
+        assert_eq!(rt; end, ScriptEnd::BadLine(line), "{script:?}");
+        assert_eq!(rt; out.as_slice(), printed.as_bytes(), "{script:?}");
+    }
+    Ok(())
+}
+
+#[test]
+fn lines_that_are_skipped(rt: HostRuntime) -> Result<(), Fail> {
+    let cases = [
+        ("", ""),
+        ("\n\n# nothing\n", ""),
+        ("# no end", ""),
+        ("sites 16", "sites 16\n"),
+        ("\n#\nsites 1\n\nshow 0\n", "sites 1\nclock 0\nend\n"),
+    ];
+    for (script, printed) in cases {
+        let (end, out) = run(rt.alloc(), script.as_bytes())?;
+        assert_eq!(rt; end, ScriptEnd::Done, "{script:?}");
+        assert_eq!(rt; out.as_slice(), printed.as_bytes(), "{script:?}");
+    }
+    Ok(())
+}
+
+/// A comment of so many bytes.
+fn comment(alloc: Global, length: usize) -> Result<Vec<u8>, AllocError> {
+    let mut line = Vec::new(alloc);
+    for _ in 0..length {
+        line.push(b'#')?;
+    }
+    Ok(line)
+}
+
+#[test]
+fn lines_have_at_most_so_many_bytes(rt: HostRuntime) -> Result<(), Fail> {
+    let longest = comment(rt.alloc(), 200_000)?;
+    assert_eq!(rt; run(rt.alloc(), longest.as_slice())?.0, ScriptEnd::Done);
+    let longer = comment(rt.alloc(), 200_001)?;
+    assert_eq!(rt; run(rt.alloc(), longer.as_slice())?.0, ScriptEnd::BadLine(1));
+    Ok(())
+}
+
+/// A message without its last byte is no message.
+#[test]
+fn a_message_is_exactly_one_frame(rt: HostRuntime) -> Result<(), Fail> {
+    let script = b"sites 1\nmsg 0 0100001440000110010000160000000100000002\nmsg 0 01000014400001100100001600000001000000\n";
+    let (end, out) = run(rt.alloc(), script)?;
+    assert_eq!(rt; end, ScriptEnd::BadLine(3));
+    assert_eq!(rt; out.as_slice(), b"sites 1\nno answer\n".as_slice());
+    Ok(())
+}
+
+/// A reader and a writer that fail at each call.
+#[derive(Drop)]
+struct Failing;
+
+impl Read for Failing {
+    fn read(&mut self, _buf: &mut [u8]) -> io::Result<usize> {
+        Err(io::Error::from(ErrorKind::ConnectionReset))
+    }
+}
+
+impl Write for Failing {
+    fn write(&mut self, _buf: &[u8]) -> io::Result<usize> {
+        Err(io::Error::from(ErrorKind::BrokenPipe))
+    }
+
+    fn flush(&mut self) -> io::Result<()> {
+        Ok(())
+    }
+}
+
+#[test]
+fn a_reader_or_a_writer_that_fails(rt: HostRuntime) -> Result<(), Fail> {
+    let mut out = Vec::new(rt.alloc());
+    let read = {
+        let mut reader = Counted::start(Failing);
+        let mut writer = Counted::start(&mut out);
+        run_script(rt.alloc(), &mut reader, &mut writer)
+    };
+    assert_eq!(rt; read, ScriptEnd::ReadFailed);
+    let mut reader = Counted::start(b"sites 1\n".as_slice());
+    let mut writer = Counted::start(Failing);
+    let written = run_script(rt.alloc(), &mut reader, &mut writer);
+    assert_eq!(rt; written, ScriptEnd::WriteFailed);
+    Ok(())
+}
