@@ -50,7 +50,7 @@ pub struct Avp {
     pub vendor: Option<u32>,
     /// The M bit, 0x40: a receiver must understand the AVP.
     pub mandatory: bool,
-    /// The P bit, 0x20, which RFC 6733 no longer uses.
+    /// The P bit, 0x20, which RFC 6733 reserves for protection from end to end.
     pub protected: bool,
     /// The bytes after the AVP's header, without padding.
     pub value: Vec<u8>,

@@ -66,6 +66,7 @@ pub fn frames_of(alloc: Global, pieces: &[&[u8]]) -> Result<FramedStream, AllocE
     let mut end = StreamEnd::Whole;
     for piece in pieces {
         if assembler.feed(piece).is_err() {
+            // No bad length was answered, so it is for want of memory.
             return Err(AllocError);
         }
         end = take_frames(&mut assembler, &mut frames)?;
