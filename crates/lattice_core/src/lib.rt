@@ -6,6 +6,7 @@ mod bounded_list;
 mod bounded_number;
 mod delta;
 mod join;
+pub mod laws;
 mod listed;
 mod map;
 mod ranked;

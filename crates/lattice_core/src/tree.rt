@@ -163,10 +163,3 @@ impl<K: Ranked, V: Join> Join for JoinTree<K, V> {
         let _ = self.iter();
     }
 }
-
-/// What stood at a key, put back there, makes the map what it was.
-pub fn put_back<K: Ranked, V: Join>(map: &JoinTree<K, V>, key: &K, value: Option<V>)
-    ensures { placed K.cmp (placed K.cmp map.now key.now value) key.now (value_at K.cmp map.now key.now) ≡ map.now }
-{
-    let _ = map.iter();
-}
