@@ -1,26 +1,11 @@
 //! Joins at the types that records have.
-use lattice_core::{Join, JoinMap, Listed, Reg, Tag, Text, Tombed};
+use crate::fixtures::{text, told};
+use lattice_core::{Join, JoinMap, Reg, Text, Tombed};
 use std::alloc::{AllocError, Global};
 
 type Inner = JoinMap<u32, Reg<Text>>;
+
 type Nested = JoinMap<Text, Tombed<Inner>>;
-
-fn text(alloc: Global, bytes: &[u8]) -> Result<Text, AllocError> {
-    Ok(Listed::of(Vec::from_slice(alloc, bytes)?))
-}
-
-// What was told at a counter.
-fn told(alloc: Global, counter: u64, bytes: &[u8]) -> Result<Reg<Text>, AllocError> {
-    let value = text(alloc, bytes)?;
-    let mut reg = Reg::start();
-    let tag = Tag {
-        number: 0,
-        counter,
-        site: 0,
-    };
-    reg.put(tag, value);
-    Ok(reg)
-}
 
 // The fields of one record, of which one is told.
 fn field_told(alloc: Global, field: u32, counter: u64, bytes: &[u8]) -> Result<Inner, AllocError> {
@@ -43,7 +28,10 @@ fn one_record(alloc: Global, record: Tombed<Inner>) -> Result<Nested, AllocError
 }
 
 fn one_told(alloc: Global, field: u32, counter: u64, bytes: &[u8]) -> Result<Nested, AllocError> {
-    one_record(alloc, Tombed::Live(field_told(alloc, field, counter, bytes)?))
+    one_record(
+        alloc,
+        Tombed::Live(field_told(alloc, field, counter, bytes)?),
+    )
 }
 
 // The bytes told of a field in the map's first record.
@@ -65,4 +53,57 @@ fn equal_tags_are_decided_by_value_on_either_side(rt: HostRuntime) {
     assert!(rt; field_of(&both, 1) == Some(b"y".as_slice()));
     assert!(rt; field_of(&turned, 1) == Some(b"y".as_slice()));
     assert!(rt; field_of(&lesser, 1) == Some(b"x".as_slice()));
+}
+
+// With memory the join has the fields of both; where an allocation is refused, as `rt try --test --fail-alloc N` does,
+// both operands come back as they were.
+#[test]
+fn a_refused_join_gives_both_operands_back(rt: HostRuntime) {
+    let alloc = rt.alloc();
+    let ours = one_told(alloc, 1, 7, b"y").expect(&rt, "memory");
+    let theirs = one_told(alloc, 2, 3, b"z").expect(&rt, "memory");
+    match ours.join(theirs) {
+        Ok(both) => {
+            assert!(rt; field_of(&both, 1) == Some(b"y".as_slice()));
+            assert!(rt; field_of(&both, 2) == Some(b"z".as_slice()));
+        }
+        Err((_, ours, theirs)) => {
+            assert!(rt; field_of(&ours, 1) == Some(b"y".as_slice()));
+            assert!(rt; field_of(&ours, 2).is_none());
+            assert!(rt; field_of(&theirs, 2) == Some(b"z".as_slice()));
+            assert!(rt; field_of(&theirs, 1).is_none());
+        }
+    }
+}
+
+// The same of a join at one key: the map stays, and the value comes back.
+#[test]
+fn a_refused_join_at_a_key_changes_nothing(rt: HostRuntime) {
+    let alloc = rt.alloc();
+    let mut map = field_told(alloc, 1, 7, b"y").expect(&rt, "memory");
+    let value = told(alloc, 9, b"z").expect(&rt, "memory");
+    match map.join_at(2, value) {
+        Ok(()) => {
+            assert_eq!(rt; map.entries().len(), 2);
+            assert!(rt; map.iter().map(|entry| entry.0).eq([1, 2]));
+        }
+        Err((_, value)) => {
+            assert_eq!(rt; map.entries().len(), 1);
+            assert!(rt; map.get(&1).is_some());
+            assert!(rt; value.get().is_some());
+        }
+    }
+}
+
+#[test]
+fn the_end_stays(rt: HostRuntime) {
+    let alloc = rt.alloc();
+    let live = one_told(alloc, 1, 7, b"y").expect(&rt, "memory");
+    let ended = one_record(alloc, Tombed::Ended).expect(&rt, "memory");
+    let both = ended.joined_copy(&live).expect(&rt, "memory");
+    let copy = both.try_copy().expect(&rt, "memory");
+    assert_eq!(rt; copy.entries().len(), 1);
+    assert!(rt; field_of(&copy, 1).is_none());
+    let name = text(alloc, b"a").expect(&rt, "memory");
+    assert!(rt; matches!(copy.get(&name), Some(Tombed::Ended)));
 }

@@ -2,4 +2,10 @@
 #![tactic(auto)]
 
 #[cfg(test)]
+mod fixtures;
+#[cfg(test)]
 mod joins;
+#[cfg(test)]
+mod trees;
+#[cfg(test)]
+mod values;
