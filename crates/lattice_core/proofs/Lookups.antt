@@ -61,6 +61,7 @@ module _ {K V : Type 0} (cmp : K → K → Ordering) (join : V → V → V) (o :
       let rest = value_alike q k es a in
       simp (first, rest)
 
+  -- a value joined in at an alike key is joined onto the same
   held_alike : (ms : List (K × V)) (k q : K) (v : V) (rest : Option V) (p : Ordering) → cmp q k ≡ p → (if is_eq p then Some (joined_onto join (value_at cmp ms k) v) else rest) ≡ (if is_eq p then Some (joined_onto join (value_at cmp ms q) v) else rest)
   held_alike ms k q v rest Less a = refl
   held_alike ms k q v rest Greater a = refl

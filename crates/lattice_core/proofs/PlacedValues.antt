@@ -19,6 +19,7 @@ module _ {K V : Type 0} (cmp : K → K → Ordering) (o : IsTotalOrder cmp) (k :
   onto_later None v = refl
   onto_later (Some w) v = refl
 
+  -- an inserted value stands at its key, and other keys keep theirs
   value_inserted : (es : List (K × V)) (v : V) (q : K) → IsAscending cmp es → value_at cmp (insert_entry cmp es k v) q ≡ (if is_eq (cmp q k) then Some v else value_at cmp es q)
   value_inserted es v q h =
       ap (λ m. value_at cmp m q) (sym (put_is_over cmp k v es)) ∙ value_put cmp later o es k v q h ∙ ap (λ u. if is_eq (cmp q k) then Some u else value_at cmp es q) (onto_later (value_at cmp es k) v)
@@ -52,6 +53,7 @@ module _ {K V : Type 0} (cmp : K → K → Ordering) (o : IsTotalOrder cmp) (k :
   removed_at e es q Greater Less a b h i = simp (a, b) i
   removed_at e es q Greater Greater a b h i = simp (a, b) i
 
+  -- what was taken out stands no more, and other keys keep theirs
   value_removed : (es : List (K × V)) (q : K) → IsAscending cmp es → value_at cmp (remove_entry (is_at (cmp k)) es) q ≡ (if is_eq (cmp q k) then None else value_at cmp es q)
   value_removed [] q h = sym (either_way (cmp q k) None)
   value_removed (e ∷ es) q h = removed_at e es q (cmp k e.0) (cmp q e.0) refl refl h (value_removed es q h.1)

@@ -12,6 +12,7 @@ use Rattle.lattice_core.specs.Entries.{value_at, IsAscending}
 use Rattle.lattice_core.proofs.Lookups.{none_below, below_alike}
 
 module _ {K V : Type 0} (cmp : K → K → Ordering) (o : IsTotalOrder cmp) (s : IsExact cmp) where
+  -- of two values the first
   keep : V → V → V
   keep x y = x
 

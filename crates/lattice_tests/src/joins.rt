@@ -76,21 +76,29 @@ fn a_refused_join_gives_both_operands_back(rt: HostRuntime) {
     }
 }
 
+// A map with as many fields as its first block of memory has room for.
+fn full_block(alloc: Global) -> Result<Inner, AllocError> {
+    let mut inner: Inner = JoinMap::start(alloc);
+    for field in [3, 1, 4, 2] {
+        let value = told(alloc, 7, b"y")?;
+        if let Err((refused, _)) = inner.join_at(field, value) {
+            return Err(refused);
+        }
+    }
+    Ok(inner)
+}
+
 // The same of a join at one key: the map stays, and the value comes back.
 #[test]
 fn a_refused_join_at_a_key_changes_nothing(rt: HostRuntime) {
     let alloc = rt.alloc();
-    let mut map = field_told(alloc, 1, 7, b"y").expect(&rt, "memory");
+    let mut map = full_block(alloc).expect(&rt, "memory");
     let value = told(alloc, 9, b"z").expect(&rt, "memory");
-    match map.join_at(2, value) {
-        Ok(()) => {
-            assert_eq!(rt; map.entries().len(), 2);
-            assert!(rt; map.iter().map(|entry| entry.0).eq([1, 2]));
-        }
+    match map.join_at(5, value) {
+        Ok(()) => assert!(rt; map.iter().map(|entry| entry.0).eq([1, 2, 3, 4, 5])),
         Err((_, value)) => {
-            assert_eq!(rt; map.entries().len(), 1);
-            assert!(rt; map.get(&1).is_some());
-            assert!(rt; value.get().is_some());
+            assert!(rt; map.iter().map(|entry| entry.0).eq([1, 2, 3, 4]));
+            assert!(rt; value.get().is_some_and(|told| told.0.counter == 9));
         }
     }
 }
