@@ -95,7 +95,11 @@ fn run(rt: &(impl AllocGlobal + Clock), size: u32) -> anyhow::Result<Times> {
 // The microseconds that each of so many took.
 fn print_each(rt: &impl Print, what: &str, time: Duration, size: u32) -> io::Result<()> {
     let nanoseconds = time.as_nanos() / u128::from(size.max(1));
-    println!(rt; "{what}: {}.{:03} microseconds", nanoseconds / 1000, nanoseconds % 1000)
+    println!(rt;
+        "{what}: {}.{:03} microseconds",
+        nanoseconds / 1000,
+        nanoseconds % 1000
+    )
 }
 
 fn main(rt: HostRuntime) -> anyhow::Result<()> {
