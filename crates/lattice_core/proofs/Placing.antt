@@ -81,28 +81,34 @@ module _ {A : Type 0} (cmp : A → A → Ordering) where
   rising_itself (x ∷ xs) h = ap (place cmp x) (rising_itself xs h.1) ∙ in_front x xs h.0
 
   module _ (o : IsTotalOrder cmp) where
+    -- what is below y is below what y is below
     below_past : (x y : A) (ys : List A) → cmp x y ≡ Less → IsBelow y ys → IsBelow x ys
     below_past x y [] e h = tt
     below_past x y (z ∷ ys) e h = (o.trans x y z e h.0, below_past x y ys e h.1)
 
+    -- by the place of x beside the first member
     below_at : (z x y : A) (ys : List A) (p : Ordering) → cmp x y ≡ p → cmp z x ≡ Less → IsBelow z (y ∷ ys) → IsBelow z (place cmp x ys) → IsBelow z (place cmp x (y ∷ ys))
     below_at z x y ys Less a e h i = simp a (e, h)
     below_at z x y ys Equal a e h i = simp a h
     below_at z x y ys Greater a e h i = simp a (h.0, i)
 
+    -- what is below all stays so when one more is placed
     below_placed : (z x : A) (ys : List A) → cmp z x ≡ Less → IsBelow z ys → IsBelow z (place cmp x ys)
     below_placed z x [] e h = (e, tt)
     below_placed z x (y ∷ ys) e h = below_at z x y ys (cmp x y) refl e h (below_placed z x ys e h.1)
 
+    -- by the place of x beside the first member
     rises_at : (x y : A) (ys : List A) (p : Ordering) → cmp x y ≡ p → Rises (y ∷ ys) → Rises (place cmp x ys) → Rises (place cmp x (y ∷ ys))
     rises_at x y ys Less a h i = simp a ((refl, below_past x y ys a h.0), h)
     rises_at x y ys Equal a h i = simp a h
     rises_at x y ys Greater a h i = simp a (below_placed y x ys (o.antisymm y x ∙ ap ordering_reverse a) h.0, i)
 
+    -- a rising list rises when one more is placed
     rises_placed : (x : A) (ys : List A) → Rises ys → Rises (place cmp x ys)
     rises_placed x [] h = (tt, tt)
     rises_placed x (y ∷ ys) h = rises_at x y ys (cmp x y) refl h (rises_placed x ys h.1)
 
+    -- the ascending list rises
     ascending_rises : (xs : List A) → Rises (ascending cmp xs)
     ascending_rises [] = tt
     ascending_rises (x ∷ xs) = rises_placed x (ascending cmp xs) (ascending_rises xs)

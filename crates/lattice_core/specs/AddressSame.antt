@@ -6,6 +6,7 @@ use Rattle.std.specs.Net.Addr.{ipv4_octets}
 use Rattle.std.specs.declared.net.ipv4_addr.Ipv4Addr.{Ipv4Addr}
 use Rattle.lattice_core.specs.Same.{IsExact, nat_same, list_same}
 
+-- addresses with the same octets are the same
 pub address_same : IsExact {K = Ipv4Addr} (λ x y. slice_cmp nat_cmp (ipv4_octets x) (ipv4_octets y))
 address_same x y e =
     let octets : ipv4_octets x ≡ ipv4_octets y = list_same nat_same (ipv4_octets x) (ipv4_octets y) e in

@@ -6,15 +6,19 @@ use Rattle.lattice_core.specs.Same.{IsExact, nat_same, list_same, pair_same, the
 use Rattle.lattice_core.specs.Orders.{text_cmp, subscriber_cmp}
 use Rattle.lattice_core.specs.RuleValues.{RuleValue, DeltaValue, rule_cmp, delta_cmp}
 
+-- texts that compare as equal are the same
 pub text_same : IsExact text_cmp
 text_same = list_same nat_same
 
+-- the order of subscribers is total
 pub subscriber_total : IsTotalOrder subscriber_cmp
 subscriber_total = then_total (on_total (λ s. s.0) nat_cmp_total) (on_total (λ s. s.1) nat_list_cmp_total)
 
+-- subscribers that compare as equal are the same
 pub subscriber_same : IsExact subscriber_cmp
 subscriber_same = pair_same nat_same text_same
 
+-- the order of rules is total
 pub rule_total : IsTotalOrder rule_cmp
 rule_total =
     then_total (on_total (λ r. r.name) nat_list_cmp_total)
@@ -28,6 +32,7 @@ rule_total =
     (then_total (on_total (λ r. r.max_dl) nat_cmp_total)
     (on_total (λ r. r.precedence) nat_cmp_total)))))))))
 
+-- rules that compare as equal are the same
 pub rule_same : IsExact rule_cmp
 rule_same x y e =
     let after_name = then_parts _ _ e in
@@ -62,6 +67,7 @@ rule_same x y e =
       precedence = precedence i;
     }
 
+-- differences that compare as equal are the same
 pub delta_same : IsExact delta_cmp
 delta_same x y e =
     let both = then_parts _ _ e in

@@ -67,6 +67,15 @@ impl<T: Drop, const MOST: usize> BoundedList<T, MOST> {
     {
         self.list.as_slice()
     }
+
+    /// The values, out of the list.
+    pub fn into_vec(self) -> Vec<T>
+        ensures items { result.items ≡ self }
+        ensures not_empty { 0 < length self }
+        ensures within { length self ≤ MOST }
+    {
+        self.list.into_vec()
+    }
 }
 
 impl<const MOST: usize> BoundedList<u8, MOST> {

@@ -3,7 +3,7 @@ ghost use Rattle.std.specs.Prelude.{◌≡◌, IfOk, IfErr};
 
 use std::alloc::AllocError;
 
-/// A join: commutative, associative and idempotent.
+/// A join: commutative, associative and idempotent, as laws that generic code can use.
 pub trait Join: Drop + Sized {
     /// The join of two values.
     ghost joined: { Self → Self → Self };
@@ -11,7 +11,7 @@ pub trait Join: Drop + Sized {
     /// What holds of each value that a program can make.
     ghost valid: { Self → Type 0 };
 
-    /// The join of two values that stay as they are.
+    /// The join of two values, which stay as they are.
     fn joined_copy(&self, other: &Self) -> Result<Self, AllocError>
         ensures { IfOk result (λ r. r ≡ joined self.now other.now) };
 
@@ -45,7 +45,7 @@ pub trait Join: Drop + Sized {
     fn try_copy(&self) -> Result<Self, AllocError>
         ensures { IfOk result (λ r. r ≡ self.now) };
 
-    /// Says to a proof that the value is valid.
+    /// Does nothing: its contract tells a proof that the value is valid.
     fn note_valid(&self)
         ensures { valid self.now };
 

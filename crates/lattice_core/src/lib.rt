@@ -1,4 +1,7 @@
-//! Joins of replicated facts.
+//! Joins of replicated facts, and the values that are told.
+//!
+//! The sites of a network share what they know by joining it: a join is commutative, associative and idempotent, so the
+//! order in which facts arrive, and how often, makes no difference.
 #![tactic(auto)]
 
 mod apn;
@@ -6,6 +9,7 @@ mod bounded_list;
 mod bounded_number;
 mod delta;
 mod join;
+pub mod laws;
 mod listed;
 mod map;
 mod ranked;

@@ -28,7 +28,7 @@ impl<T> Listed<T> {
     pub fn of(items: Vec<T>) -> Listed<T>
         ensures { result ≡ items.items }
     {
-        Listed { items }
+        Self { items }
     }
 
     /// The values.
@@ -42,7 +42,8 @@ impl<T> Listed<T> {
     pub fn into_vec(self) -> Vec<T>
         ensures { result.items ≡ self }
     {
-        self.items
+        let Listed { items } = self;
+        items
     }
 }
 

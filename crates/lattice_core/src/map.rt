@@ -1,4 +1,4 @@
-//! Maps that are joined entry by entry.
+//! Maps that are joined entry by entry, for few entries.
 ghost use Rattle.std.specs.Prelude.{◌≡◌, [], IfOk, IfErr, MatchResult};
 ghost use Rattle.std.specs.Option.{option_copied};
 ghost use Rattle.std.specs.Slice.Iter.{iter_rest};
@@ -11,7 +11,7 @@ use std::cmp::Ordering;
 use std::marker::Model;
 use std::slice::Iter;
 
-/// A map, which contracts see as the list of its entries in the order of their keys.
+/// A map in one block of memory, which contracts see as the list of its entries in the order of their keys.
 #[derive(Drop)]
 pub struct JoinMap<K: Ranked, V: Join> {
     entries: Vec<(K, V)>,

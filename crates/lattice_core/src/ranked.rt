@@ -6,8 +6,11 @@ ghost use Rattle.lattice_core.specs.Same.{nat_same, option_same, pair_same};
 use std::alloc::AllocError;
 use std::net::Ipv4Addr;
 
-/// A total order whose equals are the same value, of values that can be copied.
+/// A total order whose equals are the same value.
+///
+/// Where two facts have one tag, the greater value counts, so every site has to find the same one the greater.
 pub trait Ranked: Ord + Drop {
+    /// An equal value.
     fn try_copy(&self) -> Result<Self, AllocError>
         ensures { IfOk result (λ r. r ≡ self.now) };
 

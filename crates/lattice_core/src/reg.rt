@@ -1,4 +1,4 @@
-//! A register: the value with the greatest tag.
+//! Registers, in which the value with the greatest tag stands.
 ghost use Rattle.std.specs.Prelude.{◌≡◌, Option, Some, None};
 ghost use Rattle.std.specs.Option.{option_copied};
 ghost use Rattle.lattice_core.specs.Told.{told_joined, told_comm, told_assoc, told_idem};
@@ -10,7 +10,7 @@ use std::alloc::AllocError;
 use std::cmp::Ordering;
 use std::marker::Model;
 
-/// The greatest pair of a tag and a value that was put, or nothing.
+/// The greatest pair of a tag and a value that was put, or nothing. Pairs are compared by tag, and then by value.
 #[derive(Drop)]
 pub struct Reg<T> {
     held: Option<(Tag, T)>,
@@ -26,31 +26,35 @@ impl<T> Model for Reg<T> {
 }
 
 impl<T: Ranked> Reg<T> {
+    /// The register in which nothing stands.
     pub fn start() -> Reg<T>
         ensures { result ≡ None }
     {
         Reg { held: None }
     }
 
+    /// What stands, with its tag.
     pub fn get(&self) -> Option<&(Tag, T)>
         ensures { option_copied result ≡ self.now }
     {
         self.held.as_ref()
     }
 
+    /// Puts a value, which stands if the pair is above what stands.
     pub fn put(&mut self, tag: Tag, value: T)
         ensures { self.new ≡ told_joined T.cmp self.old (Some (tag, value)) }
     {
         self.put_held(Some((tag, value)));
     }
 
-    /// Joins another register into this one.
+    /// Joins another register into this one, without memory.
     pub fn join_reg(&mut self, other: Reg<T>)
         ensures { self.new ≡ told_joined T.cmp self.old other }
     {
         self.put_held(other.held);
     }
 
+    // Puts what another register holds.
     fn put_held(&mut self, told: Option<(Tag, T)>)
         ensures { self.new ≡ told_joined T.cmp self.old told }
     {
@@ -80,7 +84,7 @@ impl<T: Ranked> Join for Reg<T> {
     }
 
     fn join_in(&mut self, other: Reg<T>) -> Result<(), (AllocError, Reg<T>)> {
-        self.put_held(other.held);
+        self.join_reg(other);
         Ok(())
     }
 

@@ -192,19 +192,21 @@ impl Rule {
     fn numbers(&self) -> [u32; 7]
         ensures { result ≡ numbers_of self.now }
     {
-        let RetentionPriority {
-            level,
-            capability,
-            vulnerability,
-        } = self.qos.priority;
+        let RuleQos {
+            class,
+            priority,
+            max_uplink,
+            max_downlink,
+        } = self.qos();
+        let precedence = self.precedence();
         [
-            self.qos.class.get(),
-            level.get(),
-            capability.number(),
-            vulnerability.number(),
-            self.qos.max_uplink,
-            self.qos.max_downlink,
-            self.precedence,
+            class.get(),
+            priority.level.get(),
+            priority.capability.number(),
+            priority.vulnerability.number(),
+            max_uplink,
+            max_downlink,
+            precedence,
         ]
     }
 }

@@ -143,10 +143,8 @@ impl Ord for Subscriber {
     ghost matches_eq = { λ _ _. refl };
 
     fn cmp(&self, other: &Subscriber) -> Ordering {
-        self.kind
-            .number()
-            .cmp(&other.kind.number())
-            .then(self.name.cmp(&other.name))
+        let kinds = self.kind.number().cmp(&other.kind.number());
+        kinds.then(self.name.cmp(&other.name))
     }
 }
 

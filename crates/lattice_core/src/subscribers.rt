@@ -54,6 +54,13 @@ impl Subscribers {
     {
         self.list.as_slice()
     }
+
+    /// The subscribers in ascending order, out of the set.
+    pub fn into_vec(self) -> Vec<Subscriber>
+        ensures { result.items ≡ self }
+    {
+        self.list.into_vec()
+    }
 }
 
 impl Ranked for Subscribers {

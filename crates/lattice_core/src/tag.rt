@@ -1,12 +1,15 @@
-//! The tag that ranks one told value above another.
+//! Tags, which rank one told value above another.
 use crate::ranked::Ranked;
 use std::alloc::AllocError;
 
-/// A number, a counter and a site, compared in that order.
+/// What ranks a told value: a number, then the counter of the operation, then the site that made it.
 #[derive(Clone, Copy, Debug, PartialEq, Eq, PartialOrd, Ord)]
 pub struct Tag {
+    /// The CC-Request-Number of the request that told the value (RFC 4006, 8.2), 0 where it has none.
     pub number: u32,
+    /// The counter of the operation at its site.
     pub counter: u64,
+    /// The number of the site, 0 to 15.
     pub site: u8,
 }
 

@@ -1,11 +1,13 @@
-//! A value that can end for good.
+//! Values that can end for good.
 use crate::join::Join;
 use std::alloc::AllocError;
 
 /// A live value, or the end, which is above every value.
 #[derive(Drop)]
 pub enum Tombed<T> {
+    /// The value so far.
     Live(T),
+    /// The end, which no later fact revives.
     Ended,
 }
 

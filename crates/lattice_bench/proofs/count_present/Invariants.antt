@@ -1,0 +1,6 @@
+use Rattle.std.proofs.Common.{◌≤◌}
+use Rattle.lattice_bench.proofs.count_present.Given as goal
+
+-- at most the keys that were looked up were there
+abbrev pub invariant-loop-place : goal.invariant-loop-place
+invariant-loop-place l = l.present ≤ l.place
