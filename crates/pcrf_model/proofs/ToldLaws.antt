@@ -6,6 +6,7 @@ use Rattle.std.specs.Cmp.Lexicographic.{slice_cmp}
 use Rattle.std.specs.List.{filter_map}
 use Rattle.lattice_core.specs.Orders.{text_cmp}
 use Rattle.lattice_core.specs.Ascending.{ascending}
+use Rattle.lattice_core.specs.declared.tag.Tag.{Tag}
 use Rattle.lattice_core.specs.RuleValues.{RuleValue, rule_cmp}
 use Rattle.pcrf_model.specs.Sets.{In, Distinct}
 use Rattle.pcrf_model.specs.Sessions.{Session, session_cmp}
@@ -34,9 +35,9 @@ name_order s n m l = past (text_cmp n m) (ap (λ r. ordering_then r (ordering_th
 some_same : {A : Type 0} (x y : A) → Some x ≡ Some y → x ≡ y
 some_same x y h = cc
 
--- an entry stands at its name's path
-entry_path : (steps : List Step) (x : Value) (u : ToldRule) → told_entry steps x ≡ Some u → steps ≡ RuleName u.0 ∷ []
-entry_path (RuleName n ∷ []) (Told r) u h = ap (λ (z : ToldRule). RuleName z.0 ∷ []) (some_same (n, r) u h)
+-- an entry stands at its name's path, with its rule
+entry_path : (steps : List Step) (x : Value) (u : ToldRule) → told_entry steps x ≡ Some u → (steps ≡ RuleName u.0 ∷ []) × (x ≡ Told u.1)
+entry_path (RuleName n ∷ []) (Told r) u h = (ap (λ (z : ToldRule). RuleName z.0 ∷ []) (some_same (n, r) u h), ap (λ (z : ToldRule). Told z.1) (some_same (n, r) u h))
 entry_path steps x u h = absurd (cc)
 
 module _ (facts : List Fact) (s : Session) where
@@ -46,9 +47,9 @@ module _ (facts : List Fact) (s : Session) where
   abbrev entry : Shown → Option ToldRule
   entry x = cond (is_eq (session_cmp x.0.session s)) (told_entry x.0.steps x.1.1) None
 
-  at_name : (x : Shown) (u : ToldRule) → entry x ≡ Some u → x.0 ≡ told_name s u.0
-  at_name x u = elim (is_eq (session_cmp x.0.session s)) as (λ b. is_eq (session_cmp x.0.session s) ≡ b → cond b (told_entry x.0.steps x.1.1) None ≡ Some u → x.0 ≡ told_name s u.0) [
-    | true ↦ λ e h. let a = eq_is session_ranked x.0.session s e in let b = entry_path x.0.steps x.1.1 u h in λ i. record { session = a i; steps = b i }
+  at_name : (x : Shown) (u : ToldRule) → entry x ≡ Some u → (x.0 ≡ told_name s u.0) × (x.1.1 ≡ Told u.1)
+  at_name x u = elim (is_eq (session_cmp x.0.session s)) as (λ b. is_eq (session_cmp x.0.session s) ≡ b → cond b (told_entry x.0.steps x.1.1) None ≡ Some u → (x.0 ≡ told_name s u.0) × (x.1.1 ≡ Told u.1)) [
+    | true ↦ λ e h. let a = eq_is session_ranked x.0.session s e in let b = entry_path x.0.steps x.1.1 u h in (λ i. record { session = a i; steps = b.0 i }, b.1)
     | false ↦ λ _ h. absurd (cc)
   ] refl
 
@@ -86,7 +87,7 @@ module _ (facts : List Fact) (s : Session) where
 
   by_name : IsAscending name_cmp (filter_map entry v.all)
   by_name = filter_map-ascending shown_cmp name_cmp entry v.all
-    (λ x y u w i j l e h. name_order s u.0 w.0 ((λ k. path_cmp (sym (at_name x u e) k) (sym (at_name y w h) k)) ∙ path_below x y i j l))
+    (λ x y u w i j l e h. name_order s u.0 w.0 ((λ k. path_cmp (sym (at_name x u e).0 k) (sym (at_name y w h).0 k)) ∙ path_below x y i j l))
     all_ascending
 
   weaker : (us : List ToldRule) → IsAscending name_cmp us → IsAscending told_cmp us
@@ -99,3 +100,11 @@ module _ (facts : List Fact) (s : Session) where
     in_order = ascending-itself told_cmp told_ranked (filter_map entry v.all) (weaker (filter_map entry v.all) by_name);
     one_each = Distinct-ascending text_cmp text_ranked (map told_name_of (filter_map entry v.all)) (map-ascending name_cmp text_cmp told_name_of (filter_map entry v.all) (λ x y i j l. l) by_name)
   }
+
+  -- an entry that was told is what its name shows
+  pub told-shows : (u : ToldRule) → In u (told v s) → (g : Tag) × (shown facts (told_name s u.0) ≡ Some (g, Told u.1))
+  unfolding told
+  told-shows u i =
+      let r = filter_map-In entry u v.all i in
+      let n = at_name r.0 u r.2 in
+      (r.0.1.0, subst (λ (p : Path). shown facts p ≡ Some (r.0.1.0, Told u.1)) n.0 (all_shows r.0 r.1 ∙ ap (λ (x : Value). Some (r.0.1.0, x)) n.1))
