@@ -64,6 +64,13 @@ module _ (t : List ToldRule) (d : DeltaValue) where
   pub not_removed : (p : ToldRule) → stays d p ≡ true → In p.0 d.removed → ⊥
   not_removed p s i = clash _ (named p.0 d.removed i) (not_true _ (first_so _ _ s))
 
+  pub not_installed : (p : ToldRule) → stays d p ≡ true → In p.0 (map rule_name_of d.installed) → ⊥
+  not_installed p s i =
+      let r = map-In rule_name_of p.0 d.installed i in
+      clash (list_any (has_name p.0) d.installed)
+      (In-any (has_name p.0) r.0 d.installed r.1 (ap (λ (z : List ℕ). is_eq (text_cmp r.0.name z)) r.2 ∙ eq_itself text_ranked r.0.name))
+      (not_true _ (second_so (not (list_any (λ n. is_eq (text_cmp n p.0)) d.removed)) _ s))
+
   pub there : (p : ToldRule) → In p (apply t d) → (In p t × (stays d p ≡ true)) ⊎ ((r : RuleValue) × In r d.installed × (p ≡ as_told r))
   there p i = elim (In-cases p (filter (stays d) t) (map as_told d.installed) ((ascending-In told_cmp told_ranked (filter (stays d) t ++ map as_told d.installed) p).0 i)) [
     | inl j ↦ inl (filter-In (stays d) p t j)

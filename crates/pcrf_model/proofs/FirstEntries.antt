@@ -12,7 +12,7 @@ use Rattle.pcrf_model.proofs.DistinctLaws.{take_or_drop, take-In, drop-In, not_i
 use Rattle.pcrf_model.proofs.Ranked.{text_ranked}
 use Rattle.pcrf_model.proofs.FactLaws.{eq_itself}
 use Rattle.pcrf_model.proofs.AscendingLaws.{IsAscending, map-ascending, ascending-ascending, same_ascending, filter-ascending, drop-ascending, Distinct-ascending}
-use Rattle.pcrf_model.proofs.DifferenceLaws.{not_true, split, told_ranked, held, holds_one, stays_if, not_removed, there, stays_in, installed_in, lacks, removed-In, installed-In, lacks_none, same_rule, same_told, none_anew}
+use Rattle.pcrf_model.proofs.DifferenceLaws.{not_true, split, told_ranked, held, holds_one, stays_if, not_removed, not_installed, there, stays_in, installed_in, lacks, removed-In, installed-In, lacks_none, same_rule, same_told, none_anew}
 
 -- the name is below, where the entries are in order and no two have one name
 name_below : (p q : ToldRule) → told_cmp p q ≡ Less → (p.0 ≡ q.0 → p ≡ q) → text_cmp p.0 q.0 ≡ Less
@@ -54,8 +54,8 @@ module _ (n : ℕ) (t : List ToldRule) (rs : List RuleValue) (w : IsTold t) (g :
   was_new : (x : RuleValue) → In x rs → not (holds u x) ≡ true → not (holds t x) ≡ true
   was_new x i h = elim (split (holds t x)) [ inl y ↦ clash (holds u x) (still x i y) (not_true _ h) | inr y ↦ ap not y ]
 
-  not_installed : (x : RuleValue) → In x rs → not (holds u x) ≡ true → In x (take k installed) → ⊥
-  not_installed x i h j = clash (holds u x) (holds_one u x (installed_in t e x j)) (not_true _ h)
+  none_installed : (x : RuleValue) → In x rs → not (holds u x) ≡ true → In x (take k installed) → ⊥
+  none_installed x i h j = clash (holds u x) (holds_one u x (installed_in t e x j)) (not_true _ h)
 
   still_new : (x : RuleValue) → In x rs → not (holds t x) ≡ true → (In x (take k installed) → ⊥) → not (holds u x) ≡ true
   still_new x i h new = ap not (is_false (holds u x) (λ y. elim (there t e (as_told x) (held u x y)) [
@@ -64,7 +64,7 @@ module _ (n : ℕ) (t : List ToldRule) (rs : List RuleValue) (w : IsTold t) (g :
   ]))
 
   installed_next : (difference u rs).installed ≡ drop k installed
-  installed_next = filter_past (λ x. not (holds t x)) (λ x. not (holds u x)) k rs (Distinct-of_map rule_name_of rs g) was_new not_installed still_new
+  installed_next = filter_past (λ x. not (holds t x)) (λ x. not (holds u x)) k rs (Distinct-of_map rule_name_of rs g) was_new none_installed still_new
 
   -- ---- what is removed next
 
@@ -73,10 +73,10 @@ module _ (n : ℕ) (t : List ToldRule) (rs : List RuleValue) (w : IsTold t) (g :
   one_name p q i j h = elim (there t e p i) [
     | inl r ↦ elim (there t e q j) [
       | inl s ↦ same_told t rs w.one_each g p q r.0 s.0 h
-      | inr s ↦ absurd (apart p s.0 r.1 s.1 (h ∙ ap (λ (z : ToldRule). z.0) s.2))
+      | inr s ↦ absurd (not_installed t e p r.1 (named_by p s.0 s.1 (h ∙ ap (λ (z : ToldRule). z.0) s.2)))
     ]
     | inr r ↦ elim (there t e q j) [
-      | inl s ↦ absurd (apart q r.0 s.1 r.1 (sym h ∙ ap (λ (z : ToldRule). z.0) r.2))
+      | inl s ↦ absurd (not_installed t e q s.1 (named_by q r.0 r.1 (sym h ∙ ap (λ (z : ToldRule). z.0) r.2)))
       | inr s ↦ r.2 ∙ ap as_told (same_rule t rs w.one_each g r.0 s.0 (in_rules r.0 r.1) (in_rules s.0 s.1) (sym (ap (λ (z : ToldRule). z.0) r.2) ∙ h ∙ ap (λ (z : ToldRule). z.0) s.2)) ∙ sym s.2
     ]
   ]
@@ -84,11 +84,8 @@ module _ (n : ℕ) (t : List ToldRule) (rs : List RuleValue) (w : IsTold t) (g :
       in_rules : (x : RuleValue) → In x (take k installed) → In x rs
       in_rules x m = (installed-In t rs x (take-In k x installed m)).0
 
-      -- an entry that stays has no installed rule's name
-      apart : (p : ToldRule) (x : RuleValue) → stays e p ≡ true → In x (take k installed) → p.0 ≡ x.name → ⊥
-      apart p x s m q = clash (list_any (has_name p.0) e.installed)
-          (In-any (has_name p.0) x e.installed m (ap (λ (z : List ℕ). is_eq (text_cmp x.name z)) q ∙ eq_itself text_ranked x.name))
-          (not_true _ (second_so (not (list_any (λ m. is_eq (text_cmp m p.0)) e.removed)) _ s))
+      named_by : (p : ToldRule) (x : RuleValue) → In x (take k installed) → p.0 ≡ x.name → In p.0 (map rule_name_of (take k installed))
+      named_by p x m q = subst (λ (z : List ℕ). In z (map rule_name_of (take k installed))) (sym q) (In-map rule_name_of x (take k installed) m)
 
   old_names : IsAscending text_cmp (map told_name_of t)
   old_names = names_ascending t (subst (IsAscending told_cmp) w.in_order (ascending-ascending told_cmp told_ranked t)) (same_told t rs w.one_each g)

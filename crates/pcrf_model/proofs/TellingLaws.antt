@@ -18,15 +18,17 @@ use Rattle.pcrf_model.specs.Live.{is_live}
 use Rattle.pcrf_model.specs.Bindings.{bind, is_bound_to}
 use Rattle.pcrf_model.specs.Tables.{Tables}
 use Rattle.pcrf_model.specs.Rules.{flow_at, rule_of, rule_at, operator_rules, listed_cmp, rules}
-use Rattle.pcrf_model.specs.Differences.{told_entry, told, rule_name_of}
+use Rattle.pcrf_model.specs.Differences.{ToldRule, told_cmp, told_entry, told, rule_name_of, IsTold, as_told, stays, apply}
 use Rattle.pcrf_model.specs.Making.{told_facts}
 use Rattle.pcrf_model.proofs.SetLaws.{clash, is_false, In-left, In-right, In-cases, In-filter, filter-In, In-any, any-In, In-map, map-In, In-filter_map, filter_map-In, greatest-Same}
+use Rattle.lattice_core.specs.Orders.{text_cmp}
+use Rattle.pcrf_model.proofs.Ranked.{text_ranked}
 use Rattle.pcrf_model.proofs.FactLaws.{session_ranked, path_ranked, entry_ranked, eq_is, eq_itself}
-use Rattle.pcrf_model.proofs.AscendingLaws.{ascending-In, ascending-ascending, ascending-Same, same_ascending, filter-ascending}
+use Rattle.pcrf_model.proofs.AscendingLaws.{IsAscending, ascending-In, ascending-ascending, ascending-Same, same_ascending, filter-ascending}
 use Rattle.pcrf_model.proofs.ViewLaws.{shown_ranked}
 use Rattle.pcrf_model.proofs.BindLaws.{entry_of, fact_there, greatest_is, greatest_some}
-use Rattle.pcrf_model.proofs.ToldLaws.{all_shows}
-use Rattle.pcrf_model.proofs.DifferenceLaws.{not_true}
+use Rattle.pcrf_model.proofs.ToldLaws.{all_shows, told-shows, told_is_told}
+use Rattle.pcrf_model.proofs.DifferenceLaws.{not_true, split, told_ranked, there, stays_if, stays_in, installed_in, not_removed, not_installed}
 
 -- ---- what is read without the told entries
 
@@ -271,3 +273,47 @@ module _ (xs : List Fact) (s : Session) (g : Tag) (d : DeltaValue) where
         | inl r ↦ ap (entry_at (told_name s n)) r.2 ∙ other_name s n r.0 g Untold (λ e. a (subst (λ (m : List ℕ). In m d.removed) e r.1))
         | inr r ↦ ap (entry_at (told_name s n)) r.2 ∙ other_name s n r.0.name g (Told r.0) (λ e. b (subst (λ (m : List ℕ). In m (map rule_name_of d.installed)) e (In-map rule_name_of r.0 d.installed r.1)))
       ])
+
+      is_among : (n : List ℕ) (ns : List (List ℕ)) → In n ns ⊎ (In n ns → ⊥)
+      is_among n ns = elim (split (list_any (λ m. is_eq (text_cmp m n)) ns)) [
+        | inl y ↦ let r = any-In (λ m. is_eq (text_cmp m n)) ns y in inl (subst (λ (z : List ℕ). In z ns) (eq_is text_ranked r.0 n r.2) r.1)
+        | inr y ↦ inr (λ i. clash _ (In-any (λ m. is_eq (text_cmp m n)) n ns i (eq_itself text_ranked n)) y)
+      ]
+
+      entries_of : (a b : Entry) → Some a ≡ Some b → a ≡ b
+      entries_of a b h = cc
+
+      untold_not_told : {P : Type 0} (r : RuleValue) → Untold ≡ Told r → P
+      untold_not_told r h = cc
+
+      one_told : (q r : RuleValue) → Told q ≡ Told r → q ≡ r
+      one_told q r h = cc
+
+      told_onward : (p : ToldRule) → In p (told (view (xs ++ ts)) s) → In p (apply (told (view xs) s) d)
+      told_onward p i =
+          let h = told-shows (xs ++ ts) s p i in
+          elim (is_among p.0 d.removed) [
+            | inl j ↦ untold_not_told p.1 (ap (λ (z : Entry). z.1) (entries_of (g, Untold) (h.0, Told p.1) (sym (shows_untold p.0 j) ∙ h.1)))
+            | inr a ↦ elim (is_among p.0 (map rule_name_of d.installed)) [
+              | inl j ↦
+                let r = map-In rule_name_of p.0 d.installed j in
+                let q = one_told r.0 p.1 (ap (λ (z : Entry). z.1) (entries_of (g, Told r.0) (h.0, Told p.1) (sym (shows_told r.0 r.1) ∙ ap (λ (n : List ℕ). shown (xs ++ ts) (told_name s n)) (sym r.2) ∙ h.1))) in
+                subst (λ (z : ToldRule). In z (apply (told (view xs) s) d)) (λ k. (sym r.2 k, q k)) (installed_in (told (view xs) s) d r.0 r.1)
+              | inr b ↦ stays_in (told (view xs) s) d p (In-told xs s p.0 h.0 p.1 (sym (shows_old p.0 a b) ∙ h.1)) (stays_if (told (view xs) s) d p a b)
+            ]
+          ]
+
+      told_backward : (p : ToldRule) → In p (apply (told (view xs) s) d) → In p (told (view (xs ++ ts)) s)
+      told_backward p i = elim (there (told (view xs) s) d p i) [
+        | inl r ↦
+          let h = told-shows xs s p r.0 in
+          In-told (xs ++ ts) s p.0 h.0 p.1 (shows_old p.0 (not_removed (told (view xs) s) d p r.1) (not_installed (told (view xs) s) d p r.1) ∙ h.1)
+        | inr r ↦ subst (λ (z : ToldRule). In z (told (view (xs ++ ts)) s)) (sym r.2) (In-told (xs ++ ts) s r.0.name g r.0 (shows_told r.0 r.1))
+      ]
+
+      -- the told entries are those before, with the difference applied
+      pub told_after : told (view (xs ++ ts)) s ≡ apply (told (view xs) s) d
+      told_after = same_ascending told_cmp told_ranked _ _
+        (subst (IsAscending told_cmp) (told_is_told (xs ++ ts) s).in_order (ascending-ascending told_cmp told_ranked (told (view (xs ++ ts)) s)))
+        (ascending-ascending told_cmp told_ranked (filter (stays d) (told (view xs) s) ++ map as_told d.installed))
+        (λ p. (told_onward p, told_backward p))
