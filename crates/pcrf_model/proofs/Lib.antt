@@ -5,11 +5,13 @@ pub mod DistinctLaws
 pub mod FactLaws
 pub mod FirstEntries
 pub mod NameLaws
+pub mod ProvisionLaws
 pub mod Ranked
 pub mod ReadingLaws
 pub mod RuleNames
 pub mod SetLaws
 pub mod ShownLaws
+pub mod StampLaws
 pub mod StepLaws
 pub mod TellingLaws
 pub mod ToldLaws

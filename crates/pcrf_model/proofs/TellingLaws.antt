@@ -32,7 +32,7 @@ use Rattle.pcrf_model.proofs.DifferenceLaws.{not_true, split, told_ranked, there
 
 -- ---- what is read without the told entries
 
-abbrev is_told : List Step → Bool
+abbrev pub is_told : List Step → Bool
 is_told (RuleName n ∷ steps) = true
 is_told steps = false
 
@@ -189,13 +189,13 @@ other_name s n m u x h = ap (λ b. cond b (Some (u, x)) None) (is_false _ (λ e.
     name_of : (p q : Path) → p ≡ q → first_name p.steps ≡ first_name q.steps
     name_of p q e = ap (λ (z : Path). first_name z.steps) e
 
-same_field : (p q : Path) (t u : Tag) (x y : Value) → Field p t x ≡ Field q u y → (p ≡ q) × (t ≡ u) × (x ≡ y)
+pub same_field : (p q : Path) (t u : Tag) (x y : Value) → Field p t x ≡ Field q u y → (p ≡ q) × (t ≡ u) × (x ≡ y)
 same_field p q t u x y h = (cc, cc, cc)
 
 -- ---- telling a difference
 
 module _ (xs : List Fact) (s : Session) (g : Tag) (d : DeltaValue) where
-  abbrev ts : List Fact
+  abbrev pub ts : List Fact
   ts = told_facts s g d
 
   -- each new fact tells a name that is removed, or a rule that is installed
@@ -205,7 +205,7 @@ module _ (xs : List Fact) (s : Session) (g : Tag) (d : DeltaValue) where
     | inr j ↦ inr (map-In (λ (r : RuleValue). Field (told_name s r.name) g (Told r)) f d.installed j)
   ]
 
-  tells : (f : Fact) → In f ts → Tells s f
+  pub tells : (f : Fact) → In f ts → Tells s f
   tells f i = elim (told-In f i) [
     | inl r ↦ record { name = r.0; tag = g; value = Untold; is = r.2 }
     | inr r ↦ record { name = r.0.name; tag = g; value = Told r.0; is = r.2 }

@@ -1,12 +1,14 @@
 -- The laws of the definitions.
-use Rattle.std.specs.Prelude.{◌≡◌, ℕ, ◌<◌, ◌^◌, [], ◌∷◌, true, false, List, ◌++◌, ◌↔◌, map, Option, Some, None}
+use Rattle.std.specs.Prelude.{◌≡◌, ℕ, ◌<◌, ◌≤◌, ◌^◌, [], ◌∷◌, true, false, List, ◌++◌, ◌↔◌, map, Option, Some, None}
 use Rattle.std.proofs.Common.{Less}
 use Rattle.lattice_core.specs.Ascending.{ascending}
 use Rattle.lattice_core.specs.RuleValues.{RuleValue}
 use Rattle.pcrf_model.specs.Sets.{In, Same, Distinct}
-use Rattle.pcrf_model.specs.Sessions.{Session}
-use Rattle.pcrf_model.specs.Paths.{Step, Component, Flow, Part, RuleName, Path}
-use Rattle.pcrf_model.specs.Facts.{Fact, path_of}
+use Rattle.pcrf_model.specs.Sessions.{Session, gx}
+use Rattle.pcrf_model.specs.Paths.{Step, Component, Flow, Part, RuleName, Path, told_name}
+use Rattle.pcrf_model.specs.Values.{Value}
+use Rattle.lattice_core.specs.declared.tag.Tag.{Tag}
+use Rattle.pcrf_model.specs.Facts.{Fact, Field, path_of, fact_code}
 use Rattle.pcrf_model.specs.Holdings.{kept, Holding, union, kept_of}
 use Rattle.pcrf_model.specs.Operations.{Operation, holding_of}
 use Rattle.pcrf_model.specs.Views.{View, view}
@@ -16,9 +18,10 @@ use Rattle.pcrf_model.specs.Tables.{OperatorRule, ApnRow, Tables, apn_row}
 use Rattle.pcrf_model.specs.Rules.{rules}
 use Rattle.pcrf_model.specs.Differences.{ToldRule, told_cmp, told, told_name_of, rule_name_of, IsTold, difference, first, rest, as_told, apply}
 use Rattle.pcrf_model.specs.OperatorValues.{operator_value}
-use Rattle.pcrf_model.specs.Requests.{RequestValue}
-use Rattle.pcrf_model.specs.Serving.{serve}
-use Rattle.pcrf_model.specs.Pushing.{push, lacks_counter}
+use Rattle.pcrf_model.specs.Requests.{CcrValue, RequestValue}
+use Rattle.pcrf_model.specs.Making.{ccr_fields, next_tag}
+use Rattle.pcrf_model.specs.Serving.{delta_limit, delta_of, provisioned, serve, with_added}
+use Rattle.pcrf_model.specs.Pushing.{due, push, lacks_counter}
 use Rattle.pcrf_model.specs.Replies.{ReplyValue}
 use Rattle.pcrf_model.specs.Steps.{SiteState, kept_state, SiteEvent, MayReply, stepped}
 
@@ -172,3 +175,38 @@ SessionIsTold = (t : Tables) (facts : List Fact) (s : Session) (n : ℕ) → Nam
     let rules_now : List RuleValue = rules t (view facts) s in
     (apply told_now (difference told_now rules_now) ≡ ascending told_cmp (map as_told rules_now))
     × (difference (apply told_now (first n (difference told_now rules_now))) rules_now ≡ rest n (difference told_now rules_now))
+
+-- ---- what a gateway lacks after it was told
+
+-- The facts are of the kinds that requests make, under counters up to the clock; what tells of rules is under number 0.
+pub record IsStamped (h : Holding) : Type 0 where
+  pub kinds : (f : Fact) → In f h.facts → fact_code f ≡ 8 → ⊥
+  pub counters : (p : Path) (t : Tag) (x : Value) → In (Field p t x) h.facts → t.counter ≤ h.clock
+  pub numbers : (s : Session) (n : List ℕ) (t : Tag) (x : Value) → In (Field (told_name s n) t x) h.facts → t.number ≡ 0
+
+-- An operation has facts of these kinds, all under its own counter.
+pub record IsWellFormed (o : Operation) : Type 0 where
+  pub kinds : (f : Fact) → In f o.facts → fact_code f ≡ 8 → ⊥
+  pub counters : (p : Path) (t : Tag) (x : Value) → In (Field p t x) o.facts → t.counter ≡ o.counter
+  pub numbers : (s : Session) (n : List ℕ) (t : Tag) (x : Value) → In (Field (told_name s n) t x) o.facts → t.number ≡ 0
+
+-- what well-formed operations make is so
+abbrev pub OperationsStamp : Type 0
+OperationsStamp = (os : List Operation) → ((o : Operation) → In o os → IsWellFormed o) → IsStamped (holding_of os)
+
+-- From one view to the next the gateway of s was told the first entries of the difference: the rules are the same, the told entries have these
+-- entries applied, and what is left is the rest.
+pub record TellsTheFirst (t : Tables) (before after : View) (s : Session) : Type 0 where
+  pub rules_stay : rules t after s ≡ rules t before s
+  pub told_next : told after s ≡ apply (told before s) (delta_of t before s)
+  pub left : difference (told after s) (rules t after s) ≡ rest delta_limit (difference (told before s) (rules t before s))
+
+-- an initial request or an update that is accepted tells the first entries of the difference with its fields added
+abbrev pub ProvisioningTells : Type 0
+ProvisioningTells = (t : Tables) (i : ℕ) (h : Holding) (q : CcrValue) → NamesRulesApart t → NumbersFit h.facts → IsStamped h → (view h.facts).ended (gx q.session) ≡ false →
+    TellsTheFirst t (view (h.facts ++ ccr_fields q (next_tag i h q.number))) (view (with_added h (provisioned t i h q).added).facts) (gx q.session)
+
+-- and a push those of the difference
+abbrev pub PushingTells : Type 0
+PushingTells = (t : Tables) (i : ℕ) (h : Holding) (name : Option (List ℕ)) (s : Session) → NamesRulesApart t → NumbersFit h.facts → IsStamped h → due t i (view h.facts) name ≡ Some s →
+    TellsTheFirst t (view h.facts) (view (with_added h (push t i h name).added).facts) s
