@@ -4,6 +4,7 @@ pub mod DifferenceLaws
 pub mod DistinctLaws
 pub mod FactLaws
 pub mod FirstEntries
+pub mod FormLaws
 pub mod NameLaws
 pub mod ProvisionLaws
 pub mod Ranked

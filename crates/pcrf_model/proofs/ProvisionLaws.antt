@@ -188,10 +188,10 @@ sessions_are : (facts : List Fact) (s : Session) → In s (view facts).sessions 
 unfolding view
 sessions_are facts s i = (ascending-In session_cmp session_ranked (map session_of facts) s).0 i
 
-pub provisioning-tells : (t : Tables) (i : ℕ) (h : Holding) (q : CcrValue) → NamesRulesApart t → NumbersFit h.facts → IsStamped h → (view h.facts).ended (gx q.session) ≡ false →
+pub provisioning-tells : (t : Tables) (i : ℕ) (h : Holding) (q : CcrValue) → NamesRulesApart t → IsStamped h → (view h.facts).ended (gx q.session) ≡ false →
     TellsTheFirst t (view (h.facts ++ ccr_fields q (next_tag i h q.number))) (view (with_added h (provisioned t i h q).added).facts) (gx q.session)
 unfolding provisioned
-provisioning-tells t i h q rows fit stamped alive =
+provisioning-tells t i h q rows stamped alive =
     let s : Session = gx q.session in
     let fs : List Fact = ccr_fields q (next_tag i h q.number) in
     let g : Tag = next_tag i h 0 in
@@ -206,7 +206,7 @@ provisioning-tells t i h q rows fit stamped alive =
       tells_the_first t (h.facts ++ fs) s g (In-map session_of own (h.facts ++ fs) there)
       (older_with h s fs fields g (above_all h i stamped s))
       (λ n. told_not_gone (h.facts ++ fs) s n (kinds_with h s fs fields stamped.kinds) open_)
-      (rules-names_differ t (h.facts ++ fs) s rows (fit_with h s fs fields fit)) in
+      (rules-names_differ t (h.facts ++ fs) s rows (fit_with h s fs fields stamped.fits)) in
     subst (λ (w : View). TellsTheFirst t (view (h.facts ++ fs)) w s)
     (ap view (append_assoc h.facts fs new) ∙ sym (view-Same _ _ (one_list h.facts (fs ++ new))))
     told_so
@@ -218,10 +218,10 @@ found {A} test (y ∷ ys) x h = (elim (test y) as (λ b. test y ≡ b → cond b
   | false ↦ λ _ k. let r = found test ys x k in (inr r.0, r.1)
 ]) refl h
 
-pub pushing-tells : (t : Tables) (i : ℕ) (h : Holding) (name : Option (List ℕ)) (s : Session) → NamesRulesApart t → NumbersFit h.facts → IsStamped h → due t i (view h.facts) name ≡ Some s →
+pub pushing-tells : (t : Tables) (i : ℕ) (h : Holding) (name : Option (List ℕ)) (s : Session) → NamesRulesApart t → IsStamped h → due t i (view h.facts) name ≡ Some s →
     TellsTheFirst t (view h.facts) (view (with_added h (push t i h name).added).facts) s
 unfolding push due
-pushing-tells t i h name s rows fit stamped is =
+pushing-tells t i h name s rows stamped is =
     let v : View = view h.facts in
     let g : Tag = next_tag i h 0 in
     let r = found (is_due t i v name) v.sessions s is in
@@ -230,7 +230,7 @@ pushing-tells t i h name s rows fit stamped is =
     let told_so : TellsTheFirst t v (view (h.facts ++ told_facts s g (delta_of t v s))) s =
       tells_the_first t h.facts s g (sessions_are h.facts s r.0) (above_all h i stamped s)
       (λ n. told_not_gone h.facts s n stamped.kinds open_)
-      (rules-names_differ t h.facts s rows fit) in
+      (rules-names_differ t h.facts s rows stamped.fits) in
     subst (λ (w : View). TellsTheFirst t v w s)
     (sym (view-Same _ _ (one_list h.facts (told_facts s g (delta_of t v s)))) ∙ ap (λ (o : Option Session). view (with_added h (option_map (λ z. next_operation i h 0 z (told_facts z g (delta_of t v z))) o)).facts) (sym is))
     told_so

@@ -18,7 +18,7 @@ use Rattle.pcrf_model.specs.Tables.{OperatorRule, ApnRow, Tables, apn_row}
 use Rattle.pcrf_model.specs.Rules.{rules}
 use Rattle.pcrf_model.specs.Differences.{ToldRule, told_cmp, told, told_name_of, rule_name_of, IsTold, difference, first, rest, as_told, apply}
 use Rattle.pcrf_model.specs.OperatorValues.{operator_value}
-use Rattle.pcrf_model.specs.Requests.{CcrValue, RequestValue}
+use Rattle.pcrf_model.specs.Requests.{CcrValue, FlowValue, ComponentValue, RequestValue, Aar}
 use Rattle.pcrf_model.specs.Making.{ccr_fields, next_tag}
 use Rattle.pcrf_model.specs.Serving.{delta_limit, delta_of, provisioned, serve, with_added}
 use Rattle.pcrf_model.specs.Pushing.{due, push, lacks_counter}
@@ -178,17 +178,34 @@ SessionIsTold = (t : Tables) (facts : List Fact) (s : Session) (n : ℕ) → Nam
 
 -- ---- what a gateway lacks after it was told
 
--- The facts are of the kinds that requests make, under counters up to the clock; what tells of rules is under number 0.
+-- A fact is of a kind that requests make, with numbers that fit, under that counter; what tells of a rule is under number 0.
+pub record IsFormed (counter : ℕ) (f : Fact) : Type 0 where
+  pub kind : fact_code f ≡ 8 → ⊥
+  pub fits : FitTheirAvps (path_of f).steps
+  pub tagged : (p : Path) (t : Tag) (x : Value) → f ≡ Field p t x → t.counter ≡ counter
+  pub numbered : (s : Session) (n : List ℕ) (t : Tag) (x : Value) → f ≡ Field (told_name s n) t x → t.number ≡ 0
+
+-- an operation has such facts, under its own counter
+abbrev pub IsWellFormed : Operation → Type 0
+IsWellFormed o = (f : Fact) → In f o.facts → IsFormed o.counter f
+
+-- a holding has such facts, under counters up to its clock
 pub record IsStamped (h : Holding) : Type 0 where
   pub kinds : (f : Fact) → In f h.facts → fact_code f ≡ 8 → ⊥
+  pub fits : NumbersFit h.facts
   pub counters : (p : Path) (t : Tag) (x : Value) → In (Field p t x) h.facts → t.counter ≤ h.clock
   pub numbers : (s : Session) (n : List ℕ) (t : Tag) (x : Value) → In (Field (told_name s n) t x) h.facts → t.number ≡ 0
 
--- An operation has facts of these kinds, all under its own counter.
-pub record IsWellFormed (o : Operation) : Type 0 where
-  pub kinds : (f : Fact) → In f o.facts → fact_code f ≡ 8 → ⊥
-  pub counters : (p : Path) (t : Tag) (x : Value) → In (Field p t x) o.facts → t.counter ≡ o.counter
-  pub numbers : (s : Session) (n : List ℕ) (t : Tag) (x : Value) → In (Field (told_name s n) t x) o.facts → t.number ≡ 0
+-- the numbers of a request fit their AVPs
+abbrev pub RequestFits : RequestValue → Type 0
+RequestFits (Aar q) = (c : ComponentValue) → In c q.components → (c.number < 2 ^ 32) × ((f : FlowValue) → In f c.flows → f.number < 2 ^ 32)
+RequestFits q = Unit {0}
+
+-- the operations that sites add are well formed
+abbrev pub AddsWellFormed : Type 0
+AddsWellFormed = (t : Tables) (i : ℕ) (h : Holding) (o : Operation) →
+    ((q : RequestValue) → RequestFits q → (serve t i h q).added ≡ Some o → IsWellFormed o)
+    × ((name : Option (List ℕ)) → (push t i h name).added ≡ Some o → IsWellFormed o)
 
 -- what well-formed operations make is so
 abbrev pub OperationsStamp : Type 0
@@ -203,10 +220,10 @@ pub record TellsTheFirst (t : Tables) (before after : View) (s : Session) : Type
 
 -- an initial request or an update that is accepted tells the first entries of the difference with its fields added
 abbrev pub ProvisioningTells : Type 0
-ProvisioningTells = (t : Tables) (i : ℕ) (h : Holding) (q : CcrValue) → NamesRulesApart t → NumbersFit h.facts → IsStamped h → (view h.facts).ended (gx q.session) ≡ false →
+ProvisioningTells = (t : Tables) (i : ℕ) (h : Holding) (q : CcrValue) → NamesRulesApart t → IsStamped h → (view h.facts).ended (gx q.session) ≡ false →
     TellsTheFirst t (view (h.facts ++ ccr_fields q (next_tag i h q.number))) (view (with_added h (provisioned t i h q).added).facts) (gx q.session)
 
 -- and a push those of the difference
 abbrev pub PushingTells : Type 0
-PushingTells = (t : Tables) (i : ℕ) (h : Holding) (name : Option (List ℕ)) (s : Session) → NamesRulesApart t → NumbersFit h.facts → IsStamped h → due t i (view h.facts) name ≡ Some s →
+PushingTells = (t : Tables) (i : ℕ) (h : Holding) (name : Option (List ℕ)) (s : Session) → NamesRulesApart t → IsStamped h → due t i (view h.facts) name ≡ Some s →
     TellsTheFirst t (view h.facts) (view (with_added h (push t i h name).added).facts) s
