@@ -37,18 +37,20 @@ module _ {A B : Type 0} (R : A → A → Ordering) (S : B → B → Ordering) wh
   map-ascending f [] keeps s = tt
   map-ascending f (x ∷ xs) keeps s = (
     λ y i. let r = map-In f y xs i in subst (λ (z : B). S (f x) z ≡ Less) (sym r.2) (keeps x r.0 (inl refl) (inr r.1) (s.0 r.0 r.1)),
-    map-ascending f xs (λ y z i j. keeps y z (inr i) (inr j)) s.1)
+    map-ascending f xs (λ y z i j. keeps y z (inr i) (inr j)) s.1,
+  )
 
   -- and so does one that leaves members out
   pub filter_map-ascending : (g : A → Option B) (xs : List A)
-    → ((x y : A) (u w : B) → In x xs → In y xs → R x y ≡ Less → g x ≡ Some u → g y ≡ Some w → S u w ≡ Less)
-    → IsAscending R xs → IsAscending S (filter_map g xs)
+      → ((x y : A) (u w : B) → In x xs → In y xs → R x y ≡ Less → g x ≡ Some u → g y ≡ Some w → S u w ≡ Less)
+      → IsAscending R xs → IsAscending S (filter_map g xs)
   filter_map-ascending g [] keeps s = tt
   filter_map-ascending g (x ∷ xs) keeps s = elim (g x) as (λ r. g x ≡ r → IsAscending S (cons_option r (filter_map g xs))) [
     | None ↦ λ _. filter_map-ascending g xs (λ y z u w i j. keeps y z u w (inr i) (inr j)) s.1
     | Some u ↦ λ e. (
       λ w i. let r = filter_map-In g w xs i in keeps x r.0 u w (inl refl) (inr r.1) (s.0 r.0 r.1) e r.2,
-      filter_map-ascending g xs (λ y z u w i j. keeps y z u w (inr i) (inr j)) s.1)
+      filter_map-ascending g xs (λ y z u w i j. keeps y z u w (inr i) (inr j)) s.1,
+    )
   ] refl
 
 module _ {A : Type 0} (cmp : A → A → Ordering) (o : IsRanked cmp) where

@@ -1,16 +1,16 @@
 -- The operations that requests and pushes make are well formed.
-use Rattle.std.proofs.Common.{◌≡◌, ℕ, ◌<◌, ◌^◌, ◌+◌, Bool, true, false, cond, List, [], ◌∷◌, ◌++◌, map, ◌⊎◌, Option, Some, None, inl, inr, refl, sym, ap, ◌∙◌, subst, option_map, option_to_list, flat_map, arith}
+use Rattle.std.proofs.Common.{◌≡◌, ℕ, ◌<◌, ◌^◌, ◌+◌, Bool, true, false, cond, List, [], ◌∷◌, ◌++◌, map, Option, Some, None, inl, inr, refl, sym, ap, ◌∙◌, subst, option_map, flat_map, arith}
 use Rattle.lattice_core.specs.Ascending.{ascending}
 use Rattle.lattice_core.specs.RuleValues.{RuleValue, DeltaValue}
 use Rattle.lattice_core.specs.declared.tag.Tag.{Tag}
 use Rattle.pcrf_model.specs.Sets.{In}
 use Rattle.pcrf_model.specs.Sessions.{Session, gx, af}
-use Rattle.pcrf_model.specs.Paths.{FieldName, MediaType, FlowDescriptions, FlowUsage, FlowStatus, MaxRateUp, MaxRateDown, Step, RuleName, Path, whole, part, address, apn, subscribers, host, realm, last, component, component_part, flow, flow_part, told_name}
+use Rattle.pcrf_model.specs.Paths.{FieldName, Path, whole, part, component, component_part, flow, flow_part, told_name}
 use Rattle.pcrf_model.specs.Values.{Value, Number, Text, Address, Subscribers, Filters, Untold, Told}
 use Rattle.pcrf_model.specs.Facts.{Fact, Gone, Field, gone_code, field_code, fact_cmp}
 use Rattle.pcrf_model.specs.Holdings.{Holding}
 use Rattle.pcrf_model.specs.Operations.{Operation}
-use Rattle.pcrf_model.specs.Views.{View, view}
+use Rattle.pcrf_model.specs.Views.{view}
 use Rattle.pcrf_model.specs.Tables.{Tables}
 use Rattle.pcrf_model.specs.Requests.{RequestKind, Initial, Update, Termination, CcrValue, FlowValue, ComponentValue, AarValue, StrValue, RequestValue, Ccr, Aar, Str, Base, RefusalValue}
 use Rattle.pcrf_model.specs.Making.{given, given_list, ccr_fields, kind_value, told_facts, end_facts, is_removed, flow_facts, component_facts, aar_facts, next_tag, next_operation}
@@ -19,7 +19,7 @@ use Rattle.pcrf_model.specs.Replies.{ReplyValue, OnGx, Rejected, Refused, Done, 
 use Rattle.pcrf_model.specs.Serving.{delta_of, provisioned, accepted_ccr, refused_or, serve, serve_ccr, serve_aar, serve_str}
 use Rattle.pcrf_model.specs.Pushing.{due, push}
 use Rattle.pcrf_model.specs.Laws.{FitTheirAvps, IsFormed, IsWellFormed, RequestFits}
-use Rattle.pcrf_model.proofs.SetLaws.{clash, In-cases, map-In}
+use Rattle.pcrf_model.proofs.SetLaws.{clash, In-cases}
 use Rattle.pcrf_model.proofs.FactLaws.{fact_ranked}
 use Rattle.pcrf_model.proofs.AscendingLaws.{ascending-In}
 use Rattle.pcrf_model.proofs.TellingLaws.{is_told, same_field}
@@ -34,7 +34,7 @@ formed_field c p t x e k f z = record {
   kind = k;
   fits = f;
   tagged = λ q u y h. ap (λ (w : Tag). w.counter) (sym (same_field p q t u x y h).1) ∙ e;
-  numbered = λ s n u y h. let w = same_field p (told_name s n) t u x y h in ap (λ (w : Tag). w.number) (sym w.1) ∙ z (ap (λ (q : Path). is_told q.steps) w.0)
+  numbered = λ s n u y h. let w = same_field p (told_name s n) t u x y h in ap (λ (w : Tag). w.number) (sym w.1) ∙ z (ap (λ (q : Path). is_told q.steps) w.0);
 }
 
 -- ---- lists of facts

@@ -1,31 +1,29 @@
 -- After an accepted initial request, an update or a push a gateway lacks just what the first entries of the difference left.
-use Rattle.std.proofs.Common.{◌≡◌, ℕ, ◌≤◌, ◌<◌, ◌+◌, Bool, true, false, cond, not, ◌&&◌, List, [], ◌∷◌, ◌++◌, map, ◌⊎◌, Option, Some, None, inl, inr, refl, sym, ap, ◌∙◌, subst, option_map, option_to_list, arith, append_assoc, find, Ordering, Less, Equal, Greater}
+use Rattle.std.proofs.Common.{◌≡◌, ℕ, ◌+◌, Bool, true, false, cond, ◌&&◌, List, [], ◌∷◌, ◌++◌, map, ◌⊎◌, Option, Some, None, inl, inr, refl, sym, ap, ◌∙◌, subst, option_map, arith, append_assoc, find, Less, Equal}
 use Rattle.std.specs.Ordering.{is_eq, nat_cmp, ordering_then}
 use Rattle.std.specs.Cmp.{nat_cmp_is, first_so, second_so}
-use Rattle.std.specs.List.{list_any}
 use Rattle.lattice_core.specs.Ascending.{ascending}
 use Rattle.lattice_core.specs.RuleValues.{RuleValue, DeltaValue}
 use Rattle.lattice_core.specs.declared.tag.Tag.{Tag}
 use Rattle.lattice_core.specs.Told.{tag_cmp}
 use Rattle.pcrf_model.specs.Sets.{In, Same, Distinct}
 use Rattle.pcrf_model.specs.Sessions.{Session, session_cmp, gx, is_gx}
-use Rattle.pcrf_model.specs.Paths.{FieldName, Step, Component, Flow, Part, RuleName, step_cmp, Path, is_front, is_at_or_above, whole, part, address, apn, subscribers, host, realm, last, told_name}
+use Rattle.pcrf_model.specs.Paths.{FieldName, Step, Component, Flow, Part, RuleName, Path, is_front, whole, part, address, apn, subscribers, host, realm, last, told_name}
 use Rattle.pcrf_model.specs.Values.{Value, Number, Text, Address, Subscribers}
 use Rattle.pcrf_model.specs.Facts.{Fact, Gone, Field, path_of, session_of, gone_code, fact_code, fact_cmp}
 use Rattle.pcrf_model.specs.Holdings.{Holding, blocks, is_gone}
-use Rattle.pcrf_model.specs.Operations.{Operation}
 use Rattle.pcrf_model.specs.Views.{View, view}
 use Rattle.pcrf_model.specs.Live.{is_live}
 use Rattle.pcrf_model.specs.Tables.{Tables}
 use Rattle.pcrf_model.specs.Rules.{rules}
-use Rattle.pcrf_model.specs.Differences.{told, rule_name_of, difference, rest}
+use Rattle.pcrf_model.specs.Differences.{told, rule_name_of, difference}
 use Rattle.pcrf_model.specs.Requests.{CcrValue}
 use Rattle.pcrf_model.specs.Making.{given, given_list, ccr_fields, kind_value, told_facts, next_tag, next_operation}
 use Rattle.pcrf_model.specs.Serving.{delta_limit, delta_of, provisioned, with_added}
-use Rattle.pcrf_model.specs.Pushing.{is_home, is_of_host, is_due, due, push}
+use Rattle.pcrf_model.specs.Pushing.{is_due, due, push}
 use Rattle.pcrf_model.specs.Laws.{NamesRulesApart, FitTheirAvps, NumbersFit, IsStamped, TellsTheFirst}
-use Rattle.pcrf_model.proofs.SetLaws.{clash, is_false, In-right, In-left, In-cases, In-any, any-In, In-map, map-In, Same-itself, Same-back, Same-through, Same-append}
-use Rattle.pcrf_model.proofs.FactLaws.{session_ranked, fact_ranked, eq_is, eq_itself, both}
+use Rattle.pcrf_model.proofs.SetLaws.{clash, is_false, In-right, In-cases, In-any, any-In, In-map, map-In, Same-itself, Same-through, Same-append}
+use Rattle.pcrf_model.proofs.FactLaws.{session_ranked, fact_ranked, both}
 use Rattle.pcrf_model.proofs.AscendingLaws.{ascending-In}
 use Rattle.pcrf_model.proofs.DistinctLaws.{take-In, one_of_key}
 use Rattle.pcrf_model.proofs.DifferenceLaws.{not_true, no_name_twice, installed-In}
@@ -38,9 +36,9 @@ use Rattle.pcrf_model.proofs.ViewLaws.{view-Same}
 -- ---- telling the first entries, on facts
 
 module _ (t : Tables) (xs : List Fact) (s : Session) (g : Tag) (known : In s (map session_of xs))
-  (older : (m : List ℕ) (u : Tag) (x : Value) → In (Field (told_name s m) u x) xs → tag_cmp u g ≡ Less)
-  (open_ : (n : List ℕ) → is_gone xs (told_name s n) ≡ false)
-  (names : Distinct (map rule_name_of (rules t (view xs) s))) where
+    (older : (m : List ℕ) (u : Tag) (x : Value) → In (Field (told_name s m) u x) xs → tag_cmp u g ≡ Less)
+    (open_ : (n : List ℕ) → is_gone xs (told_name s n) ≡ false)
+    (names : Distinct (map rule_name_of (rules t (view xs) s))) where
   abbrev v : View
   v = view xs
 
@@ -52,7 +50,7 @@ module _ (t : Tables) (xs : List Fact) (s : Session) (g : Tag) (known : In s (ma
 
   one_each : (a b : RuleValue) → In a d.installed → In b d.installed → a.name ≡ b.name → a ≡ b
   one_each a b i j e = one_of_key rule_name_of (rules t v s) names a b
-    (installed-In (told v s) (rules t v s) a (in_difference a i)).0 (installed-In (told v s) (rules t v s) b (in_difference b j)).0 e
+      (installed-In (told v s) (rules t v s) a (in_difference a i)).0 (installed-In (told v s) (rules t v s) b (in_difference b j)).0 e
 
   apart : (n : List ℕ) → In n d.removed → In n (map rule_name_of d.installed) → ⊥
   apart n i j =
@@ -67,7 +65,7 @@ module _ (t : Tables) (xs : List Fact) (s : Session) (g : Tag) (known : In s (ma
       record {
         rules_stay = stay;
         told_next = next;
-        left = (λ i. difference (next i) (stay i)) ∙ difference-first delta_limit (told v s) (rules t v s) (told_is_told xs s) names
+        left = (λ i. difference (next i) (stay i)) ∙ difference-first delta_limit (told v s) (rules t v s) (told_is_told xs s) names;
       }
 
 -- ---- nothing told is gone, where the session is not ended
@@ -163,12 +161,12 @@ module _ (h : Holding) (s : Session) (fs : List Fact) (fields : (f : Fact) → I
   ]
 
   older_with : (g : Tag) → ((m : List ℕ) (u : Tag) (x : Value) → In (Field (told_name s m) u x) h.facts → tag_cmp u g ≡ Less)
-    → (m : List ℕ) (u : Tag) (x : Value) → In (Field (told_name s m) u x) (h.facts ++ fs) → tag_cmp u g ≡ Less
+      → (m : List ℕ) (u : Tag) (x : Value) → In (Field (told_name s m) u x) (h.facts ++ fs) → tag_cmp u g ≡ Less
   older_with g older m u x j = elim (In-cases (Field (told_name s m) u x) h.facts fs j) [
     | inl k ↦ older m u x k
     | inr k ↦
-      let f = fields (Field (told_name s m) u x) k in
-      clash (is_told (RuleName m ∷ [])) refl (ap (λ (p : Path). is_told p.steps) (same_field (told_name s m) (part f.name s) u f.tag x f.value f.is).0)
+        let f = fields (Field (told_name s m) u x) k in
+        clash (is_told (RuleName m ∷ [])) refl (ap (λ (p : Path). is_told p.steps) (same_field (told_name s m) (part f.name s) u f.tag x f.value f.is).0)
   ]
 
 -- the facts of a holding with an operation, as one list
@@ -199,14 +197,14 @@ provisioning-tells t i h q rows stamped alive =
     let open_ : is_gone (h.facts ++ fs) (whole s) ≡ false = gone_with h s fs fields (sym (ended_is h.facts s) ∙ alive) in
     let own : Fact = Field (host s) (next_tag i h q.number) (Text q.host) in
     let there : In own (h.facts ++ fs) = In-right own h.facts fs (In-right own
-      (given (address s) (next_tag i h q.number) Address q.address ++ given (apn s) (next_tag i h q.number) Text q.apn ++ given_list (subscribers s) (next_tag i h q.number) Subscribers q.subscribers)
-      (own ∷ Field (realm s) (next_tag i h q.number) (Text q.realm) ∷ Field (last s) (next_tag i h q.number) (Number (kind_value q.kind)) ∷ []) (inl refl)) in
+    (given (address s) (next_tag i h q.number) Address q.address ++ given (apn s) (next_tag i h q.number) Text q.apn ++ given_list (subscribers s) (next_tag i h q.number) Subscribers q.subscribers)
+    (own ∷ Field (realm s) (next_tag i h q.number) (Text q.realm) ∷ Field (last s) (next_tag i h q.number) (Number (kind_value q.kind)) ∷ []) (inl refl)) in
     let new : List Fact = told_facts s g (delta_of t (view (h.facts ++ fs)) s) in
     let told_so : TellsTheFirst t (view (h.facts ++ fs)) (view (h.facts ++ fs ++ new)) s =
-      tells_the_first t (h.facts ++ fs) s g (In-map session_of own (h.facts ++ fs) there)
-      (older_with h s fs fields g (above_all h i stamped s))
-      (λ n. told_not_gone (h.facts ++ fs) s n (kinds_with h s fs fields stamped.kinds) open_)
-      (rules-names_differ t (h.facts ++ fs) s rows (fit_with h s fs fields stamped.fits)) in
+    tells_the_first t (h.facts ++ fs) s g (In-map session_of own (h.facts ++ fs) there)
+    (older_with h s fs fields g (above_all h i stamped s))
+    (λ n. told_not_gone (h.facts ++ fs) s n (kinds_with h s fs fields stamped.kinds) open_)
+    (rules-names_differ t (h.facts ++ fs) s rows (fit_with h s fs fields stamped.fits)) in
     subst (λ (w : View). TellsTheFirst t (view (h.facts ++ fs)) w s)
     (ap view (append_assoc h.facts fs new) ∙ sym (view-Same _ _ (one_list h.facts (fs ++ new))))
     told_so
@@ -228,9 +226,9 @@ pushing-tells t i h name s rows stamped is =
     let alive : is_live v s ≡ true = second_so (is_gx s.kind) _ (first_so _ _ (first_so _ _ (first_so _ _ r.1))) in
     let open_ : is_gone h.facts (whole s) ≡ false = sym (ended_is h.facts s) ∙ not_true _ (first_so _ _ alive) in
     let told_so : TellsTheFirst t v (view (h.facts ++ told_facts s g (delta_of t v s))) s =
-      tells_the_first t h.facts s g (sessions_are h.facts s r.0) (above_all h i stamped s)
-      (λ n. told_not_gone h.facts s n stamped.kinds open_)
-      (rules-names_differ t h.facts s rows stamped.fits) in
+    tells_the_first t h.facts s g (sessions_are h.facts s r.0) (above_all h i stamped s)
+    (λ n. told_not_gone h.facts s n stamped.kinds open_)
+    (rules-names_differ t h.facts s rows stamped.fits) in
     subst (λ (w : View). TellsTheFirst t v w s)
     (sym (view-Same _ _ (one_list h.facts (told_facts s g (delta_of t v s)))) ∙ ap (λ (o : Option Session). view (with_added h (option_map (λ z. next_operation i h 0 z (told_facts z g (delta_of t v z))) o)).facts) (sym is))
     told_so

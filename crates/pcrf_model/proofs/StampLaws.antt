@@ -1,9 +1,8 @@
 -- What well-formed operations make has its counters below the clock.
-use Rattle.std.proofs.Common.{◌≡◌, ℕ, ◌≤◌, List, ◌⊎◌, refl, sym, subst, arith}
-use Rattle.lattice_core.specs.declared.tag.Tag.{Tag}
+use Rattle.std.proofs.Common.{List, refl, arith}
 use Rattle.pcrf_model.specs.Sets.{In}
 use Rattle.pcrf_model.specs.Paths.{told_name}
-use Rattle.pcrf_model.specs.Facts.{Fact, Field}
+use Rattle.pcrf_model.specs.Facts.{Field}
 use Rattle.pcrf_model.specs.Operations.{Operation, holding_of}
 use Rattle.pcrf_model.specs.Laws.{IsStamped, IsWellFormed}
 use Rattle.pcrf_model.proofs.UnionLaws.{In-holding, clock_above}
@@ -13,9 +12,9 @@ holding_of-stamped os w = record {
   kinds = λ f i e. let r = (In-holding f os).0 i in (w r.0 r.1 f r.2).kind e;
   fits = λ f i. let r = (In-holding f os).0 i in (w r.0 r.1 f r.2).fits;
   counters = λ p t x i.
-    let r = (In-holding (Field p t x) os).0 i in
-    let c = (w r.0 r.1 (Field p t x) r.2).tagged p t x refl in
-    let k = clock_above r.0 os r.1 in
-    omega (arith, c, k);
-  numbers = λ s n t x i. let r = (In-holding (Field (told_name s n) t x) os).0 i in (w r.0 r.1 (Field (told_name s n) t x) r.2).numbered s n t x refl
+      let r = (In-holding (Field p t x) os).0 i in
+      let c = (w r.0 r.1 (Field p t x) r.2).tagged p t x refl in
+      let k = clock_above r.0 os r.1 in
+      omega (arith, c, k);
+  numbers = λ s n t x i. let r = (In-holding (Field (told_name s n) t x) os).0 i in (w r.0 r.1 (Field (told_name s n) t x) r.2).numbered s n t x refl;
 }

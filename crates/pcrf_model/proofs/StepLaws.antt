@@ -1,11 +1,11 @@
 -- A site that keeps no overshadowed fact replies the same, and keeps the same.
-use Rattle.std.proofs.Common.{◌≡◌, ℕ, List, ◌∷◌, ◌++◌, take, length, [], ◌↔◌, Option, Some, None, refl, sym, ap, ◌∙◌, subst}
+use Rattle.std.proofs.Common.{◌≡◌, ℕ, List, ◌∷◌, ◌++◌, take, length, [], ◌↔◌, Option, Some, None, sym, ap, ◌∙◌}
 use Rattle.pcrf_model.specs.Holdings.{Holding, union, kept_of}
 use Rattle.pcrf_model.specs.Operations.{Operation, holding_of}
 use Rattle.pcrf_model.specs.Tables.{Tables}
-use Rattle.pcrf_model.specs.Replies.{ReplyValue, OnGx, Done, Refused, OnBase, Pushed, Taken, Own, Copy, Outcome}
+use Rattle.pcrf_model.specs.Replies.{ReplyValue, Taken, Copy, Outcome}
 use Rattle.pcrf_model.specs.Serving.{serve}
-use Rattle.pcrf_model.specs.Pushing.{push, lacks_counter}
+use Rattle.pcrf_model.specs.Pushing.{push}
 use Rattle.pcrf_model.specs.Steps.{SiteState, kept_state, SiteEvent, Serve, Push, Ops, Whole, AskOwn, AskWhole, adding, MayReply, stepped}
 use Rattle.pcrf_model.proofs.UnionLaws.{kept_of-union, kept_of_twice}
 use Rattle.pcrf_model.proofs.ReadingLaws.{serve-kept_of, push-kept_of, lacks_counter-kept_of}

@@ -1,24 +1,24 @@
 -- What a view shows once a gateway was told more of a session: the fields and the rules stay, and the told entries are those that were told, with the more applied.
-use Rattle.std.proofs.Common.{◌≡◌, ℕ, Bool, true, false, cond, not, ◌&&◌, List, [], ◌∷◌, ◌++◌, map, ◌⊎◌, ◌↔◌, Option, Some, None, inl, inr, refl, sym, ap, ◌∙◌, subst, option_map, option_and_then, Ordering, Less, Equal, Greater}
+use Rattle.std.proofs.Common.{◌≡◌, ℕ, Bool, true, false, cond, not, List, [], ◌∷◌, ◌++◌, map, ◌⊎◌, Option, Some, None, inl, inr, refl, sym, ap, ◌∙◌, subst, option_map, option_and_then, Less}
 use Rattle.std.specs.Ordering.{is_eq, is_lt, ordering_then}
-use Rattle.std.specs.Cmp.{both_ways, first_so, second_so, tied_itself}
+use Rattle.std.specs.Cmp.{both_ways}
 use Rattle.std.specs.List.{list_any, filter, filter_map, cons_option}
 use Rattle.lattice_core.specs.Ascending.{ascending}
 use Rattle.lattice_core.specs.RuleValues.{RuleValue, DeltaValue}
 use Rattle.lattice_core.specs.declared.tag.Tag.{Tag}
 use Rattle.lattice_core.specs.Told.{tag_cmp}
-use Rattle.pcrf_model.specs.Sets.{In, Same, Distinct, greatest}
+use Rattle.pcrf_model.specs.Sets.{In, Same}
 use Rattle.pcrf_model.specs.Sessions.{Session, session_cmp}
-use Rattle.pcrf_model.specs.Paths.{Step, Component, Flow, Part, RuleName, step_cmp, Path, path_cmp, is_front, is_at_or_above, whole, told_name}
+use Rattle.pcrf_model.specs.Paths.{Step, Component, Flow, Part, RuleName, Path, whole, told_name}
 use Rattle.pcrf_model.specs.Values.{Value, Untold, Told, value_cmp, Entry, entry_cmp}
-use Rattle.pcrf_model.specs.Facts.{Fact, Gone, Field, session_of, fact_code}
+use Rattle.pcrf_model.specs.Facts.{Fact, Field, session_of}
 use Rattle.pcrf_model.specs.Holdings.{blocks, is_gone, entry_at, value_at, shown}
 use Rattle.pcrf_model.specs.Views.{View, Shown, shown_cmp, showing, view}
 use Rattle.pcrf_model.specs.Live.{is_live}
 use Rattle.pcrf_model.specs.Bindings.{bind, is_bound_to}
 use Rattle.pcrf_model.specs.Tables.{Tables}
 use Rattle.pcrf_model.specs.Rules.{flow_at, rule_of, rule_at, operator_rules, listed_cmp, rules}
-use Rattle.pcrf_model.specs.Differences.{ToldRule, told_cmp, told_entry, told, rule_name_of, IsTold, as_told, stays, apply}
+use Rattle.pcrf_model.specs.Differences.{ToldRule, told_cmp, told_entry, told, rule_name_of, as_told, stays, apply}
 use Rattle.pcrf_model.specs.Making.{told_facts}
 use Rattle.pcrf_model.proofs.SetLaws.{clash, is_false, In-left, In-right, In-cases, In-filter, filter-In, In-any, any-In, In-map, map-In, In-filter_map, filter_map-In, greatest-Same}
 use Rattle.lattice_core.specs.Orders.{text_cmp}
@@ -100,11 +100,11 @@ module _ (xs ts : List Fact) (s : Session) (tells : (f : Fact) → In f ts → T
 
   pub gone_same : (p : Path) → is_gone (xs ++ ts) p ≡ is_gone xs p
   gone_same p = both_ways _ _
-    (λ h. let r = any-In (blocks p) (xs ++ ts) h in elim (In-cases r.0 xs ts r.1) [
-      | inl i ↦ In-any (blocks p) r.0 xs i r.2
-      | inr i ↦ clash (blocks p r.0) r.2 (blocks_none p r.0 i)
-    ])
-    (λ h. let r = any-In (blocks p) xs h in In-any (blocks p) r.0 (xs ++ ts) (In-left r.0 xs ts r.1) r.2)
+      (λ h. let r = any-In (blocks p) (xs ++ ts) h in elim (In-cases r.0 xs ts r.1) [
+        | inl i ↦ In-any (blocks p) r.0 xs i r.2
+        | inr i ↦ clash (blocks p r.0) r.2 (blocks_none p r.0 i)
+      ])
+      (λ h. let r = any-In (blocks p) xs h in In-any (blocks p) r.0 (xs ++ ts) (In-left r.0 xs ts r.1) r.2)
 
   -- a path of which they say nothing shows what it showed
   pub shown_same : (p : Path) → ((f : Fact) → In f ts → entry_at p f ≡ None) → shown (xs ++ ts) p ≡ shown xs p
@@ -119,7 +119,8 @@ module _ (xs ts : List Fact) (s : Session) (tells : (f : Fact) → In f ts → T
         λ h. let r = filter_map-In (entry_at p) e (xs ++ ts) h in elim (In-cases r.0 xs ts r.1) [
           | inl i ↦ In-filter_map (entry_at p) r.0 e xs i r.2
           | inr i ↦ no_some e (sym (quiet r.0 i) ∙ r.2)
-        ])
+        ],
+      )
 
       values : value_at (xs ++ ts) p ≡ value_at xs p
       values = greatest-Same entry_cmp entry_ranked.total entry_ranked.same (filter_map (entry_at p) xs) (filter_map (entry_at p) (xs ++ ts)) same
@@ -138,9 +139,10 @@ module _ (xs ts : List Fact) (s : Session) (tells : (f : Fact) → In f ts → T
   field_all : Same (filter is_field w.all) (filter is_field v.all)
   field_all x = (
     λ h. let r = filter-In is_field x w.all h in
-      In-filter is_field x v.all (In-all xs x.0 x.1 (sym (shown_same x.0 (quiet_field x.0 (not_true _ r.1))) ∙ all_shows (xs ++ ts) s x r.0)) r.1,
+        In-filter is_field x v.all (In-all xs x.0 x.1 (sym (shown_same x.0 (quiet_field x.0 (not_true _ r.1))) ∙ all_shows (xs ++ ts) s x r.0)) r.1,
     λ h. let r = filter-In is_field x v.all h in
-      In-filter is_field x w.all (In-all (xs ++ ts) x.0 x.1 (shown_same x.0 (quiet_field x.0 (not_true _ r.1)) ∙ all_shows xs s x r.0)) r.1)
+        In-filter is_field x w.all (In-all (xs ++ ts) x.0 x.1 (shown_same x.0 (quiet_field x.0 (not_true _ r.1)) ∙ all_shows xs s x r.0)) r.1,
+  )
 
   same_sessions : In s (map session_of xs) → Same (map session_of (xs ++ ts)) (map session_of xs)
   same_sessions known z = (
@@ -148,24 +150,25 @@ module _ (xs ts : List Fact) (s : Session) (tells : (f : Fact) → In f ts → T
       | inl i ↦ subst (λ (a : Session). In a (map session_of xs)) (sym r.2) (In-map session_of r.0 xs i)
       | inr i ↦ subst (λ (a : Session). In a (map session_of xs)) (sym (r.2 ∙ ap session_of (tells r.0 i).is)) known
     ],
-    λ h. let r = map-In session_of z xs h in subst (λ (a : Session). In a (map session_of (xs ++ ts))) (sym r.2) (In-map session_of r.0 (xs ++ ts) (In-left r.0 xs ts r.1)))
+    λ h. let r = map-In session_of z xs h in subst (λ (a : Session). In a (map session_of (xs ++ ts))) (sym r.2) (In-map session_of r.0 (xs ++ ts) (In-left r.0 xs ts r.1)),
+  )
 
   -- so the fields are read the same
   fields_same : In s (map session_of xs) → fields_of w ≡ fields_of v
   unfolding view
   fields_same known =
       let all : filter is_field w.all ≡ filter is_field v.all =
-        same_ascending shown_cmp shown_ranked _ _
-        (filter-ascending shown_cmp is_field w.all (ascending-ascending shown_cmp shown_ranked (filter_map (showing (shown (xs ++ ts))) (xs ++ ts))))
-        (filter-ascending shown_cmp is_field v.all (ascending-ascending shown_cmp shown_ranked (filter_map (showing (shown xs)) xs)))
-        field_all in
+      same_ascending shown_cmp shown_ranked _ _
+      (filter-ascending shown_cmp is_field w.all (ascending-ascending shown_cmp shown_ranked (filter_map (showing (shown (xs ++ ts))) (xs ++ ts))))
+      (filter-ascending shown_cmp is_field v.all (ascending-ascending shown_cmp shown_ranked (filter_map (showing (shown xs)) xs)))
+      field_all in
       let sessions : ascending session_cmp (map session_of (xs ++ ts)) ≡ ascending session_cmp (map session_of xs) =
-        ascending-Same session_cmp session_ranked (map session_of (xs ++ ts)) (map session_of xs) (same_sessions known) in
+      ascending-Same session_cmp session_ranked (map session_of (xs ++ ts)) (map session_of xs) (same_sessions known) in
       λ i. record {
         shows = λ p. field_shows p (is_told p.steps) refl i;
         ended = λ a. gone_same (whole a) i;
         all = all i;
-        sessions = sessions i
+        sessions = sessions i;
       }
 
   -- and so are the rules
@@ -224,8 +227,8 @@ module _ (xs : List Fact) (s : Session) (g : Tag) (d : DeltaValue) where
         let is : r.0 ≡ Field p c.0.0 c.0.1 = entry_of p r.0 c.0 r.2 in
         let same : c.0 ≡ (g, x) = elim (In-cases r.0 xs ts r.1) [
           | inl j ↦
-            let l = older n c.0.0 c.0.1 (subst (λ (f : Fact). In f xs) is j) in
-            clash _ (ap is_lt (ap (λ o. ordering_then o (value_cmp c.0.1 x)) l)) (top.1 (g, x) here)
+              let l = older n c.0.0 c.0.1 (subst (λ (f : Fact). In f xs) is j) in
+              clash _ (ap is_lt (ap (λ o. ordering_then o (value_cmp c.0.1 x)) l)) (top.1 (g, x) here)
           | inr j ↦ from_new n x only c.0 (subst (λ (f : Fact). In f ts) is j)
         ] in
         ap (λ b. cond b None (value_at (xs ++ ts) p)) (gone_same xs ts s tells p ∙ open_ n) ∙ c.1 ∙ ap Some same
@@ -254,19 +257,19 @@ module _ (xs : List Fact) (s : Session) (g : Tag) (d : DeltaValue) where
 
       shows_untold : (n : List ℕ) → In n d.removed → shown (xs ++ ts) (told_name s n) ≡ Some (g, Untold)
       shows_untold n i = shows_new n Untold
-        (In-left (Field (told_name s n) g Untold) (map (λ n. Field (told_name s n) g Untold) d.removed) (map (λ (r : RuleValue). Field (told_name s r.name) g (Told r)) d.installed) (In-map (λ n. Field (told_name s n) g Untold) n d.removed i))
-        (λ y j. elim (of_name n y j) [
-          | inl q ↦ q.1
-          | inr q ↦ absurd (apart n i (subst (λ (m : List ℕ). In m (map rule_name_of d.installed)) (sym q.2) (In-map rule_name_of q.0 d.installed q.1)))
-        ])
+          (In-left (Field (told_name s n) g Untold) (map (λ n. Field (told_name s n) g Untold) d.removed) (map (λ (r : RuleValue). Field (told_name s r.name) g (Told r)) d.installed) (In-map (λ n. Field (told_name s n) g Untold) n d.removed i))
+          (λ y j. elim (of_name n y j) [
+            | inl q ↦ q.1
+            | inr q ↦ absurd (apart n i (subst (λ (m : List ℕ). In m (map rule_name_of d.installed)) (sym q.2) (In-map rule_name_of q.0 d.installed q.1)))
+          ])
 
       shows_told : (r : RuleValue) → In r d.installed → shown (xs ++ ts) (told_name s r.name) ≡ Some (g, Told r)
       shows_told r i = shows_new r.name (Told r)
-        (In-right (Field (told_name s r.name) g (Told r)) (map (λ n. Field (told_name s n) g Untold) d.removed) (map (λ (r : RuleValue). Field (told_name s r.name) g (Told r)) d.installed) (In-map (λ (r : RuleValue). Field (told_name s r.name) g (Told r)) r d.installed i))
-        (λ y j. elim (of_name r.name y j) [
-          | inl q ↦ absurd (apart r.name q.0 (In-map rule_name_of r d.installed i))
-          | inr q ↦ q.3 ∙ ap Told (sym (one_each r q.0 i q.1 q.2))
-        ])
+          (In-right (Field (told_name s r.name) g (Told r)) (map (λ n. Field (told_name s n) g Untold) d.removed) (map (λ (r : RuleValue). Field (told_name s r.name) g (Told r)) d.installed) (In-map (λ (r : RuleValue). Field (told_name s r.name) g (Told r)) r d.installed i))
+          (λ y j. elim (of_name r.name y j) [
+            | inl q ↦ absurd (apart r.name q.0 (In-map rule_name_of r d.installed i))
+            | inr q ↦ q.3 ∙ ap Told (sym (one_each r q.0 i q.1 q.2))
+          ])
 
       shows_old : (n : List ℕ) → (In n d.removed → ⊥) → (In n (map rule_name_of d.installed) → ⊥) → shown (xs ++ ts) (told_name s n) ≡ shown xs (told_name s n)
       shows_old n a b = shown_same xs ts s tells (told_name s n) (λ f i. elim (told-In f i) [
@@ -296,9 +299,9 @@ module _ (xs : List Fact) (s : Session) (g : Tag) (d : DeltaValue) where
             | inl j ↦ untold_not_told p.1 (ap (λ (z : Entry). z.1) (entries_of (g, Untold) (h.0, Told p.1) (sym (shows_untold p.0 j) ∙ h.1)))
             | inr a ↦ elim (is_among p.0 (map rule_name_of d.installed)) [
               | inl j ↦
-                let r = map-In rule_name_of p.0 d.installed j in
-                let q = one_told r.0 p.1 (ap (λ (z : Entry). z.1) (entries_of (g, Told r.0) (h.0, Told p.1) (sym (shows_told r.0 r.1) ∙ ap (λ (n : List ℕ). shown (xs ++ ts) (told_name s n)) (sym r.2) ∙ h.1))) in
-                subst (λ (z : ToldRule). In z (apply (told (view xs) s) d)) (λ k. (sym r.2 k, q k)) (installed_in (told (view xs) s) d r.0 r.1)
+                  let r = map-In rule_name_of p.0 d.installed j in
+                  let q = one_told r.0 p.1 (ap (λ (z : Entry). z.1) (entries_of (g, Told r.0) (h.0, Told p.1) (sym (shows_told r.0 r.1) ∙ ap (λ (n : List ℕ). shown (xs ++ ts) (told_name s n)) (sym r.2) ∙ h.1))) in
+                  subst (λ (z : ToldRule). In z (apply (told (view xs) s) d)) (λ k. (sym r.2 k, q k)) (installed_in (told (view xs) s) d r.0 r.1)
               | inr b ↦ stays_in (told (view xs) s) d p (In-told xs s p.0 h.0 p.1 (sym (shows_old p.0 a b) ∙ h.1)) (stays_if (told (view xs) s) d p a b)
             ]
           ]
@@ -306,14 +309,14 @@ module _ (xs : List Fact) (s : Session) (g : Tag) (d : DeltaValue) where
       told_backward : (p : ToldRule) → In p (apply (told (view xs) s) d) → In p (told (view (xs ++ ts)) s)
       told_backward p i = elim (there (told (view xs) s) d p i) [
         | inl r ↦
-          let h = told-shows xs s p r.0 in
-          In-told (xs ++ ts) s p.0 h.0 p.1 (shows_old p.0 (not_removed (told (view xs) s) d p r.1) (not_installed (told (view xs) s) d p r.1) ∙ h.1)
+            let h = told-shows xs s p r.0 in
+            In-told (xs ++ ts) s p.0 h.0 p.1 (shows_old p.0 (not_removed (told (view xs) s) d p r.1) (not_installed (told (view xs) s) d p r.1) ∙ h.1)
         | inr r ↦ subst (λ (z : ToldRule). In z (told (view (xs ++ ts)) s)) (sym r.2) (In-told (xs ++ ts) s r.0.name g r.0 (shows_told r.0 r.1))
       ]
 
       -- the told entries are those before, with the difference applied
       pub told_after : told (view (xs ++ ts)) s ≡ apply (told (view xs) s) d
       told_after = same_ascending told_cmp told_ranked _ _
-        (subst (IsAscending told_cmp) (told_is_told (xs ++ ts) s).in_order (ascending-ascending told_cmp told_ranked (told (view (xs ++ ts)) s)))
-        (ascending-ascending told_cmp told_ranked (filter (stays d) (told (view xs) s) ++ map as_told d.installed))
-        (λ p. (told_onward p, told_backward p))
+          (subst (IsAscending told_cmp) (told_is_told (xs ++ ts) s).in_order (ascending-ascending told_cmp told_ranked (told (view (xs ++ ts)) s)))
+          (ascending-ascending told_cmp told_ranked (filter (stays d) (told (view xs) s) ++ map as_told d.installed))
+          (λ p. (told_onward p, told_backward p))

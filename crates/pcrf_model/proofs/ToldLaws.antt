@@ -1,16 +1,14 @@
 -- The told entries of a session are in order, and no name comes twice.
-use Rattle.std.proofs.Common.{◌≡◌, ℕ, Bool, true, false, cond, List, [], ◌∷◌, map, ◌⊎◌, ◌↔◌, Option, Some, None, inl, inr, refl, sym, ap, ◌∙◌, subst, option_map, Ordering, Less, Equal, Greater}
+use Rattle.std.proofs.Common.{◌≡◌, ℕ, true, false, cond, List, [], ◌∷◌, map, Option, Some, None, refl, sym, ap, ◌∙◌, subst, option_map, Ordering, Less, Equal, Greater}
 use Rattle.std.specs.Ordering.{is_eq, is_lt, ordering_then}
 use Rattle.std.specs.Cmp.{tied_itself}
-use Rattle.std.specs.Cmp.Lexicographic.{slice_cmp}
 use Rattle.std.specs.List.{filter_map}
 use Rattle.lattice_core.specs.Orders.{text_cmp}
-use Rattle.lattice_core.specs.Ascending.{ascending}
 use Rattle.lattice_core.specs.declared.tag.Tag.{Tag}
-use Rattle.lattice_core.specs.RuleValues.{RuleValue, rule_cmp}
-use Rattle.pcrf_model.specs.Sets.{In, Distinct}
+use Rattle.lattice_core.specs.RuleValues.{rule_cmp}
+use Rattle.pcrf_model.specs.Sets.{In}
 use Rattle.pcrf_model.specs.Sessions.{Session, session_cmp}
-use Rattle.pcrf_model.specs.Paths.{Step, Component, Flow, Part, RuleName, step_cmp, Path, path_cmp, told_name}
+use Rattle.pcrf_model.specs.Paths.{Step, RuleName, Path, path_cmp, told_name}
 use Rattle.pcrf_model.specs.Values.{Value, Told, Entry, entry_cmp}
 use Rattle.pcrf_model.specs.Facts.{Fact, Gone, Field}
 use Rattle.pcrf_model.specs.Holdings.{shown}
@@ -75,10 +73,10 @@ module _ (facts : List Fact) (s : Session) where
   path_below x y i j l = elim (path_cmp x.0 y.0) as (λ r. path_cmp x.0 y.0 ≡ r → ordering_then r (entry_cmp x.1 y.1) ≡ Less → r ≡ Less) [
     | Less ↦ λ _ _. refl
     | Equal ↦ λ e _.
-      let p = path_ranked.same x.0 y.0 e in
-      let q = some_same x.1 y.1 (sym (all_shows x i) ∙ ap (shown facts) p ∙ all_shows y j) in
-      let same : x ≡ y = λ k. (p k, q k) in
-      clash _ (ap is_lt l) (ap is_lt (ap (shown_cmp x) (sym same) ∙ tied_itself shown_ranked.total x))
+        let p = path_ranked.same x.0 y.0 e in
+        let q = some_same x.1 y.1 (sym (all_shows x i) ∙ ap (shown facts) p ∙ all_shows y j) in
+        let same : x ≡ y = λ k. (p k, q k) in
+        clash _ (ap is_lt l) (ap is_lt (ap (shown_cmp x) (sym same) ∙ tied_itself shown_ranked.total x))
     | Greater ↦ λ _ m. m
   ] refl l
 
@@ -87,8 +85,8 @@ module _ (facts : List Fact) (s : Session) where
 
   by_name : IsAscending name_cmp (filter_map entry v.all)
   by_name = filter_map-ascending shown_cmp name_cmp entry v.all
-    (λ x y u w i j l e h. name_order s u.0 w.0 ((λ k. path_cmp (sym (at_name x u e).0 k) (sym (at_name y w h).0 k)) ∙ path_below x y i j l))
-    all_ascending
+      (λ x y u w i j l e h. name_order s u.0 w.0 ((λ k. path_cmp (sym (at_name x u e).0 k) (sym (at_name y w h).0 k)) ∙ path_below x y i j l))
+      all_ascending
 
   weaker : (us : List ToldRule) → IsAscending name_cmp us → IsAscending told_cmp us
   weaker [] a = tt
@@ -98,7 +96,7 @@ module _ (facts : List Fact) (s : Session) where
   unfolding told
   told_is_told = record {
     in_order = ascending-itself told_cmp told_ranked (filter_map entry v.all) (weaker (filter_map entry v.all) by_name);
-    one_each = Distinct-ascending text_cmp text_ranked (map told_name_of (filter_map entry v.all)) (map-ascending name_cmp text_cmp told_name_of (filter_map entry v.all) (λ x y i j l. l) by_name)
+    one_each = Distinct-ascending text_cmp text_ranked (map told_name_of (filter_map entry v.all)) (map-ascending name_cmp text_cmp told_name_of (filter_map entry v.all) (λ x y i j l. l) by_name);
   }
 
   -- an entry that was told is what its name shows

@@ -1,12 +1,11 @@
 -- Letters and worlds of the worked examples.
-use Rattle.std.specs.Prelude.{ℕ, List, [], ◌∷◌, Option, Some, None, Ok, length, slice_get}
+use Rattle.std.specs.Prelude.{ℕ, List, [], ◌∷◌, Option, None, Ok, length, slice_get}
 use Rattle.std.proofs.Common.{option_map}
-use Rattle.pcrf_model.specs.Holdings.{Holding, nothing_held, kept_of}
-use Rattle.pcrf_model.specs.Operations.{Operation}
+use Rattle.pcrf_model.specs.Holdings.{Holding}
 use Rattle.pcrf_model.specs.Replies.{Done}
-use Rattle.pcrf_model.specs.Letters.{LetterBody, Range, Snapshot, LetterValue}
+use Rattle.pcrf_model.specs.Letters.{LetterBody, Range, LetterValue}
 use Rattle.pcrf_model.specs.Cursors.{Cursor, CursorsValue, start_cursors, maker_entry, took}
-use Rattle.pcrf_model.specs.Worlds.{WorldEvent, ServeAt, Letter, Merge, Ack, Restart, WorldOutcome, Replied, Lettered, Merged, Restarted, WorldFault, WorldAnswer, SiteTook, SentLetter, WorldTook, start, LetterRule, by_cursors, whole_log, held, after_all}
+use Rattle.pcrf_model.specs.Worlds.{WorldEvent, ServeAt, Letter, Merge, Ack, Restart, Replied, Lettered, Merged, Restarted, WorldAnswer, SiteTook, SentLetter, WorldTook, start, LetterRule, by_cursors, held, after_all}
 use Rattle.pcrf_model.specs.Samples.{operator, first_session, host_address, initial, update}
 use Rattle.pcrf_model.specs.Scenes.{one}
 

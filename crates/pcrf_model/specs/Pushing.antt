@@ -3,11 +3,9 @@ use Rattle.std.specs.Prelude.{ℕ, ◌==◌, Bool, true, false, not, ◌&&◌, L
 use Rattle.std.proofs.Common.{option_map, unwrap_or}
 use Rattle.std.specs.Ordering.{is_eq}
 use Rattle.lattice_core.specs.Orders.{text_cmp}
-use Rattle.lattice_core.specs.RuleValues.{DeltaValue}
 use Rattle.pcrf_model.specs.Sessions.{Session, is_gx}
 use Rattle.pcrf_model.specs.Paths.{host, realm}
 use Rattle.pcrf_model.specs.Holdings.{Holding}
-use Rattle.pcrf_model.specs.Operations.{Operation}
 use Rattle.pcrf_model.specs.Views.{View, view, text}
 use Rattle.pcrf_model.specs.Live.{is_live, home}
 use Rattle.pcrf_model.specs.Tables.{Tables}
@@ -43,7 +41,7 @@ push t i h name =
     let v : View = view h.facts in
     record {
       reply = Pushed (option_map (push_to t v) (due t i v name));
-      added = option_map (λ s. next_operation i h 0 s (told_facts s (next_tag i h 0) (delta_of t v s))) (due t i v name)
+      added = option_map (λ s. next_operation i h 0 s (told_facts s (next_tag i h 0) (delta_of t v s))) (due t i v name);
     }
 
 -- something is due, and no counter is left for it

@@ -6,11 +6,11 @@ use Rattle.pcrf_model.specs.Sessions.{Session, gx, af}
 use Rattle.pcrf_model.specs.Holdings.{Holding}
 use Rattle.pcrf_model.specs.Operations.{Operation, with_operation}
 use Rattle.pcrf_model.specs.Views.{View, view}
-use Rattle.pcrf_model.specs.Tables.{Quality, Tables}
+use Rattle.pcrf_model.specs.Tables.{Tables}
 use Rattle.pcrf_model.specs.Rules.{rules, quality_of}
 use Rattle.pcrf_model.specs.Differences.{told, difference, first}
 use Rattle.pcrf_model.specs.Requests.{RequestKind, Initial, Update, Termination, CcrValue, AarValue, StrValue, BaseValue, RequestValue, Ccr, Aar, Str, Base, RefusalValue}
-use Rattle.pcrf_model.specs.Replies.{GxReplyValue, Granted, Rejected, ReplyValue, OnGx, Done, Refused, OnBase, Outcome}
+use Rattle.pcrf_model.specs.Replies.{Granted, Rejected, ReplyValue, OnGx, Done, Refused, OnBase, Outcome}
 use Rattle.pcrf_model.specs.Making.{ccr_fields, told_facts, end_facts, aar_facts, next_tag, next_operation}
 use Rattle.pcrf_model.specs.Refusals.{ccr_refusal, aar_refusal, str_refusal, base_refusal}
 

@@ -1,5 +1,5 @@
 -- Several sites and the letters between them: what each site took and made, read from the events and the answers alone.
-use Rattle.std.specs.Prelude.{ℕ, zero, suc, List, [], ◌∷◌, ◌++◌, take, drop, length, slice_get, slice_set, Option, Some, None, Result, Ok, Err}
+use Rattle.std.specs.Prelude.{ℕ, zero, suc, List, [], ◌∷◌, ◌++◌, take, slice_get, slice_set, Option, Some, None, Result, Ok, Err}
 use Rattle.std.proofs.Common.{option_to_list, option_map, option_and_then, unwrap_or}
 use Rattle.pcrf_model.specs.Holdings.{Holding, kept_of}
 use Rattle.pcrf_model.specs.Operations.{Operation, holding_of}
