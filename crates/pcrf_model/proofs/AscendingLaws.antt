@@ -5,8 +5,9 @@ use Rattle.std.specs.Cmp.{tied_itself}
 use Rattle.std.specs.FinMap.Entries.{by_order}
 use Rattle.lattice_core.specs.Ascending.{place, ascending}
 use Rattle.std.specs.List.{filter, filter_map, cons_option}
+use Rattle.pcrf_model.proofs.Plain.{clash}
 use Rattle.pcrf_model.specs.Sets.{In, Same, Distinct}
-use Rattle.pcrf_model.proofs.SetLaws.{Same-back, Same-through, clash, filter-In, map-In, filter_map-In}
+use Rattle.pcrf_model.proofs.SetLaws.{Same-back, Same-through, filter-In, map-In, filter_map-In}
 use Rattle.pcrf_model.proofs.Ranked.{IsRanked}
 
 module _ {A : Type 0} (cmp : A → A → Ordering) where

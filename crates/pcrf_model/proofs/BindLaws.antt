@@ -4,6 +4,7 @@ use Rattle.std.specs.Ordering.{is_eq, is_lt}
 use Rattle.std.specs.Cmp.{first_so, second_so, tied_itself}
 use Rattle.std.specs.List.{filter_map}
 use Rattle.lattice_core.specs.declared.tag.Tag.{Tag}
+use Rattle.pcrf_model.proofs.Plain.{clash, is_false, some_same, some_is, came_from, lt_less}
 use Rattle.pcrf_model.specs.Sets.{In, best, greatest}
 use Rattle.pcrf_model.specs.Sessions.{Kind, Gx, Af, Session, session_cmp, gx, is_gx}
 use Rattle.pcrf_model.specs.Paths.{Path, path_cmp, address}
@@ -14,7 +15,7 @@ use Rattle.pcrf_model.specs.Views.{View, view, has}
 use Rattle.pcrf_model.specs.Live.{is_live, has_what_it_needs}
 use Rattle.pcrf_model.specs.Bindings.{Candidate, candidate_cmp, standing, candidate, matches, bind}
 use Rattle.pcrf_model.specs.Laws.{IsBinding}
-use Rattle.pcrf_model.proofs.SetLaws.{clash, is_false, best-in, best-top, both_top, less_irr, less_trans, In-filter_map, filter_map-In, In-map}
+use Rattle.pcrf_model.proofs.SetLaws.{best-in, best-top, both_top, less_irr, less_trans, In-filter_map, filter_map-In, In-map}
 use Rattle.pcrf_model.proofs.Ranked.{IsRanked, nat_ranked, text_ranked, pair_ranked}
 use Rattle.pcrf_model.proofs.FactLaws.{path_ranked, session_ranked, entry_ranked, eq_is}
 use Rattle.pcrf_model.proofs.AscendingLaws.{ascending-In}
@@ -39,10 +40,6 @@ module _ {A : Type 0} (cmp : A → A → Ordering) (o : IsRanked cmp) where
   greatest_some (y ∷ ys) x i = (best (λ a b. is_lt (cmp a b)) y ys, refl)
 
 -- ---- what shows has a fact
-
-some_is : {A : Type 0} (x : Option A) → is_some x ≡ true → (y : A) × (x ≡ Some y)
-some_is None h = clash false h refl
-some_is (Some y) h = (y, refl)
 
 not_blocked : (b : Bool) (x : Option Entry) (e : Entry) → cond b None x ≡ Some e → x ≡ Some e
 not_blocked true x e h = absurd (cc)
@@ -125,10 +122,6 @@ module _ (facts : List Fact) (a : Session) where
       let w = shows_address s m in
       In-filter_map (candidate v a) s (stands s w.0) v.sessions (shows-In facts (address s) w.0 w.1) (candidate_of s (stands s w.0) m (standing_of s w.0 w.1))
 
-  came_from : (b : Bool) (x : Option Candidate) (c : Candidate) → cond b x None ≡ Some c → (b ≡ true) × (x ≡ Some c)
-  came_from true x c h = (refl, h)
-  came_from false x c h = absurd (cc)
-
   id_of : (s : Session) (x : Option Entry) (c : Candidate) → option_map (stands s) x ≡ Some c → s.id ≡ c.1.1
   id_of s None c h = absurd (cc)
   id_of s (Some e) c h = let same : stands s e ≡ c = cc in ap (λ (z : Candidate). z.1.1) same
@@ -140,15 +133,9 @@ module _ (facts : List Fact) (a : Session) where
       let w = came_from (matches v a r.0) (standing v r.0) c r.2 in
       (r.0, w.0, w.1, ap gx (sym (id_of r.0 (v.shows (address r.0)) c w.1)) ∙ gx_is r.0 r.0.kind refl (of_gx v a r.0 w.0))
 
-  some_same : {A : Type 0} (x y : A) → Some x ≡ Some y → x ≡ y
-  some_same x y h = cc
-
   bound_from : (x : Option Candidate) (s : Session) → option_map (λ (c : Candidate). gx c.1.1) x ≡ Some s → (c : Candidate) × (x ≡ Some c) × (gx c.1.1 ≡ s)
   bound_from None s h = absurd (cc)
   bound_from (Some c) s h = (c, refl, some_same _ _ h)
-
-  less_lt : (r : Ordering) → r ≡ Less → is_lt r ≡ true
-  less_lt r e = ap is_lt e
 
   onward : (s : Session) → bind v a ≡ Some s → IsBinding v a s
   unfolding bind
@@ -168,11 +155,6 @@ module _ (facts : List Fact) (a : Session) where
             clash _ (ap is_lt below) (g.1 (stands r e.0) (candidate-In r m));
       }
 
-  lt_or : (r : Ordering) → is_lt r ≡ true → r ≡ Less
-  lt_or Less h = refl
-  lt_or Equal h = clash false h refl
-  lt_or Greater h = clash false h refl
-
   backward : (s : Session) → IsBinding v a s → bind v a ≡ Some s
   unfolding bind
   backward s x =
@@ -186,7 +168,7 @@ module _ (facts : List Fact) (a : Session) where
         lower = stands s e.0;
         of_upper = w.2;
         of_lower = standing_of s e.0 e.1;
-        above = lt_or _ l;
+        above = lt_less _ l;
       })) in
       let same : stands s e.0 ≡ c.0 = both_top candidate_cmp candidate_ranked.total candidate_ranked.same (stands s e.0) c.0 not_above (g.1 (stands s e.0) i) in
       ap (option_map (λ (z : Candidate). gx z.1.1)) c.1 ∙ ap (λ (z : Candidate). Some (gx z.1.1)) (sym same) ∙ ap Some (gx_is s s.kind refl (of_gx v a s x.fits))

@@ -6,21 +6,14 @@ use Rattle.std.specs.List.{list_any}
 use Rattle.lattice_core.specs.Orders.{text_cmp}
 use Rattle.lattice_core.specs.Ascending.{ascending}
 use Rattle.lattice_core.specs.RuleValues.{RuleValue, DeltaValue, rule_cmp}
+use Rattle.pcrf_model.proofs.Plain.{clash, is_false, split, not_true, both}
 use Rattle.pcrf_model.specs.Sets.{In, Same, Distinct}
 use Rattle.pcrf_model.specs.Differences.{ToldRule, told_cmp, told_name_of, rule_name_of, has_name, holds, difference, as_told, stays, apply}
-use Rattle.pcrf_model.proofs.SetLaws.{clash, is_false, In-left, In-right, In-cases, In-filter, filter-In, In-any, any-In, any-none, In-map, map-In}
+use Rattle.pcrf_model.proofs.SetLaws.{In-left, In-right, In-cases, In-filter, filter-In, In-any, any-In, any-none, In-map, map-In}
 use Rattle.pcrf_model.proofs.DistinctLaws.{one_of_key}
 use Rattle.pcrf_model.proofs.Ranked.{IsRanked, text_ranked, pair_ranked}
-use Rattle.pcrf_model.proofs.FactLaws.{rule_ranked, eq_is, eq_itself, both}
+use Rattle.pcrf_model.proofs.FactLaws.{rule_ranked, eq_is, eq_itself}
 use Rattle.pcrf_model.proofs.AscendingLaws.{ascending-In, ascending-ascending, same_ascending}
-
-pub not_true : (b : Bool) → not b ≡ true → b ≡ false
-not_true true h = clash false h refl
-not_true false h = refl
-
-pub split : (b : Bool) → (b ≡ true) ⊎ (b ≡ false)
-split true = inl refl
-split false = inr refl
 
 pub told_ranked : IsRanked told_cmp
 told_ranked = pair_ranked text_ranked rule_ranked

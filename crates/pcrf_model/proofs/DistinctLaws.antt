@@ -1,8 +1,9 @@
 -- Lists in which no member comes twice: their parts, their filters, and what is left of a filter past its first members.
 use Rattle.std.proofs.Common.{◌≡◌, ℕ, zero, suc, Bool, true, false, cond, List, [], ◌∷◌, map, take, drop, ◌⊎◌, inl, inr, refl, sym, ap, ◌∙◌, subst}
 use Rattle.std.specs.List.{filter}
+use Rattle.pcrf_model.proofs.Plain.{clash}
 use Rattle.pcrf_model.specs.Sets.{In, Distinct}
-use Rattle.pcrf_model.proofs.SetLaws.{clash, filter-In, In-map, map-In}
+use Rattle.pcrf_model.proofs.SetLaws.{filter-In, In-map, map-In}
 
 module _ {A : Type 0} where
   pub take_or_drop : (n : ℕ) (x : A) (xs : List A) → In x xs → In x (take n xs) ⊎ In x (drop n xs)

@@ -10,8 +10,9 @@ use Rattle.pcrf_model.specs.Sessions.{Kind, Gx, Af, Session, kind_number, sessio
 use Rattle.pcrf_model.specs.Paths.{FieldName, FramedIpAddress, CalledStationId, SubscriptionIds, OriginHost, OriginRealm, RequestType, MediaType, FlowDescriptions, FlowUsage, FlowStatus, MaxRateUp, MaxRateDown, field_number, Step, Component, Flow, Part, RuleName, step_key, step_cmp, Path, path_cmp, is_front, is_at_or_above, is_above}
 use Rattle.pcrf_model.specs.Values.{Value, Number, Text, Address, Subscribers, Filters, Untold, Told, ValueKey, value_key, value_cmp, Entry, entry_cmp}
 use Rattle.pcrf_model.specs.Facts.{Fact, Gone, Field, session_of, fact_code, fact_key, fact_cmp, is_shaded_by}
+use Rattle.pcrf_model.proofs.Plain.{clash, is_false, both}
 use Rattle.pcrf_model.proofs.Ranked.{IsRanked, nat_ranked, list_ranked, text_ranked, pair_ranked, either_ranked, on_ranked}
-use Rattle.pcrf_model.proofs.SetLaws.{clash, is_false, less_irr, less_trans}
+use Rattle.pcrf_model.proofs.SetLaws.{less_irr, less_trans}
 
 abbrev kind_back : ℕ → Kind
 kind_back zero = Gx
@@ -123,10 +124,6 @@ eq_is {R = R} o x y e = o.same x y ((Equal-is (R x y)).0 e)
 
 pub eq_itself : {A : Type 0} {R : A → A → Ordering} → IsRanked R → (x : A) → is_eq (R x x) ≡ true
 eq_itself o x = ap is_eq (tied_itself o.total x)
-
-pub both : (a b : Bool) → a ≡ true → b ≡ true → (a && b) ≡ true
-both true b h k = k
-both false b h k = clash false h refl
 
 front_through : (xs ys zs : List Step) → is_front xs ys ≡ true → is_front ys zs ≡ true → is_front xs zs ≡ true
 front_through [] ys zs h k = refl

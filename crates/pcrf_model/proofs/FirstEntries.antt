@@ -4,13 +4,14 @@ use Rattle.std.specs.Ordering.{is_lt, ordering_then}
 use Rattle.std.specs.Cmp.{tied_itself}
 use Rattle.lattice_core.specs.Orders.{text_cmp}
 use Rattle.lattice_core.specs.RuleValues.{RuleValue, DeltaValue, rule_cmp}
+use Rattle.pcrf_model.proofs.Plain.{clash, is_false, split, not_true}
 use Rattle.pcrf_model.specs.Sets.{In, Same, Distinct}
 use Rattle.pcrf_model.specs.Differences.{ToldRule, told_cmp, told_name_of, rule_name_of, IsTold, holds, difference, first, rest, as_told, stays, apply}
-use Rattle.pcrf_model.proofs.SetLaws.{clash, is_false, In-filter, filter-In, In-map, map-In}
+use Rattle.pcrf_model.proofs.SetLaws.{In-filter, filter-In, In-map, map-In}
 use Rattle.pcrf_model.proofs.DistinctLaws.{take_or_drop, take-In, drop-In, not_in_both, Distinct-of_map, filter_past}
 use Rattle.pcrf_model.proofs.Ranked.{text_ranked}
 use Rattle.pcrf_model.proofs.AscendingLaws.{IsAscending, map-ascending, ascending-ascending, same_ascending, filter-ascending, drop-ascending, Distinct-ascending}
-use Rattle.pcrf_model.proofs.DifferenceLaws.{not_true, split, told_ranked, held, holds_one, stays_if, not_removed, not_installed, there, stays_in, installed_in, lacks, removed-In, installed-In, lacks_none, same_rule, same_told, none_anew}
+use Rattle.pcrf_model.proofs.DifferenceLaws.{told_ranked, held, holds_one, stays_if, not_removed, not_installed, there, stays_in, installed_in, lacks, removed-In, installed-In, lacks_none, same_rule, same_told, none_anew}
 
 -- the name is below, where the entries are in order and no two have one name
 name_below : (p q : ToldRule) → told_cmp p q ≡ Less → (p.0 ≡ q.0 → p ≡ q) → text_cmp p.0 q.0 ≡ Less

@@ -6,6 +6,7 @@ pub mod FactLaws
 pub mod FirstEntries
 pub mod FormLaws
 pub mod NameLaws
+pub mod Plain
 pub mod ProvisionLaws
 pub mod Ranked
 pub mod ReadingLaws

@@ -6,6 +6,7 @@ use Rattle.lattice_core.specs.Ascending.{ascending}
 use Rattle.lattice_core.specs.RuleValues.{RuleValue, DeltaValue}
 use Rattle.lattice_core.specs.declared.tag.Tag.{Tag}
 use Rattle.lattice_core.specs.Told.{tag_cmp}
+use Rattle.pcrf_model.proofs.Plain.{clash, is_false, not_true, both}
 use Rattle.pcrf_model.specs.Sets.{In, Same, Distinct}
 use Rattle.pcrf_model.specs.Sessions.{Session, session_cmp, gx, is_gx}
 use Rattle.pcrf_model.specs.Paths.{FieldName, Step, Component, Flow, Part, RuleName, Path, is_front, whole, part, address, apn, subscribers, host, realm, last, told_name}
@@ -22,11 +23,11 @@ use Rattle.pcrf_model.specs.Making.{given, given_list, ccr_fields, kind_value, t
 use Rattle.pcrf_model.specs.Serving.{delta_limit, delta_of, provisioned, with_added}
 use Rattle.pcrf_model.specs.Pushing.{is_due, due, push}
 use Rattle.pcrf_model.specs.Laws.{NamesRulesApart, FitTheirAvps, NumbersFit, IsStamped, TellsTheFirst}
-use Rattle.pcrf_model.proofs.SetLaws.{clash, is_false, In-right, In-cases, In-any, any-In, In-map, map-In, Same-itself, Same-through, Same-append}
-use Rattle.pcrf_model.proofs.FactLaws.{session_ranked, fact_ranked, both}
+use Rattle.pcrf_model.proofs.SetLaws.{In-right, In-cases, In-any, any-In, In-map, map-In, Same-itself, Same-through, Same-append}
+use Rattle.pcrf_model.proofs.FactLaws.{session_ranked, fact_ranked}
 use Rattle.pcrf_model.proofs.AscendingLaws.{ascending-In}
 use Rattle.pcrf_model.proofs.DistinctLaws.{take-In, one_of_key}
-use Rattle.pcrf_model.proofs.DifferenceLaws.{not_true, no_name_twice, installed-In}
+use Rattle.pcrf_model.proofs.DifferenceLaws.{no_name_twice, installed-In}
 use Rattle.pcrf_model.proofs.FirstEntries.{difference-first}
 use Rattle.pcrf_model.proofs.RuleNames.{rules-names_differ}
 use Rattle.pcrf_model.proofs.ToldLaws.{told_is_told}

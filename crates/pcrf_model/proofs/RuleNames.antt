@@ -7,6 +7,7 @@ use Rattle.std.specs.List.{filter_map}
 use Rattle.std.proofs.lemmas.List.{append_cancel_left}
 use Rattle.lattice_core.specs.Ascending.{ascending}
 use Rattle.lattice_core.specs.RuleValues.{RuleValue}
+use Rattle.pcrf_model.proofs.Plain.{clash, some_same, came_from}
 use Rattle.pcrf_model.specs.Sets.{In, Distinct}
 use Rattle.pcrf_model.specs.Sessions.{Kind, Gx, Af, Session, session_cmp, is_gx}
 use Rattle.pcrf_model.specs.Paths.{FlowDescriptions, Step, Component, Flow, Part, Path, apn}
@@ -21,7 +22,7 @@ use Rattle.pcrf_model.specs.Flows.{FlowId, filters, class_of, flow_rule_name, fl
 use Rattle.pcrf_model.specs.Rules.{flow_at, rule_of, rule_at, apn_of, operator_rule, operator_rules, flow_rules, listed_cmp, rules}
 use Rattle.pcrf_model.specs.Differences.{rule_name_of}
 use Rattle.pcrf_model.specs.Laws.{NamesRulesApart, FitTheirAvps, NumbersFit}
-use Rattle.pcrf_model.proofs.SetLaws.{clash, In-cases, filter_map-In, map-In}
+use Rattle.pcrf_model.proofs.SetLaws.{In-cases, filter_map-In, map-In}
 use Rattle.pcrf_model.proofs.Ranked.{IsRanked, nat_ranked, pair_ranked, on_ranked}
 use Rattle.pcrf_model.proofs.FactLaws.{rule_ranked}
 use Rattle.pcrf_model.proofs.AscendingLaws.{ascending-In, ascending-ascending, Distinct-ascending}
@@ -32,9 +33,6 @@ use Rattle.pcrf_model.proofs.NameLaws.{heads, parts_of_name}
 
 listed_ranked : IsRanked listed_cmp
 listed_ranked = on_ranked (λ (r : RuleValue). (r.precedence, r)) (λ p. p.1) (λ _. refl) (pair_ranked nat_ranked rule_ranked)
-
-some_same : {A : Type 0} (x y : A) → Some x ≡ Some y → x ≡ y
-some_same x y h = cc
 
 -- ---- the operator's
 
@@ -59,10 +57,6 @@ one_op (Some r) apart x y i j e =
     w.2 ∙ ap operator_rule (one_of_key (λ (x : OperatorRule). x.name) r.rules (apart r refl) w.0 z.0 w.1 z.1 same) ∙ sym z.2
 
 -- ---- the flows'
-
-came_from : {A : Type 0} (b : Bool) (x : Option A) (y : A) → cond b x None ≡ Some y → (b ≡ true) × (x ≡ Some y)
-came_from true x y h = (refl, h)
-came_from false x y h = absurd (cc)
 
 and_then : {A B : Type 0} (f : A → Option B) (x : Option A) (y : B) → option_and_then f x ≡ Some y → (z : A) × (x ≡ Some z) × (f z ≡ Some y)
 and_then f None y h = absurd (cc)

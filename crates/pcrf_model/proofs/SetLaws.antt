@@ -4,26 +4,8 @@ use Rattle.std.specs.List.{list_any, filter, filter_map, cons_option}
 use Rattle.std.specs.Ordering.{is_lt, ordering_reverse}
 use Rattle.std.specs.Cmp.{both_ways, IsTotalOrder, tied_itself}
 use Rattle.lattice_core.specs.Same.{IsExact}
+use Rattle.pcrf_model.proofs.Plain.{clash, is_false, not_true, or_true, or_left, or_right, none_some, lt_less}
 use Rattle.pcrf_model.specs.Sets.{In, Same, best, greatest, maximal}
-
-pub clash : {P : Type 0} (b : Bool) → b ≡ true → b ≡ false → P
-clash b t f = absurd (true≢false (sym t ∙ f))
-
-pub is_false : (b : Bool) → (b ≡ true → ⊥) → b ≡ false
-is_false true h = absurd (h refl)
-is_false false h = refl
-
-pub or_true : (a b : Bool) → (a || b) ≡ true → (a ≡ true) ⊎ (b ≡ true)
-or_true true b h = inl refl
-or_true false b h = inr h
-
-pub or_left : (a b : Bool) → a ≡ true → (a || b) ≡ true
-or_left true b h = refl
-or_left false b h = clash false h refl
-
-pub or_right : (a b : Bool) → b ≡ true → (a || b) ≡ true
-or_right true b h = refl
-or_right false b h = h
 
 module _ {A : Type 0} where
   pub In-left : (x : A) (xs ys : List A) → In x xs → In x (xs ++ ys)
@@ -161,12 +143,8 @@ module _ {A : Type 0} where
         stay ih f (inr (inl q)) = ap (below (best below x zs)) q ∙ not_past x _ z (best-above x zs) f
         stay ih f (inr (inr q)) = ih y (inr q)
 
-    not_not : (b : Bool) → not b ≡ true → b ≡ false
-    not_not true h = clash false h refl
-    not_not false h = refl
-
     pub maximal-In : (x : A) (xs : List A) → In x (maximal below xs) → In x xs × ((y : A) → In y xs → below x y ≡ false)
-    maximal-In x xs h = let r = filter-In (λ y. not (list_any (below y) xs)) x xs h in (r.0, none-any (below x) xs (not_not _ r.1))
+    maximal-In x xs h = let r = filter-In (λ y. not (list_any (below y) xs)) x xs h in (r.0, none-any (below x) xs (not_true _ r.1))
 
     pub In-maximal : (x : A) (xs : List A) → In x xs → ((y : A) → In y xs → below x y ≡ false) → In x (maximal below xs)
     In-maximal x xs h f = In-filter (λ y. not (list_any (below y) xs)) x xs h (ap not (any-none (below x) xs f))
@@ -226,11 +204,6 @@ module _ {A : Type 0} where
     abbrev less : A → A → Bool
     less x y = is_lt (cmp x y)
 
-    lt_less : (r : Ordering) → is_lt r ≡ true → r ≡ Less
-    lt_less Less h = refl
-    lt_less Equal h = clash false h refl
-    lt_less Greater h = clash false h refl
-
     pub less_irr : (x : A) → less x x ≡ false
     less_irr x = ap is_lt (tied_itself o x)
 
@@ -271,9 +244,6 @@ module _ {A : Type 0} where
     greatest-Same xs ys s = greatest_reached xs ys (λ x. (s x).1) (λ x i. (x, (s x).0 i, inl refl))
 
 module _ {A B : Type 0} (h : A → Option B) where
-  none_some : {P : Type 0} (y : B) → None ≡ Some y → P
-  none_some y e = cc
-
   pub In-filter_map : (x : A) (y : B) (xs : List A) → In x xs → h x ≡ Some y → In y (filter_map h xs)
   In-filter_map x y [] i e = absurd i
   In-filter_map x y (z ∷ zs) (inl q) e = subst (λ (r : Option B). In y (cons_option r (filter_map h zs))) (sym e ∙ ap h q) (inl refl)

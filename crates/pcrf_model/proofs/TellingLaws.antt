@@ -7,6 +7,7 @@ use Rattle.lattice_core.specs.Ascending.{ascending}
 use Rattle.lattice_core.specs.RuleValues.{RuleValue, DeltaValue}
 use Rattle.lattice_core.specs.declared.tag.Tag.{Tag}
 use Rattle.lattice_core.specs.Told.{tag_cmp}
+use Rattle.pcrf_model.proofs.Plain.{clash, is_false, split, not_true}
 use Rattle.pcrf_model.specs.Sets.{In, Same}
 use Rattle.pcrf_model.specs.Sessions.{Session, session_cmp}
 use Rattle.pcrf_model.specs.Paths.{Step, Component, Flow, Part, RuleName, Path, whole, told_name}
@@ -20,7 +21,7 @@ use Rattle.pcrf_model.specs.Tables.{Tables}
 use Rattle.pcrf_model.specs.Rules.{flow_at, rule_of, rule_at, operator_rules, listed_cmp, rules}
 use Rattle.pcrf_model.specs.Differences.{ToldRule, told_cmp, told_entry, told, rule_name_of, as_told, stays, apply}
 use Rattle.pcrf_model.specs.Making.{told_facts}
-use Rattle.pcrf_model.proofs.SetLaws.{clash, is_false, In-left, In-right, In-cases, In-filter, filter-In, In-any, any-In, In-map, map-In, In-filter_map, filter_map-In, greatest-Same}
+use Rattle.pcrf_model.proofs.SetLaws.{In-left, In-right, In-cases, In-filter, filter-In, In-any, any-In, In-map, map-In, In-filter_map, filter_map-In, greatest-Same}
 use Rattle.lattice_core.specs.Orders.{text_cmp}
 use Rattle.pcrf_model.proofs.Ranked.{text_ranked}
 use Rattle.pcrf_model.proofs.FactLaws.{session_ranked, path_ranked, entry_ranked, eq_is, eq_itself}
@@ -28,7 +29,7 @@ use Rattle.pcrf_model.proofs.AscendingLaws.{IsAscending, ascending-In, ascending
 use Rattle.pcrf_model.proofs.ViewLaws.{shown_ranked}
 use Rattle.pcrf_model.proofs.BindLaws.{entry_of, fact_there, greatest_is, greatest_some}
 use Rattle.pcrf_model.proofs.ToldLaws.{all_shows, told-shows, told_is_told}
-use Rattle.pcrf_model.proofs.DifferenceLaws.{not_true, split, told_ranked, there, stays_if, stays_in, installed_in, not_removed, not_installed}
+use Rattle.pcrf_model.proofs.DifferenceLaws.{told_ranked, there, stays_if, stays_in, installed_in, not_removed, not_installed}
 
 -- ---- what is read without the told entries
 

@@ -6,6 +6,7 @@ use Rattle.std.specs.List.{filter_map}
 use Rattle.lattice_core.specs.Orders.{text_cmp}
 use Rattle.lattice_core.specs.declared.tag.Tag.{Tag}
 use Rattle.lattice_core.specs.RuleValues.{rule_cmp}
+use Rattle.pcrf_model.proofs.Plain.{clash, some_same}
 use Rattle.pcrf_model.specs.Sets.{In}
 use Rattle.pcrf_model.specs.Sessions.{Session, session_cmp}
 use Rattle.pcrf_model.specs.Paths.{Step, RuleName, Path, path_cmp, told_name}
@@ -14,7 +15,7 @@ use Rattle.pcrf_model.specs.Facts.{Fact, Gone, Field}
 use Rattle.pcrf_model.specs.Holdings.{shown}
 use Rattle.pcrf_model.specs.Views.{View, Shown, shown_cmp, showing, view}
 use Rattle.pcrf_model.specs.Differences.{ToldRule, told_cmp, told_entry, told, told_name_of, IsTold}
-use Rattle.pcrf_model.proofs.SetLaws.{clash, filter_map-In}
+use Rattle.pcrf_model.proofs.SetLaws.{filter_map-In}
 use Rattle.pcrf_model.proofs.Ranked.{text_ranked}
 use Rattle.pcrf_model.proofs.FactLaws.{session_ranked, path_ranked, eq_is}
 use Rattle.pcrf_model.proofs.AscendingLaws.{IsAscending, map-ascending, filter_map-ascending, ascending-In, ascending-ascending, ascending-itself, Distinct-ascending}
@@ -29,9 +30,6 @@ name_order s n m l = past (text_cmp n m) (ap (λ r. ordering_then r (ordering_th
     past Less h = refl
     past Equal h = absurd (cc)
     past Greater h = absurd (cc)
-
-some_same : {A : Type 0} (x y : A) → Some x ≡ Some y → x ≡ y
-some_same x y h = cc
 
 -- an entry stands at its name's path, with its rule
 entry_path : (steps : List Step) (x : Value) (u : ToldRule) → told_entry steps x ≡ Some u → (steps ≡ RuleName u.0 ∷ []) × (x ≡ Told u.1)

@@ -26,6 +26,7 @@ flow_of steps = None
 abbrev pub flows : View → Session → List (ℕ × ℕ)
 flows v a = ascending (pair_cmp nat_cmp nat_cmp) (filter_map (λ (x : Shown). cond (is_eq (session_cmp x.0.session a)) (flow_of x.0.steps) None) v.all)
 
+-- the first, where it is there, else the second
 abbrev pub or_else : {A : Type 0} → Option A → Option A → Option A
 or_else None y = y
 or_else (Some x) y = Some x
@@ -38,9 +39,11 @@ of_flow v i f = number v (flow_part i.session i.component i.flow f)
 abbrev pub of_component : View → FlowId → FieldName → Option ℕ
 of_component v i f = number v (component_part i.session i.component f)
 
+-- the filters that the flow shows
 abbrev pub filters : View → FlowId → Option (List (List ℕ))
 filters v i = option_and_then as_filters (value v (flow_part i.session i.component i.flow FlowDescriptions))
 
+-- the flow shows that Flow-Usage
 abbrev pub has_usage : View → FlowId → ℕ → Bool
 has_usage v i u = unwrap_or (option_map (λ n. n == u) (of_flow v i FlowUsage)) false
 

@@ -22,6 +22,7 @@ blocks p (Field q t v) = false
 abbrev pub is_gone : List Fact → Path → Bool
 is_gone facts p = list_any (blocks p) facts
 
+-- the tag and value of the fact, if it is a field at that path
 abbrev pub entry_at : Path → Fact → Option Entry
 entry_at p (Gone q) = None
 entry_at p (Field q t v) = cond (is_eq (path_cmp p q)) (Some (t, v)) None
@@ -52,6 +53,7 @@ pub record Holding : Type 0 where
   pub facts : List Fact
   pub clock : ℕ
 
+-- no fact, and the clock at its beginning
 abbrev pub nothing_held : Holding
 nothing_held = record { facts = []; clock = 0 }
 

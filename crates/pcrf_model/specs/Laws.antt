@@ -41,9 +41,11 @@ KeepsOnce = (h : Holding) → kept_of (kept_of h) ≡ kept_of h
 
 -- ---- unions
 
+-- the union does not depend on the order of two
 abbrev pub UnionIsCommutative : Type 0
 UnionIsCommutative = (h k : Holding) → union h k ≡ union k h
 
+-- nor on how three are put together
 abbrev pub UnionIsAssociative : Type 0
 UnionIsAssociative = (h k l : Holding) → union (union h k) l ≡ union h (union k l)
 
@@ -82,9 +84,11 @@ pub record ReadsTheSame (v w : View) : Type 0 where
   pub entries : (s : Session) → told v s ≡ told w s
   pub differences : (t : Tables) (s : Session) → difference (told v s) (rules t v s) ≡ difference (told w s) (rules t w s)
 
+-- so of what is kept
 abbrev pub KeptReadsTheSame : Type 0
 KeptReadsTheSame = (facts : List Fact) → ReadsTheSame (view (kept facts)) (view facts)
 
+-- so of lists with the same members
 abbrev pub MembersReadTheSame : Type 0
 MembersReadTheSame = (xs ys : List Fact) → Same xs ys → ReadsTheSame (view xs) (view ys)
 
@@ -96,6 +100,7 @@ KeptHasTheSameValue = (t : Tables) (h : Holding) → operator_value t (kept_of h
 abbrev pub KeptServesTheSame : Type 0
 KeptServesTheSame = (t : Tables) (i : ℕ) (h : Holding) (q : RequestValue) → serve t i (kept_of h) q ≡ serve t i h q
 
+-- a site pushes the same from what is kept, and lacks a counter for it just then
 abbrev pub KeptPushesTheSame : Type 0
 KeptPushesTheSame = (t : Tables) (i : ℕ) (h : Holding) (name : Option (List ℕ)) → (push t i (kept_of h) name ≡ push t i h name) × (lacks_counter t i (kept_of h) name ≡ lacks_counter t i h name)
 
@@ -161,6 +166,7 @@ FitTheirAvps (Flow n ∷ steps) = (n < 2 ^ 32) × FitTheirAvps steps
 FitTheirAvps (Part f ∷ steps) = FitTheirAvps steps
 FitTheirAvps (RuleName n ∷ steps) = FitTheirAvps steps
 
+-- all facts have numbers that fit
 abbrev pub NumbersFit : List Fact → Type 0
 NumbersFit facts = (f : Fact) → In f facts → FitTheirAvps (path_of f).steps
 

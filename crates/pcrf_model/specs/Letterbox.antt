@@ -11,6 +11,7 @@ use Rattle.pcrf_model.specs.Scenes.{one}
 
 -- ---- cursors of site 1 for the operations of site 0
 
+-- a letter of site 0 in that epoch
 abbrev pub letter : ℕ → LetterBody → LetterValue
 letter epoch body = record { edition = 7; site = 0; epoch = epoch; body = body }
 
@@ -18,6 +19,7 @@ letter epoch body = record { edition = 7; site = 0; epoch = epoch; body = body }
 abbrev pub range_at : ℕ → LetterValue
 range_at n = letter 1 (Range n one.log)
 
+-- the cursors of site 1 after these letters
 abbrev pub taking_letters : List LetterValue → CursorsValue
 taking_letters [] = start_cursors 1 1
 taking_letters (l ∷ ls) = took (taking_letters ls) l
@@ -26,6 +28,7 @@ taking_letters (l ∷ ls) = took (taking_letters ls) l
 abbrev pub cursor_after : List LetterValue → Cursor
 cursor_after ls = maker_entry (taking_letters ls) 0
 
+-- that many operations of that epoch
 abbrev pub cursor : ℕ → ℕ → Cursor
 cursor e n = record { epoch = e; cursor = n }
 
@@ -43,17 +46,22 @@ exchange_answers =
     Ok (Replied Done) ∷ Ok (Lettered 0) ∷ Ok Merged ∷ Ok (Lettered 1) ∷ Ok Merged
     ∷ Ok (Replied Done) ∷ Ok (Lettered 2) ∷ Ok Merged ∷ []
 
+-- the world after the exchange, by that way to make letters
 abbrev pub exchanged : LetterRule → WorldTook
 exchanged make = after_all make operator (start 2) exchange exchange_answers
 
+-- what letter k says
 abbrev pub body_of : WorldTook → ℕ → Option LetterBody
 body_of w k = option_map (λ (l : SentLetter). l.letter.body) (slice_get w.letters k)
 
+-- what site i holds
 abbrev pub held_at : WorldTook → ℕ → Option Holding
 held_at w i = option_map held (slice_get w.sites i)
 
+-- how many operations site i took
 abbrev pub count_taken : WorldTook → ℕ → Option ℕ
 count_taken w i = option_map (λ (s : SiteTook). length s.taken) (slice_get w.sites i)
 
+-- site 0 starts again after the exchange
 abbrev pub restarted : WorldTook
 restarted = after_all by_cursors operator (exchanged by_cursors) (Restart 0 ∷ []) (Ok (Restarted 2) ∷ [])

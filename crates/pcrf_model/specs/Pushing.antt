@@ -21,6 +21,7 @@ abbrev pub is_of_host : View → Option (List ℕ) → Session → Bool
 is_of_host v None s = true
 is_of_host v (Some name) s = unwrap_or (option_map (λ x. is_eq (text_cmp x name)) (text v (host s))) false
 
+-- site i is the home of the session
 abbrev pub is_home : ℕ → View → Session → Bool
 is_home i v s = unwrap_or (option_map (λ n. n == i) (home v s)) false
 
@@ -32,6 +33,7 @@ is_due t i v name s = is_gx s.kind && is_live v s && is_home i v s && is_of_host
 unfoldable pub due : Tables → ℕ → View → Option (List ℕ) → Option Session
 due t i v name = find (is_due t i v name) v.sessions
 
+-- what is told to the gateway of the session
 abbrev pub push_to : Tables → View → Session → PushValue
 push_to t v s = record { session = s.id; host = unwrap_or (text v (host s)) []; realm = unwrap_or (text v (realm s)) []; delta = delta_of t v s }
 
