@@ -26,9 +26,11 @@ names_ascending : (us : List ToldRule) → IsAscending told_cmp us → ((p q : T
 names_ascending us s one = map-ascending told_cmp text_cmp told_name_of us (λ p q i j l. name_below p q l (one p q i j)) s
 
 module _ (n : ℕ) (t : List ToldRule) (rs : List RuleValue) (w : IsTold t) (g : Distinct (map rule_name_of rs)) where
+  -- all names to be removed
   abbrev removed : List (List ℕ)
   removed = (difference t rs).removed
 
+  -- all rules to be installed
   abbrev installed : List RuleValue
   installed = (difference t rs).installed
 
@@ -36,9 +38,11 @@ module _ (n : ℕ) (t : List ToldRule) (rs : List RuleValue) (w : IsTold t) (g :
   abbrev k : ℕ
   k = n - length removed
 
+  -- the first entries
   abbrev e : DeltaValue
   e = first n (difference t rs)
 
+  -- what is told after them
   abbrev u : List ToldRule
   u = apply t e
 
@@ -50,18 +54,22 @@ module _ (n : ℕ) (t : List ToldRule) (rs : List RuleValue) (w : IsTold t) (g :
       (stays_if t e (as_told x) (λ j. lacks_none t rs x i (removed-In t rs x.name (take-In n x.name removed j)).1)
       (none_anew t rs w.one_each g x i h e.installed (λ y j. take-In k y installed j))))
 
+  -- so what is new afterwards was new
   was_new : (x : RuleValue) → In x rs → not (holds u x) ≡ true → not (holds t x) ≡ true
   was_new x i h = elim (split (holds t x)) [ inl y ↦ clash (holds u x) (still x i y) (not_true _ h) | inr y ↦ ap not y ]
 
+  -- what is new afterwards was not installed
   none_installed : (x : RuleValue) → In x rs → not (holds u x) ≡ true → In x (take k installed) → ⊥
   none_installed x i h j = clash (holds u x) (holds_one u x (installed_in t e x j)) (not_true _ h)
 
+  -- what was new and not installed is new still
   still_new : (x : RuleValue) → In x rs → not (holds t x) ≡ true → (In x (take k installed) → ⊥) → not (holds u x) ≡ true
   still_new x i h new = ap not (is_false (holds u x) (λ y. elim (there t e (as_told x) (held u x y)) [
     | inl r ↦ clash (holds t x) (holds_one t x r.0) (not_true _ h)
     | inr r ↦ new (subst (λ (z : RuleValue). In z (take k installed)) (sym (ap (λ (p : ToldRule). p.1) r.2)) r.1)
   ]))
 
+  -- the rules past the first are installed next
   installed_next : (difference u rs).installed ≡ drop k installed
   installed_next = filter_past (λ x. not (holds t x)) (λ x. not (holds u x)) k rs (Distinct-of_map rule_name_of rs g) was_new none_installed still_new
 
@@ -86,15 +94,19 @@ module _ (n : ℕ) (t : List ToldRule) (rs : List RuleValue) (w : IsTold t) (g :
       named_by : (p : ToldRule) (x : RuleValue) → In x (take k installed) → p.0 ≡ x.name → In p.0 (map rule_name_of (take k installed))
       named_by p x m q = subst (λ (z : List ℕ). In z (map rule_name_of (take k installed))) (sym q) (In-map rule_name_of x (take k installed) m)
 
+  -- the names told before are in order
   old_names : IsAscending text_cmp (map told_name_of t)
   old_names = names_ascending t (subst (IsAscending told_cmp) w.in_order (ascending-ascending told_cmp told_ranked t)) (same_told t rs w.one_each g)
 
+  -- the names told after are in order
   new_names : IsAscending text_cmp (map told_name_of u)
   new_names = names_ascending u (ascending-ascending told_cmp told_ranked (filter (stays e) t ++ map as_told e.installed)) one_name
 
+  -- the names to be removed are in order
   removed_ascending : IsAscending text_cmp removed
   removed_ascending = filter-ascending text_cmp (lacks t rs) (map told_name_of t) old_names
 
+  -- the rules lack afterwards just the names past the first
   same_removed : Same (filter (lacks t rs) (map told_name_of u)) (drop n removed)
   same_removed x = (onward, backward)
     where
@@ -122,8 +134,10 @@ module _ (n : ℕ) (t : List ToldRule) (rs : List RuleValue) (w : IsTold t) (g :
           (subst (λ (z : List ℕ). In z (map told_name_of u)) (sym p.2) (In-map told_name_of p.0 u (stays_in t e p.0 p.1 (stays_if t e p.0 gone new))))
           r.1
 
+  -- so the names past the first are removed next
   removed_next : (difference u rs).removed ≡ drop n removed
   removed_next = same_ascending text_cmp text_ranked _ _ (filter-ascending text_cmp (lacks t rs) (map told_name_of u) new_names) (drop-ascending text_cmp n removed removed_ascending) same_removed
 
+  -- so the next difference is the rest
   pub difference-first : difference (apply t (first n (difference t rs))) rs ≡ rest n (difference t rs)
   difference-first = λ i. record { removed = removed_next i; installed = installed_next i }

@@ -40,25 +40,31 @@ module _ (t : Tables) (xs : List Fact) (s : Session) (g : Tag) (known : In s (ma
     (older : (m : List ℕ) (u : Tag) (x : Value) → In (Field (told_name s m) u x) xs → tag_cmp u g ≡ Less)
     (open_ : (n : List ℕ) → is_gone xs (told_name s n) ≡ false)
     (names : Distinct (map rule_name_of (rules t (view xs) s))) where
+  -- what is read before
   abbrev v : View
   v = view xs
 
+  -- the first entries of the difference
   abbrev d : DeltaValue
   d = delta_of t v s
 
+  -- what is installed now is of the difference
   in_difference : (r : RuleValue) → In r d.installed → In r (difference (told v s) (rules t v s)).installed
   in_difference r i = take-In _ r (difference (told v s) (rules t v s)).installed i
 
+  -- rules installed of one name are one
   one_each : (a b : RuleValue) → In a d.installed → In b d.installed → a.name ≡ b.name → a ≡ b
   one_each a b i j e = one_of_key rule_name_of (rules t v s) names a b
       (installed-In (told v s) (rules t v s) a (in_difference a i)).0 (installed-In (told v s) (rules t v s) b (in_difference b j)).0 e
 
+  -- no name is both removed and installed
   apart : (n : List ℕ) → In n d.removed → In n (map rule_name_of d.installed) → ⊥
   apart n i j =
       let r = map-In rule_name_of n d.installed j in
       no_name_twice (told v s) (rules t v s) n (take-In delta_limit n (difference (told v s) (rules t v s)).removed i)
       (subst (λ (m : List ℕ). In m (map rule_name_of (difference (told v s) (rules t v s)).installed)) (sym r.2) (In-map rule_name_of r.0 (difference (told v s) (rules t v s)).installed (in_difference r.0 r.1)))
 
+  -- so the first entries are told
   tells_the_first : TellsTheFirst t v (view (xs ++ told_facts s g d)) s
   tells_the_first =
       let stay = rules_same xs (told_facts s g d) s (tells xs s g d) known t in
@@ -71,6 +77,7 @@ module _ (t : Tables) (xs : List Fact) (s : Session) (g : Tag) (known : In s (ma
 
 -- ---- nothing told is gone, where the session is not ended
 
+-- above a told name is the whole session alone
 front_of_name : (steps : List Step) (n : List ℕ) → is_front steps (RuleName n ∷ []) ≡ true → (steps ≡ []) ⊎ (gone_code steps ≡ 8)
 front_of_name [] n h = inl refl
 front_of_name (RuleName m ∷ steps) n h = inr refl
@@ -78,6 +85,7 @@ front_of_name (Component c ∷ steps) n h = clash false h refl
 front_of_name (Flow c ∷ steps) n h = clash false h refl
 front_of_name (Part f ∷ steps) n h = clash false h refl
 
+-- no told name of it is gone
 told_not_gone : (xs : List Fact) (s : Session) (n : List ℕ) → ((f : Fact) → In f xs → fact_code f ≡ 8 → ⊥) → is_gone xs (whole s) ≡ false → is_gone xs (told_name s n) ≡ false
 told_not_gone xs s n kinds open_ = is_false _ (λ h. let r = any-In (blocks (told_name s n)) xs h in by_fact r.0 r.1 r.2)
   where
@@ -91,17 +99,20 @@ told_not_gone xs s n kinds open_ = is_false _ (λ h. let r = any-In (blocks (tol
 
 -- ---- the fields of a request
 
+-- a field of the session, and nothing else
 pub record IsFieldOf (s : Session) (f : Fact) : Type 0 where
   pub name : FieldName
   pub tag : Tag
   pub value : Value
   pub is : f ≡ Field (part name s) tag value
 
+-- a field that may be given
 given_field : {A : Type 0} (s : Session) (n : FieldName) (t : Tag) (as_value : A → Value) (x : Option A) (f : Fact) → In f (given (part n s) t as_value x) → IsFieldOf s f
 given_field s n t as_value None f i = absurd i
 given_field s n t as_value (Some y) f (inl e) = record { name = n; tag = t; value = as_value y; is = e }
 given_field s n t as_value (Some y) f (inr i) = absurd i
 
+-- a list that may be given
 given_list_field : {A : Type 0} (s : Session) (n : FieldName) (t : Tag) (as_value : List A → Value) (x : List A) (f : Fact) → In f (given_list (part n s) t as_value x) → IsFieldOf s f
 given_list_field s n t as_value [] f i = absurd i
 given_list_field s n t as_value (y ∷ ys) f (inl e) = record { name = n; tag = t; value = as_value (y ∷ ys); is = e }
@@ -149,18 +160,21 @@ module _ (h : Holding) (s : Session) (fs : List Fact) (fields : (f : Fact) → I
     | inr j ↦ clash (blocks (whole s) r.0) r.2 (ap (blocks (whole s)) (fields r.0 j).is)
   ])
 
+  -- the kinds stay
   kinds_with : ((f : Fact) → In f h.facts → fact_code f ≡ 8 → ⊥) → (f : Fact) → In f (h.facts ++ fs) → fact_code f ≡ 8 → ⊥
   kinds_with kinds f j e = elim (In-cases f h.facts fs j) [
     | inl k ↦ kinds f k e
     | inr k ↦ let c : fact_code f ≡ 2 = ap fact_code (fields f k).is in omega (arith, c, e)
   ]
 
+  -- the numbers fit
   fit_with : NumbersFit h.facts → NumbersFit (h.facts ++ fs)
   fit_with fit f j = elim (In-cases f h.facts fs j) [
     | inl k ↦ fit f k
     | inr k ↦ subst (λ (z : Fact). FitTheirAvps (path_of z).steps) (sym (fields f k).is) tt
   ]
 
+  -- what was told stays older
   older_with : (g : Tag) → ((m : List ℕ) (u : Tag) (x : Value) → In (Field (told_name s m) u x) h.facts → tag_cmp u g ≡ Less)
       → (m : List ℕ) (u : Tag) (x : Value) → In (Field (told_name s m) u x) (h.facts ++ fs) → tag_cmp u g ≡ Less
   older_with g older m u x j = elim (In-cases (Field (told_name s m) u x) h.facts fs j) [
@@ -179,14 +193,17 @@ one_list xs ys =
 
 -- ---- an initial request or an update, and a push
 
+-- ended is gone as a whole
 ended_is : (facts : List Fact) (s : Session) → (view facts).ended s ≡ is_gone facts (whole s)
 unfolding view
 ended_is facts s = refl
 
+-- a session that is read has a fact
 sessions_are : (facts : List Fact) (s : Session) → In s (view facts).sessions → In s (map session_of facts)
 unfolding view
 sessions_are facts s i = (ascending-In session_cmp session_ranked (map session_of facts) s).0 i
 
+-- an initial request or an update tells the first entries
 pub provisioning-tells : (t : Tables) (i : ℕ) (h : Holding) (q : CcrValue) → NamesRulesApart t → IsStamped h → (view h.facts).ended (gx q.session) ≡ false →
     TellsTheFirst t (view (h.facts ++ ccr_fields q (next_tag i h q.number))) (view (with_added h (provisioned t i h q).added).facts) (gx q.session)
 unfolding provisioned
@@ -210,6 +227,7 @@ provisioning-tells t i h q rows stamped alive =
     (ap view (append_assoc h.facts fs new) ∙ sym (view-Same _ _ (one_list h.facts (fs ++ new))))
     told_so
 
+-- what is found is a member that passes
 found : {A : Type 0} (test : A → Bool) (xs : List A) (x : A) → find test xs ≡ Some x → In x xs × (test x ≡ true)
 found test [] x h = absurd (cc)
 found {A} test (y ∷ ys) x h = (elim (test y) as (λ b. test y ≡ b → cond b (Some y) (find test ys) ≡ Some x → In x (y ∷ ys) × (test x ≡ true)) [
@@ -217,6 +235,7 @@ found {A} test (y ∷ ys) x h = (elim (test y) as (λ b. test y ≡ b → cond b
   | false ↦ λ _ k. let r = found test ys x k in (inr r.0, r.1)
 ]) refl h
 
+-- a push tells the first entries
 pub pushing-tells : (t : Tables) (i : ℕ) (h : Holding) (name : Option (List ℕ)) (s : Session) → NamesRulesApart t → IsStamped h → due t i (view h.facts) name ≡ Some s →
     TellsTheFirst t (view h.facts) (view (with_added h (push t i h name).added).facts) s
 unfolding push due

@@ -7,6 +7,7 @@ use Rattle.pcrf_model.specs.Operations.{Operation, holding_of}
 use Rattle.pcrf_model.specs.Laws.{IsStamped, IsWellFormed}
 use Rattle.pcrf_model.proofs.UnionLaws.{In-holding, clock_above}
 
+-- counters are below the clock, and kinds and numbers stay
 pub holding_of-stamped : (os : List Operation) → ((o : Operation) → In o os → IsWellFormed o) → IsStamped (holding_of os)
 holding_of-stamped os w = record {
   kinds = λ f i e. let r = (In-holding f os).0 i in (w r.0 r.1 f r.2).kind e;

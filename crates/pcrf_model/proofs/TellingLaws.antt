@@ -33,10 +33,12 @@ use Rattle.pcrf_model.proofs.DifferenceLaws.{told_ranked, there, stays_if, stays
 
 -- ---- what is read without the told entries
 
+-- the path is that of a rule name
 abbrev pub is_told : List Step → Bool
 is_told (RuleName n ∷ steps) = true
 is_told steps = false
 
+-- it is not
 abbrev is_field : Shown → Bool
 is_field x = not (is_told x.0.steps)
 
@@ -89,9 +91,11 @@ pub record Tells (s : Session) (f : Fact) : Type 0 where
   pub is : f ≡ Field (told_name s name) tag value
 
 module _ (xs ts : List Fact) (s : Session) (tells : (f : Fact) → In f ts → Tells s f) where
+  -- before
   abbrev v : View
   v = view xs
 
+  -- after
   abbrev w : View
   w = view (xs ++ ts)
 
@@ -99,6 +103,7 @@ module _ (xs ts : List Fact) (s : Session) (tells : (f : Fact) → In f ts → T
   blocks_none : (p : Path) (f : Fact) → In f ts → blocks p f ≡ false
   blocks_none p f i = ap (blocks p) (tells f i).is
 
+  -- so the same paths are gone
   pub gone_same : (p : Path) → is_gone (xs ++ ts) p ≡ is_gone xs p
   gone_same p = both_ways _ _
       (λ h. let r = any-In (blocks p) (xs ++ ts) h in elim (In-cases r.0 xs ts r.1) [
@@ -133,10 +138,12 @@ module _ (xs ts : List Fact) (s : Session) (tells : (f : Fact) → In f ts → T
       g : Tells s f
       g = tells f i
 
+  -- fields show the same
   field_shows : (p : Path) (b : Bool) → is_told p.steps ≡ b → cond b None (shown (xs ++ ts) p) ≡ cond b None (shown xs p)
   field_shows p true h = refl
   field_shows p false h = shown_same p (quiet_field p h)
 
+  -- the same fields show
   field_all : Same (filter is_field w.all) (filter is_field v.all)
   field_all x = (
     λ h. let r = filter-In is_field x w.all h in
@@ -145,6 +152,7 @@ module _ (xs ts : List Fact) (s : Session) (tells : (f : Fact) → In f ts → T
         In-filter is_field x w.all (In-all (xs ++ ts) x.0 x.1 (shown_same x.0 (quiet_field x.0 (not_true _ r.1)) ∙ all_shows xs s x r.0)) r.1,
   )
 
+  -- the same sessions are there
   same_sessions : In s (map session_of xs) → Same (map session_of (xs ++ ts)) (map session_of xs)
   same_sessions known z = (
     λ h. let r = map-In session_of z (xs ++ ts) h in elim (In-cases r.0 xs ts r.1) [
@@ -193,12 +201,14 @@ other_name s n m u x h = ap (λ b. cond b (Some (u, x)) None) (is_false _ (λ e.
     name_of : (p q : Path) → p ≡ q → first_name p.steps ≡ first_name q.steps
     name_of p q e = ap (λ (z : Path). first_name z.steps) e
 
+-- fields that are the same agree in all parts
 pub same_field : (p q : Path) (t u : Tag) (x y : Value) → Field p t x ≡ Field q u y → (p ≡ q) × (t ≡ u) × (x ≡ y)
 same_field p q t u x y h = (cc, cc, cc)
 
 -- ---- telling a difference
 
 module _ (xs : List Fact) (s : Session) (g : Tag) (d : DeltaValue) where
+  -- the facts that tell it
   abbrev pub ts : List Fact
   ts = told_facts s g d
 
@@ -209,6 +219,7 @@ module _ (xs : List Fact) (s : Session) (g : Tag) (d : DeltaValue) where
     | inr j ↦ inr (map-In (λ (r : RuleValue). Field (told_name s r.name) g (Told r)) f d.installed j)
   ]
 
+  -- each tells something
   pub tells : (f : Fact) → In f ts → Tells s f
   tells f i = elim (told-In f i) [
     | inl r ↦ record { name = r.0; tag = g; value = Untold; is = r.2 }
@@ -247,6 +258,7 @@ module _ (xs : List Fact) (s : Session) (g : Tag) (d : DeltaValue) where
             λ i. (a i, b i)
 
     module _ (one_each : (a b : RuleValue) → In a d.installed → In b d.installed → a.name ≡ b.name → a ≡ b) (apart : (n : List ℕ) → In n d.removed → In n (map rule_name_of d.installed) → ⊥) where
+      -- what they say of a name
       of_name : (n : List ℕ) (y : Value) → In (Field (told_name s n) g y) ts → ((In n d.removed) × (y ≡ Untold)) ⊎ ((r : RuleValue) × In r d.installed × (n ≡ r.name) × (y ≡ Told r))
       of_name n y j = elim (told-In (Field (told_name s n) g y) j) [
         | inl q ↦ let f = same_field (told_name s n) (told_name s q.0) g g y Untold q.2 in inl (subst (λ (m : List ℕ). In m d.removed) (sym (text_of f.0)) q.1, f.2)
@@ -256,6 +268,7 @@ module _ (xs : List Fact) (s : Session) (g : Tag) (d : DeltaValue) where
           text_of : {a b : List ℕ} → told_name s a ≡ told_name s b → a ≡ b
           text_of {a} {b} e = let h : RuleName a ∷ [] ≡ RuleName b ∷ [] = ap (λ (z : Path). z.steps) e in cc
 
+      -- a removed name shows that nothing is told
       shows_untold : (n : List ℕ) → In n d.removed → shown (xs ++ ts) (told_name s n) ≡ Some (g, Untold)
       shows_untold n i = shows_new n Untold
           (In-left (Field (told_name s n) g Untold) (map (λ n. Field (told_name s n) g Untold) d.removed) (map (λ (r : RuleValue). Field (told_name s r.name) g (Told r)) d.installed) (In-map (λ n. Field (told_name s n) g Untold) n d.removed i))
@@ -264,6 +277,7 @@ module _ (xs : List Fact) (s : Session) (g : Tag) (d : DeltaValue) where
             | inr q ↦ absurd (apart n i (subst (λ (m : List ℕ). In m (map rule_name_of d.installed)) (sym q.2) (In-map rule_name_of q.0 d.installed q.1)))
           ])
 
+      -- an installed rule shows
       shows_told : (r : RuleValue) → In r d.installed → shown (xs ++ ts) (told_name s r.name) ≡ Some (g, Told r)
       shows_told r i = shows_new r.name (Told r)
           (In-right (Field (told_name s r.name) g (Told r)) (map (λ n. Field (told_name s n) g Untold) d.removed) (map (λ (r : RuleValue). Field (told_name s r.name) g (Told r)) d.installed) (In-map (λ (r : RuleValue). Field (told_name s r.name) g (Told r)) r d.installed i))
@@ -272,27 +286,33 @@ module _ (xs : List Fact) (s : Session) (g : Tag) (d : DeltaValue) where
             | inr q ↦ q.3 ∙ ap Told (sym (one_each r q.0 i q.1 q.2))
           ])
 
+      -- any other name shows what it showed
       shows_old : (n : List ℕ) → (In n d.removed → ⊥) → (In n (map rule_name_of d.installed) → ⊥) → shown (xs ++ ts) (told_name s n) ≡ shown xs (told_name s n)
       shows_old n a b = shown_same xs ts s tells (told_name s n) (λ f i. elim (told-In f i) [
         | inl r ↦ ap (entry_at (told_name s n)) r.2 ∙ other_name s n r.0 g Untold (λ e. a (subst (λ (m : List ℕ). In m d.removed) e r.1))
         | inr r ↦ ap (entry_at (told_name s n)) r.2 ∙ other_name s n r.0.name g (Told r.0) (λ e. b (subst (λ (m : List ℕ). In m (map rule_name_of d.installed)) e (In-map rule_name_of r.0 d.installed r.1)))
       ])
 
+      -- a name is in a list or not
       is_among : (n : List ℕ) (ns : List (List ℕ)) → In n ns ⊎ (In n ns → ⊥)
       is_among n ns = elim (split (list_any (λ m. is_eq (text_cmp m n)) ns)) [
         | inl y ↦ let r = any-In (λ m. is_eq (text_cmp m n)) ns y in inl (subst (λ (z : List ℕ). In z ns) (eq_is text_ranked r.0 n r.2) r.1)
         | inr y ↦ inr (λ i. clash _ (In-any (λ m. is_eq (text_cmp m n)) n ns i (eq_itself text_ranked n)) y)
       ]
 
+      -- entries that are the same
       entries_of : (a b : Entry) → Some a ≡ Some b → a ≡ b
       entries_of a b h = cc
 
+      -- nothing is no rule
       untold_not_told : {P : Type 0} (r : RuleValue) → Untold ≡ Told r → P
       untold_not_told r h = cc
 
+      -- a told rule is one
       one_told : (q r : RuleValue) → Told q ≡ Told r → q ≡ r
       one_told q r h = cc
 
+      -- what is told after is what the difference leads to
       told_onward : (p : ToldRule) → In p (told (view (xs ++ ts)) s) → In p (apply (told (view xs) s) d)
       told_onward p i =
           let h = told-shows (xs ++ ts) s p i in
@@ -307,6 +327,7 @@ module _ (xs : List Fact) (s : Session) (g : Tag) (d : DeltaValue) where
             ]
           ]
 
+      -- and all of that
       told_backward : (p : ToldRule) → In p (apply (told (view xs) s) d) → In p (told (view (xs ++ ts)) s)
       told_backward p i = elim (there (told (view xs) s) d p i) [
         | inl r ↦

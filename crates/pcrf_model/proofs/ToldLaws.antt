@@ -37,12 +37,15 @@ entry_path (RuleName n ∷ []) (Told r) u h = (ap (λ (z : ToldRule). RuleName z
 entry_path steps x u h = absurd (cc)
 
 module _ (facts : List Fact) (s : Session) where
+  -- what is read of the facts
   abbrev v : View
   v = view facts
 
+  -- the told entry of a path that shows
   abbrev entry : Shown → Option ToldRule
   entry x = cond (is_eq (session_cmp x.0.session s)) (told_entry x.0.steps x.1.1) None
 
+  -- it stands at its name, with its rule
   at_name : (x : Shown) (u : ToldRule) → entry x ≡ Some u → (x.0 ≡ told_name s u.0) × (x.1.1 ≡ Told u.1)
   at_name x u = elim (is_eq (session_cmp x.0.session s)) as (λ b. is_eq (session_cmp x.0.session s) ≡ b → cond b (told_entry x.0.steps x.1.1) None ≡ Some u → (x.0 ≡ told_name s u.0) × (x.1.1 ≡ Told u.1)) [
     | true ↦ λ e h. let a = eq_is session_ranked x.0.session s e in let b = entry_path x.0.steps x.1.1 u h in (λ i. record { session = a i; steps = b.0 i }, b.1)
@@ -58,10 +61,12 @@ module _ (facts : List Fact) (s : Session) where
       at_path None k h = absurd (cc)
       at_path (Some e) k h = subst (λ (z : Shown). shown facts z.0 ≡ Some z.1) (some_same (q, e) x h) k
 
+  -- each path among all shows what stands with it
   pub all_shows : (x : Shown) → In x v.all → shown facts x.0 ≡ Some x.1
   unfolding view
   all_shows x i = let r = filter_map-In (showing (shown facts)) x facts ((ascending-In shown_cmp shown_ranked (filter_map (showing (shown facts)) facts) x).0 i) in shows_it r.0 x r.2
 
+  -- they are in order
   all_ascending : IsAscending shown_cmp v.all
   unfolding view
   all_ascending = ascending-ascending shown_cmp shown_ranked (filter_map (showing (shown facts)) facts)
@@ -78,18 +83,22 @@ module _ (facts : List Fact) (s : Session) where
     | Greater ↦ λ _ m. m
   ] refl l
 
+  -- by name
   abbrev name_cmp : ToldRule → ToldRule → Ordering
   name_cmp a b = text_cmp a.0 b.0
 
+  -- the told entries are in order by name
   by_name : IsAscending name_cmp (filter_map entry v.all)
   by_name = filter_map-ascending shown_cmp name_cmp entry v.all
       (λ x y u w i j l e h. name_order s u.0 w.0 ((λ k. path_cmp (sym (at_name x u e).0 k) (sym (at_name y w h).0 k)) ∙ path_below x y i j l))
       all_ascending
 
+  -- and so in their own order
   weaker : (us : List ToldRule) → IsAscending name_cmp us → IsAscending told_cmp us
   weaker [] a = tt
   weaker (u ∷ us) a = (λ y i. ap (λ r. ordering_then r (rule_cmp u.1 y.1)) (a.0 y i), weaker us a.1)
 
+  -- in order, and no name twice
   pub told_is_told : IsTold (told v s)
   unfolding told
   told_is_told = record {
