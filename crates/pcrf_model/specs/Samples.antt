@@ -98,6 +98,10 @@ other_media s = record { number = 1; media = Some 9; status = Some s; rate_up = 
 abbrev pub capabilities : List ℕ → RequestValue
 capabilities applications = Base (record { kind = CapabilitiesExchange applications; host = codes "gw"; realm = codes "r" })
 
+-- a call from 10.0.0.1 that asks for an access point and subscribers
+abbrev pub call_asking : Option (List ℕ) → List Subscriber → RequestValue
+call_asking n ids = Aar (record { session = call_session.id; host = codes "af"; realm = codes "r"; address = Some (host_address 1); apn = n; subscribers = ids; components = [] })
+
 -- the end of the call
 abbrev pub hang_up : RequestValue
 hang_up = Str (record { session = call_session.id; host = codes "af"; realm = codes "r" })
@@ -119,6 +123,19 @@ audio = record {
       ∷ record { number = 2; filters = uplink ∷ []; usage = Some 1; status = Some 2; rate_up = None; rate_down = None } ∷ [];
 }
 
+-- a component without a Media-Type: a flow of no class, and a signalling flow with a rate of its own
+abbrev pub no_media : ComponentValue
+no_media = record {
+  number = 3;
+  media = None;
+  status = Some 1;
+  rate_up = None;
+  rate_down = Some 90000;
+  flows =
+      record { number = 1; filters = uplink ∷ []; usage = None; status = None; rate_up = None; rate_down = None }
+      ∷ record { number = 2; filters = uplink ∷ []; usage = Some 2; status = None; rate_up = Some 1000; rate_down = None } ∷ [];
+}
+
 -- the component again, with its Flow-Status and nothing else
 abbrev pub status_only : ℕ → ComponentValue
 status_only s = record { number = 1; media = None; status = Some s; rate_up = None; rate_down = None; flows = [] }
@@ -137,6 +154,10 @@ many_flows n = record { number = 2; media = Some 0; status = None; rate_up = Non
 -- the operator's rule
 abbrev pub sip_rule : RuleValue
 sip_rule = record { name = codes "op/sip"; status = 2; filters = any_to_any ∷ []; qci = 5; priority = 9; capability = 1; vulnerability = 0; max_ul = 32000; max_dl = 32000; precedence = 40 }
+
+-- the rule of that signalling flow
+abbrev pub signalling_rule : RuleValue
+signalling_rule = record { name = codes "af/af;1/3/2"; status = 1; filters = uplink ∷ []; qci = 5; priority = 9; capability = 1; vulnerability = 0; max_ul = 1000; max_dl = 32000; precedence = 50 }
 
 -- the rule of the audio flow, under that status
 abbrev pub audio_rule : ℕ → RuleValue

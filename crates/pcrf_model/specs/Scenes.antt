@@ -3,8 +3,8 @@ use Rattle.std.specs.Prelude.{ℕ, List, [], ◌∷◌, Option, Some, None, code
 use Rattle.std.proofs.Common.{option_map}
 use Rattle.lattice_core.specs.RuleValues.{DeltaValue}
 use Rattle.lattice_core.specs.declared.tag.Tag.{Tag}
-use Rattle.pcrf_model.specs.Paths.{address}
-use Rattle.pcrf_model.specs.Values.{Address}
+use Rattle.pcrf_model.specs.Paths.{FramedIpAddress, CalledStationId, SubscriptionIds, OriginHost, OriginRealm, RequestType, MediaType, FlowDescriptions, FlowUsage, FlowStatus, MaxRateUp, MaxRateDown, Component, Flow, Part, address}
+use Rattle.pcrf_model.specs.Values.{Number, Text, Subscribers, Filters, Address}
 use Rattle.pcrf_model.specs.Facts.{Field}
 use Rattle.pcrf_model.specs.Holdings.{nothing_held, union}
 use Rattle.pcrf_model.specs.Operations.{Operation, holding_of}
@@ -13,8 +13,9 @@ use Rattle.pcrf_model.specs.Requests.{RequestValue, RefusalValue}
 use Rattle.pcrf_model.specs.Replies.{PushValue, ReplyValue, OnGx, Pushed, Granted, Rejected}
 use Rattle.pcrf_model.specs.Serving.{serve}
 use Rattle.pcrf_model.specs.Pushing.{push}
+use Rattle.pcrf_model.specs.OperatorValues.{FieldShown, SessionValue, LiveGx}
 use Rattle.pcrf_model.specs.Steps.{SiteState, adding}
-use Rattle.pcrf_model.specs.Samples.{operator, first_session, second_session, host_address, initial, update, termination, call, hang_up, audio, status_only, many_flows, ims_quality}
+use Rattle.pcrf_model.specs.Samples.{imsi, e164, sip_rule, uplink, any_to_any, operator, first_session, second_session, host_address, initial, update, termination, call, hang_up, audio, status_only, many_flows, ims_quality}
 
 -- ---- one step of a site
 
@@ -219,3 +220,21 @@ first_forty = pushed 0 many_rules
 -- after another
 abbrev pub all_fifty : SiteState
 all_fifty = pushed 0 first_forty
+
+-- ---- what an operator sees
+
+-- the first session, live at site 0
+abbrev pub live_first : SessionValue
+live_first = LiveGx
+    ((Part FramedIpAddress ∷ [], Address (host_address 1)) ∷ (Part CalledStationId ∷ [], Text (codes "ims")) ∷ (Part SubscriptionIds ∷ [], Subscribers (e164 ∷ imsi ∷ []))
+    ∷ (Part OriginHost ∷ [], Text (codes "gw")) ∷ (Part OriginRealm ∷ [], Text (codes "r")) ∷ (Part RequestType ∷ [], Number 1) ∷ [])
+    (Some 0) (sip_rule ∷ []) ((codes "op/sip", sip_rule) ∷ [])
+
+-- the call's fields by their paths: its flows, its component, its own
+abbrev pub call_fields : List FieldShown
+call_fields =
+    (Component 1 ∷ Flow 1 ∷ Part FlowDescriptions ∷ [], Filters (uplink ∷ any_to_any ∷ []))
+    ∷ (Component 1 ∷ Flow 2 ∷ Part FlowDescriptions ∷ [], Filters (uplink ∷ [])) ∷ (Component 1 ∷ Flow 2 ∷ Part FlowUsage ∷ [], Number 1)
+    ∷ (Component 1 ∷ Flow 2 ∷ Part FlowStatus ∷ [], Number 2)
+    ∷ (Component 1 ∷ Part MediaType ∷ [], Number 0) ∷ (Component 1 ∷ Part MaxRateUp ∷ [], Number 41000) ∷ (Component 1 ∷ Part MaxRateDown ∷ [], Number 80000)
+    ∷ (Part FramedIpAddress ∷ [], Address (host_address 1)) ∷ (Part OriginHost ∷ [], Text (codes "af")) ∷ (Part OriginRealm ∷ [], Text (codes "r")) ∷ (Part RequestType ∷ [], Number 0) ∷ []

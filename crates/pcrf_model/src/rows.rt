@@ -9,6 +9,7 @@ ghost use Rattle.pcrf_model.specs.Live.{is_live, home};
 ghost use Rattle.pcrf_model.specs.Bindings.{bind};
 ghost use Rattle.pcrf_model.specs.Rules.{rules};
 ghost use Rattle.pcrf_model.specs.Differences.{told};
+ghost use Rattle.pcrf_model.specs.OperatorValues.{Ended, Partial, LiveAf, operator_value};
 ghost use Rattle.pcrf_model.specs.Refusals.{unknown_session_id, authorization_rejected, missing_avp, unable_to_comply, service_not_authorized, session_not_available, initial_parameters};
 ghost use Rattle.pcrf_model.specs.Replies.{OnGx, Granted, Done, Refused, OnBase};
 ghost use Rattle.pcrf_model.specs.Serving.{serve};
@@ -16,8 +17,8 @@ ghost use Rattle.pcrf_model.specs.Tables.{open_tables};
 ghost use Rattle.pcrf_model.specs.Letters.{Range, Snapshot, Acknowledgement};
 ghost use Rattle.pcrf_model.specs.Worlds.{by_cursors, whole_log};
 ghost use Rattle.pcrf_model.specs.Letterbox.{letter, range_at, cursor_after, cursor, exchanged, body_of, held_at, count_taken, restarted};
-ghost use Rattle.pcrf_model.specs.Samples.{operator, imsi, e164, first_session, second_session, call_session, host_address, initial, initial_with, other_media, capabilities, many_flows, update, termination, call, hang_up, audio, status_only, sip_rule, audio_rule, rtcp_rule, delta};
-ghost use Rattle.pcrf_model.specs.Scenes.{empty_site, taking, first_counter, ended_under_call, answers, serves, pushes, pushed, seen, granted, rejected, push_of, no_push, count_installed, one, with_call, call_pushed, disabled, component_removed, described_again, two_sessions, bound_to_second, second_ended, equal_stamps, updated, updated_late, overshadowed, other, other_updated, ended_there, ended_and_told, moved, hung_up, first_after_hang_up, other_after_hang_up, call_elsewhere, call_alone, call_and_session, older_first, newer_first, at_the_end, many_rules, first_forty, all_fifty};
+ghost use Rattle.pcrf_model.specs.Samples.{operator, imsi, e164, first_session, second_session, call_session, host_address, initial, initial_with, other_media, capabilities, many_flows, update, termination, call, hang_up, call_asking, no_media, signalling_rule, audio, status_only, sip_rule, audio_rule, rtcp_rule, delta};
+ghost use Rattle.pcrf_model.specs.Scenes.{live_first, call_fields, empty_site, taking, first_counter, ended_under_call, answers, serves, pushes, pushed, seen, granted, rejected, push_of, no_push, count_installed, one, with_call, call_pushed, disabled, component_removed, described_again, two_sessions, bound_to_second, second_ended, equal_stamps, updated, updated_late, overshadowed, other, other_updated, ended_there, ended_and_told, moved, hung_up, first_after_hang_up, other_after_hang_up, call_elsewhere, call_alone, call_and_session, older_first, newer_first, at_the_end, many_rules, first_forty, all_fifty};
 
 /// An initial request is granted: it installs the operator's rule, with the default quality of service, and the session is live there.
 pub fn initial_request_installs_the_operators_rule()
@@ -199,4 +200,26 @@ pub fn letters_carry_what_the_peer_lacks()
 pub fn letters_of_whole_logs_lead_to_the_same()
     ensures second { body_of (exchanged whole_log) 2 ≡ Some (Range 0 (serves 0 one (update 1 None)).log) }
     ensures same { held_at (exchanged whole_log) 1 ≡ held_at (exchanged whole_log) 0 }
+{}
+
+/// A call is bound to a session of its address, its access point and one of its subscribers, as far as it names them.
+pub fn calls_bind_by_access_point_and_subscriber()
+    ensures same { answers 0 one (call_asking (Some (codes "ims")) (imsi ∷ [])) ≡ Done }
+    ensures one_of_them { answers 0 one (call_asking None ((0, codes "4711") ∷ e164 ∷ [])) ≡ Done }
+    ensures other_access_point { answers 0 one (call_asking (Some (codes "net")) []) ≡ Refused session_not_available }
+    ensures other_subscriber { answers 0 one (call_asking None ((0, codes "4711") ∷ [])) ≡ Refused session_not_available }
+    ensures other_type { answers 0 one (call_asking None ((1, codes "15550001") ∷ [])) ≡ Refused session_not_available }
+{}
+
+/// A signalling flow has the operator's class, its own rate and its component's, both capped; a flow of no class has no rule; rules stand by precedence.
+pub fn flows_have_the_class_of_their_usage()
+    ensures answer { answers 0 one (call (Some (host_address 1)) (no_media ∷ audio ∷ [])) ≡ Done }
+    ensures rules { rules operator (seen (serves 0 one (call (Some (host_address 1)) (no_media ∷ audio ∷ [])))) first_session ≡ sip_rule ∷ signalling_rule ∷ audio_rule 2 ∷ rtcp_rule ∷ [] }
+{}
+
+/// An operator sees each session, ended, partial or live, and the clock.
+pub fn operator_sees_every_session()
+    ensures ended { operator_value operator ended_there.holding ≡ record { clock = 2; sessions = (first_session, Ended) ∷ [] } }
+    ensures partial { operator_value operator at_the_end.holding ≡ record { clock = 9223372036854775807; sessions = (first_session, live_first) ∷ (second_session, Partial) ∷ [] } }
+    ensures call { operator_value operator call_alone.holding ≡ record { clock = 2; sessions = (call_session, LiveAf call_fields None) ∷ [] } }
 {}
