@@ -1,9 +1,10 @@
 -- A binding is the greatest session that matches.
-use Rattle.std.proofs.Common.{◌≡◌, Bool, true, false, cond, not, ◌&&◌, List, [], ◌∷◌, map, ◌↔◌, Option, Some, None, is_some, refl, sym, ap, ◌∙◌, subst, option_map, Ordering, Less, Equal, Greater}
+use Rattle.std.proofs.Common.{◌≡◌, Bool, true, false, cond, not, ◌&&◌, List, [], ◌∷◌, map, ◌↔◌, Option, Some, None, refl, sym, ap, ◌∙◌, subst, option_map, Ordering, Less}
 use Rattle.std.specs.Ordering.{is_eq, is_lt}
 use Rattle.std.specs.Cmp.{first_so, second_so, tied_itself}
 use Rattle.std.specs.List.{filter_map}
 use Rattle.lattice_core.specs.declared.tag.Tag.{Tag}
+use Rattle.pcrf_model.proofs.Plain.{clash, is_false, some_same, some_is, came_from, lt_less}
 use Rattle.pcrf_model.specs.Sets.{In, best, greatest}
 use Rattle.pcrf_model.specs.Sessions.{Kind, Gx, Af, Session, session_cmp, gx, is_gx}
 use Rattle.pcrf_model.specs.Paths.{Path, path_cmp, address}
@@ -14,11 +15,12 @@ use Rattle.pcrf_model.specs.Views.{View, view, has}
 use Rattle.pcrf_model.specs.Live.{is_live, has_what_it_needs}
 use Rattle.pcrf_model.specs.Bindings.{Candidate, candidate_cmp, standing, candidate, matches, bind}
 use Rattle.pcrf_model.specs.Laws.{IsBinding}
-use Rattle.pcrf_model.proofs.SetLaws.{clash, is_false, best-in, best-top, both_top, less_irr, less_trans, In-filter_map, filter_map-In, In-map}
+use Rattle.pcrf_model.proofs.SetLaws.{best-in, best-top, both_top, less_irr, less_trans, In-filter_map, filter_map-In, In-map}
 use Rattle.pcrf_model.proofs.Ranked.{IsRanked, nat_ranked, text_ranked, pair_ranked}
 use Rattle.pcrf_model.proofs.FactLaws.{path_ranked, session_ranked, entry_ranked, eq_is}
 use Rattle.pcrf_model.proofs.AscendingLaws.{ascending-In}
 
+-- candidates are ranked
 candidate_ranked : IsRanked candidate_cmp
 candidate_ranked = pair_ranked nat_ranked (pair_ranked nat_ranked text_ranked)
 
@@ -34,20 +36,19 @@ module _ {A : Type 0} (cmp : A → A → Ordering) (o : IsRanked cmp) where
         λ y i. subst (λ (z : A). is_lt (cmp z y) ≡ false) same (best-top (λ a b. is_lt (cmp a b)) (less_irr cmp o.total o.same) (less_trans cmp o.total o.same) x xs y i),
       )
 
+  -- a list with a member has a greatest
   pub greatest_some : (xs : List A) (x : A) → In x xs → (c : A) × (greatest cmp xs ≡ Some c)
   greatest_some [] x i = absurd i
   greatest_some (y ∷ ys) x i = (best (λ a b. is_lt (cmp a b)) y ys, refl)
 
 -- ---- what shows has a fact
 
-some_is : {A : Type 0} (x : Option A) → is_some x ≡ true → (y : A) × (x ≡ Some y)
-some_is None h = clash false h refl
-some_is (Some y) h = (y, refl)
-
+-- what shows is the value
 not_blocked : (b : Bool) (x : Option Entry) (e : Entry) → cond b None x ≡ Some e → x ≡ Some e
 not_blocked true x e h = absurd (cc)
 not_blocked false x e h = h
 
+-- a field has an entry at its own path alone
 entry_there : (p q : Path) (t : Tag) (v : Value) (e : Entry) → entry_at p (Field q t v) ≡ Some e → p ≡ q
 entry_there p q t v e = elim (is_eq (path_cmp p q)) as (λ b. is_eq (path_cmp p q) ≡ b → cond b (Some (t, v)) None ≡ Some e → p ≡ q) [
   | true ↦ λ h _. eq_is path_ranked p q h
@@ -79,12 +80,15 @@ shows-In facts p e h =
 -- ---- what a match says
 
 module _ (v : View) (a s : Session) (m : matches v a s ≡ true) where
+  -- the kinds and the lives that a match needs
   kinds_and_lives : (not (is_gx a.kind) && is_gx s.kind && is_live v a && is_live v s) ≡ true
   kinds_and_lives = first_so _ _ (first_so _ _ (first_so _ _ m))
 
+  -- what matches is a Gx session
   of_gx : is_gx s.kind ≡ true
   of_gx = second_so (not (is_gx a.kind)) _ (first_so _ _ (first_so _ _ kinds_and_lives))
 
+  -- and is live
   live : is_live v s ≡ true
   live = second_so (not (is_gx a.kind) && is_gx s.kind && is_live v a) _ kinds_and_lives
 
@@ -93,6 +97,7 @@ has_address : (v : View) (s : Session) (k : Kind) → is_gx k ≡ true → has_w
 has_address v s Gx g h = first_so _ _ (first_so _ _ (first_so _ _ (first_so _ _ (first_so _ _ h))))
 has_address v s Af g h = clash false g refl
 
+-- a Gx session is the one of its Session-Id
 gx_is : (s : Session) (k : Kind) → s.kind ≡ k → is_gx k ≡ true → gx s.id ≡ s
 gx_is s Gx e g = λ i. record { kind = sym e i; id = s.id }
 gx_is s Af e g = clash false g refl
@@ -100,9 +105,11 @@ gx_is s Af e g = clash false g refl
 -- ---- candidates
 
 module _ (facts : List Fact) (a : Session) where
+  -- what is read of the facts
   abbrev v : View
   v = view facts
 
+  -- the candidates of a
   abbrev cs : List Candidate
   cs = filter_map (candidate v a) v.sessions
 
@@ -110,12 +117,15 @@ module _ (facts : List Fact) (a : Session) where
   shows_address : (s : Session) → matches v a s ≡ true → (e : Entry) × (v.shows (address s) ≡ Some e)
   shows_address s m = some_is (v.shows (address s)) (has_address v s s.kind (of_gx v a s m) (second_so (not (v.ended s)) _ (live v a s m)))
 
+  -- how a session stands by its address entry
   abbrev stands : Session → Entry → Candidate
   stands s e = (e.0.counter, (e.0.site, s.id))
 
+  -- so it stands
   standing_of : (s : Session) (e : Entry) → v.shows (address s) ≡ Some e → standing v s ≡ Some (stands s e)
   standing_of s e h = ap (option_map (stands s)) h
 
+  -- a match is a candidate as it stands
   candidate_of : (s : Session) (c : Candidate) → matches v a s ≡ true → standing v s ≡ Some c → candidate v a s ≡ Some c
   candidate_of s c m h = ap (λ b. cond b (standing v s) None) m ∙ h
 
@@ -125,10 +135,7 @@ module _ (facts : List Fact) (a : Session) where
       let w = shows_address s m in
       In-filter_map (candidate v a) s (stands s w.0) v.sessions (shows-In facts (address s) w.0 w.1) (candidate_of s (stands s w.0) m (standing_of s w.0 w.1))
 
-  came_from : (b : Bool) (x : Option Candidate) (c : Candidate) → cond b x None ≡ Some c → (b ≡ true) × (x ≡ Some c)
-  came_from true x c h = (refl, h)
-  came_from false x c h = absurd (cc)
-
+  -- its Session-Id is the last part of how it stands
   id_of : (s : Session) (x : Option Entry) (c : Candidate) → option_map (stands s) x ≡ Some c → s.id ≡ c.1.1
   id_of s None c h = absurd (cc)
   id_of s (Some e) c h = let same : stands s e ≡ c = cc in ap (λ (z : Candidate). z.1.1) same
@@ -140,16 +147,12 @@ module _ (facts : List Fact) (a : Session) where
       let w = came_from (matches v a r.0) (standing v r.0) c r.2 in
       (r.0, w.0, w.1, ap gx (sym (id_of r.0 (v.shows (address r.0)) c w.1)) ∙ gx_is r.0 r.0.kind refl (of_gx v a r.0 w.0))
 
-  some_same : {A : Type 0} (x y : A) → Some x ≡ Some y → x ≡ y
-  some_same x y h = cc
-
+  -- a binding comes from a greatest candidate
   bound_from : (x : Option Candidate) (s : Session) → option_map (λ (c : Candidate). gx c.1.1) x ≡ Some s → (c : Candidate) × (x ≡ Some c) × (gx c.1.1 ≡ s)
   bound_from None s h = absurd (cc)
   bound_from (Some c) s h = (c, refl, some_same _ _ h)
 
-  less_lt : (r : Ordering) → r ≡ Less → is_lt r ≡ true
-  less_lt r e = ap is_lt e
-
+  -- who is bound is the greatest match
   onward : (s : Session) → bind v a ≡ Some s → IsBinding v a s
   unfolding bind
   onward s h =
@@ -168,11 +171,7 @@ module _ (facts : List Fact) (a : Session) where
             clash _ (ap is_lt below) (g.1 (stands r e.0) (candidate-In r m));
       }
 
-  lt_or : (r : Ordering) → is_lt r ≡ true → r ≡ Less
-  lt_or Less h = refl
-  lt_or Equal h = clash false h refl
-  lt_or Greater h = clash false h refl
-
+  -- the greatest match is bound
   backward : (s : Session) → IsBinding v a s → bind v a ≡ Some s
   unfolding bind
   backward s x =
@@ -186,11 +185,12 @@ module _ (facts : List Fact) (a : Session) where
         lower = stands s e.0;
         of_upper = w.2;
         of_lower = standing_of s e.0 e.1;
-        above = lt_or _ l;
+        above = lt_less _ l;
       })) in
       let same : stands s e.0 ≡ c.0 = both_top candidate_cmp candidate_ranked.total candidate_ranked.same (stands s e.0) c.0 not_above (g.1 (stands s e.0) i) in
       ap (option_map (λ (z : Candidate). gx z.1.1)) c.1 ∙ ap (λ (z : Candidate). Some (gx z.1.1)) (sym same) ∙ ap Some (gx_is s s.kind refl (of_gx v a s x.fits))
 
+  -- where none is bound none matches
   none_onward : bind v a ≡ None → (s : Session) → matches v a s ≡ false
   unfolding bind
   none_onward h s = is_false _ (λ m.
@@ -200,6 +200,7 @@ module _ (facts : List Fact) (a : Session) where
       not_none : {A : Type 0} {x : A} → Some x ≡ None → ⊥
       not_none k = cc
 
+  -- where none matches none is bound
   none_backward : ((s : Session) → matches v a s ≡ false) → bind v a ≡ None
   unfolding bind
   none_backward h = elim (greatest candidate_cmp cs) as (λ x. greatest candidate_cmp cs ≡ x → option_map (λ (z : Candidate). gx z.1.1) x ≡ None) [
@@ -207,8 +208,10 @@ module _ (facts : List Fact) (a : Session) where
     | Some c ↦ λ k. let w = whose c (greatest_is candidate_cmp candidate_ranked cs c k).0 in clash _ w.1 (h w.0)
   ] refl
 
+-- both ways
 pub bind-greatest : (facts : List Fact) (a s : Session) → bind (view facts) a ≡ Some s ↔ IsBinding (view facts) a s
 bind-greatest facts a s = (onward facts a s, backward facts a s)
 
+-- both ways
 pub bind-none : (facts : List Fact) (a : Session) → bind (view facts) a ≡ None ↔ ((s : Session) → matches (view facts) a s ≡ false)
 bind-none facts a = (none_onward facts a, none_backward facts a)

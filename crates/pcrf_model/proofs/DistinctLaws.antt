@@ -1,22 +1,26 @@
 -- Lists in which no member comes twice: their parts, their filters, and what is left of a filter past its first members.
 use Rattle.std.proofs.Common.{◌≡◌, ℕ, zero, suc, Bool, true, false, cond, List, [], ◌∷◌, map, take, drop, ◌⊎◌, inl, inr, refl, sym, ap, ◌∙◌, subst}
 use Rattle.std.specs.List.{filter}
+use Rattle.pcrf_model.proofs.Plain.{clash}
 use Rattle.pcrf_model.specs.Sets.{In, Distinct}
-use Rattle.pcrf_model.proofs.SetLaws.{clash, filter-In, In-map, map-In}
+use Rattle.pcrf_model.proofs.SetLaws.{filter-In, In-map, map-In}
 
 module _ {A : Type 0} where
+  -- a member is among the first n, or past them
   pub take_or_drop : (n : ℕ) (x : A) (xs : List A) → In x xs → In x (take n xs) ⊎ In x (drop n xs)
   take_or_drop zero x xs i = inr i
   take_or_drop (suc n) x [] i = absurd i
   take_or_drop (suc n) x (y ∷ ys) (inl q) = inl (inl q)
   take_or_drop (suc n) x (y ∷ ys) (inr i) = elim (take_or_drop n x ys i) [ inl j ↦ inl (inr j) | inr j ↦ inr j ]
 
+  -- what is among the first is a member
   pub take-In : (n : ℕ) (x : A) (xs : List A) → In x (take n xs) → In x xs
   take-In zero x xs i = absurd i
   take-In (suc n) x [] i = absurd i
   take-In (suc n) x (y ∷ ys) (inl q) = inl q
   take-In (suc n) x (y ∷ ys) (inr i) = inr (take-In n x ys i)
 
+  -- what is past them is a member
   pub drop-In : (n : ℕ) (x : A) (xs : List A) → In x (drop n xs) → In x xs
   drop-In zero x xs i = i
   drop-In (suc n) x [] i = absurd i
@@ -29,6 +33,7 @@ module _ {A : Type 0} where
   not_in_both (suc n) x (y ∷ ys) d (inl q) j = d.0 (subst (λ (z : A). In z ys) q (drop-In n x ys j))
   not_in_both (suc n) x (y ∷ ys) d (inr i) j = not_in_both n x ys d.1 i j
 
+  -- a filter keeps members distinct
   pub Distinct-filter : (p : A → Bool) (xs : List A) → Distinct xs → Distinct (filter p xs)
   Distinct-filter p [] d = tt
   Distinct-filter p (x ∷ xs) d = elim (p x) as (λ b. Distinct (cond b (x ∷ filter p xs) (filter p xs))) [
@@ -44,6 +49,7 @@ module _ {A : Type 0} where
   one_of_key {B} f (z ∷ zs) d x y (inr i) (inl r) e = absurd (d.0 (subst (λ (w : B). In w (map f zs)) (e ∙ ap f r) (In-map f x zs i)))
   one_of_key {B} f (z ∷ zs) d x y (inr i) (inr j) e = one_of_key f zs d.1 x y i j e
 
+  -- members with distinct keys are distinct
   pub Distinct-of_map : {B : Type 0} (f : A → B) (xs : List A) → Distinct (map f xs) → Distinct xs
   Distinct-of_map f [] d = tt
   Distinct-of_map f (x ∷ xs) d = (λ i. d.0 (In-map f x xs i), Distinct-of_map f xs d.1)
@@ -62,9 +68,11 @@ module _ {A : Type 0} where
     abbrev NotFirst : ℕ → List A → List A → Type 0
     NotFirst n xs fs = (x : A) → In x xs → q x ≡ true → In x (take n fs) → ⊥
 
+    -- what the first keeps past its first n, the second keeps
     abbrev ElseKept : ℕ → List A → List A → Type 0
     ElseKept n xs fs = (x : A) → In x xs → p x ≡ true → (In x (take n fs) → ⊥) → q x ≡ true
 
+    -- with one member more, by what both filters say of it
     one_more : (n : ℕ) (x : A) (xs : List A) (u v : Bool) → p x ≡ u → q x ≡ v → (In x xs → ⊥)
         → (q x ≡ true → p x ≡ true)
         → NotFirst n (x ∷ xs) (cond u (x ∷ filter p xs) (filter p xs))
@@ -80,6 +88,7 @@ module _ {A : Type 0} where
         (λ y i t j. b y (inr i) t (inr j))
         (λ y i t k. c y (inr i) t (elim [ inl r ↦ new (subst (λ (z : A). In z xs) r i) | inr j ↦ k j ]))
 
+    -- so the second filter gives what the first gives past its first n
     pub filter_past : (n : ℕ) (xs : List A) → Distinct xs → ((x : A) → In x xs → q x ≡ true → p x ≡ true)
         → NotFirst n xs (filter p xs) → ElseKept n xs (filter p xs) → filter q xs ≡ drop n (filter p xs)
     filter_past zero [] d a b c = refl

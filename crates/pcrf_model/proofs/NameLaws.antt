@@ -9,15 +9,19 @@ use Rattle.pcrf_model.specs.Sets.{In}
 
 -- ---- cutting from the back
 
+-- what parts a name
 abbrev slash : ℕ
 slash = 47
 
+-- lists that are the same begin alike
 pub heads : {A : Type 0} (x y : A) (xs ys : List A) → x ∷ xs ≡ y ∷ ys → x ≡ y
 heads x y xs ys e = cc
 
+-- and go on alike
 tails : {A : Type 0} (x y : A) (xs ys : List A) → x ∷ xs ≡ y ∷ ys → xs ≡ ys
 tails x y xs ys e = cc
 
+-- the slash is in the middle
 in_middle : (ys es : List ℕ) → In slash (ys ++ slash ∷ es)
 in_middle [] es = inl refl
 in_middle (y ∷ ys) es = inr (in_middle ys es)
@@ -38,9 +42,11 @@ no_slash [] d i = absurd i
 no_slash (c ∷ cs) d (inl e) = let k = digit_from_value c d.0 in omega (arith, k, e)
 no_slash (c ∷ cs) d (inr i) = no_slash cs d.1 i
 
+-- so a written number has none
 decimal_has_no_slash : (n : ℕ) → n < 2 ^ 32 → In slash (decimal n) → ⊥
 decimal_has_no_slash n h = no_slash (decimal n) (decimal_is_IsNumeral n (omega (arith, h))).0.1
 
+-- a written number tells the number
 same_number : (m n : ℕ) → m < 2 ^ 32 → n < 2 ^ 32 → decimal m ≡ decimal n → m ≡ n
 same_number m n p q = decimal_injective m n (omega (arith, p)) (omega (arith, q))
 

@@ -34,12 +34,15 @@ reads v w e = record {
   differences = λ t s. ap (λ (z : View). difference (told z s) (rules t z s)) e;
 }
 
+-- the kept facts
 pub reads-kept : (facts : List Fact) → ReadsTheSame (view (kept facts)) (view facts)
 reads-kept facts = reads _ _ (view-kept facts)
 
+-- facts with the same members
 pub reads-Same : (xs ys : List Fact) → Same xs ys → ReadsTheSame (view xs) (view ys)
 reads-Same xs ys s = reads _ _ (view-Same xs ys s)
 
+-- an operator sees the same
 pub operator_value-kept_of : (t : Tables) (h : Holding) → operator_value t (kept_of h) ≡ operator_value t h
 unfolding operator_value
 operator_value-kept_of t h = ap (λ (v : View). (let x : OperatorValue = record { clock = h.clock; sessions = session_values t v } in x)) (view_sorted h.facts)
@@ -51,45 +54,55 @@ provisioned-kept_of : (t : Tables) (i : ℕ) (h : Holding) (q : CcrValue) → pr
 unfolding provisioned
 provisioned-kept_of t i h q = rw (view_with h.facts (ccr_fields q (next_tag i h q.number))) refl
 
+-- the same credit control requests are refused
 ccr_refusal-kept_of : (t : Tables) (h : Holding) (q : CcrValue) → ccr_refusal t (kept_of h) q ≡ ccr_refusal t h q
 unfolding ccr_refusal
 ccr_refusal-kept_of t h q = rw (view_sorted h.facts) refl
 
+-- the same AA requests are refused
 aar_refusal-kept_of : (t : Tables) (i : ℕ) (h : Holding) (q : AarValue) → aar_refusal t i (kept_of h) q ≡ aar_refusal t i h q
 unfolding aar_refusal
 aar_refusal-kept_of t i h q = rw (view_with h.facts (aar_facts q (next_tag i h 0)), view_sorted h.facts) refl
 
+-- the same session termination requests are refused
 str_refusal-kept_of : (h : Holding) (q : StrValue) → str_refusal (kept_of h) q ≡ str_refusal h q
 unfolding str_refusal
 str_refusal-kept_of h q = rw (view_sorted h.facts) refl
 
+-- an accepted request makes the same
 accepted-kept_of : (t : Tables) (i : ℕ) (h : Holding) (q : CcrValue) (k : RequestKind) → accepted_ccr t i (kept_of h) q k ≡ accepted_ccr t i h q k
 accepted-kept_of t i h q Initial = provisioned-kept_of t i h q
 accepted-kept_of t i h q Update = provisioned-kept_of t i h q
 accepted-kept_of t i h q Termination = refl
 
+-- a credit control request is served the same
 serve_ccr-kept_of : (t : Tables) (i : ℕ) (h : Holding) (q : CcrValue) → serve_ccr t i (kept_of h) q ≡ serve_ccr t i h q
 unfolding serve_ccr
 serve_ccr-kept_of t i h q = rw (ccr_refusal-kept_of t h q, accepted-kept_of t i h q q.kind) refl
 
+-- an AA request is served the same
 serve_aar-kept_of : (t : Tables) (i : ℕ) (h : Holding) (q : AarValue) → serve_aar t i (kept_of h) q ≡ serve_aar t i h q
 unfolding serve_aar
 serve_aar-kept_of t i h q = rw (aar_refusal-kept_of t i h q) refl
 
+-- a session termination request is served the same
 serve_str-kept_of : (i : ℕ) (h : Holding) (q : StrValue) → serve_str i (kept_of h) q ≡ serve_str i h q
 unfolding serve_str
 serve_str-kept_of i h q = rw (str_refusal-kept_of h q) refl
 
+-- any request is served the same
 pub serve-kept_of : (t : Tables) (i : ℕ) (h : Holding) (q : RequestValue) → serve t i (kept_of h) q ≡ serve t i h q
 serve-kept_of t i h (Ccr q) = serve_ccr-kept_of t i h q
 serve-kept_of t i h (Aar q) = serve_aar-kept_of t i h q
 serve-kept_of t i h (Str q) = serve_str-kept_of i h q
 serve-kept_of t i h (Base q) = refl
 
+-- the same is pushed
 pub push-kept_of : (t : Tables) (i : ℕ) (h : Holding) (name : Option (List ℕ)) → push t i (kept_of h) name ≡ push t i h name
 unfolding push
 push-kept_of t i h name = rw (view_sorted h.facts) refl
 
+-- a counter is lacking just then
 pub lacks_counter-kept_of : (t : Tables) (i : ℕ) (h : Holding) (name : Option (List ℕ)) → lacks_counter t i (kept_of h) name ≡ lacks_counter t i h name
 unfolding lacks_counter
 lacks_counter-kept_of t i h name = rw (view_sorted h.facts) refl

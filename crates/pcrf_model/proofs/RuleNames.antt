@@ -1,5 +1,5 @@
 -- No two rules of a session have one name.
-use Rattle.std.proofs.Common.{◌≡◌, ℕ, ◌<◌, ◌^◌, Bool, true, false, cond, not, List, [], ◌∷◌, ◌++◌, map, Option, Some, None, inl, inr, refl, sym, ap, ◌∙◌, subst, option_map, option_and_then, unwrap_or, decimal, arith}
+use Rattle.std.proofs.Common.{◌≡◌, ℕ, ◌<◌, ◌^◌, true, false, cond, not, List, [], ◌∷◌, ◌++◌, map, Option, Some, None, inl, inr, refl, sym, ap, ◌∙◌, subst, option_map, option_and_then, unwrap_or, decimal, arith}
 use Rattle.std.specs.Prelude.{codes}
 use Rattle.std.specs.Ordering.{is_eq}
 use Rattle.std.specs.Cmp.{first_so}
@@ -7,6 +7,7 @@ use Rattle.std.specs.List.{filter_map}
 use Rattle.std.proofs.lemmas.List.{append_cancel_left}
 use Rattle.lattice_core.specs.Ascending.{ascending}
 use Rattle.lattice_core.specs.RuleValues.{RuleValue}
+use Rattle.pcrf_model.proofs.Plain.{clash, some_same, came_from}
 use Rattle.pcrf_model.specs.Sets.{In, Distinct}
 use Rattle.pcrf_model.specs.Sessions.{Kind, Gx, Af, Session, session_cmp, is_gx}
 use Rattle.pcrf_model.specs.Paths.{FlowDescriptions, Step, Component, Flow, Part, Path, apn}
@@ -21,7 +22,7 @@ use Rattle.pcrf_model.specs.Flows.{FlowId, filters, class_of, flow_rule_name, fl
 use Rattle.pcrf_model.specs.Rules.{flow_at, rule_of, rule_at, apn_of, operator_rule, operator_rules, flow_rules, listed_cmp, rules}
 use Rattle.pcrf_model.specs.Differences.{rule_name_of}
 use Rattle.pcrf_model.specs.Laws.{NamesRulesApart, FitTheirAvps, NumbersFit}
-use Rattle.pcrf_model.proofs.SetLaws.{clash, In-cases, filter_map-In, map-In}
+use Rattle.pcrf_model.proofs.SetLaws.{In-cases, filter_map-In, map-In}
 use Rattle.pcrf_model.proofs.Ranked.{IsRanked, nat_ranked, pair_ranked, on_ranked}
 use Rattle.pcrf_model.proofs.FactLaws.{rule_ranked}
 use Rattle.pcrf_model.proofs.AscendingLaws.{ascending-In, ascending-ascending, Distinct-ascending}
@@ -30,14 +31,13 @@ use Rattle.pcrf_model.proofs.ViewLaws.{shown_ranked}
 use Rattle.pcrf_model.proofs.BindLaws.{bind-greatest}
 use Rattle.pcrf_model.proofs.NameLaws.{heads, parts_of_name}
 
+-- the order of listed rules is one
 listed_ranked : IsRanked listed_cmp
 listed_ranked = on_ranked (λ (r : RuleValue). (r.precedence, r)) (λ p. p.1) (λ _. refl) (pair_ranked nat_ranked rule_ranked)
 
-some_same : {A : Type 0} (x y : A) → Some x ≡ Some y → x ≡ y
-some_same x y h = cc
-
 -- ---- the operator's
 
+-- the row of a session is a row of the tables
 row_of : (t : Tables) (name : Option (List ℕ)) (r : ApnRow) → option_and_then (apn_row t) name ≡ Some r → (n : List ℕ) × (apn_row t n ≡ Some r)
 row_of t None r h = absurd (cc)
 row_of t (Some n) r h = (n, h)
@@ -46,10 +46,12 @@ row_of t (Some n) r h = (n, h)
 abbrev of_row : Option ApnRow → List RuleValue
 of_row row = unwrap_or (option_map (λ (r : ApnRow). map operator_rule r.rules) row) []
 
+-- an operator's rule has its prefix
 named_op : (row : Option ApnRow) (x : RuleValue) → In x (of_row row) → (n : List ℕ) × (x.name ≡ codes "op/" ++ n)
 named_op None x i = absurd i
 named_op (Some r) x i = let w = map-In operator_rule x r.rules i in (w.0.name, ap rule_name_of w.2)
 
+-- an operator's rules of one name are one
 one_op : (row : Option ApnRow) → ((r : ApnRow) → row ≡ Some r → Distinct (map (λ (x : OperatorRule). x.name) r.rules)) → (x y : RuleValue) → In x (of_row row) → In y (of_row row) → x.name ≡ y.name → x ≡ y
 one_op None apart x y i j e = absurd i
 one_op (Some r) apart x y i j e =
@@ -60,10 +62,7 @@ one_op (Some r) apart x y i j e =
 
 -- ---- the flows'
 
-came_from : {A : Type 0} (b : Bool) (x : Option A) (y : A) → cond b x None ≡ Some y → (b ≡ true) × (x ≡ Some y)
-came_from true x y h = (refl, h)
-came_from false x y h = absurd (cc)
-
+-- what comes of two came of both
 and_then : {A B : Type 0} (f : A → Option B) (x : Option A) (y : B) → option_and_then f x ≡ Some y → (z : A) × (x ≡ Some z) × (f z ≡ Some y)
 and_then f None y h = absurd (cc)
 and_then f (Some z) y h = (z, refl, h)
@@ -82,6 +81,7 @@ name_of t v i None cl x h = absurd (cc)
 name_of t v i (Some f) None x h = absurd (cc)
 name_of t v i (Some f) (Some c) x h = sym (ap rule_name_of (some_same (flow_rule t v i f c) x h))
 
+-- a session that is not of the gateway is of the application function
 kind_af : (k : Kind) → not (is_gx k) ≡ true → k ≡ Af
 kind_af Gx h = clash false h refl
 kind_af Af h = refl
@@ -95,9 +95,11 @@ record OfFlow (t : Tables) (v : View) (x : RuleValue) : Type 0 where
   pub low_flow : flow.flow < 2 ^ 32
 
 module _ (t : Tables) (facts : List Fact) (s : Session) (fit : NumbersFit facts) where
+  -- what is read of the facts
   abbrev v : View
   v = view facts
 
+  -- a path that shows is that of a fact
   fact_of : (f : Fact) (p : Shown) → showing (shown facts) f ≡ Some p → path_of f ≡ p.0
   fact_of (Gone q) p h = absurd (cc)
   fact_of (Field q g x) p h = at_path (shown facts q) h
@@ -113,6 +115,7 @@ module _ (t : Tables) (facts : List Fact) (s : Session) (fit : NumbersFit facts)
       let r = filter_map-In (showing (shown facts)) p facts ((ascending-In shown_cmp shown_ranked (filter_map (showing (shown facts)) facts) p).0 i) in
       subst (λ (z : Path). FitTheirAvps z.steps) (fact_of r.0 p r.2) (fit r.0 r.1)
 
+  -- a session that is bound is bound to some session
   bound_is_some : (a : Session) (x : Option Session) → unwrap_or (option_map (λ z. is_eq (session_cmp z s)) x) false ≡ true → (z : Session) × (x ≡ Some z)
   bound_is_some a None h = clash false h refl
   bound_is_some a (Some z) h = (z, refl)
@@ -124,6 +127,7 @@ module _ (t : Tables) (facts : List Fact) (s : Session) (fit : NumbersFit facts)
       let m = ((bind-greatest facts a z.0).0 z.1).fits in
       kind_af a.kind (first_so _ _ (first_so _ _ (first_so _ _ (first_so _ _ (first_so _ _ (first_so _ _ m))))))
 
+  -- each rule of a flow is so
   of_flow : (x : RuleValue) → In x (flow_rules t v s) → OfFlow t v x
   of_flow x i =
       let r = filter_map-In (rule_at t v s) x v.all i in
@@ -138,9 +142,11 @@ module _ (t : Tables) (facts : List Fact) (s : Session) (fit : NumbersFit facts)
         low_flow = n.2;
       }
 
+  -- and has the flow's name
   named_flow : (x : RuleValue) (o : OfFlow t v x) → x.name ≡ flow_rule_name o.flow
   named_flow x o = name_of t v o.flow (filters v o.flow) (class_of t v o.flow) x o.gives
 
+  -- rules of flows of one name are one
   one_flow : (x y : RuleValue) → OfFlow t v x → OfFlow t v y → x.name ≡ y.name → x ≡ y
   one_flow x y o p e =
       let text = append_cancel_left (codes "af/")
@@ -157,15 +163,18 @@ module _ (t : Tables) (facts : List Fact) (s : Session) (fit : NumbersFit facts)
   apart n m e = let h = heads 111 97 (112 ∷ 47 ∷ n) (102 ∷ 47 ∷ m) e in omega (arith, h)
 
   module _ (rows : NamesRulesApart t) where
+    -- the row of the session names its rules apart
     apart_in_row : (r : ApnRow) → apn_of t v s ≡ Some r → Distinct (map (λ (x : OperatorRule). x.name) r.rules)
     apart_in_row r h = let w = row_of t (text v (apn s)) r h in rows w.0 r w.1
 
+    -- no operator's rule has a flow's name
     across : (x y : RuleValue) → In x (operator_rules t v s) → In y (flow_rules t v s) → x.name ≡ y.name → ⊥
     across x y i j e =
         let o = named_op (apn_of t v s) x i in
         let f = of_flow y j in
         apart o.0 (f.flow.session.id ++ codes "/" ++ decimal f.flow.component ++ codes "/" ++ decimal f.flow.flow) (sym o.1 ∙ e ∙ named_flow y f)
 
+    -- rules of one name are one
     one_rule : (x y : RuleValue) → In x (operator_rules t v s ++ flow_rules t v s) → In y (operator_rules t v s ++ flow_rules t v s) → x.name ≡ y.name → x ≡ y
     one_rule x y i j e = elim (In-cases x (operator_rules t v s) (flow_rules t v s) i) [
       | inl a ↦ elim (In-cases y (operator_rules t v s) (flow_rules t v s) j) [
@@ -178,20 +187,25 @@ module _ (t : Tables) (facts : List Fact) (s : Session) (fit : NumbersFit facts)
       ]
     ]
 
+    -- all rules, in order
     abbrev all_rules : List RuleValue
     all_rules = ascending listed_cmp (operator_rules t v s ++ flow_rules t v s)
 
+    -- each is of the operator or of a flow
     listed : (x : RuleValue) → In x all_rules → In x (operator_rules t v s ++ flow_rules t v s)
     listed x = (ascending-In listed_cmp listed_ranked (operator_rules t v s ++ flow_rules t v s) x).0
 
+    -- their names differ
     all_differ : Distinct (map rule_name_of all_rules)
     all_differ = Distinct-map rule_name_of all_rules
         (Distinct-ascending listed_cmp listed_ranked all_rules (ascending-ascending listed_cmp listed_ranked (operator_rules t v s ++ flow_rules t v s)))
         (λ x y i j. one_rule x y (listed x i) (listed y j))
 
+    -- and so those of the session, live or not
     names_differ : Distinct (map rule_name_of (rules t v s))
     unfolding rules
     names_differ = elim (is_live v s) as (λ b. Distinct (map rule_name_of (cond b all_rules []))) [ true ↦ all_differ | false ↦ tt ]
 
+-- for any tables and facts
 pub rules-names_differ : (t : Tables) (facts : List Fact) (s : Session) → NamesRulesApart t → NumbersFit facts → Distinct (map rule_name_of (rules t (view facts) s))
 rules-names_differ t facts s rows fit = names_differ t facts s fit rows

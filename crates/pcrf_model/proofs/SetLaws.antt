@@ -1,50 +1,37 @@
 -- Laws of sets as lists.
-use Rattle.std.proofs.Common.{◌≡◌, Bool, true, false, cond, not, ◌||◌, List, [], ◌∷◌, ◌++◌, map, ◌⊎◌, Option, Some, None, inl, inr, refl, sym, ap, ◌∙◌, subst, true≢false, Ordering, Less, Equal, Greater}
+use Rattle.std.proofs.Common.{◌≡◌, Bool, true, false, cond, not, List, [], ◌∷◌, ◌++◌, map, ◌⊎◌, Option, Some, None, inl, inr, refl, sym, ap, ◌∙◌, subst, true≢false, Ordering, Less, Equal, Greater}
 use Rattle.std.specs.List.{list_any, filter, filter_map, cons_option}
 use Rattle.std.specs.Ordering.{is_lt, ordering_reverse}
 use Rattle.std.specs.Cmp.{both_ways, IsTotalOrder, tied_itself}
 use Rattle.lattice_core.specs.Same.{IsExact}
+use Rattle.pcrf_model.proofs.Plain.{clash, is_false, not_true, or_true, or_left, or_right, lt_less}
 use Rattle.pcrf_model.specs.Sets.{In, Same, best, greatest, maximal}
 
-pub clash : {P : Type 0} (b : Bool) → b ≡ true → b ≡ false → P
-clash b t f = absurd (true≢false (sym t ∙ f))
-
-pub is_false : (b : Bool) → (b ≡ true → ⊥) → b ≡ false
-is_false true h = absurd (h refl)
-is_false false h = refl
-
-pub or_true : (a b : Bool) → (a || b) ≡ true → (a ≡ true) ⊎ (b ≡ true)
-or_true true b h = inl refl
-or_true false b h = inr h
-
-pub or_left : (a b : Bool) → a ≡ true → (a || b) ≡ true
-or_left true b h = refl
-or_left false b h = clash false h refl
-
-pub or_right : (a b : Bool) → b ≡ true → (a || b) ≡ true
-or_right true b h = refl
-or_right false b h = h
-
 module _ {A : Type 0} where
+  -- a member of the first is in both
   pub In-left : (x : A) (xs ys : List A) → In x xs → In x (xs ++ ys)
   In-left x [] ys h = absurd h
   In-left x (y ∷ xs) ys (inl e) = inl e
   In-left x (y ∷ xs) ys (inr h) = inr (In-left x xs ys h)
 
+  -- a member of the second is in both
   pub In-right : (x : A) (xs ys : List A) → In x ys → In x (xs ++ ys)
   In-right x [] ys h = h
   In-right x (y ∷ xs) ys h = inr (In-right x xs ys h)
 
+  -- one place later
   later : (x y : A) (xs ys : List A) → In x xs ⊎ In x ys → In x (y ∷ xs) ⊎ In x ys
   later x y xs ys (inl h) = inl (inr h)
   later x y xs ys (inr h) = inr h
 
+  -- a member of both is in one
   pub In-cases : (x : A) (xs ys : List A) → In x (xs ++ ys) → In x xs ⊎ In x ys
   In-cases x [] ys h = inr h
   In-cases x (y ∷ xs) ys (inl e) = inl (inl e)
   In-cases x (y ∷ xs) ys (inr h) = later x y xs ys (In-cases x xs ys h)
 
   module _ (p : A → Bool) where
+    -- a member that passes is in the filter
     pub In-filter : (x : A) (xs : List A) → In x xs → p x ≡ true → In x (filter p xs)
     In-filter x [] h t = h
     In-filter x (y ∷ ys) (inl e) t = elim (p y) as (λ b. p y ≡ b → In x (cond b (y ∷ filter p ys) (filter p ys))) [
@@ -56,6 +43,7 @@ module _ {A : Type 0} where
       | false ↦ In-filter x ys h t
     ]
 
+    -- and one in the filter passes
     pub filter-In : (x : A) (xs : List A) → In x (filter p xs) → In x xs × (p x ≡ true)
     filter-In x [] = λ h. absurd h
     filter-In x (y ∷ ys) = elim (p y) as (λ b. p y ≡ b → In x (cond b (y ∷ filter p ys) (filter p ys)) → In x (y ∷ ys) × (p x ≡ true)) [
@@ -63,11 +51,13 @@ module _ {A : Type 0} where
       | false ↦ λ _ h. let r = filter-In x ys h in (inr r.0, r.1)
     ] refl
 
+    -- a member that passes makes the test of some true
     pub In-any : (x : A) (xs : List A) → In x xs → p x ≡ true → list_any p xs ≡ true
     In-any x [] h t = absurd h
     In-any x (y ∷ ys) (inl e) t = or_left (p y) _ (ap p (sym e) ∙ t)
     In-any x (y ∷ ys) (inr h) t = or_right (p y) _ (In-any x ys h t)
 
+    -- which some member then passes
     pub any-In : (xs : List A) → list_any p xs ≡ true → (x : A) × In x xs × (p x ≡ true)
     any-In [] h = clash false h refl
     any-In (y ∷ ys) h = elim (or_true (p y) (list_any p ys) h) [
@@ -75,57 +65,73 @@ module _ {A : Type 0} where
       | inr t ↦ let r = any-In ys t in (r.0, inr r.1, r.2)
     ]
 
+    -- the test of some depends on the members alone
     pub any-Same : (xs ys : List A) → Same xs ys → list_any p xs ≡ list_any p ys
     any-Same xs ys s = both_ways _ _
         (λ h. let r = any-In xs h in In-any r.0 ys ((s r.0).0 r.1) r.2)
         (λ h. let r = any-In ys h in In-any r.0 xs ((s r.0).1 r.1) r.2)
 
+    -- where it is false none passes
     pub none-any : (xs : List A) → list_any p xs ≡ false → (x : A) → In x xs → p x ≡ false
     none-any xs f x h = is_false (p x) (λ t. clash _ (In-any x xs h t) f)
 
+    -- and where none passes it is false
     pub any-none : (xs : List A) → ((x : A) → In x xs → p x ≡ false) → list_any p xs ≡ false
     any-none xs f = is_false _ (λ t. let r = any-In xs t in clash (p r.0) r.2 (f r.0 r.1))
 
+  -- a list has its own members
   pub Same-itself : (xs : List A) → Same xs xs
   Same-itself xs x = (λ h. h, λ h. h)
 
+  -- the other way
   pub Same-back : (xs ys : List A) → Same xs ys → Same ys xs
   Same-back xs ys s x = ((s x).1, (s x).0)
 
+  -- through a third
   pub Same-through : (xs ys zs : List A) → Same xs ys → Same ys zs → Same xs zs
   Same-through xs ys zs s t x = (λ h. (t x).0 ((s x).0 h), λ h. (s x).1 ((t x).1 h))
 
+  -- members go over part by part
   into : (xs ys us vs : List A) → ((x : A) → In x xs → In x us) → ((x : A) → In x ys → In x vs) → (x : A) → In x (xs ++ ys) → In x (us ++ vs)
   into xs ys us vs f g x h = elim (In-cases x xs ys h) [ inl a ↦ In-left x us vs (f x a) | inr a ↦ In-right x us vs (g x a) ]
 
+  -- two lists part by part
   pub Same-append : (xs ys us vs : List A) → Same xs us → Same ys vs → Same (xs ++ ys) (us ++ vs)
   Same-append xs ys us vs s t x = (into xs ys us vs (λ y. (s y).0) (λ y. (t y).0) x, into us vs xs ys (λ y. (s y).1) (λ y. (t y).1) x)
 
+  -- members in the other order
   turn : (xs ys : List A) (x : A) → In x (xs ++ ys) → In x (ys ++ xs)
   turn xs ys x h = elim (In-cases x xs ys h) [ inl a ↦ In-right x ys xs a | inr a ↦ In-left x ys xs a ]
 
+  -- in the other order
   pub Same-turn : (xs ys : List A) → Same (xs ++ ys) (ys ++ xs)
   Same-turn xs ys x = (turn xs ys x, turn ys xs x)
 
+  -- a list twice
   pub Same-twice : (xs : List A) → Same (xs ++ xs) xs
   Same-twice xs x = (λ h. elim (In-cases x xs xs h) [ inl a ↦ a | inr a ↦ a ], In-left x xs xs)
 
   -- ---- what a strict order has on top
   module _ (below : A → A → Bool) (irr : (x : A) → below x x ≡ false) (trans : (x y z : A) → below x y ≡ true → below y z ≡ true → below x z ≡ true) where
+    -- it is m, or below it
     abbrev pub AtOrBelow : A → A → Type 0
     AtOrBelow x m = (x ≡ m) ⊎ (below x m ≡ true)
 
+    -- up from below
     up_from : (x y m : A) → below x y ≡ true → AtOrBelow y m → below x m ≡ true
     up_from x y m e (inl q) = subst (λ (z : A). below x z ≡ true) q e
     up_from x y m e (inr q) = trans x y m e q
 
+    -- not down again
     not_down : (x y m : A) → below x y ≡ true → AtOrBelow y m → below m x ≡ false
     not_down x y m e h = is_false (below m x) (λ t. clash (below x x) (trans x m x (up_from x y m e h) t) (irr x))
 
+    -- not past what is above
     not_past : (x m z : A) → AtOrBelow x m → below x z ≡ false → below m z ≡ false
     not_past x m z (inl q) f = ap (λ y. below y z) (sym q) ∙ f
     not_past x m z (inr q) f = is_false (below m z) (λ t. clash (below x z) (trans x m z q t) f)
 
+    -- the best is at the first or above
     pub best-above : (x : A) (xs : List A) → AtOrBelow x (best below x xs)
     best-above x [] = inl refl
     best-above x (y ∷ ys) = elim (below x y) as (λ b. below x y ≡ b → AtOrBelow x (best below (cond b y x) ys)) [
@@ -133,6 +139,7 @@ module _ {A : Type 0} where
       | false ↦ λ e. best-above x ys
     ] refl
 
+    -- the best is a member
     pub best-in : (x : A) (xs : List A) → In (best below x xs) (x ∷ xs)
     best-in x [] = inl refl
     best-in x (y ∷ ys) = elim (below x y) as (λ b. In (best below (cond b y x) ys) (x ∷ y ∷ ys)) [
@@ -144,6 +151,7 @@ module _ {A : Type 0} where
         skip (inl e) = inl e
         skip (inr h) = inr (inr h)
 
+    -- no member is above the best
     pub best-top : (x : A) (xs : List A) (y : A) → In y (x ∷ xs) → below (best below x xs) y ≡ false
     best-top x [] y (inl e) = ap (below x) e ∙ irr x
     best-top x [] y (inr h) = absurd h
@@ -161,13 +169,11 @@ module _ {A : Type 0} where
         stay ih f (inr (inl q)) = ap (below (best below x zs)) q ∙ not_past x _ z (best-above x zs) f
         stay ih f (inr (inr q)) = ih y (inr q)
 
-    not_not : (b : Bool) → not b ≡ true → b ≡ false
-    not_not true h = clash false h refl
-    not_not false h = refl
-
+    -- what is on top is a member that none is above
     pub maximal-In : (x : A) (xs : List A) → In x (maximal below xs) → In x xs × ((y : A) → In y xs → below x y ≡ false)
-    maximal-In x xs h = let r = filter-In (λ y. not (list_any (below y) xs)) x xs h in (r.0, none-any (below x) xs (not_not _ r.1))
+    maximal-In x xs h = let r = filter-In (λ y. not (list_any (below y) xs)) x xs h in (r.0, none-any (below x) xs (not_true _ r.1))
 
+    -- and such a member is on top
     pub In-maximal : (x : A) (xs : List A) → In x xs → ((y : A) → In y xs → below x y ≡ false) → In x (maximal below xs)
     In-maximal x xs h f = In-filter (λ y. not (list_any (below y) xs)) x xs h (ap not (any-none (below x) xs f))
 
@@ -189,6 +195,7 @@ module _ {A : Type 0} where
         passes x m t (inl q) = ap p (sym q) ∙ t
         passes x m t (inr q) = up x m t q
 
+    -- what is on top depends on the members alone
     pub maximal-Same : (xs ys : List A) → Same xs ys → Same (maximal below xs) (maximal below ys)
     maximal-Same xs ys s x = (half xs ys s x, half ys xs (Same-back xs ys s) x)
       where
@@ -218,25 +225,25 @@ module _ {A : Type 0} where
               | inr a ↦ In-right x (maximal below xs) ys a
             ]) (λ y i. r.1 y (fewer y i))
 
+    -- what is on top of what is on top is just that
     pub maximal-maximal : (xs : List A) → Same (maximal below (maximal below xs)) (maximal below xs)
     maximal-maximal xs x = (λ h. (maximal-In x (maximal below xs) h).0, λ h. In-maximal x (maximal below xs) h (λ y i. (maximal-In x xs h).1 y (maximal-In y xs i).0))
 
   -- ---- the greatest
   module _ (cmp : A → A → Ordering) (o : IsTotalOrder cmp) (same : IsExact cmp) where
+    -- below, as a test
     abbrev less : A → A → Bool
     less x y = is_lt (cmp x y)
 
-    lt_less : (r : Ordering) → is_lt r ≡ true → r ≡ Less
-    lt_less Less h = refl
-    lt_less Equal h = clash false h refl
-    lt_less Greater h = clash false h refl
-
+    -- nothing is below itself
     pub less_irr : (x : A) → less x x ≡ false
     less_irr x = ap is_lt (tied_itself o x)
 
+    -- below goes through
     pub less_trans : (x y z : A) → less x y ≡ true → less y z ≡ true → less x z ≡ true
     less_trans x y z h k = ap is_lt (o.trans x y z (lt_less _ h) (lt_less _ k))
 
+    -- what is not below either way is equal
     neither : (r s : Ordering) → r ≡ ordering_reverse s → is_lt r ≡ false → is_lt s ≡ false → r ≡ Equal
     neither Less s e h k = clash true refl h
     neither Equal s e h k = refl
@@ -244,6 +251,7 @@ module _ {A : Type 0} where
     neither Greater Equal e h k = e
     neither Greater Greater e h k = absurd (true≢false (ap is_lt (sym e)))
 
+    -- and so the same
     pub both_top : (x y : A) → less x y ≡ false → less y x ≡ false → x ≡ y
     both_top x y h k = same x y (neither (cmp x y) (cmp y x) (o.antisymm x y) h k)
 
@@ -267,13 +275,12 @@ module _ {A : Type 0} where
         u_in : In u (y ∷ ys)
         u_in = let h = high u (best-in less less_irr less_trans x xs) in reach h.0 h.1 h.2
 
+    -- the greatest depends on the members alone
     pub greatest-Same : (xs ys : List A) → Same xs ys → greatest cmp ys ≡ greatest cmp xs
     greatest-Same xs ys s = greatest_reached xs ys (λ x. (s x).1) (λ x i. (x, (s x).0 i, inl refl))
 
 module _ {A B : Type 0} (h : A → Option B) where
-  none_some : {P : Type 0} (y : B) → None ≡ Some y → P
-  none_some y e = cc
-
+  -- what a member gives is there
   pub In-filter_map : (x : A) (y : B) (xs : List A) → In x xs → h x ≡ Some y → In y (filter_map h xs)
   In-filter_map x y [] i e = absurd i
   In-filter_map x y (z ∷ zs) (inl q) e = subst (λ (r : Option B). In y (cons_option r (filter_map h zs))) (sym e ∙ ap h q) (inl refl)
@@ -282,6 +289,7 @@ module _ {A B : Type 0} (h : A → Option B) where
     | Some w ↦ inr (In-filter_map x y zs i e)
   ]
 
+  -- and what is there some member gives
   pub filter_map-In : (y : B) (xs : List A) → In y (filter_map h xs) → (x : A) × In x xs × (h x ≡ Some y)
   filter_map-In y [] = λ i. absurd i
   filter_map-In y (z ∷ zs) = elim (h z) as (λ r. h z ≡ r → In y (cons_option r (filter_map h zs)) → (x : A) × In x (z ∷ zs) × (h x ≡ Some y)) [
@@ -289,23 +297,28 @@ module _ {A B : Type 0} (h : A → Option B) where
     | Some w ↦ λ e. elim [ inl q ↦ (z, inl refl, e ∙ ap Some (sym q)) | inr i ↦ let r = filter_map-In y zs i in (r.0, inr r.1, r.2) ]
   ] refl
 
+  -- from one list to the other
   part : (xs ys : List A) → Same xs ys → (y : B) → In y (filter_map h xs) → In y (filter_map h ys)
   part xs ys s y i = let r = filter_map-In y xs i in In-filter_map r.0 y ys ((s r.0).0 r.1) r.2
 
+  -- what members give depends on the members alone
   pub filter_map-Same : (xs ys : List A) → Same xs ys → Same (filter_map h xs) (filter_map h ys)
   filter_map-Same xs ys s y = (part xs ys s y, part ys xs (Same-back xs ys s) y)
 
 module _ {A B : Type 0} (f : A → B) where
+  -- what a member maps to is there
   pub In-map : (x : A) (xs : List A) → In x xs → In (f x) (map f xs)
   In-map x [] h = absurd h
   In-map x (y ∷ ys) (inl q) = inl (ap f q)
   In-map x (y ∷ ys) (inr h) = inr (In-map x ys h)
 
+  -- and what is there some member maps to
   pub map-In : (z : B) (xs : List A) → In z (map f xs) → (x : A) × In x xs × (z ≡ f x)
   map-In z [] h = absurd h
   map-In z (y ∷ ys) (inl q) = (y, inl refl, q)
   map-In z (y ∷ ys) (inr h) = let r = map-In z ys h in (r.0, inr r.1, r.2)
 
+  -- maps depend on the members alone
   pub map-Same : (xs ys : List A) → Same xs ys → Same (map f xs) (map f ys)
   map-Same xs ys s z = (
     λ h. let r = map-In z xs h in subst (λ (w : B). In w (map f ys)) (sym r.2) (In-map r.0 ys ((s r.0).0 r.1)),
@@ -320,6 +333,7 @@ module _ {A : Type 0} (below : A → A → Bool) where
     pub back : (x y : A) → In x xs → In y ys → below y x ≡ false
 
 module _ {A : Type 0} (below : A → A → Bool) (irr : (x : A) → below x x ≡ false) (trans : (x y z : A) → below x y ≡ true → below y z ≡ true → below x z ≡ true) where
+  -- parts that are apart are on top each by itself
   pub maximal-apart : (xs ys : List A) → Apart below xs ys → Same (maximal below (xs ++ ys)) (maximal below xs ++ maximal below ys)
   maximal-apart xs ys a x = (there, back)
     where

@@ -15,21 +15,27 @@ use Rattle.pcrf_model.proofs.ShownLaws.{kept-append, kept-Same}
 use Rattle.pcrf_model.proofs.AscendingLaws.{ascending-In, ascending-Same}
 use Rattle.pcrf_model.proofs.ViewLaws.{view-Same, view-kept}
 
+-- the ascending list depends on the members alone
 sorted-Same : (xs ys : List Fact) → Same xs ys → ascending fact_cmp xs ≡ ascending fact_cmp ys
 sorted-Same = ascending-Same fact_cmp fact_ranked
 
+-- and has the same members
 sorted-In : (xs : List Fact) → Same (ascending fact_cmp xs) xs
 sorted-In = ascending-In fact_cmp fact_ranked
 
+-- the holding of facts in any order
 abbrev sorted_holding : List Fact → ℕ → Holding
 sorted_holding fs n = record { facts = ascending fact_cmp fs; clock = n }
 
+-- which depends on the members alone
 same_holding : (fs gs : List Fact) (m n : ℕ) → Same fs gs → m ≡ n → sorted_holding fs m ≡ sorted_holding gs n
 same_holding fs gs m n s e = let q = sorted-Same fs gs s in λ i. record { facts = q i; clock = e i }
 
+-- unions in the other order
 pub union_comm : (h k : Holding) → union h k ≡ union k h
 union_comm h k = same_holding (h.facts ++ k.facts) (k.facts ++ h.facts) _ _ (Same-turn h.facts k.facts) (omega arith)
 
+-- the facts of three
 assoc_Same : (a b c : List Fact) → Same (ascending fact_cmp (a ++ b) ++ c) (a ++ ascending fact_cmp (b ++ c))
 assoc_Same a b c =
     Same-through (ascending fact_cmp (a ++ b) ++ c) ((a ++ b) ++ c) (a ++ ascending fact_cmp (b ++ c))
@@ -37,9 +43,11 @@ assoc_Same a b c =
     (subst (λ (z : List Fact). Same z (a ++ ascending fact_cmp (b ++ c))) (sym (append_assoc a b c))
     (Same-append a (b ++ c) a (ascending fact_cmp (b ++ c)) (Same-itself a) (Same-back (ascending fact_cmp (b ++ c)) (b ++ c) (sorted-In (b ++ c)))))
 
+-- unions of three
 pub union_assoc : (h k l : Holding) → union (union h k) l ≡ union h (union k l)
 union_assoc h k l = same_holding (ascending fact_cmp (h.facts ++ k.facts) ++ l.facts) (h.facts ++ ascending fact_cmp (k.facts ++ l.facts)) _ _ (assoc_Same h.facts k.facts l.facts) (omega arith)
 
+-- the kept facts of a union with what is kept
 kept_Same : (a b : List Fact) → Same (kept (ascending fact_cmp (ascending fact_cmp (kept a) ++ b))) (kept (ascending fact_cmp (a ++ b)))
 kept_Same a b =
     let inner : Same (ascending fact_cmp (kept a) ++ b) (kept a ++ b) = Same-append (ascending fact_cmp (kept a)) b (kept a) b (sorted-In (kept a)) (Same-itself b) in
@@ -49,9 +57,11 @@ kept_Same a b =
     (Same-through (kept (kept a ++ b)) (kept (a ++ b)) (kept (ascending fact_cmp (a ++ b))) (kept-append a b)
     (kept-Same (a ++ b) (ascending fact_cmp (a ++ b)) (Same-back (ascending fact_cmp (a ++ b)) (a ++ b) (sorted-In (a ++ b)))))
 
+-- what is kept of a union with what is kept
 pub kept_of-union : (h k : Holding) → kept_of (union (kept_of h) k) ≡ kept_of (union h k)
 kept_of-union h k = same_holding (kept (ascending fact_cmp (ascending fact_cmp (kept h.facts) ++ k.facts))) (kept (ascending fact_cmp (h.facts ++ k.facts))) _ _ (kept_Same h.facts k.facts) refl
 
+-- what is kept of what is kept
 pub kept_of_twice : (h : Holding) → kept_of (kept_of h) ≡ kept_of h
 kept_of_twice h = same_holding (kept (ascending fact_cmp (kept h.facts))) (kept h.facts) _ _
     (Same-through (kept (ascending fact_cmp (kept h.facts))) (kept (kept h.facts)) (kept h.facts)
@@ -59,18 +69,22 @@ kept_of_twice h = same_holding (kept (ascending fact_cmp (kept h.facts))) (kept 
     (maximal-maximal is_shaded_by shaded_irr shaded_trans h.facts))
     refl
 
+-- what is kept of a union with itself
 pub union_twice : (h : Holding) → kept_of (union h h) ≡ kept_of h
 union_twice h = same_holding (kept (ascending fact_cmp (h.facts ++ h.facts))) (kept h.facts) _ _
     (kept-Same (ascending fact_cmp (h.facts ++ h.facts)) h.facts (Same-through (ascending fact_cmp (h.facts ++ h.facts)) (h.facts ++ h.facts) h.facts (sorted-In (h.facts ++ h.facts)) (Same-twice h.facts)))
     (omega arith)
 
+-- the view of what is kept
 pub view-kept_of : (h : Holding) → view (kept_of h).facts ≡ view h.facts
 view-kept_of h = view-Same (ascending fact_cmp (kept h.facts)) (kept h.facts) (sorted-In (kept h.facts)) ∙ view-kept h.facts
 
+-- the rules of what is kept
 pub rules-kept_of : (t : Tables) (h : Holding) (s : Session) → rules t (view (kept_of h).facts) s ≡ rules t (view h.facts) s
 rules-kept_of t h s = ap (λ (v : View). rules t v s) (view-kept_of h)
 
 -- ---- the holding of a set of operations
+-- the facts held are those of the operations
 pub In-holding : (f : Fact) (os : List Operation) → In f (holding_of os).facts ↔ (o : Operation) × In o os × In f o.facts
 In-holding f [] = (λ h. absurd h, λ r. absurd r.1)
 In-holding f (o ∷ os) =
@@ -84,15 +98,18 @@ In-holding f (o ∷ os) =
     back before (q, inl e, i) = In-right f (holding_of os).facts o.facts (subst (λ (z : Operation). In f z.facts) e i)
     back before (q, inr j, i) = In-left f (holding_of os).facts o.facts (before q j i)
 
+-- no counter is above the clock
 pub clock_above : (o : Operation) (os : List Operation) → In o os → o.counter ≤ (holding_of os).clock
 clock_above o [] h = absurd h
 clock_above o (p ∷ os) (inl e) = let k : o.counter ≡ p.counter = ap (λ (z : Operation). z.counter) e in omega arith
 clock_above o (p ∷ os) (inr h) = let k = clock_above o os h in omega (arith, k)
 
+-- the clock is no higher than the counters
 pub clock_below : (n : ℕ) (os : List Operation) → ((o : Operation) → In o os → o.counter ≤ n) → (holding_of os).clock ≤ n
 clock_below n [] h = omega arith
 clock_below n (p ∷ os) h = let k = clock_below n os (λ o i. h o (inr i)) in let m = h p (inl refl) in omega (arith, k, m)
 
+-- from one list to the other
 part : (xs ys : List Operation) → Same xs ys → (f : Fact) → In f (holding_of xs).facts → In f (holding_of ys).facts
 part xs ys s f i = let r = (In-holding f xs).0 i in (In-holding f ys).1 (r.0, (s r.0).0 r.1, r.2)
 
@@ -101,6 +118,7 @@ holding_sorted : (os : List Operation) → ascending fact_cmp (holding_of os).fa
 holding_sorted [] = refl
 holding_sorted (o ∷ os) = sorted-Same (ascending fact_cmp ((holding_of os).facts ++ o.facts)) ((holding_of os).facts ++ o.facts) (sorted-In ((holding_of os).facts ++ o.facts))
 
+-- the holding depends on the members alone
 pub holding_of-Same : (xs ys : List Operation) → Same xs ys → holding_of xs ≡ holding_of ys
 holding_of-Same xs ys s =
     let low : (holding_of xs).clock ≤ (holding_of ys).clock = clock_below _ xs (λ o i. clock_above o ys ((s o).0 i)) in
@@ -123,9 +141,11 @@ holding_of-append (o ∷ xs) ys =
     ∙ sym (union_assoc (holding_of xs) (record { facts = o.facts; clock = o.counter }) (holding_of ys))
 
 -- ---- what is read of kept facts with more
+-- the view of what is kept, in order
 pub view_sorted : (xs : List Fact) → view (ascending fact_cmp (kept xs)) ≡ view xs
 view_sorted xs = view-Same (ascending fact_cmp (kept xs)) (kept xs) (sorted-In (kept xs)) ∙ view-kept xs
 
+-- the view of what is kept, with more
 pub view_with : (xs ys : List Fact) → view (ascending fact_cmp (kept xs) ++ ys) ≡ view (xs ++ ys)
 view_with xs ys =
     view-Same (ascending fact_cmp (kept xs) ++ ys) (kept xs ++ ys) (Same-append (ascending fact_cmp (kept xs)) ys (kept xs) ys (sorted-In (kept xs)) (Same-itself ys))

@@ -3,6 +3,7 @@ use Rattle.std.proofs.Common.{◌≡◌, true, false, cond, List, map, ◌⊎◌
 use Rattle.std.specs.Cmp.{first_so}
 use Rattle.std.specs.List.{filter_map}
 use Rattle.lattice_core.specs.Ascending.{ascending}
+use Rattle.pcrf_model.proofs.Plain.{clash}
 use Rattle.pcrf_model.specs.Sets.{In, Same}
 use Rattle.pcrf_model.specs.Sessions.{Session, session_cmp}
 use Rattle.pcrf_model.specs.Paths.{Path, whole}
@@ -10,16 +11,18 @@ use Rattle.pcrf_model.specs.Values.{Entry}
 use Rattle.pcrf_model.specs.Facts.{Fact, Gone, Field, session_of, is_shaded_by}
 use Rattle.pcrf_model.specs.Holdings.{kept, blocks, is_gone, value_at, shown}
 use Rattle.pcrf_model.specs.Views.{Shown, shown_cmp, view, showing}
-use Rattle.pcrf_model.proofs.SetLaws.{clash, maximal-In, top_of, filter_map-Same, filter_map-In, In-filter_map, In-any, In-map, map-In, map-Same}
+use Rattle.pcrf_model.proofs.SetLaws.{maximal-In, top_of, filter_map-Same, filter_map-In, In-filter_map, In-any, In-map, map-In, map-Same}
 use Rattle.pcrf_model.proofs.Ranked.{IsRanked, pair_ranked}
 use Rattle.pcrf_model.proofs.FactLaws.{session_ranked, path_ranked, entry_ranked, eq_is, shaded_irr, shaded_trans, above_at}
 use Rattle.pcrf_model.proofs.ShownLaws.{is_gone-kept, is_gone-Same, shown-kept, shown-Same}
 use Rattle.pcrf_model.proofs.AscendingLaws.{ascending-Same}
 
+-- what shows is ranked
 pub shown_ranked : IsRanked shown_cmp
 shown_ranked = pair_ranked path_ranked entry_ranked
 
 -- ---- the same set
+-- the view depends on the members alone
 pub view-Same : (xs ys : List Fact) → Same xs ys → view xs ≡ view ys
 unfolding view
 view-Same xs ys s =
@@ -36,6 +39,7 @@ view-Same xs ys s =
     }
 
 -- ---- the kept facts
+-- a fact is overshadowed within its session
 pub same_session : (f g : Fact) → is_shaded_by f g ≡ true → session_of f ≡ session_of g
 same_session (Gone p) (Gone q) s = sym (eq_is session_ranked q.session p.session (first_so _ _ (above_at q p s)))
 same_session (Gone p) (Field q u w) s = clash false s refl
@@ -43,9 +47,11 @@ same_session (Field p t v) (Gone q) s = sym (eq_is session_ranked q.session p.se
 same_session (Field p t v) (Field q u w) s = ap (λ (x : Path). x.session) (eq_is path_ranked p q (first_so _ _ s))
 
 module _ (facts : List Fact) where
+  -- what is kept is a fact
   kept-In : (f : Fact) → In f (kept facts) → In f facts
   kept-In f i = (maximal-In is_shaded_by shaded_irr shaded_trans f facts i).0
 
+  -- the kept facts have the same sessions
   sessions-kept : Same (map session_of (kept facts)) (map session_of facts)
   sessions-kept s = (
     λ h. let r = map-In session_of s (kept facts) h in subst (λ (w : Session). In w (map session_of facts)) (sym r.2) (In-map session_of r.0 facts (kept-In r.0 r.1)),
@@ -59,9 +65,11 @@ module _ (facts : List Fact) where
       up f m (inl q) = ap session_of q
       up f m (inr h) = same_session f m h
 
+  -- nothing shows nothing
   no_entry : {P : Type 0} (p : Path) (x : Shown) → option_map (λ (e : Entry). (p, e)) None ≡ Some x → P
   no_entry p x e = cc
 
+  -- the same paths show by what is kept
   all-kept : Same (filter_map (showing (shown facts)) (kept facts)) (filter_map (showing (shown facts)) facts)
   all-kept x = (
     λ h. let r = filter_map-In (showing (shown facts)) x (kept facts) h in In-filter_map (showing (shown facts)) r.0 x facts (kept-In r.0 r.1) r.2,
@@ -85,6 +93,7 @@ module _ (facts : List Fact) where
           In-filter_map (showing (shown facts)) (Field q u w) x (kept facts) i
           (ap (λ (y : Path). option_map (λ (e : Entry). (y, e)) (shown facts y)) (sym (eq_is path_ranked p q (first_so _ _ s))) ∙ e)
 
+-- the view is that of what is kept
 pub view-kept : (facts : List Fact) → view (kept facts) ≡ view facts
 unfolding view
 view-kept facts =

@@ -40,6 +40,7 @@ matches v a s =
 abbrev pub Candidate : Type 0
 Candidate = ℕ × (ℕ × List ℕ)
 
+-- by counter, then site, then Session-Id
 abbrev pub candidate_cmp : Candidate → Candidate → Ordering
 candidate_cmp = pair_cmp nat_cmp (pair_cmp nat_cmp text_cmp)
 
@@ -47,6 +48,7 @@ candidate_cmp = pair_cmp nat_cmp (pair_cmp nat_cmp text_cmp)
 abbrev pub standing : View → Session → Option Candidate
 standing v s = option_map (λ (e : Entry). (e.0.counter, (e.0.site, s.id))) (v.shows (address s))
 
+-- how s stands as a match of a, if it is one
 abbrev pub candidate : View → Session → Session → Option Candidate
 candidate v a s = cond (matches v a s) (standing v s) None
 

@@ -16,15 +16,19 @@ pub record CursorsValue : Type 0 where
   pub makers : List Cursor
   pub peers : List (Option Cursor)
 
+-- before anything was taken
 abbrev pub nothing_taken : Cursor
 nothing_taken = record { epoch = 0; cursor = 0 }
 
+-- of a site that begins an epoch: nothing was taken, and nothing is known of its peers
 abbrev pub start_cursors : ℕ → ℕ → CursorsValue
 start_cursors site epoch = record { site = site; epoch = epoch; makers = replicate 16 nothing_taken; peers = replicate 16 None }
 
+-- what was taken of that maker
 abbrev pub maker_entry : CursorsValue → ℕ → Cursor
 maker_entry c maker = slice_index_or c.makers maker nothing_taken
 
+-- what that peer said that it took
 abbrev pub peer_entry : CursorsValue → ℕ → Option Cursor
 peer_entry c peer = slice_index_or c.peers peer None
 
@@ -60,6 +64,7 @@ abbrev pub maker_after : LetterValue → Cursor → Cursor
 maker_after l x = cond (nat_lt l.epoch x.epoch) x
     (let y : Cursor = in_epoch l.epoch x in record { epoch = y.epoch; cursor = raised_by l.body y.cursor })
 
+-- the letter acknowledges, and carries no operation
 abbrev pub is_acknowledgement : LetterBody → Bool
 is_acknowledgement (Range from os) = false
 is_acknowledgement (Snapshot h n) = false
@@ -75,6 +80,7 @@ took c l = cond (is_acknowledgement l.body) c (record c { makers = slice_set c.m
 abbrev pub ack_of : CursorsValue → ℕ → AckValue
 ack_of c maker = record { sender = c.site; sender_epoch = c.epoch; maker = maker; maker_epoch = (maker_entry c maker).epoch; cursor = (maker_entry c maker).cursor }
 
+-- the acknowledgement as a letter
 abbrev pub ack_letter : ℕ → AckValue → LetterValue
 ack_letter edition a = record { edition = edition; site = a.sender; epoch = a.sender_epoch; body = Acknowledgement a.maker a.maker_epoch a.cursor }
 

@@ -1,6 +1,6 @@
 -- What a gateway was told, and how that differs from the rules that hold (TS 29.212, 4.5.2: Charging-Rule-Remove and -Install).
 use Rattle.std.specs.Prelude.{◌≡◌, ℕ, ◌+◌, ◌-◌, ◌==◌, Bool, cond, not, ◌&&◌, List, [], ◌∷◌, ◌++◌, map, take, drop, length, Option, Some, None}
-use Rattle.std.proofs.Common.{Ordering}
+use Rattle.std.proofs.Common.{Ordering, option_map}
 use Rattle.std.specs.Ordering.{is_eq}
 use Rattle.std.specs.List.{list_any, filter, filter_map}
 use Rattle.lattice_core.specs.Orders.{pair_cmp, text_cmp}
@@ -9,16 +9,18 @@ use Rattle.lattice_core.specs.RuleValues.{RuleValue, DeltaValue, rule_cmp}
 use Rattle.pcrf_model.specs.Sets.{Distinct}
 use Rattle.pcrf_model.specs.Sessions.{Session, session_cmp}
 use Rattle.pcrf_model.specs.Paths.{Step, RuleName}
-use Rattle.pcrf_model.specs.Values.{Value, Told}
+use Rattle.pcrf_model.specs.Values.{Value, Told, Entry}
 use Rattle.pcrf_model.specs.Views.{View, Shown}
 
 -- a name, and the rule that was told under it
 abbrev pub ToldRule : Type 0
 ToldRule = List ℕ × RuleValue
 
+-- by name, and then by rule
 abbrev pub told_cmp : ToldRule → ToldRule → Ordering
 told_cmp = pair_cmp text_cmp rule_cmp
 
+-- the name and the rule that a path and its value tell of, if they do
 abbrev pub told_entry : List Step → Value → Option ToldRule
 told_entry (RuleName n ∷ []) (Told r) = Some (n, r)
 told_entry steps x = None
@@ -27,9 +29,20 @@ told_entry steps x = None
 unfoldable pub told : View → Session → List ToldRule
 told v s = filter_map (λ (x : Shown). cond (is_eq (session_cmp x.0.session s)) (told_entry x.0.steps x.1.1) None) v.all
 
+-- the rule name at which a path stands, if it does
+abbrev pub name_of : List Step → Option (List ℕ)
+name_of (RuleName n ∷ []) = Some n
+name_of steps = None
+
+-- the names that show a rule, or that none is told any more, ascending, each with its tag and value
+abbrev pub told_marks : View → Session → List (List ℕ × Entry)
+told_marks v s = filter_map (λ (x : Shown). cond (is_eq (session_cmp x.0.session s)) (option_map (λ n. (n, x.1)) (name_of x.0.steps)) None) v.all
+
+-- the name of a told entry
 abbrev pub told_name_of : ToldRule → List ℕ
 told_name_of p = p.0
 
+-- the name of a rule (Charging-Rule-Name, TS 29.212, 5.3.6)
 abbrev pub rule_name_of : RuleValue → List ℕ
 rule_name_of r = r.name
 
@@ -38,6 +51,7 @@ pub record IsTold (t : List ToldRule) : Type 0 where
   pub in_order : ascending told_cmp t ≡ t
   pub one_each : Distinct (map told_name_of t)
 
+-- the rule has that name
 abbrev pub has_name : List ℕ → RuleValue → Bool
 has_name n r = is_eq (text_cmp r.name n)
 
@@ -66,6 +80,7 @@ is_empty d = length d.removed + length d.installed == 0
 
 -- ---- what the gateway has after it was told a difference
 
+-- the told entry of a rule
 abbrev pub as_told : RuleValue → ToldRule
 as_told r = (r.name, r)
 

@@ -38,6 +38,7 @@ gone_code (Component c ∷ []) = 3
 gone_code (Component c ∷ Flow n ∷ []) = 4
 gone_code steps = 8
 
+-- the kind of a field, by its path
 abbrev pub field_code : List Step → ℕ
 field_code (Part f ∷ []) = 2
 field_code (Component c ∷ Part f ∷ []) = 5
@@ -45,10 +46,12 @@ field_code (Component c ∷ Flow n ∷ Part f ∷ []) = 6
 field_code (RuleName t ∷ []) = 7
 field_code steps = 8
 
+-- the kind of a fact
 abbrev pub fact_code : Fact → ℕ
 fact_code (Gone p) = gone_code p.steps
 fact_code (Field p t v) = field_code p.steps
 
+-- what a fact says, as its parts
 abbrev pub fact_key : Fact → Path ⊎ (Path × Entry)
 fact_key (Gone p) = inl p
 fact_key (Field p t v) = inr (p, (t, v))

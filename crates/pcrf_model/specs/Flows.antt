@@ -1,10 +1,14 @@
 -- What a flow of an AF session shows: its status, its class and its rates (TS 29.214, 4.4.1, 5.3.11 and 5.3.12; TS 29.213, 6.3), and the rule made of them.
-use Rattle.std.specs.Prelude.{ℕ, Bool, false, cond, ◌==◌, List, ◌++◌, min, Option, Some, None, codes, decimal}
+use Rattle.std.specs.Prelude.{ℕ, Bool, false, cond, ◌==◌, List, [], ◌∷◌, ◌++◌, min, Option, Some, None, codes, decimal}
 use Rattle.std.proofs.Common.{option_map, option_and_then, unwrap_or}
+use Rattle.std.specs.Ordering.{is_eq, nat_cmp}
+use Rattle.std.specs.List.{filter_map}
+use Rattle.lattice_core.specs.Orders.{pair_cmp}
+use Rattle.lattice_core.specs.Ascending.{ascending}
 use Rattle.lattice_core.specs.RuleValues.{RuleValue}
-use Rattle.pcrf_model.specs.Sessions.{Session}
-use Rattle.pcrf_model.specs.Paths.{FieldName, MediaType, FlowDescriptions, FlowUsage, FlowStatus, MaxRateUp, MaxRateDown, component_part, flow_part}
-use Rattle.pcrf_model.specs.Views.{View, value, number, as_filters}
+use Rattle.pcrf_model.specs.Sessions.{Session, session_cmp}
+use Rattle.pcrf_model.specs.Paths.{Step, Component, Flow, Part, FieldName, MediaType, FlowDescriptions, FlowUsage, FlowStatus, MaxRateUp, MaxRateDown, component_part, flow_part}
+use Rattle.pcrf_model.specs.Views.{View, Shown, value, number, as_filters}
 use Rattle.pcrf_model.specs.Tables.{Class, MediaRow, Tables, media_row}
 
 -- an AF session, a Media-Component-Number and a Flow-Number
@@ -13,6 +17,16 @@ pub record FlowId : Type 0 where
   pub component : ℕ
   pub flow : ℕ
 
+-- the component and the flow in which a path stands
+abbrev pub flow_of : List Step → Option (ℕ × ℕ)
+flow_of (Component c ∷ Flow n ∷ Part f ∷ []) = Some (c, n)
+flow_of steps = None
+
+-- the flows of which a field shows, each once, ascending by component and flow
+abbrev pub flows : View → Session → List (ℕ × ℕ)
+flows v a = ascending (pair_cmp nat_cmp nat_cmp) (filter_map (λ (x : Shown). cond (is_eq (session_cmp x.0.session a)) (flow_of x.0.steps) None) v.all)
+
+-- the first, where it is there, else the second
 abbrev pub or_else : {A : Type 0} → Option A → Option A → Option A
 or_else None y = y
 or_else (Some x) y = Some x
@@ -25,9 +39,11 @@ of_flow v i f = number v (flow_part i.session i.component i.flow f)
 abbrev pub of_component : View → FlowId → FieldName → Option ℕ
 of_component v i f = number v (component_part i.session i.component f)
 
+-- the filters that the flow shows
 abbrev pub filters : View → FlowId → Option (List (List ℕ))
 filters v i = option_and_then as_filters (value v (flow_part i.session i.component i.flow FlowDescriptions))
 
+-- the flow shows that Flow-Usage
 abbrev pub has_usage : View → FlowId → ℕ → Bool
 has_usage v i u = unwrap_or (option_map (λ n. n == u) (of_flow v i FlowUsage)) false
 

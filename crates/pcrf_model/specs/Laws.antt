@@ -1,12 +1,14 @@
 -- The laws of the definitions.
-use Rattle.std.specs.Prelude.{◌≡◌, ℕ, ◌<◌, ◌^◌, [], ◌∷◌, true, false, List, ◌++◌, ◌↔◌, map, Option, Some, None}
+use Rattle.std.specs.Prelude.{◌≡◌, ℕ, ◌<◌, ◌≤◌, ◌^◌, [], ◌∷◌, true, false, List, ◌++◌, ◌↔◌, map, Option, Some, None}
 use Rattle.std.proofs.Common.{Less}
 use Rattle.lattice_core.specs.Ascending.{ascending}
 use Rattle.lattice_core.specs.RuleValues.{RuleValue}
 use Rattle.pcrf_model.specs.Sets.{In, Same, Distinct}
-use Rattle.pcrf_model.specs.Sessions.{Session}
-use Rattle.pcrf_model.specs.Paths.{Step, Component, Flow, Part, RuleName, Path}
-use Rattle.pcrf_model.specs.Facts.{Fact, path_of}
+use Rattle.pcrf_model.specs.Sessions.{Session, gx}
+use Rattle.pcrf_model.specs.Paths.{Step, Component, Flow, Part, RuleName, Path, told_name}
+use Rattle.pcrf_model.specs.Values.{Value}
+use Rattle.lattice_core.specs.declared.tag.Tag.{Tag}
+use Rattle.pcrf_model.specs.Facts.{Fact, Field, path_of, fact_code}
 use Rattle.pcrf_model.specs.Holdings.{kept, Holding, union, kept_of}
 use Rattle.pcrf_model.specs.Operations.{Operation, holding_of}
 use Rattle.pcrf_model.specs.Views.{View, view}
@@ -16,9 +18,10 @@ use Rattle.pcrf_model.specs.Tables.{OperatorRule, ApnRow, Tables, apn_row}
 use Rattle.pcrf_model.specs.Rules.{rules}
 use Rattle.pcrf_model.specs.Differences.{ToldRule, told_cmp, told, told_name_of, rule_name_of, IsTold, difference, first, rest, as_told, apply}
 use Rattle.pcrf_model.specs.OperatorValues.{operator_value}
-use Rattle.pcrf_model.specs.Requests.{RequestValue}
-use Rattle.pcrf_model.specs.Serving.{serve}
-use Rattle.pcrf_model.specs.Pushing.{push, lacks_counter}
+use Rattle.pcrf_model.specs.Requests.{CcrValue, FlowValue, ComponentValue, RequestValue, Aar}
+use Rattle.pcrf_model.specs.Making.{ccr_fields, next_tag}
+use Rattle.pcrf_model.specs.Serving.{delta_limit, delta_of, provisioned, serve, with_added}
+use Rattle.pcrf_model.specs.Pushing.{due, push, lacks_counter}
 use Rattle.pcrf_model.specs.Replies.{ReplyValue}
 use Rattle.pcrf_model.specs.Steps.{SiteState, kept_state, SiteEvent, MayReply, stepped}
 
@@ -38,9 +41,11 @@ KeepsOnce = (h : Holding) → kept_of (kept_of h) ≡ kept_of h
 
 -- ---- unions
 
+-- the union does not depend on the order of two
 abbrev pub UnionIsCommutative : Type 0
 UnionIsCommutative = (h k : Holding) → union h k ≡ union k h
 
+-- nor on how three are put together
 abbrev pub UnionIsAssociative : Type 0
 UnionIsAssociative = (h k l : Holding) → union (union h k) l ≡ union h (union k l)
 
@@ -79,9 +84,11 @@ pub record ReadsTheSame (v w : View) : Type 0 where
   pub entries : (s : Session) → told v s ≡ told w s
   pub differences : (t : Tables) (s : Session) → difference (told v s) (rules t v s) ≡ difference (told w s) (rules t w s)
 
+-- so of what is kept
 abbrev pub KeptReadsTheSame : Type 0
 KeptReadsTheSame = (facts : List Fact) → ReadsTheSame (view (kept facts)) (view facts)
 
+-- so of lists with the same members
 abbrev pub MembersReadTheSame : Type 0
 MembersReadTheSame = (xs ys : List Fact) → Same xs ys → ReadsTheSame (view xs) (view ys)
 
@@ -93,6 +100,7 @@ KeptHasTheSameValue = (t : Tables) (h : Holding) → operator_value t (kept_of h
 abbrev pub KeptServesTheSame : Type 0
 KeptServesTheSame = (t : Tables) (i : ℕ) (h : Holding) (q : RequestValue) → serve t i (kept_of h) q ≡ serve t i h q
 
+-- a site pushes the same from what is kept, and lacks a counter for it just then
 abbrev pub KeptPushesTheSame : Type 0
 KeptPushesTheSame = (t : Tables) (i : ℕ) (h : Holding) (name : Option (List ℕ)) → (push t i (kept_of h) name ≡ push t i h name) × (lacks_counter t i (kept_of h) name ≡ lacks_counter t i h name)
 
@@ -158,6 +166,7 @@ FitTheirAvps (Flow n ∷ steps) = (n < 2 ^ 32) × FitTheirAvps steps
 FitTheirAvps (Part f ∷ steps) = FitTheirAvps steps
 FitTheirAvps (RuleName n ∷ steps) = FitTheirAvps steps
 
+-- all facts have numbers that fit
 abbrev pub NumbersFit : List Fact → Type 0
 NumbersFit facts = (f : Fact) → In f facts → FitTheirAvps (path_of f).steps
 
@@ -172,3 +181,55 @@ SessionIsTold = (t : Tables) (facts : List Fact) (s : Session) (n : ℕ) → Nam
     let rules_now : List RuleValue = rules t (view facts) s in
     (apply told_now (difference told_now rules_now) ≡ ascending told_cmp (map as_told rules_now))
     × (difference (apply told_now (first n (difference told_now rules_now))) rules_now ≡ rest n (difference told_now rules_now))
+
+-- ---- what a gateway lacks after it was told
+
+-- A fact is of a kind that requests make, with numbers that fit, under that counter; what tells of a rule is under number 0.
+pub record IsFormed (counter : ℕ) (f : Fact) : Type 0 where
+  pub kind : fact_code f ≡ 8 → ⊥
+  pub fits : FitTheirAvps (path_of f).steps
+  pub tagged : (p : Path) (t : Tag) (x : Value) → f ≡ Field p t x → t.counter ≡ counter
+  pub numbered : (s : Session) (n : List ℕ) (t : Tag) (x : Value) → f ≡ Field (told_name s n) t x → t.number ≡ 0
+
+-- an operation has such facts, under its own counter
+abbrev pub IsWellFormed : Operation → Type 0
+IsWellFormed o = (f : Fact) → In f o.facts → IsFormed o.counter f
+
+-- a holding has such facts, under counters up to its clock
+pub record IsStamped (h : Holding) : Type 0 where
+  pub kinds : (f : Fact) → In f h.facts → fact_code f ≡ 8 → ⊥
+  pub fits : NumbersFit h.facts
+  pub counters : (p : Path) (t : Tag) (x : Value) → In (Field p t x) h.facts → t.counter ≤ h.clock
+  pub numbers : (s : Session) (n : List ℕ) (t : Tag) (x : Value) → In (Field (told_name s n) t x) h.facts → t.number ≡ 0
+
+-- the numbers of a request fit their AVPs
+abbrev pub RequestFits : RequestValue → Type 0
+RequestFits (Aar q) = (c : ComponentValue) → In c q.components → (c.number < 2 ^ 32) × ((f : FlowValue) → In f c.flows → f.number < 2 ^ 32)
+RequestFits q = Unit {0}
+
+-- the operations that sites add are well formed
+abbrev pub AddsWellFormed : Type 0
+AddsWellFormed = (t : Tables) (i : ℕ) (h : Holding) (o : Operation) →
+    ((q : RequestValue) → RequestFits q → (serve t i h q).added ≡ Some o → IsWellFormed o)
+    × ((name : Option (List ℕ)) → (push t i h name).added ≡ Some o → IsWellFormed o)
+
+-- what well-formed operations make is so
+abbrev pub OperationsStamp : Type 0
+OperationsStamp = (os : List Operation) → ((o : Operation) → In o os → IsWellFormed o) → IsStamped (holding_of os)
+
+-- From one view to the next the gateway of s was told the first entries of the difference: the rules are the same, the told entries have these
+-- entries applied, and what is left is the rest.
+pub record TellsTheFirst (t : Tables) (before after : View) (s : Session) : Type 0 where
+  pub rules_stay : rules t after s ≡ rules t before s
+  pub told_next : told after s ≡ apply (told before s) (delta_of t before s)
+  pub left : difference (told after s) (rules t after s) ≡ rest delta_limit (difference (told before s) (rules t before s))
+
+-- an initial request or an update that is accepted tells the first entries of the difference with its fields added
+abbrev pub ProvisioningTells : Type 0
+ProvisioningTells = (t : Tables) (i : ℕ) (h : Holding) (q : CcrValue) → NamesRulesApart t → IsStamped h → (view h.facts).ended (gx q.session) ≡ false →
+    TellsTheFirst t (view (h.facts ++ ccr_fields q (next_tag i h q.number))) (view (with_added h (provisioned t i h q).added).facts) (gx q.session)
+
+-- and a push those of the difference
+abbrev pub PushingTells : Type 0
+PushingTells = (t : Tables) (i : ℕ) (h : Holding) (name : Option (List ℕ)) (s : Session) → NamesRulesApart t → IsStamped h → due t i (view h.facts) name ≡ Some s →
+    TellsTheFirst t (view h.facts) (view (with_added h (push t i h name).added).facts) s

@@ -1,17 +1,17 @@
 -- Letters and worlds of the worked examples.
-use Rattle.std.specs.Prelude.{ℕ, List, [], ◌∷◌, Option, Some, None, Ok, length, slice_get}
+use Rattle.std.specs.Prelude.{ℕ, List, [], ◌∷◌, Option, None, Ok, length, slice_get}
 use Rattle.std.proofs.Common.{option_map}
-use Rattle.pcrf_model.specs.Holdings.{Holding, nothing_held, kept_of}
-use Rattle.pcrf_model.specs.Operations.{Operation}
+use Rattle.pcrf_model.specs.Holdings.{Holding}
 use Rattle.pcrf_model.specs.Replies.{Done}
-use Rattle.pcrf_model.specs.Letters.{LetterBody, Range, Snapshot, LetterValue}
+use Rattle.pcrf_model.specs.Letters.{LetterBody, Range, LetterValue}
 use Rattle.pcrf_model.specs.Cursors.{Cursor, CursorsValue, start_cursors, maker_entry, took}
-use Rattle.pcrf_model.specs.Worlds.{WorldEvent, ServeAt, Letter, Merge, Ack, Restart, WorldOutcome, Replied, Lettered, Merged, Restarted, WorldFault, WorldAnswer, SiteTook, SentLetter, WorldTook, start, LetterRule, by_cursors, whole_log, held, after_all}
+use Rattle.pcrf_model.specs.Worlds.{WorldEvent, ServeAt, Letter, Merge, Ack, Restart, Replied, Lettered, Merged, Restarted, WorldAnswer, SiteTook, SentLetter, WorldTook, start, LetterRule, by_cursors, held, after_all}
 use Rattle.pcrf_model.specs.Samples.{operator, first_session, host_address, initial, update}
 use Rattle.pcrf_model.specs.Scenes.{one}
 
 -- ---- cursors of site 1 for the operations of site 0
 
+-- a letter of site 0 in that epoch
 abbrev pub letter : ℕ → LetterBody → LetterValue
 letter epoch body = record { edition = 7; site = 0; epoch = epoch; body = body }
 
@@ -19,6 +19,7 @@ letter epoch body = record { edition = 7; site = 0; epoch = epoch; body = body }
 abbrev pub range_at : ℕ → LetterValue
 range_at n = letter 1 (Range n one.log)
 
+-- the cursors of site 1 after these letters
 abbrev pub taking_letters : List LetterValue → CursorsValue
 taking_letters [] = start_cursors 1 1
 taking_letters (l ∷ ls) = took (taking_letters ls) l
@@ -27,6 +28,7 @@ taking_letters (l ∷ ls) = took (taking_letters ls) l
 abbrev pub cursor_after : List LetterValue → Cursor
 cursor_after ls = maker_entry (taking_letters ls) 0
 
+-- that many operations of that epoch
 abbrev pub cursor : ℕ → ℕ → Cursor
 cursor e n = record { epoch = e; cursor = n }
 
@@ -44,17 +46,22 @@ exchange_answers =
     Ok (Replied Done) ∷ Ok (Lettered 0) ∷ Ok Merged ∷ Ok (Lettered 1) ∷ Ok Merged
     ∷ Ok (Replied Done) ∷ Ok (Lettered 2) ∷ Ok Merged ∷ []
 
+-- the world after the exchange, by that way to make letters
 abbrev pub exchanged : LetterRule → WorldTook
 exchanged make = after_all make operator (start 2) exchange exchange_answers
 
+-- what letter k says
 abbrev pub body_of : WorldTook → ℕ → Option LetterBody
 body_of w k = option_map (λ (l : SentLetter). l.letter.body) (slice_get w.letters k)
 
+-- what site i holds
 abbrev pub held_at : WorldTook → ℕ → Option Holding
 held_at w i = option_map held (slice_get w.sites i)
 
+-- how many operations site i took
 abbrev pub count_taken : WorldTook → ℕ → Option ℕ
 count_taken w i = option_map (λ (s : SiteTook). length s.taken) (slice_get w.sites i)
 
+-- site 0 starts again after the exchange
 abbrev pub restarted : WorldTook
 restarted = after_all by_cursors operator (exchanged by_cursors) (Restart 0 ∷ []) (Ok (Restarted 2) ∷ [])

@@ -74,6 +74,7 @@ component_facts s t c = cond (is_removed c.status)
     ++ given (component_part s c.number MaxRateDown) t Number c.rate_down
     ++ flat_map (flow_facts s c.number t) c.flows)
 
+-- the facts of an AA request, component by component
 abbrev pub aar_facts : AarValue → Tag → List Fact
 aar_facts q t =
     let s : Session = af q.session in

@@ -18,6 +18,7 @@ use Rattle.pcrf_model.specs.Differences.{ToldRule, told}
 abbrev pub FieldShown : Type 0
 FieldShown = List Step × Value
 
+-- a field with its value; told entries are no fields
 abbrev pub field_shown : List Step → Value → Option FieldShown
 field_shown (RuleName n ∷ steps) x = None
 field_shown steps x = Some (steps, x)
@@ -32,10 +33,12 @@ pub data SessionValue : Type 0 where
   LiveGx : List FieldShown → Option ℕ → List RuleValue → List ToldRule → SessionValue
   LiveAf : List FieldShown → Option Session → SessionValue
 
+-- what is seen of a live session
 abbrev pub live_value : Tables → View → Session → Kind → SessionValue
 live_value t v s Gx = LiveGx (fields_shown v s) (home v s) (rules t v s) (told v s)
 live_value t v s Af = LiveAf (fields_shown v s) (bind v s)
 
+-- what is seen of a session
 abbrev pub session_value : Tables → View → Session → SessionValue
 session_value t v s = cond (v.ended s) Ended (cond (is_live v s) (live_value t v s s.kind) Partial)
 
@@ -43,9 +46,11 @@ session_value t v s = cond (v.ended s) Ended (cond (is_live v s) (live_value t v
 abbrev pub session_values : Tables → View → List (Session × SessionValue)
 session_values t v = map (λ s. (s, session_value t v s)) v.sessions
 
+-- the clock, and each session with what is seen of it
 pub record OperatorValue : Type 0 where
   pub clock : ℕ
   pub sessions : List (Session × SessionValue)
 
+-- what an operator sees of a holding
 unfoldable pub operator_value : Tables → Holding → OperatorValue
 operator_value t h = record { clock = h.clock; sessions = session_values t (view h.facts) }

@@ -34,12 +34,14 @@ pub data Step : Type 0 where
   Part : FieldName → Step
   RuleName : List ℕ → Step
 
+-- a step as its parts, components first, then flows, fields and rule names
 abbrev pub step_key : Step → ℕ ⊎ (ℕ ⊎ (ℕ ⊎ List ℕ))
 step_key (Component n) = inl n
 step_key (Flow n) = inr (inl n)
 step_key (Part f) = inr (inr (inl (field_number f)))
 step_key (RuleName t) = inr (inr (inr t))
 
+-- by kind of step, and then by number, field or name
 abbrev pub step_cmp : Step → Step → Ordering
 step_cmp = on step_key (either_cmp nat_cmp (either_cmp nat_cmp (either_cmp nat_cmp text_cmp)))
 
@@ -68,24 +70,31 @@ is_above p q = is_at_or_above p q && nat_lt (length p.steps) (length q.steps)
 
 -- ---- the paths that sessions have
 
+-- the whole session
 abbrev pub whole : Session → Path
 whole s = record { session = s; steps = [] }
 
+-- a field of the session
 abbrev pub part : FieldName → Session → Path
 part f s = record { session = s; steps = Part f ∷ [] }
 
+-- its address (Framed-IP-Address, RFC 7155, 4.4.10.5.1)
 abbrev pub address : Session → Path
 address = part FramedIpAddress
 
+-- its access point (Called-Station-Id, RFC 7155, 4.2.5)
 abbrev pub apn : Session → Path
 apn = part CalledStationId
 
+-- its subscribers (Subscription-Id, RFC 8506, 8.46)
 abbrev pub subscribers : Session → Path
 subscribers = part SubscriptionIds
 
+-- the host of its client (Origin-Host, RFC 6733, 6.3)
 abbrev pub host : Session → Path
 host = part OriginHost
 
+-- the realm of its client (Origin-Realm, RFC 6733, 6.4)
 abbrev pub realm : Session → Path
 realm = part OriginRealm
 
@@ -93,15 +102,19 @@ realm = part OriginRealm
 abbrev pub last : Session → Path
 last = part RequestType
 
+-- a media component
 abbrev pub component : Session → ℕ → Path
 component s c = record { session = s; steps = Component c ∷ [] }
 
+-- a field of a component
 abbrev pub component_part : Session → ℕ → FieldName → Path
 component_part s c f = record { session = s; steps = Component c ∷ Part f ∷ [] }
 
+-- a flow of a component
 abbrev pub flow : Session → ℕ → ℕ → Path
 flow s c n = record { session = s; steps = Component c ∷ Flow n ∷ [] }
 
+-- a field of a flow
 abbrev pub flow_part : Session → ℕ → ℕ → FieldName → Path
 flow_part s c n f = record { session = s; steps = Component c ∷ Flow n ∷ Part f ∷ [] }
 

@@ -3,11 +3,9 @@ use Rattle.std.specs.Prelude.{ℕ, ◌==◌, Bool, true, false, not, ◌&&◌, L
 use Rattle.std.proofs.Common.{option_map, unwrap_or}
 use Rattle.std.specs.Ordering.{is_eq}
 use Rattle.lattice_core.specs.Orders.{text_cmp}
-use Rattle.lattice_core.specs.RuleValues.{DeltaValue}
 use Rattle.pcrf_model.specs.Sessions.{Session, is_gx}
 use Rattle.pcrf_model.specs.Paths.{host, realm}
 use Rattle.pcrf_model.specs.Holdings.{Holding}
-use Rattle.pcrf_model.specs.Operations.{Operation}
 use Rattle.pcrf_model.specs.Views.{View, view, text}
 use Rattle.pcrf_model.specs.Live.{is_live, home}
 use Rattle.pcrf_model.specs.Tables.{Tables}
@@ -23,6 +21,7 @@ abbrev pub is_of_host : View → Option (List ℕ) → Session → Bool
 is_of_host v None s = true
 is_of_host v (Some name) s = unwrap_or (option_map (λ x. is_eq (text_cmp x name)) (text v (host s))) false
 
+-- site i is the home of the session
 abbrev pub is_home : ℕ → View → Session → Bool
 is_home i v s = unwrap_or (option_map (λ n. n == i) (home v s)) false
 
@@ -34,6 +33,7 @@ is_due t i v name s = is_gx s.kind && is_live v s && is_home i v s && is_of_host
 unfoldable pub due : Tables → ℕ → View → Option (List ℕ) → Option Session
 due t i v name = find (is_due t i v name) v.sessions
 
+-- what is told to the gateway of the session
 abbrev pub push_to : Tables → View → Session → PushValue
 push_to t v s = record { session = s.id; host = unwrap_or (text v (host s)) []; realm = unwrap_or (text v (realm s)) []; delta = delta_of t v s }
 
@@ -43,7 +43,7 @@ push t i h name =
     let v : View = view h.facts in
     record {
       reply = Pushed (option_map (push_to t v) (due t i v name));
-      added = option_map (λ s. next_operation i h 0 s (told_facts s (next_tag i h 0) (delta_of t v s))) (due t i v name)
+      added = option_map (λ s. next_operation i h 0 s (told_facts s (next_tag i h 0) (delta_of t v s))) (due t i v name);
     }
 
 -- something is due, and no counter is left for it

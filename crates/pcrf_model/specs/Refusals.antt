@@ -56,6 +56,7 @@ first_cause (x ∷ xs) = cond x.0 (Some x.1) (first_cause xs)
 abbrev pub is_clock_full : Holding → Bool
 is_clock_full h = h.clock == 2 ^ 63 - 1
 
+-- the tables have no row of that access point
 abbrev pub has_no_row : Tables → List ℕ → Bool
 has_no_row t name = is_none (apn_row t name)
 
@@ -71,6 +72,7 @@ lacks_parameters q = is_none q.address || is_none q.apn || is_empty q.subscriber
     is_empty [] = true
     is_empty (x ∷ xs) = false
 
+-- of a credit control request, by its type
 abbrev pub ccr_causes : Tables → Holding → View → CcrValue → RequestKind → List (Bool × RefusalValue)
 ccr_causes t h v q Initial =
     (v.ended (gx q.session), unknown_session_id)
@@ -85,6 +87,7 @@ ccr_causes t h v q Termination =
     (not (is_live v (gx q.session)), unknown_session_id)
     ∷ (is_clock_full h, unable_to_comply) ∷ []
 
+-- the refusal of a credit control request, if it is refused
 unfoldable pub ccr_refusal : Tables → Holding → CcrValue → Option RefusalValue
 ccr_refusal t h q = first_cause (ccr_causes t h (view h.facts) q q.kind)
 
@@ -96,6 +99,7 @@ has_no_class t c = not (is_removed c.status) && unwrap_or (option_map (λ m. is_
 abbrev pub binds_to_none : ℕ → Holding → AarValue → Bool
 binds_to_none i h q = is_none (bind (view (h.facts ++ aar_facts q (next_tag i h 0))) (af q.session))
 
+-- of an AA request
 abbrev pub aar_causes : Tables → ℕ → Holding → View → AarValue → List (Bool × RefusalValue)
 aar_causes t i h v q =
     (v.ended (af q.session), unknown_session_id)
@@ -104,9 +108,11 @@ aar_causes t i h v q =
     ∷ (binds_to_none i h q, session_not_available)
     ∷ (is_clock_full h, unable_to_comply) ∷ []
 
+-- the refusal of an AA request, if it is refused
 unfoldable pub aar_refusal : Tables → ℕ → Holding → AarValue → Option RefusalValue
 aar_refusal t i h q = first_cause (aar_causes t i h (view h.facts) q)
 
+-- the refusal of a session termination request, if it is refused
 unfoldable pub str_refusal : Holding → StrValue → Option RefusalValue
 str_refusal h q = first_cause ((not (is_live (view h.facts) (af q.session)), unknown_session_id) ∷ (is_clock_full h, unable_to_comply) ∷ [])
 

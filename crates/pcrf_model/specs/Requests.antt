@@ -60,11 +60,13 @@ pub data BaseKind : Type 0 where
   CapabilitiesExchange : List ℕ → BaseKind
   DeviceWatchdog DisconnectPeer : BaseKind
 
+-- a request of the base protocol with its origin
 pub record BaseValue : Type 0 where
   pub kind : BaseKind
   pub host : List ℕ
   pub realm : List ℕ
 
+-- any request
 pub data RequestValue : Type 0 where
   Ccr : CcrValue → RequestValue
   Aar : AarValue → RequestValue

@@ -8,21 +8,27 @@ use Rattle.pcrf_model.specs.Requests.{Initial, Update, Termination, FlowValue, C
 
 -- ---- an operator with telephony
 
+-- the class of signalling
 abbrev pub signalling_class : Class
 signalling_class = record { qci = 5; priority = 9; capability = 1; vulnerability = 0; max_ul = 32000; max_dl = 32000; precedence = 50 }
 
+-- the class of audio
 abbrev pub audio_class : Class
 audio_class = record { qci = 1; priority = 2; capability = 0; vulnerability = 1; max_ul = 64000; max_dl = 64000; precedence = 100 }
 
+-- the class of the operator's own rule
 abbrev pub sip_class : Class
 sip_class = record { qci = 5; priority = 9; capability = 1; vulnerability = 0; max_ul = 32000; max_dl = 32000; precedence = 40 }
 
+-- the default quality of service of the telephony access point
 abbrev pub ims_quality : Quality
 ims_quality = record { qci = 5; priority = 9; capability = 1; vulnerability = 0; ambr_ul = 1000000; ambr_dl = 2000000 }
 
+-- a filter downlink
 abbrev pub any_to_any : List ℕ
 any_to_any = codes "permit out ip from any to any"
 
+-- two access points, one with a rule and a default, one with a name alone
 abbrev pub operator : Tables
 operator = record {
   edition = 7;
@@ -36,26 +42,33 @@ operator = record {
 
 -- ---- subscribers, addresses and sessions
 
+-- a subscriber by IMSI
 abbrev pub imsi : Subscriber
 imsi = (1, codes "001010000000001")
 
+-- the same subscriber by telephone number
 abbrev pub e164 : Subscriber
 e164 = (0, codes "15550001")
 
+-- 10.0.0.n
 abbrev pub host_address : ℕ → List ℕ
 host_address n = 10 ∷ 0 ∷ 0 ∷ n ∷ []
 
+-- a session of the gateway
 abbrev pub first_session : Session
 first_session = gx (codes "gw;1;1")
 
+-- another, with a greater Session-Id
 abbrev pub second_session : Session
 second_session = gx (codes "gw;1;2")
 
+-- a session of the application function
 abbrev pub call_session : Session
 call_session = af (codes "af;1")
 
 -- ---- requests of the gateway
 
+-- an initial request with all that it needs, under number 0
 abbrev pub initial : Session → List ℕ → RequestValue
 initial s a = Ccr (record { session = s.id; host = codes "gw"; realm = codes "r"; kind = Initial; number = 0; address = Some a; apn = Some (codes "ims"); subscribers = e164 ∷ imsi ∷ [] })
 
@@ -63,14 +76,17 @@ initial s a = Ccr (record { session = s.id; host = codes "gw"; realm = codes "r"
 abbrev pub initial_with : Option (List ℕ) → Option (List ℕ) → List Subscriber → RequestValue
 initial_with a n ids = Ccr (record { session = first_session.id; host = codes "gw"; realm = codes "r"; kind = Initial; number = 0; address = a; apn = n; subscribers = ids })
 
+-- an update of the first session, with an address or without
 abbrev pub update : ℕ → Option (List ℕ) → RequestValue
 update n a = Ccr (record { session = first_session.id; host = codes "gw"; realm = codes "r"; kind = Update; number = n; address = a; apn = None; subscribers = [] })
 
+-- the end of a session
 abbrev pub termination : Session → ℕ → RequestValue
 termination s n = Ccr (record { session = s.id; host = codes "gw"; realm = codes "r"; kind = Termination; number = n; address = None; apn = None; subscribers = [] })
 
 -- ---- requests of the application function
 
+-- an AA request with an address or without, and components
 abbrev pub call : Option (List ℕ) → List ComponentValue → RequestValue
 call a cs = Aar (record { session = call_session.id; host = codes "af"; realm = codes "r"; address = a; apn = None; subscribers = []; components = cs })
 
@@ -82,9 +98,15 @@ other_media s = record { number = 1; media = Some 9; status = Some s; rate_up = 
 abbrev pub capabilities : List ℕ → RequestValue
 capabilities applications = Base (record { kind = CapabilitiesExchange applications; host = codes "gw"; realm = codes "r" })
 
+-- a call from 10.0.0.1 that asks for an access point and subscribers
+abbrev pub call_asking : Option (List ℕ) → List Subscriber → RequestValue
+call_asking n ids = Aar (record { session = call_session.id; host = codes "af"; realm = codes "r"; address = Some (host_address 1); apn = n; subscribers = ids; components = [] })
+
+-- the end of the call
 abbrev pub hang_up : RequestValue
 hang_up = Str (record { session = call_session.id; host = codes "af"; realm = codes "r" })
 
+-- a filter uplink
 abbrev pub uplink : List ℕ
 uplink = codes "permit in ip from any to any"
 
@@ -101,6 +123,19 @@ audio = record {
       ∷ record { number = 2; filters = uplink ∷ []; usage = Some 1; status = Some 2; rate_up = None; rate_down = None } ∷ [];
 }
 
+-- a component without a Media-Type: a flow of no class, and a signalling flow with a rate of its own
+abbrev pub no_media : ComponentValue
+no_media = record {
+  number = 3;
+  media = None;
+  status = Some 1;
+  rate_up = None;
+  rate_down = Some 90000;
+  flows =
+      record { number = 1; filters = uplink ∷ []; usage = None; status = None; rate_up = None; rate_down = None }
+      ∷ record { number = 2; filters = uplink ∷ []; usage = Some 2; status = None; rate_up = Some 1000; rate_down = None } ∷ [];
+}
+
 -- the component again, with its Flow-Status and nothing else
 abbrev pub status_only : ℕ → ComponentValue
 status_only s = record { number = 1; media = None; status = Some s; rate_up = None; rate_down = None; flows = [] }
@@ -110,19 +145,28 @@ abbrev pub numbered_flows : ℕ → List FlowValue
 numbered_flows zero = []
 numbered_flows (suc n) = record { number = suc n; filters = uplink ∷ []; usage = None; status = None; rate_up = None; rate_down = None } ∷ numbered_flows n
 
+-- an audio component of n flows
 abbrev pub many_flows : ℕ → ComponentValue
 many_flows n = record { number = 2; media = Some 0; status = None; rate_up = None; rate_down = None; flows = numbered_flows n }
 
 -- ---- the rules that come of them
 
+-- the operator's rule
 abbrev pub sip_rule : RuleValue
 sip_rule = record { name = codes "op/sip"; status = 2; filters = any_to_any ∷ []; qci = 5; priority = 9; capability = 1; vulnerability = 0; max_ul = 32000; max_dl = 32000; precedence = 40 }
 
+-- the rule of that signalling flow
+abbrev pub signalling_rule : RuleValue
+signalling_rule = record { name = codes "af/af;1/3/2"; status = 1; filters = uplink ∷ []; qci = 5; priority = 9; capability = 1; vulnerability = 0; max_ul = 1000; max_dl = 32000; precedence = 50 }
+
+-- the rule of the audio flow, under that status
 abbrev pub audio_rule : ℕ → RuleValue
 audio_rule s = record { name = codes "af/af;1/1/1"; status = s; filters = uplink ∷ any_to_any ∷ []; qci = 1; priority = 2; capability = 0; vulnerability = 1; max_ul = 41000; max_dl = 64000; precedence = 100 }
 
+-- the rule of its RTCP flow
 abbrev pub rtcp_rule : RuleValue
 rtcp_rule = record { name = codes "af/af;1/1/2"; status = 2; filters = uplink ∷ []; qci = 1; priority = 2; capability = 0; vulnerability = 1; max_ul = 5000; max_dl = 5000; precedence = 100 }
 
+-- these names removed, these rules installed
 abbrev pub delta : List (List ℕ) → List RuleValue → DeltaValue
 delta names rs = record { removed = names; installed = rs }

@@ -3,8 +3,8 @@ use Rattle.std.specs.Prelude.{ℕ, List, [], ◌∷◌, Option, Some, None, code
 use Rattle.std.proofs.Common.{option_map}
 use Rattle.lattice_core.specs.RuleValues.{DeltaValue}
 use Rattle.lattice_core.specs.declared.tag.Tag.{Tag}
-use Rattle.pcrf_model.specs.Paths.{address}
-use Rattle.pcrf_model.specs.Values.{Address}
+use Rattle.pcrf_model.specs.Paths.{FramedIpAddress, CalledStationId, SubscriptionIds, OriginHost, OriginRealm, RequestType, MediaType, FlowDescriptions, FlowUsage, FlowStatus, MaxRateUp, MaxRateDown, Component, Flow, Part, address}
+use Rattle.pcrf_model.specs.Values.{Number, Text, Subscribers, Filters, Address}
 use Rattle.pcrf_model.specs.Facts.{Field}
 use Rattle.pcrf_model.specs.Holdings.{nothing_held, union}
 use Rattle.pcrf_model.specs.Operations.{Operation, holding_of}
@@ -13,11 +13,13 @@ use Rattle.pcrf_model.specs.Requests.{RequestValue, RefusalValue}
 use Rattle.pcrf_model.specs.Replies.{PushValue, ReplyValue, OnGx, Pushed, Granted, Rejected}
 use Rattle.pcrf_model.specs.Serving.{serve}
 use Rattle.pcrf_model.specs.Pushing.{push}
+use Rattle.pcrf_model.specs.OperatorValues.{FieldShown, SessionValue, LiveGx}
 use Rattle.pcrf_model.specs.Steps.{SiteState, adding}
-use Rattle.pcrf_model.specs.Samples.{operator, first_session, second_session, host_address, initial, update, termination, call, hang_up, audio, status_only, many_flows, ims_quality}
+use Rattle.pcrf_model.specs.Samples.{imsi, e164, sip_rule, uplink, any_to_any, operator, first_session, second_session, host_address, initial, update, termination, call, hang_up, audio, status_only, many_flows, ims_quality}
 
 -- ---- one step of a site
 
+-- a site that took nothing
 abbrev pub empty_site : SiteState
 empty_site = record { holding = nothing_held; log = [] }
 
@@ -41,12 +43,15 @@ pushed i s = adding s (push operator i s.holding None).added
 abbrev pub taking : SiteState → List Operation → SiteState
 taking s os = record s { holding = union s.holding (holding_of os) }
 
+-- what the site reads
 abbrev pub seen : SiteState → View
 seen s = view s.holding.facts
 
+-- granted, with the default quality of service
 abbrev pub granted : DeltaValue → ReplyValue
 granted d = OnGx (Granted d (Some ims_quality))
 
+-- a credit control request refused
 abbrev pub rejected : RefusalValue → ReplyValue
 rejected r = OnGx (Rejected r)
 
@@ -54,6 +59,7 @@ rejected r = OnGx (Rejected r)
 abbrev pub push_of : DeltaValue → ReplyValue
 push_of d = Pushed (Some (record { session = first_session.id; host = codes "gw"; realm = codes "r"; delta = d }))
 
+-- nothing is pushed
 abbrev pub no_push : ReplyValue
 no_push = Pushed None
 
@@ -68,12 +74,15 @@ first_counter s = option_map (λ (o : Operation). o.counter) (slice_get s.log 0)
 
 -- ---- the first session at site 0, and its call
 
+-- the first session
 abbrev pub one : SiteState
 one = serves 0 empty_site (initial first_session (host_address 1))
 
+-- and its call
 abbrev pub with_call : SiteState
 with_call = serves 0 one (call (Some (host_address 1)) (audio ∷ []))
 
+-- whose rules are pushed
 abbrev pub call_pushed : SiteState
 call_pushed = pushed 0 with_call
 
@@ -85,17 +94,21 @@ disabled = serves 0 call_pushed (call None (status_only 3 ∷ []))
 abbrev pub component_removed : SiteState
 component_removed = serves 0 call_pushed (call None (status_only 4 ∷ []))
 
+-- after that push the component is described again
 abbrev pub described_again : SiteState
 described_again = serves 0 (pushed 0 component_removed) (call None (audio ∷ []))
 
 -- ---- another session of the same address
 
+-- a second session of the same address
 abbrev pub two_sessions : SiteState
 two_sessions = serves 0 one (initial second_session (host_address 1))
 
+-- and a call
 abbrev pub bound_to_second : SiteState
 bound_to_second = serves 0 two_sessions (call (Some (host_address 1)) [])
 
+-- the second session ends
 abbrev pub second_ended : SiteState
 second_ended = serves 0 bound_to_second (termination second_session 1)
 
@@ -104,17 +117,21 @@ abbrev pub equal_stamps : SiteState
 equal_stamps = serves 0 (taking (serves 0 empty_site (initial second_session (host_address 1))) one.log) (call (Some (host_address 1)) [])
 
 -- ---- the first session ends under its call
+-- the first session ends while its call lasts
 abbrev pub ended_under_call : SiteState
 ended_under_call = serves 0 with_call (termination first_session 1)
 
 -- ---- updates out of order
 
+-- an update with a greater number
 abbrev pub updated : SiteState
 updated = serves 0 one (update 2 (Some (host_address 2)))
 
+-- and one with a number between
 abbrev pub updated_late : SiteState
 updated_late = serves 0 updated (update 1 (Some (host_address 3)))
 
+-- two updates, of which the later has the lower number
 abbrev pub overshadowed : SiteState
 overshadowed = serves 0 (serves 0 one (update 5 None)) (update 4 None)
 
@@ -124,12 +141,15 @@ overshadowed = serves 0 (serves 0 one (update 5 None)) (update 4 None)
 abbrev pub other : SiteState
 other = taking empty_site one.log
 
+-- and serves an update
 abbrev pub other_updated : SiteState
 other_updated = serves 1 other (update 9 None)
 
+-- meanwhile the session ends at site 0
 abbrev pub ended_there : SiteState
 ended_there = serves 0 one (termination first_session 3)
 
+-- which then takes the update
 abbrev pub ended_and_told : SiteState
 ended_and_told = taking ended_there other_updated.log
 
@@ -141,9 +161,11 @@ moved = serves 1 other (update 1 None)
 abbrev pub hung_up : SiteState
 hung_up = serves 0 call_pushed hang_up
 
+-- site 0 in the end
 abbrev pub first_after_hang_up : SiteState
 first_after_hang_up = taking hung_up moved.log
 
+-- site 1 in the end
 abbrev pub other_after_hang_up : SiteState
 other_after_hang_up = taking moved hung_up.log
 
@@ -155,37 +177,64 @@ call_elsewhere = serves 1 other (call (Some (host_address 1)) (audio ∷ []))
 abbrev pub call_alone : SiteState
 call_alone = taking empty_site call_elsewhere.log
 
+-- and the session then
 abbrev pub call_and_session : SiteState
 call_and_session = taking call_alone one.log
 
 -- ---- equal stamps with different contents
 
+-- site 0 began again, and serves the same session from another address
 abbrev pub after_restart : SiteState
 after_restart = serves 0 empty_site (initial first_session (host_address 9))
 
+-- a site that takes the older operation first, each twice
 abbrev pub older_first : SiteState
 older_first = taking (taking (taking (taking empty_site one.log) one.log) after_restart.log) after_restart.log
 
+-- a site that takes the newer one first, each twice
 abbrev pub newer_first : SiteState
 newer_first = taking (taking (taking (taking empty_site after_restart.log) after_restart.log) one.log) one.log
 
 -- ---- the last counter
 
+-- an operation under the last counter
 abbrev pub last_counter : Operation
 last_counter =
     let t : Tag = record { number = 0; counter = 9223372036854775807; site = 1 } in
     record { counter = 9223372036854775807; site = 1; number = 0; session = second_session; facts = Field (address second_session) t (Address (host_address 2)) ∷ [] }
 
+-- site 0 took it
 abbrev pub at_the_end : SiteState
 at_the_end = taking one (last_counter ∷ [])
 
 -- ---- more rules than a message carries
 
+-- a call of fifty flows
 abbrev pub many_rules : SiteState
 many_rules = serves 0 one (call (Some (host_address 1)) (many_flows 50 ∷ []))
 
+-- after a push
 abbrev pub first_forty : SiteState
 first_forty = pushed 0 many_rules
 
+-- after another
 abbrev pub all_fifty : SiteState
 all_fifty = pushed 0 first_forty
+
+-- ---- what an operator sees
+
+-- the first session, live at site 0
+abbrev pub live_first : SessionValue
+live_first = LiveGx
+    ((Part FramedIpAddress ∷ [], Address (host_address 1)) ∷ (Part CalledStationId ∷ [], Text (codes "ims")) ∷ (Part SubscriptionIds ∷ [], Subscribers (e164 ∷ imsi ∷ []))
+    ∷ (Part OriginHost ∷ [], Text (codes "gw")) ∷ (Part OriginRealm ∷ [], Text (codes "r")) ∷ (Part RequestType ∷ [], Number 1) ∷ [])
+    (Some 0) (sip_rule ∷ []) ((codes "op/sip", sip_rule) ∷ [])
+
+-- the call's fields by their paths: its flows, its component, its own
+abbrev pub call_fields : List FieldShown
+call_fields =
+    (Component 1 ∷ Flow 1 ∷ Part FlowDescriptions ∷ [], Filters (uplink ∷ any_to_any ∷ []))
+    ∷ (Component 1 ∷ Flow 2 ∷ Part FlowDescriptions ∷ [], Filters (uplink ∷ [])) ∷ (Component 1 ∷ Flow 2 ∷ Part FlowUsage ∷ [], Number 1)
+    ∷ (Component 1 ∷ Flow 2 ∷ Part FlowStatus ∷ [], Number 2)
+    ∷ (Component 1 ∷ Part MediaType ∷ [], Number 0) ∷ (Component 1 ∷ Part MaxRateUp ∷ [], Number 41000) ∷ (Component 1 ∷ Part MaxRateDown ∷ [], Number 80000)
+    ∷ (Part FramedIpAddress ∷ [], Address (host_address 1)) ∷ (Part OriginHost ∷ [], Text (codes "af")) ∷ (Part OriginRealm ∷ [], Text (codes "r")) ∷ (Part RequestType ∷ [], Number 0) ∷ []

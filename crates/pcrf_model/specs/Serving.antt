@@ -6,11 +6,11 @@ use Rattle.pcrf_model.specs.Sessions.{Session, gx, af}
 use Rattle.pcrf_model.specs.Holdings.{Holding}
 use Rattle.pcrf_model.specs.Operations.{Operation, with_operation}
 use Rattle.pcrf_model.specs.Views.{View, view}
-use Rattle.pcrf_model.specs.Tables.{Quality, Tables}
+use Rattle.pcrf_model.specs.Tables.{Tables}
 use Rattle.pcrf_model.specs.Rules.{rules, quality_of}
 use Rattle.pcrf_model.specs.Differences.{told, difference, first}
 use Rattle.pcrf_model.specs.Requests.{RequestKind, Initial, Update, Termination, CcrValue, AarValue, StrValue, BaseValue, RequestValue, Ccr, Aar, Str, Base, RefusalValue}
-use Rattle.pcrf_model.specs.Replies.{GxReplyValue, Granted, Rejected, ReplyValue, OnGx, Done, Refused, OnBase, Outcome}
+use Rattle.pcrf_model.specs.Replies.{Granted, Rejected, ReplyValue, OnGx, Done, Refused, OnBase, Outcome}
 use Rattle.pcrf_model.specs.Making.{ccr_fields, told_facts, end_facts, aar_facts, next_tag, next_operation}
 use Rattle.pcrf_model.specs.Refusals.{ccr_refusal, aar_refusal, str_refusal, base_refusal}
 
@@ -47,6 +47,7 @@ provisioned t i h q =
 abbrev pub terminated : ℕ → Holding → CcrValue → Outcome
 terminated i h q = record { reply = OnGx (Granted empty_delta None); added = Some (next_operation i h q.number (gx q.session) (end_facts (gx q.session))) }
 
+-- a credit control request that is accepted, by its type
 abbrev pub accepted_ccr : Tables → ℕ → Holding → CcrValue → RequestKind → Outcome
 accepted_ccr t i h q Initial = provisioned t i h q
 accepted_ccr t i h q Update = provisioned t i h q
@@ -57,12 +58,15 @@ abbrev pub refused_or : (RefusalValue → ReplyValue) → Option RefusalValue �
 refused_or as_reply None accepted = accepted
 refused_or as_reply (Some r) accepted = record { reply = as_reply r; added = None }
 
+-- a credit control request
 unfoldable pub serve_ccr : Tables → ℕ → Holding → CcrValue → Outcome
 serve_ccr t i h q = refused_or (λ r. OnGx (Rejected r)) (ccr_refusal t h q) (accepted_ccr t i h q q.kind)
 
+-- an AA request: what it describes is added
 unfoldable pub serve_aar : Tables → ℕ → Holding → AarValue → Outcome
 serve_aar t i h q = refused_or Refused (aar_refusal t i h q) (record { reply = Done; added = Some (next_operation i h 0 (af q.session) (aar_facts q (next_tag i h 0))) })
 
+-- a session termination request: the end alone is added
 unfoldable pub serve_str : ℕ → Holding → StrValue → Outcome
 serve_str i h q = refused_or Refused (str_refusal h q) (record { reply = Done; added = Some (next_operation i h 0 (af q.session) (end_facts (af q.session))) })
 

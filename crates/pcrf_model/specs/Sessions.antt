@@ -13,16 +13,20 @@ pub record Session : Type 0 where
   pub kind : Kind
   pub id : List ℕ
 
+-- a session of the gateway
 abbrev pub gx : List ℕ → Session
 gx id = record { kind = Gx; id = id }
 
+-- a session of the application function
 abbrev pub af : List ℕ → Session
 af id = record { kind = Af; id = id }
 
+-- it is of the gateway
 abbrev pub is_gx : Kind → Bool
 is_gx Gx = true
 is_gx Af = false
 
+-- the number of the kind in letters
 abbrev pub kind_number : Kind → ℕ
 kind_number Gx = 1
 kind_number Af = 2

@@ -55,6 +55,7 @@ pub record Tables : Type 0 where
   pub media : List MediaRow
   pub apns : Apns
 
+-- a class that gives nothing
 abbrev pub no_class : Class
 no_class = record { qci = 9; priority = 15; capability = 1; vulnerability = 0; max_ul = 0; max_dl = 0; precedence = 0 }
 
@@ -66,6 +67,7 @@ open_tables = record { edition = 0; rtcp_bps = 0; signalling = no_class; media =
 abbrev pub media_row : Tables → ℕ → Option MediaRow
 media_row t m = find (λ (r : MediaRow). r.media == m) t.media
 
+-- the row of that name
 abbrev pub row_among : Apns → List ℕ → Option ApnRow
 row_among Every name = Some (record { name = name; default = None; rules = [] })
 row_among (Listed rows) name = find (λ (r : ApnRow). is_eq (text_cmp r.name name)) rows

@@ -14,6 +14,7 @@ use Rattle.pcrf_model.specs.Holdings.{is_gone, shown}
 abbrev pub Shown : Type 0
 Shown = Path × Entry
 
+-- by path
 abbrev pub shown_cmp : Shown → Shown → Ordering
 shown_cmp = pair_cmp path_cmp entry_cmp
 
@@ -29,6 +30,7 @@ pub record View : Type 0 where
   pub all : List Shown
   pub sessions : List Session
 
+-- what is read of these facts
 unfoldable pub view : List Fact → View
 view facts = record {
   shows = shown facts;
@@ -39,34 +41,43 @@ view facts = record {
 
 -- ---- what a path shows, as a value of its kind
 
+-- the value that a path shows
 abbrev pub value : View → Path → Option Value
 value v p = option_map (λ (e : Entry). e.1) (v.shows p)
 
+-- the path shows something
 abbrev pub has : View → Path → Bool
 has v p = is_some (v.shows p)
 
+-- as a number
 abbrev pub as_number : Value → Option ℕ
 as_number (Number n) = Some n
 as_number x = None
 
+-- as a text
 abbrev pub as_text : Value → Option (List ℕ)
 as_text (Text t) = Some t
 as_text x = None
 
+-- as an address
 abbrev pub as_address : Value → Option (List ℕ)
 as_address (Address a) = Some a
 as_address x = None
 
+-- as subscribers
 abbrev pub as_subscribers : Value → Option (List Subscriber)
 as_subscribers (Subscribers s) = Some s
 as_subscribers x = None
 
+-- as filters
 abbrev pub as_filters : Value → Option (List (List ℕ))
 as_filters (Filters f) = Some f
 as_filters x = None
 
+-- the number that a path shows
 abbrev pub number : View → Path → Option ℕ
 number v p = option_and_then as_number (value v p)
 
+-- the text that a path shows
 abbrev pub text : View → Path → Option (List ℕ)
 text v p = option_and_then as_text (value v p)

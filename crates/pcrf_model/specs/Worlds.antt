@@ -1,5 +1,5 @@
 -- Several sites and the letters between them: what each site took and made, read from the events and the answers alone.
-use Rattle.std.specs.Prelude.{ℕ, zero, suc, List, [], ◌∷◌, ◌++◌, take, drop, length, slice_get, slice_set, Option, Some, None, Result, Ok, Err}
+use Rattle.std.specs.Prelude.{ℕ, zero, suc, List, [], ◌∷◌, ◌++◌, take, slice_get, slice_set, Option, Some, None, Result, Ok, Err}
 use Rattle.std.proofs.Common.{option_to_list, option_map, option_and_then, unwrap_or}
 use Rattle.pcrf_model.specs.Holdings.{Holding, kept_of}
 use Rattle.pcrf_model.specs.Operations.{Operation, holding_of}
@@ -35,6 +35,7 @@ pub data WorldFault : Type 0 where
   NoSuchSite NoSuchLetter EpochFull ClockFull : WorldFault
   NoMemory : ℕ → WorldFault
 
+-- an outcome or a fault
 abbrev pub WorldAnswer : Type 0
 WorldAnswer = Result WorldOutcome WorldFault
 
@@ -51,6 +52,7 @@ pub record SentLetter : Type 0 where
   pub letter : LetterValue
   pub means : List Operation
 
+-- all sites, by number, and the letters, in the order in which they were made
 pub record WorldTook : Type 0 where
   pub sites : List SiteTook
   pub letters : List SentLetter
@@ -59,6 +61,7 @@ pub record WorldTook : Type 0 where
 abbrev pub fresh : ℕ → ℕ → SiteTook
 fresh number epoch = record { number = number; epoch = epoch; taken = []; log = []; cursors = start_cursors number epoch }
 
+-- sites 0 to n - 1, in epoch 1
 abbrev pub fresh_sites : ℕ → List SiteTook
 fresh_sites zero = []
 fresh_sites (suc n) = fresh_sites n ++ fresh n 1 ∷ []
@@ -88,6 +91,7 @@ abbrev pub asked_reply : SiteTook → SiteEvent → ReplyValue
 asked_reply s (AskOwn p) = own_reply (state_of s) p
 asked_reply s e = copy_reply (state_of s)
 
+-- the position from which operations are asked for
 abbrev pub asked_from : SiteEvent → ℕ
 asked_from (AskOwn p) = p
 asked_from e = 0
@@ -100,11 +104,13 @@ by_cursors t s peer = letter_of s.cursors t.edition (asked_from (ask s.cursors p
 abbrev pub whole_log : LetterRule
 whole_log t s peer = Some (record { edition = t.edition; site = s.number; epoch = s.epoch; body = Range 0 s.log })
 
+-- the letter with its meaning
 abbrev pub sent : SiteTook → LetterValue → SentLetter
 sent s l = record { letter = l; means = meaning s.taken l.body }
 
 -- ---- what one event and its answer make of it
 
+-- the world with that site changed
 abbrev pub at_site : WorldTook → ℕ → (SiteTook → SiteTook) → Option SiteTook → WorldTook
 at_site w i f None = w
 at_site w i f (Some s) = record w { sites = slice_set w.sites i (f s) }
@@ -125,6 +131,7 @@ takes os s = record s { taken = s.taken ++ os }
 abbrev pub cursors_after : CursorsValue → LetterValue → CursorsValue
 cursors_after c l = unwrap_or (option_map (acked c) (carried_ack l l.body)) (took c l)
 
+-- with a letter that was taken whole
 abbrev pub merges : SentLetter → SiteTook → SiteTook
 merges l s = record s { taken = s.taken ++ l.means; cursors = cursors_after s.cursors l.letter }
 
@@ -134,6 +141,7 @@ first_taken n (Range from os) = take n os
 first_taken n (Snapshot h m) = []
 first_taken n (Acknowledgement m e c) = []
 
+-- with one more letter, if one was made
 abbrev pub with_letter : WorldTook → Option SentLetter → WorldTook
 with_letter w l = record w { letters = w.letters ++ option_to_list l }
 
@@ -141,13 +149,16 @@ with_letter w l = record w { letters = w.letters ++ option_to_list l }
 abbrev pub letter_for : LetterRule → Tables → WorldTook → ℕ → ℕ → Option SentLetter
 letter_for make t w i j = option_and_then (λ s. option_map (sent s) (make t s j)) (slice_get w.sites i)
 
+-- the acknowledgement that site j makes for site i
 abbrev pub ack_for : Tables → WorldTook → ℕ → ℕ → Option SentLetter
 ack_for t w j i = option_map (λ (s : SiteTook). sent s (ack_letter t.edition (ack_of s.cursors i))) (slice_get w.sites j)
 
+-- site j takes the letter whole
 abbrev pub merging : WorldTook → ℕ → Option SentLetter → WorldTook
 merging w j None = w
 merging w j (Some l) = change w j (merges l)
 
+-- site j takes the first n operations of the letter
 abbrev pub merging_first : WorldTook → ℕ → ℕ → Option SentLetter → WorldTook
 merging_first w j n None = w
 merging_first w j n (Some l) = change w j (takes (first_taken n l.letter.body))

@@ -1,6 +1,6 @@
 //! The laws of the definitions, each the contract of a function without a body.
 
-ghost use Rattle.pcrf_model.specs.Laws.{KeepsUnions, KeepsUnionsOfHoldings, KeepsOnce, UnionIsCommutative, UnionIsAssociative, UnionIsIdempotent, OnlyOperationsCount, HoldsTheUnion, KeptShowsTheSame, OnlyMembersCount, KeptReadsTheSame, MembersReadTheSame, KeptHasTheSameValue, KeptServesTheSame, KeptPushesTheSame, KeptStepsTheSame, ToldIsTold, SessionIsTold, DifferenceLeadsThere, NoNameTwice, FirstLeavesTheRest, BindsToTheGreatest, BindsToNoneWhereNoneMatches, RuleNamesDiffer};
+ghost use Rattle.pcrf_model.specs.Laws.{KeepsUnions, KeepsUnionsOfHoldings, KeepsOnce, UnionIsCommutative, UnionIsAssociative, UnionIsIdempotent, OnlyOperationsCount, HoldsTheUnion, KeptShowsTheSame, OnlyMembersCount, KeptReadsTheSame, MembersReadTheSame, KeptHasTheSameValue, KeptServesTheSame, KeptPushesTheSame, KeptStepsTheSame, ToldIsTold, SessionIsTold, DifferenceLeadsThere, NoNameTwice, FirstLeavesTheRest, BindsToTheGreatest, BindsToNoneWhereNoneMatches, RuleNamesDiffer, AddsWellFormed, OperationsStamp, ProvisioningTells, PushingTells};
 
 /// What is kept of what was kept and of more is what is kept of all.
 pub fn keeping_keeps_unions()
@@ -65,4 +65,13 @@ pub fn names_of_rules_differ()
 pub fn gateway_is_told_the_rules()
     ensures told { ToldIsTold }
     ensures session { SessionIsTold }
+{}
+
+/// Sites add well-formed operations, and what these make is stamped below the clock; and so an accepted initial request, an update or a push tells a gateway the first
+/// entries of the difference, and what it lacks then is the rest.
+pub fn gateway_lacks_what_the_first_entries_left()
+    ensures formed { AddsWellFormed }
+    ensures stamped { OperationsStamp }
+    ensures provisioning { ProvisioningTells }
+    ensures pushing { PushingTells }
 {}

@@ -1,5 +1,5 @@
 //! The definitions of the product: sessions, bindings, rules and differences as a model, and its laws.
 #![tactic(auto)]
 
+pub mod examples;
 pub mod laws;
-pub mod rows;

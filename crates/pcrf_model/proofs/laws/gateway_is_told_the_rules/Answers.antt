@@ -12,5 +12,6 @@ returns c = record {
   told = told_is_told;
   session = λ t facts s n rows fit. (
     apply-difference (told (view facts) s) (rules t (view facts) s) (told_is_told facts s).one_each (rules-names_differ t facts s rows fit),
-    difference-first n (told (view facts) s) (rules t (view facts) s) (told_is_told facts s) (rules-names_differ t facts s rows fit))
+    difference-first n (told (view facts) s) (rules t (view facts) s) (told_is_told facts s) (rules-names_differ t facts s rows fit),
+  );
 }

@@ -6,5 +6,5 @@ pub returns : goal.returns
 returns c = record {
   requests = serve-kept_of;
   pushes = λ t i h name. (push-kept_of t i h name, lacks_counter-kept_of t i h name);
-  steps = steps-kept
+  steps = steps-kept;
 }
