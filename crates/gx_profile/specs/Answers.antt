@@ -21,7 +21,7 @@ unfoldable pub cca : Identity → Header → Ccr → GxReply → MessageValue
 cca i h q reply = record {
   header = answer_header h (is_protocol_error (result_of reply).code);
   avps =
-    text_avp 263 q.session ∷ number_avp 258 16777238 ∷ []
-    ++ origin_avps i
-    ++ result_avp (result_of reply) ∷ number_avp 416 (kind_number q.kind) ∷ number_avp 415 q.number ∷ [];
+      text_avp 263 q.session ∷ number_avp 258 16777238 ∷ []
+      ++ origin_avps i
+      ++ result_avp (result_of reply) ∷ number_avp 416 (kind_number q.kind) ∷ number_avp 415 q.number ∷ [];
 }

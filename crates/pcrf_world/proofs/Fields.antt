@@ -51,9 +51,9 @@ none_gone (Field q t v ∷ fs) p h = none_gone fs p h.1
 -- the facts of an initial request are fields
 fields_of_request : (o : OperationValue) → AreFieldFacts (ccr_fields (initial_request o) o.tag)
 fields_of_request o = elim o.fields.subscribers as (λ (given : List Subscriber). AreFieldFacts (ccr_fields (record (initial_request o) { subscribers = given }) o.tag)) [
-    | [] ↦ (tt, (tt, (tt, (tt, (tt, tt)))))
-    | x ∷ xs ↦ (tt, (tt, (tt, (tt, (tt, (tt, tt))))))
-  ]
+  | [] ↦ (tt, (tt, (tt, (tt, (tt, tt)))))
+  | x ∷ xs ↦ (tt, (tt, (tt, (tt, (tt, (tt, tt))))))
+]
 
 -- the facts of an operation are fields
 fields_of_one : (o : OperationValue) → AreFieldFacts (operation_of o).facts

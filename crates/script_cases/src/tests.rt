@@ -35,7 +35,11 @@ fn a_bad_line_stops_the_script(rt: HostRuntime) -> Result<(), Fail> {
         ("sites 1\nshow 00\n", 2, "sites 1\n"),
         ("sites 1\nshow -1\n", 2, "sites 1\n"),
         ("sites 1\nshow 0 0\n", 2, "sites 1\n"),
-        ("sites 1\nshow 0\nletter 0\nshow 0\n", 3, "sites 1\nclock 0\nend\n"),
+        (
+            "sites 1\nshow 0\nletter 0\nshow 0\n",
+            3,
+            "sites 1\nclock 0\nend\n",
+        ),
         ("sites 1\nmerge 0\n", 2, "sites 1\n"),
         ("sites 1\nmsg 0\n", 2, "sites 1\n"),
         ("sites 1\nmsg 0 \n", 2, "sites 1\n"),
@@ -85,14 +89,18 @@ fn lines_have_at_most_so_many_bytes(rt: HostRuntime) -> Result<(), Fail> {
     let longest = comment(rt.alloc(), 200_000)?;
     assert_eq!(rt; run(rt.alloc(), longest.as_slice())?.0, ScriptEnd::Done);
     let longer = comment(rt.alloc(), 200_001)?;
-    assert_eq!(rt; run(rt.alloc(), longer.as_slice())?.0, ScriptEnd::BadLine(1));
+    assert_eq!(rt;
+        run(rt.alloc(), longer.as_slice())?.0,
+        ScriptEnd::BadLine(1)
+    );
     Ok(())
 }
 
 /// A message without its last byte is no message.
 #[test]
 fn a_message_is_exactly_one_frame(rt: HostRuntime) -> Result<(), Fail> {
-    let script = b"sites 1\nmsg 0 0100001440000110010000160000000100000002\nmsg 0 01000014400001100100001600000001000000\n";
+    let script =
+        b"sites 1\nmsg 0 0100001440000110010000160000000100000002\nmsg 0 01000014400001100100001600000001000000\n";
     let (end, out) = run(rt.alloc(), script)?;
     assert_eq!(rt; end, ScriptEnd::BadLine(3));
     assert_eq!(rt; out.as_slice(), b"sites 1\nno answer\n".as_slice());

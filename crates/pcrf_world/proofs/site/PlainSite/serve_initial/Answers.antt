@@ -1,7 +1,6 @@
 use Rattle.std.proofs.Common.{◌≡◌, ◌<◌, true, false, arith, ◌∙◌, ap, sym}
 use Rattle.std.proofs.lemmas.Bool.Decides.{nat_tests}
 use Rattle.pcrf_model.specs.Sessions.{gx}
-
 use Rattle.pcrf_model.specs.Requests.{Initial}
 use Rattle.pcrf_model.specs.Refusals.{lacks_parameters, is_clock_full}
 use Rattle.gx_profile.specs.declared.answer.GxReply.TheVariants.{Refused}
@@ -10,7 +9,6 @@ use Rattle.pcrf_world.specs.Sites.{SiteValue, site_holding}
 use Rattle.pcrf_world.proofs.Fields.{never_ended_in}
 use Rattle.pcrf_world.proofs.Replies.{lacking, at_the_end, granted}
 use Rattle.pcrf_world.proofs.site.PlainSite.serve_initial.Goals as goal
-
 
 pub returns-in_default-clause-reply : goal.returns-in_default-clause-reply
 returns-in_default-clause-reply c =
