@@ -2,7 +2,6 @@
 use dia_codec::Counted;
 use pcrf_world::{ScriptEnd, run_script};
 use std::alloc::{AllocError, Global};
-use std::io::{self, ErrorKind, Read, Write};
 use std::test::Fail;
 
 /// How a script ends, and what it has printed by then.
@@ -104,41 +103,5 @@ fn a_message_is_exactly_one_frame(rt: HostRuntime) -> Result<(), Fail> {
     let (end, out) = run(rt.alloc(), script)?;
     assert_eq!(rt; end, ScriptEnd::BadLine(3));
     assert_eq!(rt; out.as_slice(), b"sites 1\nno answer\n".as_slice());
-    Ok(())
-}
-
-/// A reader and a writer that fail at each call.
-#[derive(Drop)]
-struct Failing;
-
-impl Read for Failing {
-    fn read(&mut self, _buf: &mut [u8]) -> io::Result<usize> {
-        Err(io::Error::from(ErrorKind::ConnectionReset))
-    }
-}
-
-impl Write for Failing {
-    fn write(&mut self, _buf: &[u8]) -> io::Result<usize> {
-        Err(io::Error::from(ErrorKind::BrokenPipe))
-    }
-
-    fn flush(&mut self) -> io::Result<()> {
-        Ok(())
-    }
-}
-
-#[test]
-fn a_reader_or_a_writer_that_fails(rt: HostRuntime) -> Result<(), Fail> {
-    let mut out = Vec::new(rt.alloc());
-    let read = {
-        let mut reader = Counted::start(Failing);
-        let mut writer = Counted::start(&mut out);
-        run_script(rt.alloc(), &mut reader, &mut writer)
-    };
-    assert_eq!(rt; read, ScriptEnd::ReadFailed);
-    let mut reader = Counted::start(b"sites 1\n".as_slice());
-    let mut writer = Counted::start(Failing);
-    let written = run_script(rt.alloc(), &mut reader, &mut writer);
-    assert_eq!(rt; written, ScriptEnd::WriteFailed);
     Ok(())
 }
