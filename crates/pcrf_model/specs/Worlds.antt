@@ -145,7 +145,7 @@ first_taken n (Acknowledgement m e c) = []
 abbrev pub with_letter : WorldTook → Option SentLetter → WorldTook
 with_letter w l = record w { letters = w.letters ++ option_to_list l }
 
--- the letter that site i makes for site j, and the acknowledgement that site j makes for site i
+-- the letter that site i makes for site j
 abbrev pub letter_for : LetterRule → Tables → WorldTook → ℕ → ℕ → Option SentLetter
 letter_for make t w i j = option_and_then (λ s. option_map (sent s) (make t s j)) (slice_get w.sites i)
 
