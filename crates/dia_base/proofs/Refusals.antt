@@ -1,8 +1,6 @@
 -- The first refusal of a row that may stand several times.
 use Rattle.std.proofs.Common.{◌≡◌, ◌<◌, ◌≤◌, ℕ, ◌+◌, nat_lt, Bool, true, false, List, [], ◌∷◌, ◌++◌, length, get_or, take, drop, refl, sym, ap, ◌∙◌, arith, Option, Some, None, append_assoc}
 use Rattle.std.proofs.lemmas.Bool.Decides.{nat_tests}
-use Rattle.std.proofs.lemmas.List.{take-append-drop, map-append}
-use Rattle.std.proofs.lemmas.List.Elements.{filter_map-append}
 use Rattle.dia_codec.specs.declared.message.Avp.{Avp}
 use Rattle.dia_codec.specs.declared.message.AvpKey.{AvpKey}
 use Rattle.dia_codec.specs.Fields.{AvpValue, key_of}
@@ -11,7 +9,7 @@ use Rattle.dia_base.specs.declared.refusal.Refusal.{Refusal}
 use Rattle.dia_base.specs.declared.refusal.ReadFault.{ReadFault}
 use Rattle.dia_base.specs.declared.refusal.ReadFault.TheVariants.{Refused, NoMemory}
 use Rattle.dia_base.specs.Rows.{values_of, value_if, same_key, row_refusal, first_refusal, or_else, too_often, IsRefusal}
-use Rattle.dia_base.proofs.Values.{values_keyed}
+use Rattle.dia_base.proofs.Values.{values_around}
 
 -- neither of two is refused
 or_else_parts : (first second : Option Refusal) → or_else first second ≡ None → (first ≡ None) × (second ≡ None)
@@ -32,11 +30,7 @@ first_refusal_push judge xs x none granted = first_refusal-append judge xs (x �
 -- an AVP with the key whose value is refused, behind values that aren't
 pub refused_at : (key : AvpKey) (judge : List ℕ → Option Refusal) (avps : List Avp) (i : ℕ) (a : Avp) (refusal : Refusal) → i < length avps → a ≡ get_or avps i a → same_key (key_of (avp_view a)) key ≡ true → first_refusal judge (values_of key (avp_views (take i avps))) ≡ None → judge a.value.items ≡ Some refusal → first_refusal judge (values_of key (avp_views avps)) ≡ Some refusal
 refused_at key judge avps i a refusal lt is keyed none refused =
-    let parts : avp_views avps ≡ avp_views (take (i + 1) avps) ++ avp_views (drop (i + 1) avps) = ap avp_views (sym (take-append-drop (i + 1) avps)) ∙ map-append avp_view (take (i + 1) avps) (drop (i + 1) avps) in
-    let values = ap (values_of key) parts ∙ filter_map-append (value_if key) (avp_views (take (i + 1) avps)) (avp_views (drop (i + 1) avps)) in
-    let front = values_keyed key avps i a lt is keyed in
-    let all : values_of key (avp_views avps) ≡ (values_of key (avp_views (take i avps)) ++ a.value.items ∷ []) ++ values_of key (avp_views (drop (i + 1) avps)) = values ∙ ap (λ (front : List (List ℕ)). front ++ values_of key (avp_views (drop (i + 1) avps))) front in
-    ap (first_refusal judge) (all ∙ append_assoc (values_of key (avp_views (take i avps))) (a.value.items ∷ []) (values_of key (avp_views (drop (i + 1) avps)))) ∙ first_refusal-append judge (values_of key (avp_views (take i avps))) (a.value.items ∷ values_of key (avp_views (drop (i + 1) avps))) none ∙ ap (λ first. or_else first (first_refusal judge (values_of key (avp_views (drop (i + 1) avps))))) refused
+    ap (first_refusal judge) (values_around key avps i a lt is keyed) ∙ first_refusal-append judge (values_of key (avp_views (take i avps))) (a.value.items ∷ values_of key (avp_views (drop (i + 1) avps))) none ∙ ap (λ first. or_else first (first_refusal judge (values_of key (avp_views (drop (i + 1) avps))))) refused
 
 -- a row of an AVP that stands too often
 pub row_too_often : (key : AvpKey) (least most : ℕ) (judge : List ℕ → Option Refusal) (avps : List AvpValue) → most < length (values_of key avps) → row_refusal key least most judge avps ≡ Some too_often

@@ -1,5 +1,5 @@
 -- What stands at a key, AVP by AVP.
-use Rattle.std.proofs.Common.{◌≡◌, ◌<◌, ◌≤◌, ℕ, ◌+◌, true, false, List, [], ◌∷◌, ◌++◌, length, get_or, take, drop, sym, ap, ◌∙◌, arith, length-append, Option, Some, None, is_some}
+use Rattle.std.proofs.Common.{◌≡◌, ◌<◌, ◌≤◌, ℕ, ◌+◌, true, false, List, [], ◌∷◌, ◌++◌, length, get_or, take, drop, sym, ap, ◌∙◌, arith, append_assoc, length-append, Option, Some, None, is_some}
 use Rattle.std.specs.Option.{option_to_list}
 use Rattle.std.proofs.lemmas.List.{take-append-drop, map-append, append-nil, length_push}
 use Rattle.std.proofs.lemmas.List.Elements.{filter_map-append}
@@ -21,6 +21,14 @@ pub values_other : (key : AvpKey) (avps : List Avp) (i : ℕ) (a : Avp) → i < 
 values_other key avps i a lt is other =
     let more = ap (values_of key) (views_more avps i a lt is) ∙ filter_map-append (value_if key) (avp_views (take i avps)) (avp_view a ∷ []) in
     (rw other at more) ∙ append-nil _
+
+-- the values before an AVP with the key, its own, and those behind it
+pub values_around : (key : AvpKey) (avps : List Avp) (i : ℕ) (a : Avp) → i < length avps → a ≡ get_or avps i a → same_key (key_of (avp_view a)) key ≡ true → values_of key (avp_views avps) ≡ values_of key (avp_views (take i avps)) ++ (a.value.items ∷ values_of key (avp_views (drop (i + 1) avps)))
+values_around key avps i a lt is keyed =
+    let parts : avp_views avps ≡ avp_views (take (i + 1) avps) ++ avp_views (drop (i + 1) avps) = ap avp_views (sym (take-append-drop (i + 1) avps)) ∙ map-append avp_view (take (i + 1) avps) (drop (i + 1) avps) in
+    let values = ap (values_of key) parts ∙ filter_map-append (value_if key) (avp_views (take (i + 1) avps)) (avp_views (drop (i + 1) avps)) in
+    let front = values_keyed key avps i a lt is keyed in
+    values ∙ ap (λ (front : List (List ℕ)). front ++ values_of key (avp_views (drop (i + 1) avps))) front ∙ append_assoc (values_of key (avp_views (take i avps))) (a.value.items ∷ []) (values_of key (avp_views (drop (i + 1) avps)))
 
 -- the values of the first AVPs are among those of all
 pub values_front : (key : AvpKey) (avps : List Avp) (i : ℕ) → length (values_of key (avp_views (take i avps))) ≤ length (values_of key (avp_views avps))

@@ -36,6 +36,18 @@ pub fn count_of(avps: &[Avp], key: AvpKey) -> usize
     count
 }
 
+/// The first AVP with a key.
+pub fn first_with(avps: &[Avp], key: AvpKey) -> Option<&Avp>
+    ensures { option_map (λ avp. avp.now.value.items) result ≡ value_of key (avp_views avps.now) }
+{
+    for avp in avps {
+        if avp.key() == key {
+            return Some(avp);
+        }
+    }
+    None
+}
+
 /// The AVP with a key, which may stand once at most.
 fn at_most_once(avps: &[Avp], key: AvpKey) -> Result<Option<&Avp>, Refusal>
     ensures found { IfOk result (λ found. values_of key (avp_views avps.now) ≡ option_to_list (option_map (λ avp. avp.now.value.items) found)) }

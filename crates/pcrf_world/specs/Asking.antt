@@ -1,5 +1,17 @@
--- What a frame asks for.
-use Rattle.std.specs.Prelude.{ℕ, ◌<◌, ◌^◌, ⊤}
+-- What a frame asks for (RFC 6733, 7.1 and 7.2): which answer it gets before a site looks at what it holds.
+use Rattle.std.specs.Prelude.{ℕ, ◌<◌, ◌^◌, Bool, not, ◌&&◌, ◌||◌, ◌==◌, if◌then◌else◌, List, take, drop, Option, Some, None, Result, Ok, Err, ⊤}
+use Rattle.std.proofs.Common.{option_and_then}
+use Rattle.lattice_core.specs.Texts.{one_to}
+use Rattle.dia_codec.specs.declared.fault.MsgFault.{MsgFault}
+use Rattle.dia_codec.specs.declared.fault.MsgFault.TheVariants.{NotWhole, BadVersion, BadFlags, BadAvpLength, NoMemory}
+use Rattle.dia_codec.specs.declared.message.Header.{Header}
+use Rattle.dia_codec.specs.Fields.{AvpValue, MessageValue, header_of}
+use Rattle.dia_codec.specs.Reading.{avps_of, message_of}
+use Rattle.dia_base.specs.declared.refusal.Refusal.{Refusal}
+use Rattle.dia_base.specs.Rows.{base, base_key, value_of, or_else}
+use Rattle.pcrf_model.specs.Requests.{CcrValue}
+use Rattle.gx_profile.specs.Requests.{ccr_view, ccr_refusal, ccr_of}
+use Rattle.pcrf_world.specs.declared.request.Request.TheVariants.{Ccr}
 use Rattle.pcrf_world.specs.declared.asking.Asked.{Asked}
 use Rattle.pcrf_world.specs.declared.asking.Asked.TheVariants.{Request, Refused, Silent}
 
@@ -8,3 +20,54 @@ abbrev pub HeaderFits : Asked → Type 0
 HeaderFits (Request header request) = header.command < 2 ^ 24
 HeaderFits (Refused header session refusal) = header.command < 2 ^ 24
 HeaderFits Silent = ⊤
+
+-- to serve a request, to be refused with the Session-Id where one is known, or nothing
+pub data AskedValue : Type 0 where
+  ToServe : Header → CcrValue → AskedValue
+  ToRefuse : Header → Option (List ℕ) → Refusal → AskedValue
+  Nothing : AskedValue
+
+abbrev pub asked_view : Asked → AskedValue
+asked_view (Request header (Ccr ccr)) = ToServe header (ccr_view ccr)
+asked_view (Refused header session refusal) = ToRefuse header session refusal
+asked_view Silent = Nothing
+
+-- the first Session-Id, unless it is empty or longer than 512 bytes
+abbrev pub session_among : List AvpValue → Option (List ℕ)
+session_among avps = option_and_then (one_to 512) (value_of (base_key 263) avps)
+
+-- that of AVPs that can be cut
+abbrev pub session_if_cut : Option (List AvpValue) → Option (List ℕ)
+session_if_cut None = None
+session_if_cut (Some avps) = session_among avps
+
+-- DIAMETER_UNSUPPORTED_VERSION, DIAMETER_INVALID_HDR_BITS, DIAMETER_INVALID_AVP_LENGTH
+abbrev pub fault_refusal : MsgFault → Refusal
+fault_refusal BadVersion = base 5011
+fault_refusal BadFlags = base 3008
+fault_refusal BadAvpLength = base 5014
+fault_refusal NotWhole = base 5014
+fault_refusal NoMemory = base 5014
+
+-- the base protocol, Gx and Rx
+abbrev pub is_known : ℕ → Bool
+is_known application = application == 0 || application == 16777238 || application == 16777236
+
+-- DIAMETER_APPLICATION_UNSUPPORTED, and then DIAMETER_COMMAND_UNSUPPORTED: credit control under Gx alone is served as yet
+abbrev pub header_refusal : Header → Option Refusal
+header_refusal header =
+    if not (is_known header.application) then Some (base 3007) else
+    if header.application == 16777238 && header.command == 272 then None else Some (base 3001)
+
+abbrev pub asked_unless : MessageValue → Option Refusal → AskedValue
+asked_unless m None = ToServe m.header (ccr_of m.avps)
+asked_unless m (Some refusal) = ToRefuse m.header (session_among m.avps) refusal
+
+abbrev pub asked_by : List ℕ → Result MessageValue MsgFault → AskedValue
+asked_by frame (Ok m) = asked_unless m (or_else (header_refusal m.header) (ccr_refusal m.avps))
+asked_by frame (Err fault) = ToRefuse (header_of (take 20 frame)) (session_if_cut (avps_of (drop 20 frame))) (fault_refusal fault)
+
+-- An answer is passed over, whatever else is wrong with it. A request is refused by the first fault of its version, its flags and the lengths of its
+-- AVPs, by its application, by its command, or by its command's table; else it asks to be served.
+unfoldable pub asked_of : List ℕ → AskedValue
+asked_of frame = if (header_of (take 20 frame)).flags.request then asked_by frame (message_of frame) else Nothing

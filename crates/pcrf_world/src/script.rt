@@ -1,5 +1,6 @@
 //! Scripts of a world: one command a line, and what it prints.
-ghost use Rattle.std.specs.Prelude.{◌≡◌, ◌≢◌, ◌≤◌, ◌<◌, ◌^◌, ◌⊎◌, true, IfErr, IsErrOf};
+ghost use Rattle.std.specs.Prelude.{◌≡◌, ◌≢◌, ◌≤◌, ◌<◌, ◌^◌, ◌⊎◌, true, length, IfOk, IfErr, IsErrOf};
+ghost use Rattle.dia_codec.specs.Spelling.{IsFrame};
 
 use crate::asking::{Asked, read_request, write_refusal, write_reply};
 use crate::lines::{Line, LineFault, read_line};
@@ -49,7 +50,9 @@ fn identity(alloc: Global, i: usize) -> Result<Option<Identity>, AllocError> {
 }
 
 /// The one message that the bytes are.
-fn one_frame(alloc: Global, bytes: &[u8]) -> Result<Vec<u8>, LineFault> {
+fn one_frame(alloc: Global, bytes: &[u8]) -> Result<Vec<u8>, LineFault>
+    ensures { IfOk result (λ frame. (frame.items ≡ bytes.now) × IsFrame frame.items) }
+{
     let mut assembler = Assembler::start(alloc);
     match assembler.feed(bytes) {
         Ok(()) => {}
@@ -172,7 +175,9 @@ fn put_message(
     i: usize,
     frame: &[u8],
     out: &mut String,
-) -> Result<(), LineFault> {
+) -> Result<(), LineFault>
+    requires { 20 ≤ length frame.now }
+{
     if world.site(i).is_none() {
         return Ok(out.push_str("refused NoSuchSite\n")?);
     }

@@ -1,0 +1,18 @@
+use Rattle.std.proofs.Common.{◌≡◌, ◌+◌, ◌++◌, ◌∷◌, ℕ, List, true, false, rules, drop, take, ap, sym, ◌∙◌}
+use Rattle.dia_codec.specs.Fields.{key_of}
+use Rattle.dia_codec.specs.Spelling.{avp_view, avp_views}
+use Rattle.dia_base.specs.Rows.{same_key, values_of, first_of}
+use Rattle.dia_base.proofs.Values.{values_around, values_other}
+use Rattle.dia_base.proofs.rows.first_with.Goals as goal
+
+pub returns-then-eq : goal.returns-then-eq
+returns-then-eq c =
+    let keyed : same_key (key_of (avp_view c.avp-item.result)) c.args.key ≡ true = search rules in
+    let behind = values_of c.args.key (avp_views (drop (c.loop-avp.avp-index + 1) c.args.avps.now)) in
+    let around = values_around c.args.key c.args.avps.now c.loop-avp.avp-index c.avp-item.result c.loop-avp-test.true c.avp-item.is keyed in
+    sym (ap first_of (around ∙ ap (λ (front : List (List ℕ)). front ++ (c.avp-item.result.value.items ∷ behind)) c.loop-avp.invariant))
+
+pub loop-avp-preserved : goal.loop-avp-preserved
+loop-avp-preserved c =
+    let other : same_key (key_of (avp_view c.avp-item.result)) c.args.key ≡ false = search rules in
+    values_other c.args.key c.args.avps.now c.loop-avp.avp-index c.avp-item.result c.loop-avp-test.true c.avp-item.is other ∙ c.loop-avp.invariant
