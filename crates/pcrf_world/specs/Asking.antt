@@ -1,5 +1,5 @@
 -- What a frame asks for (RFC 6733, 7.1 and 7.2): which answer it gets before a site looks at what it holds.
-use Rattle.std.specs.Prelude.{ℕ, ◌<◌, ◌^◌, Bool, not, ◌&&◌, ◌||◌, ◌==◌, if◌then◌else◌, List, take, drop, Option, Some, None, Result, Ok, Err, ⊤}
+use Rattle.std.specs.Prelude.{ℕ, ◌<◌, ◌^◌, Bool, not, ◌&&◌, ◌||◌, ◌==◌, if◌then◌else◌, List, [], nat_lt, take, drop, Option, Some, None, Result, Ok, Err, ⊤}
 use Rattle.std.proofs.Common.{option_and_then}
 use Rattle.lattice_core.specs.Texts.{one_to}
 use Rattle.dia_codec.specs.declared.fault.MsgFault.{MsgFault}
@@ -11,7 +11,13 @@ use Rattle.dia_base.specs.declared.refusal.Refusal.{Refusal}
 use Rattle.dia_base.specs.Rows.{base, base_key, value_of, or_else}
 use Rattle.pcrf_model.specs.Requests.{CcrValue}
 use Rattle.gx_profile.specs.Requests.{ccr_view, ccr_refusal, ccr_of}
+use Rattle.dia_codec.specs.Written.{written, written_len}
+use Rattle.dia_base.specs.declared.identity.Identity.{Identity}
+use Rattle.gx_profile.specs.Answers.{cca}
+use Rattle.pcrf_world.specs.declared.request.Request.{Request as Asking}
 use Rattle.pcrf_world.specs.declared.request.Request.TheVariants.{Ccr}
+use Rattle.pcrf_world.specs.declared.request.Reply.{Reply}
+use Rattle.pcrf_world.specs.declared.request.Reply.TheVariants.{Gx}
 use Rattle.pcrf_world.specs.declared.asking.Asked.{Asked}
 use Rattle.pcrf_world.specs.declared.asking.Asked.TheVariants.{Request, Refused, Silent}
 
@@ -71,3 +77,11 @@ asked_by frame (Err fault) = ToRefuse (header_of (take 20 frame)) (session_if_cu
 -- AVPs, by its application, by its command, or by its command's table; else it asks to be served.
 unfoldable pub asked_of : List ℕ → AskedValue
 asked_of frame = if (header_of (take 20 frame)).flags.request then asked_by frame (message_of frame) else Nothing
+
+-- the bytes of an answer; none where it is longer than any message
+abbrev pub answer_bytes : MessageValue → List ℕ
+answer_bytes m = if nat_lt 65532 (written_len m) then [] else written m
+
+-- the answer to a request that was served
+abbrev pub reply_bytes : Identity → Header → Asking → Reply → List ℕ
+reply_bytes i h (Ccr ccr) (Gx reply) = answer_bytes (cca i h ccr reply)

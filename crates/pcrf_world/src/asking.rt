@@ -3,8 +3,10 @@ ghost use Rattle.std.specs.Prelude.{◌≡◌, ◌≤◌, ◌<◌, ◌^◌, ◌&
 ghost use Rattle.dia_codec.specs.Reading.{avps_of};
 ghost use Rattle.dia_codec.specs.Spelling.{avp_views, message_view};
 ghost use Rattle.dia_base.specs.Rows.{or_else, IsRefusal};
+ghost use Rattle.std.specs.Option.{option_copied};
+ghost use Rattle.dia_base.specs.Answers.{refusal_answer};
 ghost use Rattle.gx_profile.specs.Requests.{ccr_view, ccr_refusal, ccr_of};
-ghost use Rattle.pcrf_world.specs.Asking.{HeaderFits, asked_view, asked_of, asked_by, session_among, session_if_cut, fault_refusal, header_refusal};
+ghost use Rattle.pcrf_world.specs.Asking.{HeaderFits, answer_bytes, reply_bytes, asked_view, asked_of, asked_by, session_among, session_if_cut, fault_refusal, header_refusal};
 
 use crate::request::{Reply, Request};
 use dia_base::codes::results::{
@@ -136,6 +138,7 @@ pub fn read_request(alloc: Global, frame: &[u8]) -> Result<Asked, AllocError>
 fn bytes_of(alloc: Global, answer: &Message) -> Result<Vec<u8>, AllocError>
     requires command { answer.now.header.command < 2 ^ 24 }
     requires flags { (answer.now.header.flags.request && answer.now.header.flags.error) ≡ false }
+    ensures { IfOk result (λ bytes. bytes.items ≡ answer_bytes (message_view answer.now)) }
 {
     match write_message(alloc, answer) {
         Ok(bytes) => Ok(bytes),
@@ -154,6 +157,7 @@ pub fn write_reply(
     reply: &Reply,
 ) -> Result<Vec<u8>, AllocError>
     requires { header.now.command < 2 ^ 24 }
+    ensures { IfOk result (λ bytes. bytes.items ≡ reply_bytes identity.now header.now request.now reply.now) }
 {
     let (Request::Ccr(ccr), Reply::Gx(reply)) = (request, reply);
     let answer = write_cca(alloc, identity, header, ccr, reply)?;
@@ -170,6 +174,7 @@ pub fn write_refusal(
     refusal: Refusal,
 ) -> Result<Vec<u8>, AllocError>
     requires { header.now.command < 2 ^ 24 }
+    ensures { IfOk result (λ bytes. bytes.items ≡ answer_bytes (refusal_answer identity.now header.now refusal (option_copied session.entry))) }
 {
     let id = session.map(|session| session.as_slice());
     let answer = refusal_answer(alloc, identity, header, refusal, id)?;
