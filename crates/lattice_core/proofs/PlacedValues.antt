@@ -7,7 +7,7 @@ use Rattle.std.specs.declared.cmp.Ordering.TheVariants.{Less, Equal, Greater}
 use Rattle.std.specs.Ordering.{is_eq, ordering_reverse}
 use Rattle.std.specs.Cmp.{IsTotalOrder}
 use Rattle.std.proofs.lemmas.Cmp.{alike_right}
-use Rattle.lattice_core.specs.Entries.{value_at, IsAscending, put}
+use Rattle.lattice_core.specs.Entries.{value_at, IsAscending}
 use Rattle.lattice_core.specs.Lookups.{joined_onto}
 use Rattle.lattice_core.specs.Placed.{placed}
 use Rattle.lattice_core.proofs.Lookups.{none_below, below_alike, value_put}

@@ -1,10 +1,10 @@
 -- The orders of plain values are total, and what they find equal is the same value.
-use Rattle.std.specs.Prelude.{◌≡◌, ℕ, List}
+use Rattle.std.specs.Prelude.{◌≡◌}
 use Rattle.std.specs.Cmp.{IsTotalOrder}
 use Rattle.std.proofs.lemmas.Cmp.{then_total, on_total, nat_cmp_total, nat_list_cmp_total, lists_total}
 use Rattle.lattice_core.specs.Same.{IsExact, nat_same, list_same, pair_same, then_parts}
 use Rattle.lattice_core.specs.Orders.{text_cmp, subscriber_cmp}
-use Rattle.lattice_core.specs.RuleValues.{RuleValue, DeltaValue, rule_cmp, delta_cmp}
+use Rattle.lattice_core.specs.RuleValues.{rule_cmp, delta_cmp}
 
 -- texts that compare as equal are the same
 pub text_same : IsExact text_cmp

@@ -31,7 +31,8 @@ pub type FilterText = BoundedText<255>;
 /// The one or two filters of a flow, in the order given (Flow-Description, TS 29.214, 5.3.8).
 pub type Filters = BoundedList<FilterText, 2>;
 
-/// The name of a rule, as Charging-Rule-Name gives it (TS 29.212, 5.3.6).
+/// The name of a rule, as Charging-Rule-Name gives it (TS 29.212, 5.3.6). Its greatest length is this project's own: it has
+/// room for a Session-Id and two numbers.
 pub type RuleName = BoundedText<600>;
 
 impl<T, const MOST: usize> Model for BoundedList<T, MOST> {

@@ -1,4 +1,4 @@
-use Rattle.std.proofs.Common.{[], ap, sym, ◌∙◌}
+use Rattle.std.proofs.Common.{ap, sym, ◌∙◌}
 use Rattle.lattice_core.proofs.Placing.{place_all, place_all_last, place_all_none}
 use Rattle.lattice_core.proofs.subscribers.ascending_of.Goals as goal
 

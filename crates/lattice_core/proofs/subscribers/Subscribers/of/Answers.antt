@@ -1,4 +1,4 @@
-use Rattle.std.proofs.Common.{rules, arith, sym, subst, ◌≡◌, ◌∙◌}
+use Rattle.std.proofs.Common.{rules, sym, subst, ◌≡◌, ◌∙◌}
 use Rattle.lattice_core.specs.Ascending.{ascending}
 use Rattle.lattice_core.specs.Orders.{subscriber_cmp}
 use Rattle.lattice_core.specs.OrderLaws.{subscriber_total}
