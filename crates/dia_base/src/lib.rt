@@ -14,8 +14,8 @@ pub use answer::{answer_header, is_protocol_error, put_origin, put_result, refus
 pub use identity::Identity;
 pub use refusal::{ReadFault, Refusal};
 pub use rows::{
-    base_key, count_of, first_with, optional_address, optional_apn, required_number, required_number_within,
-    required_text,
+    base_key, count_of, first_with, optional_address, optional_apn, required_number,
+    required_number_within, required_text,
 };
 pub use subscriptions::read_subscribers;
 pub use writer::AvpWriter;

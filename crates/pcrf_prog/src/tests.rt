@@ -28,7 +28,12 @@ fn scripts_end_with_their_status(rt: HostRuntime) -> Result<(), Fail> {
     let cases = [
         ("", "", 0, ""),
         ("sites 2\n", "sites 2\n", 0, ""),
-        ("sites 2\nsites 2\n", "sites 2\n", 3, "pcrf: script: line 2\n"),
+        (
+            "sites 2\nsites 2\n",
+            "sites 2\n",
+            3,
+            "pcrf: script: line 2\n",
+        ),
     ];
     for (script, printed, status, told) in cases {
         let (mut out, mut faults) = (Vec::new(rt.alloc()), Vec::new(rt.alloc()));
@@ -54,10 +59,14 @@ fn failed_input_and_output_are_told(rt: HostRuntime) -> Result<(), Fail> {
 
 #[test]
 fn words_are_read(rt: HostRuntime) -> Result<(), Fail> {
-    for (word, status, printed) in [("world", 0, "sites 1\n"), ("bogus", 2, ""), ("--help", 2, "")] {
+    for (word, status, printed) in [
+        ("world", 0, "sites 1\n"),
+        ("bogus", 2, ""),
+        ("--help", 2, ""),
+    ] {
         let words = vec![in rt.alloc();
             String::from_str(rt.alloc(), "pcrf")?,
-            String::from_str(rt.alloc(), word)?
+            String::from_str(rt.alloc(), word)?,
         ]?;
         let (mut out, mut faults) = (Vec::new(rt.alloc()), Vec::new(rt.alloc()));
         let script = b"sites 1\n".as_slice();
