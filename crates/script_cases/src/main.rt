@@ -1,5 +1,5 @@
 //! Runs the script of its standard input, on which the answers of a site are tested, message by message. The bytes of
-//! `stdout` were written out by hand from the tables of the profile, not taken from the program.
+//! `stdout` come from a small encoder written apart from the program, from the tables of the profile.
 #![tactic(auto)]
 
 use dia_codec::Counted;
