@@ -5,6 +5,7 @@
 #![tactic(auto)]
 
 mod apn;
+mod ascending;
 mod bounded_list;
 mod bounded_number;
 mod delta;
@@ -22,6 +23,7 @@ mod tombed;
 mod tree;
 
 pub use apn::Apn;
+pub use ascending::ascending_of;
 pub use bounded_list::{
     BoundedList, BoundedText, DiameterIdentity, FilterText, Filters, RuleName, SessionId,
     SubscriptionData,

@@ -1,14 +1,14 @@
 //! The subscribers of a session.
 ghost use Rattle.std.specs.Prelude.{◌≡◌, ◌<◌, ◌≤◌, length, IfOk};
-ghost use Rattle.lattice_core.specs.Ascending.{place, ascending};
+ghost use Rattle.lattice_core.specs.Ascending.{ascending};
 ghost use Rattle.lattice_core.specs.Orders.{subscriber_cmp};
 ghost use Rattle.lattice_core.specs.Texts.{one_to};
 
+use crate::ascending::ascending_of;
 use crate::listed::Listed;
 use crate::ranked::Ranked;
 use crate::subscriber::Subscriber;
 use std::alloc::{AllocError, Global};
-use std::cmp::Ordering;
 use std::marker::Model;
 
 /// A set of 1 to 16 subscribers, which contracts see as its one ascending list. Ordered as these lists, member by member, a prefix first.
@@ -74,34 +74,4 @@ impl Ranked for Subscribers {
             list: self.list.try_copy()?,
         })
     }
-}
-
-// The values in ascending order, each once.
-fn ascending_of<T: Ranked>(alloc: Global, given: Vec<T>) -> Result<Vec<T>, AllocError>
-    ensures { IfOk result (λ members. members.items ≡ ascending T.cmp given.items) }
-{
-    let mut left = given;
-    let mut members = Vec::with_capacity(alloc, left.len())?;
-    while let Some(value) = left.pop() {
-        place_in(&mut members, value)?;
-    }
-    Ok(members)
-}
-
-// Puts a value before the first member that isn't below it, unless it is that member.
-fn place_in<T: Ranked>(members: &mut Vec<T>, value: T) -> Result<(), AllocError>
-    ensures { IfOk result (λ _. members.new.items ≡ place T.cmp value members.old.items) }
-{
-    for at in 0..members.len() {
-        match value.cmp(&members[at]) {
-            Ordering::Less => {
-                members.insert(at, value)?;
-                return Ok(());
-            }
-            Ordering::Equal => return Ok(()),
-            Ordering::Greater => {}
-        }
-    }
-    members.push(value)?;
-    Ok(())
 }

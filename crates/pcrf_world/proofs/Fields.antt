@@ -24,7 +24,7 @@ abbrev pub AreFieldFacts : List Fact → Type 0
 AreFieldFacts [] = Unit {0}
 AreFieldFacts (f ∷ fs) = IsField f × AreFieldFacts fs
 
-AreFieldFacts-append : (xs ys : List Fact) → AreFieldFacts xs → AreFieldFacts ys → AreFieldFacts (xs ++ ys)
+pub AreFieldFacts-append : (xs ys : List Fact) → AreFieldFacts xs → AreFieldFacts ys → AreFieldFacts (xs ++ ys)
 AreFieldFacts-append [] ys hx hy = hy
 AreFieldFacts-append (x ∷ xs) ys hx hy = (hx.0, AreFieldFacts-append xs ys hx.1 hy)
 
@@ -43,13 +43,13 @@ AreFieldFacts-ascending cmp [] h = tt
 AreFieldFacts-ascending cmp (x ∷ xs) h = AreFieldFacts-place cmp x (ascending cmp xs) h.0 (AreFieldFacts-ascending cmp xs h.1)
 
 -- no path is gone
-none_gone : (facts : List Fact) (p : Path) → AreFieldFacts facts → is_gone facts p ≡ false
+pub none_gone : (facts : List Fact) (p : Path) → AreFieldFacts facts → is_gone facts p ≡ false
 none_gone [] p h = refl
 none_gone (Gone q ∷ fs) p h = absurd h.0
 none_gone (Field q t v ∷ fs) p h = none_gone fs p h.1
 
 -- the facts of an initial request are fields
-fields_of_request : (o : OperationValue) → AreFieldFacts (ccr_fields (initial_request o) o.tag)
+pub fields_of_request : (o : OperationValue) → AreFieldFacts (ccr_fields (initial_request o) o.tag)
 fields_of_request o = elim o.fields.subscribers as (λ (given : List Subscriber). AreFieldFacts (ccr_fields (record (initial_request o) { subscribers = given }) o.tag)) [
   | [] ↦ (tt, (tt, (tt, (tt, (tt, tt)))))
   | x ∷ xs ↦ (tt, (tt, (tt, (tt, (tt, (tt, tt))))))

@@ -1,5 +1,7 @@
 pub mod Asking
 pub mod Operations
+pub mod Shown
+pub mod GxSessions
 pub mod Sites
 pub mod Worlds
 pub mod Steps

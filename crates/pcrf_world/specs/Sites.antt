@@ -1,11 +1,6 @@
 -- Sites as the list of what they took, and what they reply and add by the definitions.
-use Rattle.std.specs.Prelude.{ℕ, List, [], ◌∷◌, ◌++◌, map, Option, Some, None}
-use Rattle.std.proofs.Common.{option_and_then}
-use Rattle.lattice_core.specs.declared.tag.Tag.{Tag}
-use Rattle.pcrf_model.specs.Sessions.{Session, gx}
-use Rattle.pcrf_model.specs.Paths.{address, apn}
-use Rattle.pcrf_model.specs.Views.{View, view, value, as_address, text}
-use Rattle.pcrf_model.specs.Live.{home}
+use Rattle.std.specs.Prelude.{ℕ, List, [], ◌∷◌, ◌++◌, Option, Some, None}
+use Rattle.pcrf_model.specs.Sessions.{gx}
 use Rattle.pcrf_model.specs.Holdings.{Holding}
 use Rattle.pcrf_model.specs.Operations.{Operation, holding_of}
 use Rattle.pcrf_model.specs.Tables.{open_tables}
@@ -86,19 +81,3 @@ served s q reply = makes (added s.number (site_holding s) q reply) s
 -- with operations of a letter
 abbrev pub takes : List Operation → SiteValue → SiteValue
 takes os s = record s { taken = s.taken ++ os }
-
--- ---- what is shown
-
--- a gateway's session: its address, its access point name and its home, where it shows them
-pub record GxShown : Type 0 where
-  pub session : List ℕ
-  pub address : Option (List ℕ)
-  pub apn : Option (List ℕ)
-  pub home : Option ℕ
-
-abbrev pub shown_gx : View → Session → GxShown
-shown_gx v s = record { session = s.id; address = option_and_then as_address (value v (address s)); apn = text v (apn s); home = home v s }
-
--- every session that a holding knows, ascending; all are gateways' as yet
-abbrev pub shown_sessions : Holding → List GxShown
-shown_sessions h = map (shown_gx (view h.facts)) (view h.facts).sessions

@@ -7,6 +7,7 @@ mod operation;
 mod printing;
 mod request;
 mod script;
+mod shown;
 mod site;
 mod world;
 
@@ -14,5 +15,6 @@ pub use asking::{Asked, read_request, write_refusal, write_reply};
 pub use operation::{GxFields, Operation};
 pub use request::{Reply, Request};
 pub use script::{ScriptEnd, run_script};
-pub use site::{GxSession, PlainSite};
+pub use shown::GxSession;
+pub use site::PlainSite;
 pub use world::{Outcome, World, WorldEvent, WorldFault};

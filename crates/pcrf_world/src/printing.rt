@@ -1,5 +1,6 @@
 //! What a script prints.
-use crate::site::{GxSession, PlainSite};
+use crate::shown::GxSession;
+use crate::site::PlainSite;
 use crate::world::{Outcome, WorldFault};
 use std::alloc::AllocError;
 use std::fmt::Write as _;

@@ -2,18 +2,19 @@
 ghost use Rattle.std.specs.Prelude.{◌≡◌, ◌<◌, ◌^◌, [], ◌∷◌, length, take, map, IfOk, OnOk, OnErr, IfErr};
 ghost use Rattle.gx_profile.specs.Requests.{ccr_view};
 ghost use Rattle.pcrf_model.specs.Operations.{holding_of};
+ghost use Rattle.pcrf_world.specs.GxSessions.{gx_value};
 ghost use Rattle.pcrf_world.specs.Operations.{operation_of, AreFields};
+ghost use Rattle.pcrf_world.specs.Shown.{shown_sessions};
 
 use crate::operation::{GxFields, Operation, copy_all};
 use crate::request::{Reply, Request};
+use crate::shown::{GxSession, named_in, sessions_of};
 use dia_base::Refusal;
 use dia_base::codes::results::{INITIAL_PARAMETERS, UNABLE_TO_COMPLY};
 use gx_profile::{Ccr, GxReply, RequestKind};
-use lattice_core::{Apn, Ranked, Reg, SessionId, Tag};
+use lattice_core::{Ranked, Tag};
 use std::alloc::{AllocError, Global};
-use std::cmp::Ordering;
 use std::marker::Model;
-use std::net::Ipv4Addr;
 
 /// The last counter of any operation: this project's own limit.
 const LAST_COUNTER: u64 = 9_223_372_036_854_775_807;
@@ -35,54 +36,6 @@ impl Model for PlainSite {
     ghost Value = { SiteValue };
 
     ghost view = { λ s. record { number = s.number; taken = map operation_of s.taken.items; log = map operation_of s.log.items } };
-}
-
-/// A gateway's session as a site shows it.
-#[derive(Drop)]
-pub struct GxSession {
-    session: SessionId,
-    address: Reg<Ipv4Addr>,
-    apn: Reg<Apn>,
-    home: Reg<u32>,
-}
-
-impl GxSession {
-    /// The session.
-    pub fn session(&self) -> &SessionId {
-        &self.session
-    }
-
-    /// The address that it shows.
-    pub fn address(&self) -> Option<Ipv4Addr> {
-        Some(self.address.get()?.1)
-    }
-
-    /// The access point name that it shows.
-    pub fn apn(&self) -> Option<&Apn> {
-        Some(&self.apn.get()?.1)
-    }
-
-    /// The site that served its last request.
-    pub fn home(&self) -> Option<u8> {
-        Some(self.home.get()?.0.site)
-    }
-
-    fn start(session: SessionId) -> GxSession {
-        GxSession {
-            session,
-            address: Reg::start(),
-            apn: Reg::start(),
-            home: Reg::start(),
-        }
-    }
-
-    fn add(&mut self, tag: Tag, fields: &GxFields) -> Result<(), AllocError> {
-        let apn = fields.apn.try_copy()?;
-        self.address.put(tag, fields.address);
-        self.apn.put(tag, apn);
-        self.home.put(tag, 1);
-        Ok(())
-    }
 }
 
 impl PlainSite {
@@ -109,12 +62,12 @@ impl PlainSite {
     }
 
     /// The gateways' sessions with what they show, ascending by Session-Id.
-    pub fn gx(&self) -> Result<Vec<GxSession>, AllocError> {
-        let mut sessions = Vec::new(self.alloc);
-        for operation in &self.taken {
-            add_to(&mut sessions, operation)?;
-        }
-        Ok(sessions)
+    pub fn gx(&self) -> Result<Vec<GxSession>, AllocError>
+        ensures { IfOk result (λ sessions. map gx_value sessions.items ≡ shown_sessions (site_holding self.now)) }
+    {
+        let taken = self.taken.as_slice();
+        let named = named_in(self.alloc, taken)?;
+        sessions_of(self.alloc, named.as_slice(), taken)
     }
 
     /// The operations that the site made itself.
@@ -235,28 +188,4 @@ fn initial_fields(ccr: &Ccr) -> Result<Option<GxFields>, AllocError>
         host: ccr.host.try_copy()?,
         realm: ccr.realm.try_copy()?,
     }))
-}
-
-/// Adds an operation to the sessions that it speaks of.
-fn add_to(sessions: &mut Vec<GxSession>, operation: &Operation) -> Result<(), AllocError> {
-    let (tag, fields) = (operation.tag(), operation.fields());
-    for at in 0..sessions.len() {
-        match operation.session().cmp(&sessions[at].session) {
-            Ordering::Greater => {}
-            Ordering::Equal => {
-                let found = &mut sessions[at];
-                return found.add(tag, fields);
-            }
-            Ordering::Less => {
-                let mut session = GxSession::start(operation.session().try_copy()?);
-                session.add(tag, fields)?;
-                sessions.insert(at, session)?;
-                return Ok(());
-            }
-        }
-    }
-    let mut session = GxSession::start(operation.session().try_copy()?);
-    session.add(tag, fields)?;
-    sessions.push(session)?;
-    Ok(())
 }

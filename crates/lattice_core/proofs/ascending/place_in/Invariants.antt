@@ -1,6 +1,6 @@
 use Rattle.std.proofs.Common.{◌≡◌}
 use Rattle.lattice_core.proofs.Placing.{Passes}
-use Rattle.lattice_core.proofs.subscribers.place_in.Given as goal
+use Rattle.lattice_core.proofs.ascending.place_in.Given as goal
 
 -- the members are as they were, and the value is above each that was looked at
 abbrev pub invariant-loop-at : goal.invariant-loop-at

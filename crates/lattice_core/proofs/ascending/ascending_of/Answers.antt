@@ -1,6 +1,6 @@
 use Rattle.std.proofs.Common.{ap, sym, ◌∙◌}
 use Rattle.lattice_core.proofs.Placing.{place_all, place_all_last, place_all_none}
-use Rattle.lattice_core.proofs.subscribers.ascending_of.Goals as goal
+use Rattle.lattice_core.proofs.ascending.ascending_of.Goals as goal
 
 pub loop-value-init : goal.loop-value-init
 loop-value-init g c =

@@ -2,7 +2,7 @@ use Rattle.std.proofs.Common.{◌≡◌}
 use Rattle.std.specs.Prelude.{length}
 use Rattle.lattice_core.specs.Ascending.{ascending}
 use Rattle.lattice_core.proofs.Placing.{place_all}
-use Rattle.lattice_core.proofs.subscribers.ascending_of.Given as goal
+use Rattle.lattice_core.proofs.ascending.ascending_of.Given as goal
 
 -- what is left, placed among the members, is the ascending list of all
 abbrev pub invariant-loop-value : goal.invariant-loop-value

@@ -1,7 +1,7 @@
 use Rattle.std.proofs.Common.{rules, ap, ◌∙◌, add-one}
 use Rattle.lattice_core.specs.Ascending.{place}
 use Rattle.lattice_core.proofs.Placing.{passes_more, placed_before, placed_there, placed_last}
-use Rattle.lattice_core.proofs.subscribers.place_in.Goals as goal
+use Rattle.lattice_core.proofs.ascending.place_in.Goals as goal
 
 pub returns-in-Less : goal.returns-in-Less
 returns-in-Less g c =

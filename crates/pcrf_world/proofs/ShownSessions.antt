@@ -1,0 +1,310 @@
+-- What operations of initial requests show of a gateway's session.
+use Rattle.std.proofs.Common.{◌≡◌, ℕ, inl, inr, Bool, true, false, cond, List, [], ◌∷◌, ◌++◌, map, Option, Some, None, refl, sym, ap, ◌∙◌, option_map, option_and_then, Ordering, Less, Equal, Greater}
+use Rattle.std.specs.Ordering.{nat_cmp, is_eq, ordering_then}
+use Rattle.std.specs.List.{filter_map, cons_option}
+use Rattle.std.specs.Net.Addr.{ipv4_octets}
+use Rattle.std.specs.declared.net.ipv4_addr.Ipv4Addr.{Ipv4Addr}
+use Rattle.std.specs.FinMap.Entries.{by_order}
+use Rattle.std.proofs.lemmas.List.{append-nil}
+use Rattle.std.proofs.lemmas.List.Elements.{filter_map-append}
+use Rattle.lattice_core.specs.Orders.{pair_cmp, text_cmp}
+use Rattle.lattice_core.specs.Ascending.{place, ascending}
+use Rattle.lattice_core.specs.Told.{tag_cmp, told_joined}
+use Rattle.lattice_core.specs.declared.tag.Tag.{Tag}
+use Rattle.pcrf_model.specs.Sets.{In, Same, greatest}
+use Rattle.pcrf_model.specs.Sessions.{Session, gx, session_cmp}
+use Rattle.pcrf_model.specs.Paths.{Path, address, apn, last, whole}
+use Rattle.pcrf_model.specs.Values.{Value, Number, Text, Address, Subscriber, Entry, value_cmp, entry_cmp}
+use Rattle.pcrf_model.specs.Facts.{Fact, Gone, Field, fact_cmp, session_of}
+use Rattle.pcrf_model.specs.Holdings.{is_gone, entry_at, value_at, shown}
+use Rattle.pcrf_model.specs.Operations.{Operation, holding_of}
+use Rattle.pcrf_model.specs.Views.{View, view, as_address, as_text}
+use Rattle.pcrf_model.specs.Making.{ccr_fields}
+use Rattle.pcrf_model.proofs.SetLaws.{Same-itself, Same-through, Same-append, Same-turn, Same-back}
+use Rattle.pcrf_model.proofs.FactLaws.{fact_ranked, session_ranked}
+use Rattle.pcrf_model.proofs.AscendingLaws.{ascending-In, ascending-Same}
+use Rattle.pcrf_model.proofs.ViewLaws.{view-Same}
+use Rattle.pcrf_world.proofs.Fields.{AreFieldFacts, AreFieldFacts-append, fields_of_request, none_gone}
+use Rattle.pcrf_world.proofs.Greatest.{by_tag, greatest-map, greatest-push, joined_none}
+use Rattle.pcrf_world.specs.declared.operation.GxFields.{GxFields}
+use Rattle.pcrf_world.specs.declared.shown.GxSession.{GxSession}
+use Rattle.pcrf_world.specs.Operations.{OperationValue, operation_of, initial_request}
+use Rattle.pcrf_world.specs.Shown.{GxShown, shown_gx, shown_sessions}
+use Rattle.pcrf_world.specs.GxSessions.{gx_value, untold, address_cmp, with_told}
+
+-- ---- the facts of operations, one after another
+abbrev given_by : OperationValue → List Fact
+given_by o = ccr_fields (initial_request o) o.tag
+
+abbrev facts_of : List OperationValue → List Fact
+facts_of [] = []
+facts_of (o ∷ os) = given_by o ++ facts_of os
+
+-- what operations hold are these
+held_Same : (os : List OperationValue) → Same (holding_of (map operation_of os)).facts (facts_of os)
+held_Same [] = Same-itself []
+held_Same (o ∷ os) =
+    let held : List Fact = (holding_of (map operation_of os)).facts in
+    let one : List Fact = ascending fact_cmp (given_by o) in
+    Same-through (ascending fact_cmp (held ++ one)) (held ++ one) (given_by o ++ facts_of os)
+    (ascending-In fact_cmp fact_ranked (held ++ one))
+    (Same-through (held ++ one) (facts_of os ++ given_by o) (given_by o ++ facts_of os)
+    (Same-append held one (facts_of os) (given_by o) (held_Same os) (ascending-In fact_cmp fact_ranked (given_by o)))
+    (Same-turn (facts_of os) (given_by o)))
+
+-- so they are seen alike
+view_held : (os : List OperationValue) → view (holding_of (map operation_of os)).facts ≡ view (facts_of os)
+view_held os = view-Same (holding_of (map operation_of os)).facts (facts_of os) (held_Same os)
+
+-- they are fields
+all_fields : (os : List OperationValue) → AreFieldFacts (facts_of os)
+all_fields [] = tt
+all_fields (o ∷ os) = AreFieldFacts-append (given_by o) (facts_of os) (fields_of_request o) (all_fields os)
+
+-- ---- what is said of a session
+abbrev said_if : {A : Type 0} → Ordering → A → Option A
+said_if c x = cond (is_eq c) (Some x) None
+
+-- what an operation says, where it speaks of the session
+abbrev pub said : {T : Type 0} → (OperationValue → T) → List ℕ → OperationValue → Option (Tag × T)
+said what id o = said_if (text_cmp id o.session) (o.tag, what o)
+
+address_said : (id : List ℕ) (o : OperationValue) (rest : List Fact) → filter_map (entry_at (address (gx id))) (given_by o ++ rest) ≡ cons_option (said (λ q. Address (ipv4_octets q.fields.address)) id o) (filter_map (entry_at (address (gx id))) rest)
+address_said id o rest = elim (text_cmp id o.session) as (λ c. text_cmp id o.session ≡ c → filter_map (entry_at (address (gx id))) (given_by o ++ rest) ≡ cons_option (said_if c (o.tag, Address (ipv4_octets o.fields.address))) (filter_map (entry_at (address (gx id))) rest)) [
+  | Less ↦ λ e. elim o.fields.subscribers as (λ (s : List Subscriber). filter_map (entry_at (address (gx id))) (ccr_fields (record (initial_request o) { subscribers = s }) o.tag ++ rest) ≡ filter_map (entry_at (address (gx id))) rest) [
+    | [] ↦ rw e refl
+    | x ∷ xs ↦ rw e refl
+  ]
+  | Equal ↦ λ e. elim o.fields.subscribers as (λ (s : List Subscriber). filter_map (entry_at (address (gx id))) (ccr_fields (record (initial_request o) { subscribers = s }) o.tag ++ rest) ≡ (o.tag, Address (ipv4_octets o.fields.address)) ∷ filter_map (entry_at (address (gx id))) rest) [
+    | [] ↦ rw e refl
+    | x ∷ xs ↦ rw e refl
+  ]
+  | Greater ↦ λ e. elim o.fields.subscribers as (λ (s : List Subscriber). filter_map (entry_at (address (gx id))) (ccr_fields (record (initial_request o) { subscribers = s }) o.tag ++ rest) ≡ filter_map (entry_at (address (gx id))) rest) [
+    | [] ↦ rw e refl
+    | x ∷ xs ↦ rw e refl
+  ]
+] refl
+
+apn_said : (id : List ℕ) (o : OperationValue) (rest : List Fact) → filter_map (entry_at (apn (gx id))) (given_by o ++ rest) ≡ cons_option (said (λ q. Text q.fields.apn) id o) (filter_map (entry_at (apn (gx id))) rest)
+apn_said id o rest = elim (text_cmp id o.session) as (λ c. text_cmp id o.session ≡ c → filter_map (entry_at (apn (gx id))) (given_by o ++ rest) ≡ cons_option (said_if c (o.tag, Text o.fields.apn)) (filter_map (entry_at (apn (gx id))) rest)) [
+  | Less ↦ λ e. elim o.fields.subscribers as (λ (s : List Subscriber). filter_map (entry_at (apn (gx id))) (ccr_fields (record (initial_request o) { subscribers = s }) o.tag ++ rest) ≡ filter_map (entry_at (apn (gx id))) rest) [
+    | [] ↦ rw e refl
+    | x ∷ xs ↦ rw e refl
+  ]
+  | Equal ↦ λ e. elim o.fields.subscribers as (λ (s : List Subscriber). filter_map (entry_at (apn (gx id))) (ccr_fields (record (initial_request o) { subscribers = s }) o.tag ++ rest) ≡ (o.tag, Text o.fields.apn) ∷ filter_map (entry_at (apn (gx id))) rest) [
+    | [] ↦ rw e refl
+    | x ∷ xs ↦ rw e refl
+  ]
+  | Greater ↦ λ e. elim o.fields.subscribers as (λ (s : List Subscriber). filter_map (entry_at (apn (gx id))) (ccr_fields (record (initial_request o) { subscribers = s }) o.tag ++ rest) ≡ filter_map (entry_at (apn (gx id))) rest) [
+    | [] ↦ rw e refl
+    | x ∷ xs ↦ rw e refl
+  ]
+] refl
+
+last_said : (id : List ℕ) (o : OperationValue) (rest : List Fact) → filter_map (entry_at (last (gx id))) (given_by o ++ rest) ≡ cons_option (said (λ q. Number 1) id o) (filter_map (entry_at (last (gx id))) rest)
+last_said id o rest = elim (text_cmp id o.session) as (λ c. text_cmp id o.session ≡ c → filter_map (entry_at (last (gx id))) (given_by o ++ rest) ≡ cons_option (said_if c (o.tag, Number 1)) (filter_map (entry_at (last (gx id))) rest)) [
+  | Less ↦ λ e. elim o.fields.subscribers as (λ (s : List Subscriber). filter_map (entry_at (last (gx id))) (ccr_fields (record (initial_request o) { subscribers = s }) o.tag ++ rest) ≡ filter_map (entry_at (last (gx id))) rest) [
+    | [] ↦ rw e refl
+    | x ∷ xs ↦ rw e refl
+  ]
+  | Equal ↦ λ e. elim o.fields.subscribers as (λ (s : List Subscriber). filter_map (entry_at (last (gx id))) (ccr_fields (record (initial_request o) { subscribers = s }) o.tag ++ rest) ≡ (o.tag, Number 1) ∷ filter_map (entry_at (last (gx id))) rest) [
+    | [] ↦ rw e refl
+    | x ∷ xs ↦ rw e refl
+  ]
+  | Greater ↦ λ e. elim o.fields.subscribers as (λ (s : List Subscriber). filter_map (entry_at (last (gx id))) (ccr_fields (record (initial_request o) { subscribers = s }) o.tag ++ rest) ≡ filter_map (entry_at (last (gx id))) rest) [
+    | [] ↦ rw e refl
+    | x ∷ xs ↦ rw e refl
+  ]
+] refl
+
+module _ (p : Path) (id : List ℕ) (what : OperationValue → Value) (one : (o : OperationValue) (rest : List Fact) → filter_map (entry_at p) (given_by o ++ rest) ≡ cons_option (said what id o) (filter_map (entry_at p) rest)) where
+  -- what all say
+  entries : (os : List OperationValue) → filter_map (entry_at p) (facts_of os) ≡ filter_map (said what id) os
+  entries [] = refl
+  entries (o ∷ os) = one o (facts_of os) ∙ ap (cons_option (said what id o)) (entries os)
+
+-- ---- what a register holds of what was said
+abbrev pub told : {T : Type 0} → (T → T → Ordering) → (OperationValue → T) → List ℕ → List OperationValue → Option (Tag × T)
+told R what id os = greatest (by_tag R) (filter_map (said what id) os)
+
+module _ {T : Type 0} (R : T → T → Ordering) (what : OperationValue → T) (id : List ℕ) where
+  -- one operation more
+  told-push : (os : List OperationValue) (o : OperationValue) → told R what id (os ++ o ∷ []) ≡ told_joined R (told R what id os) (said what id o)
+  told-push os o = ap (greatest (by_tag R)) (filter_map-append (said what id) os (o ∷ [])) ∙ more (said what id o)
+    where
+      more : (s : Option (Tag × T)) → greatest (by_tag R) (filter_map (said what id) os ++ cons_option s []) ≡ told_joined R (told R what id os) s
+      more None = ap (greatest (by_tag R)) (append-nil (filter_map (said what id) os)) ∙ sym (joined_none R (told R what id os))
+      more (Some e) = greatest-push R (filter_map (said what id) os) e
+
+  module _ (g : T → Value) (keeps : (x y : T) → value_cmp (g x) (g y) ≡ R x y) where
+    -- what was said, as a value
+    abbrev as_entry : Tag × T → Entry
+    as_entry e = (e.0, g e.1)
+
+    said_entries : (os : List OperationValue) → filter_map (said (λ q. g (what q)) id) os ≡ map as_entry (filter_map (said what id) os)
+    said_entries [] = refl
+    said_entries (o ∷ os) =
+        let rest = said_entries os in
+        elim (text_cmp id o.session) as (λ c. cons_option (said_if c (o.tag, g (what o))) (filter_map (said (λ q. g (what q)) id) os) ≡ map as_entry (cons_option (said_if c (o.tag, what o)) (filter_map (said what id) os))) [
+          | Less ↦ rest
+          | Equal ↦ ap (λ (es : List Entry). (o.tag, g (what o)) ∷ es) rest
+          | Greater ↦ rest
+        ]
+
+    -- the greatest of what was said is what the register holds
+    greatest_told : (os : List OperationValue) → greatest entry_cmp (filter_map (said (λ q. g (what q)) id) os) ≡ option_map as_entry (told R what id os)
+    greatest_told os =
+        ap (greatest entry_cmp) (said_entries os)
+        ∙ greatest-map (by_tag R) entry_cmp as_entry (λ x y. ap (ordering_then (tag_cmp x.0 y.0)) (keeps x.1 y.1)) (filter_map (said what id) os)
+
+-- ---- what is shown
+-- nothing is gone
+not_gone : (os : List OperationValue) (p : Path) → shown (facts_of os) p ≡ value_at (facts_of os) p
+not_gone os p = ap (λ (b : Bool). cond b None (value_at (facts_of os) p)) (none_gone (facts_of os) p (all_fields os))
+
+abbrev address_told : List ℕ → List OperationValue → Option (Tag × Ipv4Addr)
+address_told = told address_cmp (λ o. o.fields.address)
+
+abbrev apn_told : List ℕ → List OperationValue → Option (Tag × List ℕ)
+apn_told = told text_cmp (λ o. o.fields.apn)
+
+abbrev last_told : List ℕ → List OperationValue → Option (Tag × ℕ)
+last_told = told nat_cmp (λ o. 1)
+
+-- a session as operations tell of it
+abbrev pub told_of : List ℕ → List OperationValue → GxSession
+told_of id os = record { session = id; address = address_told id os; apn = apn_told id os; last = last_told id os }
+
+address_shown : (id : List ℕ) (os : List OperationValue) → shown (facts_of os) (address (gx id)) ≡ option_map (λ (e : Tag × Ipv4Addr). (e.0, Address (ipv4_octets e.1))) (address_told id os)
+address_shown id os =
+    not_gone os (address (gx id))
+    ∙ ap (greatest entry_cmp) (entries (address (gx id)) id (λ o. Address (ipv4_octets o.fields.address)) (address_said id) os)
+    ∙ greatest_told address_cmp (λ o. o.fields.address) id (λ a. Address (ipv4_octets a)) (λ x y. refl) os
+
+apn_shown : (id : List ℕ) (os : List OperationValue) → shown (facts_of os) (apn (gx id)) ≡ option_map (λ (e : Tag × List ℕ). (e.0, Text e.1)) (apn_told id os)
+apn_shown id os =
+    not_gone os (apn (gx id))
+    ∙ ap (greatest entry_cmp) (entries (apn (gx id)) id (λ o. Text o.fields.apn) (apn_said id) os)
+    ∙ greatest_told text_cmp (λ o. o.fields.apn) id Text (λ x y. refl) os
+
+last_shown : (id : List ℕ) (os : List OperationValue) → shown (facts_of os) (last (gx id)) ≡ option_map (λ (e : Tag × ℕ). (e.0, Number e.1)) (last_told id os)
+last_shown id os =
+    not_gone os (last (gx id))
+    ∙ ap (greatest entry_cmp) (entries (last (gx id)) id (λ o. Number 1) (last_said id) os)
+    ∙ greatest_told nat_cmp (λ o. 1) id Number (λ x y. refl) os
+
+-- read as an address, as a text, and by its tag
+address_read : (t : Option (Tag × Ipv4Addr)) → option_map (λ (e : Tag × Ipv4Addr). ipv4_octets e.1) t ≡ option_and_then as_address (option_map (λ (e : Entry). e.1) (option_map (λ (e : Tag × Ipv4Addr). (e.0, Address (ipv4_octets e.1))) t))
+address_read None = refl
+address_read (Some e) = refl
+
+apn_read : (t : Option (Tag × List ℕ)) → option_map (λ (e : Tag × List ℕ). e.1) t ≡ option_and_then as_text (option_map (λ (e : Entry). e.1) (option_map (λ (e : Tag × List ℕ). (e.0, Text e.1)) t))
+apn_read None = refl
+apn_read (Some e) = refl
+
+home_read : (t : Option (Tag × ℕ)) → option_map (λ (e : Tag × ℕ). e.0.site) t ≡ option_map (λ (e : Entry). e.0.site) (option_map (λ (e : Tag × ℕ). (e.0, Number e.1)) t)
+home_read None = refl
+home_read (Some e) = refl
+
+-- what the registers hold is what the facts show
+told_shown : (id : List ℕ) (os : List OperationValue) → gx_value (told_of id os) ≡ shown_gx (view (facts_of os)) (gx id)
+unfolding view
+told_shown id os =
+    let a = address_read (address_told id os) ∙ ap (λ (x : Option Entry). option_and_then as_address (option_map (λ (e : Entry). e.1) x)) (sym (address_shown id os)) in
+    let n = apn_read (apn_told id os) ∙ ap (λ (x : Option Entry). option_and_then as_text (option_map (λ (e : Entry). e.1) x)) (sym (apn_shown id os)) in
+    let h = home_read (last_told id os) ∙ ap (λ (x : Option Entry). option_map (λ (e : Entry). e.0.site) x) (sym (last_shown id os)) in
+    λ i. record { session = id; address = a i; apn = n i; home = h i }
+
+pub told_held : (id : List ℕ) (os : List OperationValue) → gx_value (told_of id os) ≡ shown_gx (view (holding_of (map operation_of os)).facts) (gx id)
+told_held id os = told_shown id os ∙ ap (λ (v : View). shown_gx v (gx id)) (sym (view_held os))
+
+-- one operation more
+abbrev with_said : Ordering → GxSession → OperationValue → GxSession
+with_said c s o = cond (is_eq c) (with_told s o.tag o.fields) s
+
+pub told_of-push : (id : List ℕ) (os : List OperationValue) (o : OperationValue) → told_of id (os ++ o ∷ []) ≡ with_said (text_cmp id o.session) (told_of id os) o
+told_of-push id os o =
+    let a = told-push address_cmp (λ q. q.fields.address) id os o in
+    let n = told-push text_cmp (λ q. q.fields.apn) id os o in
+    let l = told-push nat_cmp (λ q. 1) id os o in
+    (λ i. record { session = id; address = a i; apn = n i; last = l i }) ∙ elim (text_cmp id o.session) as (λ c. joined c ≡ with_said c (told_of id os) o) [
+      | Less ↦ nothing
+      | Equal ↦ refl
+      | Greater ↦ nothing
+    ]
+  where
+    joined : Ordering → GxSession
+    joined c = record {
+      session = id;
+      address = told_joined address_cmp (address_told id os) (said_if c (o.tag, o.fields.address));
+      apn = told_joined text_cmp (apn_told id os) (said_if c (o.tag, o.fields.apn));
+      last = told_joined nat_cmp (last_told id os) (said_if c (o.tag, 1));
+    }
+
+    nothing : joined Less ≡ told_of id os
+    nothing = λ i. record {
+      session = id;
+      address = joined_none address_cmp (address_told id os) i;
+      apn = joined_none text_cmp (apn_told id os) i;
+      last = joined_none nat_cmp (last_told id os) i;
+    }
+
+-- ---- which sessions are shown
+abbrev pub named : List OperationValue → List (List ℕ)
+named os = map (λ (o : OperationValue). o.session) os
+
+-- a member more on both sides
+once : (x : Session) (xs ys : List Session) → Same xs ys → Same (x ∷ xs) (x ∷ ys)
+once x xs ys s z = (elim [ inl q ↦ inl q | inr i ↦ inr ((s z).0 i) ], elim [ inl q ↦ inl q | inr i ↦ inr ((s z).1 i) ])
+
+-- the same member again
+again : (x : Session) (xs ys : List Session) → Same xs (x ∷ ys) → Same (x ∷ xs) (x ∷ ys)
+again x xs ys s z = (elim [ inl q ↦ inl q | inr i ↦ (s z).0 i ], λ j. inr ((s z).1 j))
+
+-- five times the same
+five_times : (x : Session) (xs ys : List Session) → Same xs ys → Same (x ∷ x ∷ x ∷ x ∷ x ∷ xs) (x ∷ ys)
+five_times x xs ys s = again x (x ∷ x ∷ x ∷ x ∷ xs) ys (again x (x ∷ x ∷ x ∷ xs) ys (again x (x ∷ x ∷ xs) ys (again x (x ∷ xs) ys (once x xs ys s))))
+
+-- the sessions of the facts are those of the operations
+sessions_Same : (os : List OperationValue) → Same (map session_of (facts_of os)) (map (λ (o : OperationValue). gx o.session) os)
+sessions_Same [] = Same-itself {A = Session} []
+sessions_Same (o ∷ os) =
+    let x : Session = gx o.session in
+    let xs : List Session = map session_of (facts_of os) in
+    let ys : List Session = map (λ (q : OperationValue). gx q.session) os in
+    let five = five_times x xs ys (sessions_Same os) in
+    elim o.fields.subscribers as (λ (s : List Subscriber). Same (map session_of (ccr_fields (record (initial_request o) { subscribers = s }) o.tag ++ facts_of os)) (x ∷ ys)) [
+      | [] ↦ five
+      | y ∷ rest ↦ again x (x ∷ x ∷ x ∷ x ∷ x ∷ xs) ys five
+    ]
+
+-- Session-Ids in order are their sessions in order
+place_gx : (id : List ℕ) (ids : List (List ℕ)) → place session_cmp (gx id) (map gx ids) ≡ map gx (place text_cmp id ids)
+place_gx id [] = refl
+place_gx id (y ∷ ys) =
+    let rest = place_gx id ys in
+    elim (text_cmp id y) as (λ c. by_order c (gx id ∷ gx y ∷ map gx ys) (gx y ∷ map gx ys) (gx y ∷ place session_cmp (gx id) (map gx ys)) ≡ map gx (by_order c (id ∷ y ∷ ys) (y ∷ ys) (y ∷ place text_cmp id ys))) [
+      | Less ↦ refl
+      | Equal ↦ refl
+      | Greater ↦ ap (λ (l : List Session). gx y ∷ l) rest
+    ]
+
+ascending_gx : (os : List OperationValue) → ascending session_cmp (map (λ (o : OperationValue). gx o.session) os) ≡ map gx (ascending text_cmp (named os))
+ascending_gx [] = refl
+ascending_gx (o ∷ os) = ap (place session_cmp (gx o.session)) (ascending_gx os) ∙ place_gx o.session (ascending text_cmp (named os))
+
+sessions_named : (os : List OperationValue) → (view (facts_of os)).sessions ≡ map gx (ascending text_cmp (named os))
+unfolding view
+sessions_named os = ascending-Same session_cmp session_ranked (map session_of (facts_of os)) (map (λ (o : OperationValue). gx o.session) os) (sessions_Same os) ∙ ascending_gx os
+
+-- map after map
+map_gx : (v : View) (ids : List (List ℕ)) → map (λ (id : List ℕ). shown_gx v (gx id)) ids ≡ map (shown_gx v) (map gx ids)
+map_gx v [] = refl
+map_gx v (x ∷ xs) = ap (λ (l : List GxShown). shown_gx v (gx x) ∷ l) (map_gx v xs)
+
+-- all that operations show
+pub all_shown : (os : List OperationValue) → map (λ (id : List ℕ). shown_gx (view (holding_of (map operation_of os)).facts) (gx id)) (ascending text_cmp (named os)) ≡ shown_sessions (holding_of (map operation_of os))
+all_shown os =
+    let v : View = view (holding_of (map operation_of os)).facts in
+    let ids : v.sessions ≡ map gx (ascending text_cmp (named os)) = ap (λ (w : View). w.sessions) (view_held os) ∙ sessions_named os in
+    map_gx v (ascending text_cmp (named os)) ∙ ap (map (shown_gx v)) (sym ids)

@@ -1,0 +1,22 @@
+use Rattle.std.proofs.Common.{◌≡◌, ℕ, List, map, IfOk, ap, subst, sym, ◌∙◌, rules}
+use Rattle.lattice_core.specs.Orders.{text_cmp}
+use Rattle.lattice_core.specs.Ascending.{ascending}
+use Rattle.pcrf_model.specs.Sessions.{gx}
+use Rattle.pcrf_model.specs.Operations.{Operation, holding_of}
+use Rattle.pcrf_model.specs.Views.{View, view}
+use Rattle.pcrf_world.specs.GxSessions.{gx_value}
+use Rattle.pcrf_world.specs.Operations.{operation_of}
+use Rattle.pcrf_world.specs.Shown.{GxShown, shown_gx, shown_sessions}
+use Rattle.pcrf_world.specs.Sites.{SiteValue, site_holding}
+use Rattle.pcrf_world.proofs.ShownSessions.{named, all_shown}
+use Rattle.pcrf_world.proofs.site.PlainSite.gx.Goals as goal
+
+pub returns : goal.returns
+returns c =
+    let operations = c.as_slice-taken.result.now in
+    let v : View = view (holding_of (map operation_of operations)).facts in
+    let ids : c.as_slice.result.now ≡ ascending text_cmp (named operations) = c.as_slice.ensures.value ∙ c.in_ok-named.ensures in
+    let taken : map operation_of operations ≡ c.args.self.now.taken =
+    ap (map operation_of) c.as_slice-taken.ensures.value ∙ ap (λ (s : SiteValue). s.taken) c.self.view_is in
+    let all = ap (map (λ (id : List ℕ). shown_gx v (gx id))) ids ∙ all_shown operations ∙ ap (λ (os : List Operation). shown_sessions (holding_of os)) taken in
+    subst (λ (l : List GxShown). IfOk c.sessions_of.result (λ sessions. map gx_value sessions.items ≡ l)) all c.sessions_of.ensures

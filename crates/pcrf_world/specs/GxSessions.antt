@@ -1,0 +1,38 @@
+-- Sessions as registers hold them.
+use Rattle.std.specs.Prelude.{ℕ, List, Option, None, Some}
+use Rattle.std.proofs.Common.{Ordering, option_map}
+use Rattle.std.specs.Ordering.{nat_cmp}
+use Rattle.std.specs.Net.Addr.{ipv4_octets}
+use Rattle.std.specs.Cmp.Lexicographic.{slice_cmp}
+use Rattle.std.specs.declared.net.ipv4_addr.Ipv4Addr.{Ipv4Addr}
+use Rattle.lattice_core.specs.Orders.{text_cmp}
+use Rattle.lattice_core.specs.Told.{told_joined}
+use Rattle.lattice_core.specs.declared.tag.Tag.{Tag}
+use Rattle.pcrf_world.specs.declared.operation.GxFields.{GxFields}
+use Rattle.pcrf_world.specs.declared.shown.GxSession.{GxSession}
+use Rattle.pcrf_world.specs.Shown.{GxShown}
+
+-- what a session shows
+abbrev pub gx_value : GxSession → GxShown
+gx_value s = record {
+  session = s.session;
+  address = option_map (λ (e : Tag × Ipv4Addr). ipv4_octets e.1) s.address;
+  apn = option_map (λ (e : Tag × List ℕ). e.1) s.apn;
+  home = option_map (λ (e : Tag × ℕ). e.0.site) s.last;
+}
+
+-- a session of which nothing was told
+abbrev pub untold : List ℕ → GxSession
+untold id = record { session = id; address = None; apn = None; last = None }
+
+-- addresses by their octets
+abbrev pub address_cmp : Ipv4Addr → Ipv4Addr → Ordering
+address_cmp a b = slice_cmp nat_cmp (ipv4_octets a) (ipv4_octets b)
+
+-- with what an initial request told of it
+abbrev pub with_told : GxSession → Tag → GxFields → GxSession
+with_told s t f = record s {
+  address = told_joined address_cmp s.address (Some (t, f.address));
+  apn = told_joined text_cmp s.apn (Some (t, f.apn));
+  last = told_joined nat_cmp s.last (Some (t, 1));
+}

@@ -1,0 +1,126 @@
+//! The gateways' sessions as a site shows them.
+ghost use Rattle.std.specs.Prelude.{◌≡◌, ℕ, List, map, IfOk, OnOk};
+ghost use Rattle.std.proofs.Common.{option_map};
+ghost use Rattle.std.specs.Option.{option_copied};
+ghost use Rattle.std.specs.Net.Addr.{ipv4_octets};
+ghost use Rattle.lattice_core.specs.Ascending.{ascending};
+ghost use Rattle.lattice_core.specs.Orders.{text_cmp};
+ghost use Rattle.pcrf_model.specs.Sessions.{gx};
+ghost use Rattle.pcrf_model.specs.Operations.{holding_of};
+ghost use Rattle.pcrf_model.specs.Views.{view};
+ghost use Rattle.pcrf_world.specs.GxSessions.{gx_value, untold, with_told};
+ghost use Rattle.pcrf_world.specs.Operations.{OperationValue, operation_of};
+ghost use Rattle.pcrf_world.specs.Shown.{shown_gx};
+
+use crate::operation::{GxFields, Operation};
+use lattice_core::{Apn, Ranked, Reg, SessionId, Tag, ascending_of};
+use std::alloc::{AllocError, Global};
+use std::net::Ipv4Addr;
+
+/// The CC-Request-Type of an initial request (RFC 8506, 8.3).
+const INITIAL: u32 = 1;
+
+/// A gateway's session as a site shows it.
+#[derive(Drop)]
+pub struct GxSession {
+    session: SessionId,
+    address: Reg<Ipv4Addr>,
+    apn: Reg<Apn>,
+    last: Reg<u32>,
+}
+
+impl GxSession {
+    /// The session.
+    pub fn session(&self) -> &SessionId
+        ensures { result.now ≡ (gx_value self.now).session }
+    {
+        &self.session
+    }
+
+    /// The address that it shows.
+    pub fn address(&self) -> Option<Ipv4Addr>
+        ensures { option_map ipv4_octets result ≡ (gx_value self.now).address }
+    {
+        Some(self.address.get()?.1)
+    }
+
+    /// The access point name that it shows.
+    pub fn apn(&self) -> Option<&Apn>
+        ensures { option_copied result ≡ (gx_value self.now).apn }
+    {
+        Some(&self.apn.get()?.1)
+    }
+
+    /// The site that served its last request.
+    pub fn home(&self) -> Option<u8>
+        ensures { result ≡ (gx_value self.now).home }
+    {
+        Some(self.last.get()?.0.site)
+    }
+
+    /// A session of which nothing was told.
+    fn start(session: SessionId) -> GxSession
+        ensures { result ≡ untold session }
+    {
+        GxSession {
+            session,
+            address: Reg::start(),
+            apn: Reg::start(),
+            last: Reg::start(),
+        }
+    }
+
+    /// Takes what an initial request told of the session.
+    fn tell(&mut self, tag: Tag, fields: &GxFields) -> Result<(), AllocError>
+        ensures { OnOk result (self.new ≡ with_told self.old tag fields.now) }
+    {
+        let apn = fields.apn.try_copy()?;
+        self.address.put(tag, fields.address);
+        self.apn.put(tag, apn);
+        self.last.put(tag, INITIAL);
+        Ok(())
+    }
+}
+
+/// The Session-Ids of operations, ascending.
+pub(crate) fn named_in(
+    alloc: Global,
+    operations: &[Operation],
+) -> Result<Vec<SessionId>, AllocError>
+    ensures { IfOk result (λ named. named.items ≡ ascending text_cmp (map (λ (o : OperationValue). o.session) operations.now)) }
+{
+    let mut named = Vec::new(alloc);
+    for operation in operations {
+        named.push(operation.session().try_copy()?)?;
+    }
+    ascending_of(alloc, named)
+}
+
+/// The sessions with these Session-Ids, as operations show them.
+pub(crate) fn sessions_of(
+    alloc: Global,
+    named: &[SessionId],
+    operations: &[Operation],
+) -> Result<Vec<GxSession>, AllocError>
+    ensures { IfOk result (λ sessions. map gx_value sessions.items
+        ≡ map (λ (id : List ℕ). shown_gx (view (holding_of (map operation_of operations.now)).facts) (gx id)) named.now) }
+{
+    let mut sessions = Vec::new(alloc);
+    for session in named {
+        sessions.push(session_of(session.try_copy()?, operations)?)?;
+    }
+    Ok(sessions)
+}
+
+/// The session with this Session-Id, as operations show it.
+fn session_of(session: SessionId, operations: &[Operation]) -> Result<GxSession, AllocError>
+    ensures { IfOk result (λ shown. gx_value shown ≡ shown_gx (view (holding_of (map operation_of operations.now)).facts) (gx session)) }
+{
+    let mut shown = GxSession::start(session);
+    for operation in operations {
+        if shown.session == *operation.session() {
+            shown.tell(operation.tag(), operation.fields())?;
+        }
+    }
+    Ok(shown)
+}
