@@ -1,9 +1,10 @@
-//! Messages as bytes (RFC 6733, sections 3 and 4).
+//! Messages and groups as bytes (RFC 6733, sections 3 and 4).
 
 ghost use Rattle.std.specs.Prelude.{◌≡◌, ◌+◌, ◌≤◌, ◌<◌, ◌^◌, ◌++◌, ◌&&◌, ◌↔◌, false, length, IfOk, IfSome, OnOk, MatchOption, IsErrOf, Ok};
+ghost use Rattle.std.specs.List.{flat_map, sum_by, AllByRecursion};
 ghost use Rattle.dia_codec.specs.Fields.{MessageValue, padding};
 ghost use Rattle.dia_codec.specs.Reading.{message_of};
-ghost use Rattle.dia_codec.specs.Spelling.{avp_view, message_view, SpellsMessage};
+ghost use Rattle.dia_codec.specs.Spelling.{avp_view, avp_views, message_view, SpellsMessage};
 ghost use Rattle.dia_codec.specs.Written.{bit_if, flag_byte, avp_flag_byte, vendor_bytes, word_bytes, three_bytes};
 ghost use Rattle.dia_codec.specs.Written.{own_len, padded_len, written_len, written_own, written_avp, written_header, written};
 ghost use Rattle.dia_codec.specs.Written.{Fits, FitsAvp, FitsNumbers};
@@ -31,7 +32,7 @@ fn flag_byte(flags: Flags) -> u8
 }
 
 /// How many bytes an AVP has without its padding, as its length field says.
-pub(crate) fn own_len(avp: &Avp) -> usize
+fn own_len(avp: &Avp) -> usize
     requires { length avp.now.value.items ≤ 65532 }
     ensures { result ≡ own_len (avp_view avp.now) }
 {
@@ -39,13 +40,12 @@ pub(crate) fn own_len(avp: &Avp) -> usize
     head + avp.value.len()
 }
 
-/// How many bytes the message has, None above the most.
-fn written_len(message: &Message) -> Option<usize>
-    ensures { MatchOption result (65532 < written_len (message_view message.now))
-        (λ n. (n ≡ written_len (message_view message.now)) × (n ≤ 65532)) }
+/// How many bytes the AVPs have with their padding, None above the most that a message may have.
+fn avps_len(avps: &[Avp]) -> Option<usize>
+    ensures { MatchOption result (65532 < sum_by padded_len (avp_views avps.now)) (λ n. (n ≡ sum_by padded_len (avp_views avps.now)) × (n ≤ 65532)) }
 {
-    let mut length = HEADER_BYTES;
-    for avp in &message.avps {
+    let mut length = 0;
+    for avp in avps {
         if avp.value.len() > MOST_BYTES {
             return None;
         }
@@ -56,6 +56,15 @@ fn written_len(message: &Message) -> Option<usize>
         }
     }
     Some(length)
+}
+
+/// How many bytes the message has, None above the most.
+fn written_len(message: &Message) -> Option<usize>
+    ensures { MatchOption result (65532 < written_len (message_view message.now))
+        (λ n. (n ≡ written_len (message_view message.now)) × (n ≤ 65532)) }
+{
+    let length = HEADER_BYTES + avps_len(&message.avps)?;
+    (length <= MOST_BYTES).then_some(length)
 }
 
 /// Adds the last three bytes of a number, big-endian.
@@ -110,7 +119,7 @@ fn avp_flag_byte(avp: &Avp) -> u8
 }
 
 /// Adds an AVP and its padding.
-pub(crate) fn put_avp(out: &mut Vec<u8>, avp: &Avp) -> Result<(), AllocError>
+fn put_avp(out: &mut Vec<u8>, avp: &Avp) -> Result<(), AllocError>
     requires { length avp.now.value.items ≤ 65532 }
     ensures written { OnOk result (out.new.items ≡ out.old.items ++ written_avp (avp_view avp.now)) }
     ensures fits { OnOk result (FitsAvp (avp_view avp.now)) }
@@ -123,6 +132,31 @@ pub(crate) fn put_avp(out: &mut Vec<u8>, avp: &Avp) -> Result<(), AllocError>
     out.extend_from_slice(&avp.value)?;
     out.extend_from_slice(&[0; 4][..padding(length)])?;
     Ok(())
+}
+
+/// Adds the AVPs, each with its padding.
+fn put_avps(out: &mut Vec<u8>, avps: &[Avp]) -> Result<(), AllocError>
+    requires { sum_by padded_len (avp_views avps.now) ≤ 65532 }
+    ensures written { OnOk result (out.new.items ≡ out.old.items ++ flat_map written_avp (avp_views avps.now)) }
+    ensures fits { OnOk result (AllByRecursion FitsAvp (avp_views avps.now)) }
+{
+    for avp in avps {
+        put_avp(out, avp)?;
+    }
+    Ok(())
+}
+
+/// The value of a group of these AVPs, each with its padding. What is longer than the longest message is refused.
+pub fn write_group(alloc: Global, avps: &[Avp]) -> Result<Vec<u8>, WriteFault>
+    ensures written { IfOk result (λ v. v.items ≡ flat_map written_avp (avp_views avps.now)) }
+    ensures too_long { IsErrOf result WriteFault.TooLong ↔ (65532 < sum_by padded_len (avp_views avps.now)) }
+{
+    let Some(length) = avps_len(avps) else {
+        return Err(WriteFault::TooLong);
+    };
+    let mut value = Vec::with_capacity(alloc, length)?;
+    put_avps(&mut value, avps)?;
+    Ok(value)
 }
 
 /// The written spelling of a message: with all padding, and with zeros where its bits and bytes are free.
@@ -144,9 +178,7 @@ pub fn write_message(alloc: Global, message: &Message) -> Result<Vec<u8>, WriteF
     };
     let mut out = Vec::with_capacity(alloc, length)?;
     put_header(&mut out, length as u32, &message.header)?;
-    for avp in &message.avps {
-        put_avp(&mut out, avp)?;
-    }
+    put_avps(&mut out, &message.avps)?;
     Ok(out)
 }
 

@@ -1,6 +1,6 @@
 use Rattle.std.proofs.Common.{◌≡◌, ◌<◌, length, get_or, arith, rules}
 use Rattle.dia_codec.proofs.Lengths.{so_far_le}
-use Rattle.dia_codec.proofs.group.avps_len.Goals as goal
+use Rattle.dia_codec.proofs.writing.avps_len.Goals as goal
 
 pub returns-then-len-gt-MOST_BYTES : goal.returns-then-len-gt-MOST_BYTES
 returns-then-len-gt-MOST_BYTES c =
