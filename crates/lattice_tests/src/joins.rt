@@ -56,7 +56,8 @@ fn equal_tags_are_decided_by_value_on_either_side(rt: HostRuntime) {
 }
 
 // With memory the join has the fields of both; where an allocation is refused, as `rt try --test --fail-alloc N` does,
-// both operands come back as they were.
+// both operands come back as they were. The gate runs the tests with memory, and the program `refused_memory` with each
+// allocation of such calls refused.
 #[test]
 fn a_refused_join_gives_both_operands_back(rt: HostRuntime) {
     let alloc = rt.alloc();
