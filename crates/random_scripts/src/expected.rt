@@ -1,0 +1,183 @@
+//! What a script has to print, by the model, and a count of what happened.
+use crate::events::{Event, Request, Script, put_hexadecimal};
+use crate::messages::answer_bytes;
+use crate::model::{Missing, Reply, Site, Tag, World};
+use std::alloc::{AllocError, Global};
+use std::fmt::Write as _;
+
+/// How often things happened in scripts.
+#[derive(Clone, Copy, Debug, PartialEq, Eq, Default)]
+pub struct Counts {
+    /// Requests that were accepted.
+    pub granted: u64,
+    /// Initial requests that lack a part.
+    pub lacking: u64,
+    /// Updates and terminations.
+    pub not_served: u64,
+    /// Letters made.
+    pub letters: u64,
+    /// Letters taken that brought an operation that was new there.
+    pub news: u64,
+    /// Letters taken that brought nothing new.
+    pub repeats: u64,
+    /// Events that named a site that is not there.
+    pub no_site: u64,
+    /// Events that named a letter that is not there.
+    pub no_letter: u64,
+    /// Sessions shown.
+    pub shown: u64,
+    /// Sessions shown whose greatest number is not that of the greatest counter.
+    pub by_number: u64,
+    /// Sessions shown where two operations have the greatest number and counter, so that their sites decide.
+    pub by_site: u64,
+}
+
+/// Counts one more.
+fn count(number: &mut u64) {
+    *number = number.saturating_add(1);
+}
+
+/// What a script has to print.
+pub fn expected(alloc: Global, script: &Script, counts: &mut Counts) -> Result<String, AllocError> {
+    let sites = script.sites;
+    let mut world = World::start(alloc, sites)?;
+    let mut text = format!(in alloc; "sites {sites}\n")?;
+    for event in &script.events {
+        put_event(alloc, &mut text, &mut world, event, counts)?;
+    }
+    Ok(text)
+}
+
+/// Has an event happen, and writes what it has to print.
+fn put_event(
+    alloc: Global,
+    text: &mut String,
+    world: &mut World,
+    event: &Event,
+    counts: &mut Counts,
+) -> Result<(), AllocError> {
+    match event {
+        Event::Send(i, request) => put_answer(alloc, text, world, *i, request, counts),
+        Event::Letter(i, j) => match world.letter(*i, *j)? {
+            Ok(k) => {
+                count(&mut counts.letters);
+                writeln!(text, "letter {k}")
+            }
+            Err(missing) => put_refused(text, missing, counts),
+        },
+        Event::Merge(j, k) => match world.merge(*j, *k)? {
+            Ok(0) => {
+                count(&mut counts.repeats);
+                text.push_str("merged\n")
+            }
+            Ok(_) => {
+                count(&mut counts.news);
+                text.push_str("merged\n")
+            }
+            Err(missing) => put_refused(text, missing, counts),
+        },
+        Event::Show(i) => match world.sites.get(*i) {
+            Some(site) => put_site(alloc, text, site, counts),
+            None => put_refused(text, Missing::Site, counts),
+        },
+    }
+}
+
+/// Writes that a site or a letter is not there.
+fn put_refused(text: &mut String, missing: Missing, counts: &mut Counts) -> Result<(), AllocError> {
+    match missing {
+        Missing::Site => {
+            count(&mut counts.no_site);
+            text.push_str("refused NoSuchSite\n")
+        }
+        Missing::Letter => {
+            count(&mut counts.no_letter);
+            text.push_str("refused NoSuchLetter\n")
+        }
+    }
+}
+
+/// Has a site serve a request, and writes its answer.
+fn put_answer(
+    alloc: Global,
+    text: &mut String,
+    world: &mut World,
+    i: usize,
+    request: &Request,
+    counts: &mut Counts,
+) -> Result<(), AllocError> {
+    let reply = match world.serve(i, request)? {
+        Ok(reply) => reply,
+        Err(missing) => return put_refused(text, missing, counts),
+    };
+    match reply {
+        Reply::Granted => count(&mut counts.granted),
+        Reply::LacksParameters => count(&mut counts.lacking),
+        Reply::NotServed => count(&mut counts.not_served),
+    }
+    let bytes = answer_bytes(alloc, i, request, reply)?;
+    text.push_str("answer ")?;
+    put_hexadecimal(text, bytes.as_slice())?;
+    text.push_str("\n")
+}
+
+/// Writes the clock of a site and its sessions.
+fn put_site(
+    alloc: Global,
+    text: &mut String,
+    site: &Site,
+    counts: &mut Counts,
+) -> Result<(), AllocError> {
+    let clock = site.clock();
+    writeln!(text, "clock {clock}")?;
+    let sessions = site.sessions(alloc)?;
+    for session in &sessions {
+        put_session(text, site, session)?;
+        let tags = site.tags(alloc, session)?;
+        count_deciders(tags.as_slice(), counts);
+    }
+    text.push_str("end\n")
+}
+
+/// Writes the line of a session.
+fn put_session(text: &mut String, site: &Site, session: &[u8]) -> Result<(), AllocError> {
+    let (Some(address), Some(apn), Some(home)) = (
+        site.address(session),
+        site.apn(session),
+        site.home(session),
+    ) else {
+        return Ok(());
+    };
+    let [a, b, c, d] = address;
+    text.push_str("gx ")?;
+    put_text(text, session)?;
+    write!(text, " live {a}.{b}.{c}.{d} ")?;
+    put_text(text, apn)?;
+    writeln!(text, " home {home}")
+}
+
+/// Writes a text: bytes 0x21 to 0x7E but the backslash as they are, each other byte as `\x` and two small digits.
+fn put_text(text: &mut String, bytes: &[u8]) -> Result<(), AllocError> {
+    for byte in bytes {
+        match byte {
+            b'\\' | 0..=0x20 | 0x7f..=0xff => write!(text, "\\x{byte:02x}")?,
+            _ => text.push(char::from(*byte))?,
+        }
+    }
+    Ok(())
+}
+
+/// Counts a session that is shown, and what decides which of its operations shows.
+fn count_deciders(tags: &[Tag], counts: &mut Counts) {
+    let Some(shown) = tags.iter().max() else {
+        return;
+    };
+    count(&mut counts.shown);
+    if tags.iter().any(|tag| tag.counter > shown.counter) {
+        count(&mut counts.by_number);
+    }
+    let equal = |tag: &Tag| tag.number == shown.number && tag.counter == shown.counter;
+    if tags.iter().any(|tag| equal(tag) && tag.site < shown.site) {
+        count(&mut counts.by_site);
+    }
+}

@@ -1,0 +1,162 @@
+//! Scripts drawn from a seed.
+ghost use Rattle.std.specs.Prelude.{◌<◌};
+
+use crate::draws::Draws;
+use crate::events::{Event, Kind, Request, Script};
+use std::alloc::{AllocError, Global};
+
+/// Few sessions, so that requests of several sites and of both kinds meet in them; one is a prefix of another, and one
+/// has a backslash, a space and bytes beyond ASCII.
+const SESSIONS: [&[u8]; 4] = [b"gw;1;10", b"gw;1;1", b"~\xff", b"GW;\\ \x00\x7f"];
+
+/// Two of these are one, since capital letters count as small ones; a third has a byte that is printed as a number.
+const ACCESS_POINTS: [&[u8]; 4] = [b"IMS", b"ims", b"iNternet", b"Z\\\xc0"];
+
+/// Addresses whose order by bytes is not that of their texts.
+const ADDRESSES: [[u8; 4]; 4] = [[10, 0, 0, 1], [10, 0, 0, 2], [9, 255, 0, 1], [200, 1, 1, 1]];
+
+/// What a script is to be like.
+#[derive(Clone, Copy)]
+pub struct Plan {
+    /// It has one of these numbers of sites.
+    pub sites: [usize; 4],
+    /// At the end each site takes a letter of each site.
+    pub exchanges: bool,
+}
+
+/// Which site an event names: mostly one that is there.
+fn site(draws: &mut Draws, sites: usize) -> usize
+    requires { 0 < sites }
+{
+    if draws.once_in(32) {
+        return sites.saturating_add(draws.below(3));
+    }
+    draws.below(sites)
+}
+
+/// Which of so many letters an event names: mostly one that was made, and often the newest.
+fn letter(draws: &mut Draws, letters: usize) -> usize {
+    if letters == 0 || draws.once_in(16) {
+        return letters.saturating_add(draws.below(3));
+    }
+    if draws.once_in(2) {
+        return letters.saturating_sub(1);
+    }
+    draws.below(letters)
+}
+
+/// A request with each part that it may have.
+fn whole_request(draws: &mut Draws) -> Request {
+    Request {
+        proxiable: !draws.once_in(4),
+        retransmitted: draws.once_in(4),
+        hop_id: draws.word(),
+        end_id: draws.word(),
+        session: SESSIONS[draws.below(4)],
+        kind: Kind::Initial,
+        number: draws.below(4) as u32,
+        subscribers: 1 + draws.below(2),
+        address: Some(ADDRESSES[draws.below(4)]),
+        apn: Some(ACCESS_POINTS[draws.below(4)]),
+    }
+}
+
+/// An initial request that lacks one or more of the parts that it must have.
+fn lacking_request(draws: &mut Draws) -> Request {
+    let mut request = whole_request(draws);
+    let lacks = 1 + draws.below(7);
+    if lacks & 1 != 0 {
+        request.address = None;
+    }
+    if lacks & 2 != 0 {
+        request.apn = None;
+    }
+    if lacks & 4 != 0 {
+        request.subscribers = 0;
+    }
+    request
+}
+
+/// An update or a termination.
+fn later_request(draws: &mut Draws) -> Request {
+    let mut request = whole_request(draws);
+    request.kind = if draws.once_in(2) {
+        Kind::Update
+    } else {
+        Kind::Termination
+    };
+    request
+}
+
+/// What happens next, where so many letters were made.
+fn event(draws: &mut Draws, sites: usize, letters: usize) -> Event
+    requires { 0 < sites }
+{
+    let i = site(draws, sites);
+    match draws.below(20) {
+        0..=7 => Event::Send(i, whole_request(draws)),
+        8 => Event::Send(i, lacking_request(draws)),
+        9 => Event::Send(i, later_request(draws)),
+        10..=13 => Event::Letter(i, site(draws, sites)),
+        14..=18 => Event::Merge(i, letter(draws, letters)),
+        _ => Event::Show(i),
+    }
+}
+
+/// Draws what happens, 20 to 60 events: how many letters they make.
+fn put_events(draws: &mut Draws, sites: usize, events: &mut Vec<Event>) -> Result<usize, AllocError>
+    requires { 0 < sites }
+{
+    let mut letters = 0usize;
+    for _ in 0..20 + draws.below(41) {
+        let event = event(draws, sites, letters);
+        if let Event::Letter(i, j) = event
+            && i < sites
+            && j < sites
+        {
+            letters = letters.saturating_add(1);
+        }
+        events.push(event)?;
+    }
+    Ok(letters)
+}
+
+/// A site takes so many letters, from the first one on, in an order of its own.
+fn put_merges(
+    site: usize,
+    count: usize,
+    first: usize,
+    events: &mut Vec<Event>,
+) -> Result<(), AllocError> {
+    for at in 0..count {
+        let turned = site.wrapping_add(at) % count;
+        events.push(Event::Merge(site, first.saturating_add(turned)))?;
+    }
+    Ok(())
+}
+
+/// Each site makes a letter, and each site takes these letters.
+fn put_exchange(sites: usize, letters: usize, events: &mut Vec<Event>) -> Result<(), AllocError> {
+    for i in 0..sites {
+        events.push(Event::Letter(i, 0))?;
+    }
+    for j in 0..sites {
+        put_merges(j, sites, letters, events)?;
+    }
+    Ok(())
+}
+
+/// The script of a seed.
+pub fn script(alloc: Global, seed: u64, plan: Plan) -> Result<Script, AllocError> {
+    let mut draws = Draws::start(seed);
+    let sites = plan.sites[draws.below(4)].max(1);
+    let mut events = Vec::new(alloc);
+    let letters = put_events(&mut draws, sites, &mut events)?;
+    if plan.exchanges {
+        put_exchange(sites, letters, &mut events)?;
+    }
+    for i in 0..sites {
+        events.push(Event::Show(i))?;
+    }
+    Ok(Script { sites, events })
+}
