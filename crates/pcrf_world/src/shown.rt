@@ -13,12 +13,10 @@ ghost use Rattle.pcrf_world.specs.Operations.{OperationValue, operation_of};
 ghost use Rattle.pcrf_world.specs.Shown.{shown_gx};
 
 use crate::operation::{GxFields, Operation};
+use gx_profile::RequestKind;
 use lattice_core::{Apn, Ranked, Reg, SessionId, Tag, ascending_of};
 use std::alloc::{AllocError, Global};
 use std::net::Ipv4Addr;
-
-/// The CC-Request-Type of an initial request (RFC 8506, 8.3).
-const INITIAL: u32 = 1;
 
 /// A gateway's session as a site shows it.
 #[derive(Drop)]
@@ -77,7 +75,7 @@ impl GxSession {
         let apn = fields.apn.try_copy()?;
         self.address.put(tag, fields.address);
         self.apn.put(tag, apn);
-        self.last.put(tag, INITIAL);
+        self.last.put(tag, RequestKind::Initial.number());
         Ok(())
     }
 }
