@@ -5,8 +5,8 @@ use crate::draws::Draws;
 use crate::events::{Event, Kind, Request, Script};
 use std::alloc::{AllocError, Global};
 
-/// Few sessions, so that requests of several sites and of both kinds meet in them; one is a prefix of another, and one
-/// has a backslash, a space and bytes beyond ASCII.
+/// Few sessions, so that requests of several sites meet in them. One is a prefix of another, and two have bytes that
+/// are printed by their numbers.
 const SESSIONS: [&[u8]; 4] = [b"gw;1;10", b"gw;1;1", b"~\xff", b"GW;\\ \x00\x7f"];
 
 /// Two of these are one, since capital letters count as small ones; a third has a byte that is printed as a number.
@@ -135,13 +135,19 @@ fn put_merges(
     Ok(())
 }
 
-/// Each site makes a letter, and each site takes these letters.
-fn put_exchange(sites: usize, letters: usize, events: &mut Vec<Event>) -> Result<(), AllocError> {
+/// Each site makes a letter.
+fn put_letters(sites: usize, events: &mut Vec<Event>) -> Result<(), AllocError> {
     for i in 0..sites {
         events.push(Event::Letter(i, 0))?;
     }
+    Ok(())
+}
+
+/// Each site makes a letter, and each site takes these letters, the first of which has this number.
+fn put_exchange(sites: usize, first: usize, events: &mut Vec<Event>) -> Result<(), AllocError> {
+    put_letters(sites, events)?;
     for j in 0..sites {
-        put_merges(j, sites, letters, events)?;
+        put_merges(j, sites, first, events)?;
     }
     Ok(())
 }

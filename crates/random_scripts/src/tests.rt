@@ -67,10 +67,11 @@ fn run_hundred(rt: &(impl Abort + AllocGlobal), first: u64, plan: Plan) -> Resul
     Ok(counts)
 }
 
-/// A hundred scripts draw 2,000 events or more, so that much less than what is to be expected of 2,000 is asked for:
-/// eight of twenty events are whole requests, one is a request that lacks a part, one is an update or a termination,
-/// four make a letter, five take one, and one shows a site; one of 32 sites is not there, and one of 16 letters. Each site
-/// is shown at the end. That the number or the site of a tag decides has to happen, however rarely.
+/// Asks that much has happened in a hundred scripts. They draw 2,000 events or more, and much less is asked for than is
+/// to be expected of 2,000: of twenty events eight are whole requests, one is a request that lacks a part, one is an
+/// update or a termination, four make a letter, five take one, and one shows a site. One of 32 sites that are named is
+/// not there, and one of 16 letters. Each site is shown at the end. That the number or the site of a tag decides what
+/// shows has to happen, however rarely.
 fn assert_busy(rt: &impl Abort, counts: &Counts) {
     assert!(rt; counts.granted >= 500, "{counts:?}");
     assert!(rt; counts.lacking >= 50, "{counts:?}");
