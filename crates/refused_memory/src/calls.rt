@@ -35,14 +35,40 @@ impl JoinCall {
     }
 }
 
+/// The types that are joined.
+#[derive(Clone, Copy, Debug)]
+pub enum Joined {
+    Register,
+    Fields,
+    Record,
+    Records,
+    Tree,
+}
+
+impl Joined {
+    pub const ALL: [Joined; 5] = [
+        Joined::Register,
+        Joined::Fields,
+        Joined::Record,
+        Joined::Records,
+        Joined::Tree,
+    ];
+
+    fn attempt(self, call: JoinCall, alloc: Global) -> Result<Outcome, AllocError> {
+        match self {
+            Joined::Register => call.attempt::<Reg<Text>>(alloc),
+            Joined::Fields => call.attempt::<Fields>(alloc),
+            Joined::Record => call.attempt::<Record>(alloc),
+            Joined::Records => call.attempt::<Records>(alloc),
+            Joined::Tree => call.attempt::<Tree>(alloc),
+        }
+    }
+}
+
 /// A call, with what it is made of.
 #[derive(Clone, Copy, Debug)]
 pub enum Call {
-    Register(JoinCall),
-    Fields(JoinCall),
-    Record(JoinCall),
-    Records(JoinCall),
-    Tree(JoinCall),
+    Join(JoinCall, Joined),
     RecordsJoinAt(Place),
     TreeJoinAt(Place),
     TreePlaceAt(Place),
@@ -54,11 +80,7 @@ impl Call {
     // The outcome, unless what the call is made of was refused.
     fn attempt(self, alloc: Global) -> Result<Outcome, AllocError> {
         match self {
-            Call::Register(call) => call.attempt::<Reg<Text>>(alloc),
-            Call::Fields(call) => call.attempt::<Fields>(alloc),
-            Call::Record(call) => call.attempt::<Record>(alloc),
-            Call::Records(call) => call.attempt::<Records>(alloc),
-            Call::Tree(call) => call.attempt::<Tree>(alloc),
+            Call::Join(call, joined) => joined.attempt(call, alloc),
             Call::RecordsJoinAt(place) => join_at::<Records>(alloc, place),
             Call::TreeJoinAt(place) => join_at::<Tree>(alloc, place),
             Call::TreePlaceAt(place) => place_at(alloc, place),

@@ -16,7 +16,7 @@ mod value_calls;
 mod values;
 mod whole;
 
-use calls::{Call, JoinCall};
+use calls::{Call, JoinCall, Joined};
 use places::Place;
 use std::alloc::{AllocGlobal, Global};
 use std::io::{self, Print, Read};
@@ -45,13 +45,13 @@ fn spend(alloc: Global, count: u32) {
     }
 }
 
-fn make_joins(rt: &(impl AllocGlobal + Print), tally: &mut Tally) -> io::Result<()> {
+fn make_joins(
+    rt: &(impl AllocGlobal + Print),
+    tally: &mut Tally,
+    joined: Joined,
+) -> io::Result<()> {
     for call in JoinCall::ALL {
-        tally.make(rt, Call::Register(call))?;
-        tally.make(rt, Call::Fields(call))?;
-        tally.make(rt, Call::Record(call))?;
-        tally.make(rt, Call::Records(call))?;
-        tally.make(rt, Call::Tree(call))?;
+        tally.make(rt, Call::Join(call, joined))?;
     }
     Ok(())
 }
@@ -75,7 +75,9 @@ fn make_values(rt: &(impl AllocGlobal + Print), tally: &mut Tally) -> io::Result
 fn run(rt: &(impl AllocGlobal + Print), spent: u32) -> io::Result<()> {
     spend(rt.alloc(), spent);
     let mut tally = Tally::start();
-    make_joins(rt, &mut tally)?;
+    for joined in Joined::ALL {
+        make_joins(rt, &mut tally, joined)?;
+    }
     make_changes(rt, &mut tally)?;
     make_values(rt, &mut tally)?;
     tally.print(rt)

@@ -3,7 +3,7 @@ use crate::outcome::Outcome;
 use crate::records::{RecordMap, Tree, add_at, add_ended};
 use crate::sample::{Record, Sample, text};
 use crate::whole::Whole;
-use lattice_core::{Join, Text};
+use lattice_core::{Join, JoinTree, Text};
 use std::alloc::{AllocError, Global};
 
 /// Where a record goes.
@@ -21,19 +21,19 @@ pub enum Place {
 
 // A name and a record for a map, what the map has to be before and after, and the same name and record once more.
 #[derive(Drop)]
-struct Change<M> {
+struct Change<M, V> {
     map: M,
     before: M,
     after: M,
     name: Text,
-    record: Record,
+    record: V,
     same_name: Text,
-    same_record: Record,
+    same_record: V,
 }
 
-impl<M: RecordMap> Change<M> {
+impl<M: RecordMap> Change<M, Record> {
     // At a name that none of the others have.
-    fn at_new(alloc: Global, others: &[u8]) -> Result<Change<M>, AllocError> {
+    fn at_new(alloc: Global, others: &[u8]) -> Result<Change<M, Record>, AllocError> {
         let mut map = M::empty(alloc);
         add_ended(&mut map, alloc, others)?;
         let mut before = M::empty(alloc);
@@ -53,7 +53,7 @@ impl<M: RecordMap> Change<M> {
     }
 
     // At the name of a record, which becomes another.
-    fn at_present(alloc: Global, after: Record) -> Result<Change<M>, AllocError> {
+    fn at_present(alloc: Global, after: Record) -> Result<Change<M, Record>, AllocError> {
         let mut map = M::empty(alloc);
         add_at(&mut map, alloc, b'b', Record::ours(alloc)?)?;
         add_ended(&mut map, alloc, b"ac")?;
@@ -84,7 +84,11 @@ impl Place {
     ];
 
     // What a record put there has to change, if one that is there becomes another.
-    fn change<M: RecordMap>(self, alloc: Global, after: Record) -> Result<Change<M>, AllocError> {
+    fn change<M: RecordMap>(
+        self,
+        alloc: Global,
+        after: Record,
+    ) -> Result<Change<M, Record>, AllocError> {
         match self {
             Place::Present => Change::at_present(alloc, after),
             Place::First => Change::at_new(alloc, b""),
@@ -120,6 +124,11 @@ pub fn join_at<M: RecordMap>(alloc: Global, place: Place) -> Result<Outcome, All
 
 /// A record put at a name, in the place of one that may be there.
 pub fn place_at(alloc: Global, place: Place) -> Result<Outcome, AllocError> {
+    let change = place.change::<Tree>(alloc, Record::theirs(alloc)?)?;
+    Ok(exchange(change))
+}
+
+fn exchange<V: Whole>(change: Change<JoinTree<Text, V>, V>) -> Outcome {
     let Change {
         mut map,
         before,
@@ -128,25 +137,25 @@ pub fn place_at(alloc: Global, place: Place) -> Result<Outcome, AllocError> {
         record,
         same_name: _,
         same_record,
-    } = place.change::<Tree>(alloc, Record::theirs(alloc)?)?;
+    } = change;
     if let Ok(stood) = map.place_at(&name, Some(record)) {
         let is_right = map.is_same(&after) && stood_before(stood, &before, &name);
-        return Ok(Outcome::at_once(is_right));
+        return Outcome::at_once(is_right);
     }
     if !map.is_same(&before) {
-        return Ok(Outcome::Wrong);
+        return Outcome::Wrong;
     }
     match map.place_at(&name, Some(same_record)) {
         Ok(stood) => {
             let is_right = map.is_same(&after) && stood_before(stood, &before, &name);
-            Ok(Outcome::again(is_right))
+            Outcome::again(is_right)
         }
-        Err(_) => Ok(Outcome::Wrong),
+        Err(_) => Outcome::Wrong,
     }
 }
 
 // Whether this stood at a name.
-fn stood_before(stood: Option<Record>, before: &Tree, name: &Text) -> bool {
+fn stood_before<V: Whole>(stood: Option<V>, before: &JoinTree<Text, V>, name: &Text) -> bool {
     match (stood, before.get(name)) {
         (Some(stood), Some(record)) => stood.is_same(record),
         (None, None) => true,
@@ -156,18 +165,21 @@ fn stood_before(stood: Option<Record>, before: &Tree, name: &Text) -> bool {
 
 /// A record taken out, which needs no memory.
 pub fn take_out(alloc: Global) -> Result<Outcome, AllocError> {
+    let change = Change::<Tree, Record>::at_present(alloc, Record::theirs(alloc)?)?;
+    let mut rest = Tree::empty(alloc);
+    add_ended(&mut rest, alloc, b"ac")?;
+    Ok(removal(change, &rest))
+}
+
+fn removal<V: Whole>(change: Change<JoinTree<Text, V>, V>, rest: &JoinTree<Text, V>) -> Outcome {
     let Change {
         mut map,
         before,
         name,
         ..
-    } = Change::<Tree>::at_present(alloc, Record::theirs(alloc)?)?;
-    let mut rest = Tree::empty(alloc);
-    add_ended(&mut rest, alloc, b"ac")?;
-    match map.place_at(&name, None) {
-        Ok(stood) => Ok(Outcome::at_once(
-            map.is_same(&rest) && stood_before(stood, &before, &name),
-        )),
-        Err(_) => Ok(Outcome::Wrong),
-    }
+    } = change;
+    let Ok(stood) = map.place_at(&name, None) else {
+        return Outcome::Wrong;
+    };
+    Outcome::at_once(map.is_same(rest) && stood_before(stood, &before, &name))
 }
