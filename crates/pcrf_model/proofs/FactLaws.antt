@@ -3,7 +3,8 @@ use Rattle.std.proofs.Common.{◌≡◌, ℕ, zero, suc, ◌<◌, cond, ◌==◌
 use Rattle.std.specs.Ordering.{is_eq}
 use Rattle.std.specs.Cmp.{first_so, second_so, Equal-is, tied_itself}
 use Rattle.lattice_core.specs.Orders.{subscriber_cmp}
-use Rattle.lattice_core.specs.RuleValues.{RuleValue, rule_cmp}
+use Rattle.lattice_core.specs.OrderLaws.{subscriber_total, subscriber_same, rule_total, rule_same}
+use Rattle.lattice_core.specs.RuleValues.{rule_cmp}
 use Rattle.lattice_core.specs.declared.tag.Tag.{Tag}
 use Rattle.lattice_core.specs.Told.{tag_cmp}
 use Rattle.pcrf_model.specs.Sessions.{Kind, Gx, Af, Session, kind_number, session_cmp}
@@ -79,23 +80,11 @@ tag_ranked = on_ranked (λ (t : Tag). (t.number, (t.counter, t.site))) (λ q. re
 
 -- subscribers are ranked
 pub subscriber_ranked : IsRanked subscriber_cmp
-subscriber_ranked = pair_ranked nat_ranked text_ranked
-
--- a rule as its parts
-abbrev RuleKey : Type 0
-RuleKey = List ℕ × (ℕ × (List (List ℕ) × (ℕ × (ℕ × (ℕ × (ℕ × (ℕ × (ℕ × ℕ))))))))
-
--- the parts of a rule, in order
-abbrev rule_key : RuleValue → RuleKey
-rule_key r = (r.name, (r.status, (r.filters, (r.qci, (r.priority, (r.capability, (r.vulnerability, (r.max_ul, (r.max_dl, r.precedence)))))))))
-
--- the rule of those parts
-abbrev rule_back : RuleKey → RuleValue
-rule_back k = record { name = k.0; status = k.1.0; filters = k.1.1.0; qci = k.1.1.1.0; priority = k.1.1.1.1.0; capability = k.1.1.1.1.1.0; vulnerability = k.1.1.1.1.1.1.0; max_ul = k.1.1.1.1.1.1.1.0; max_dl = k.1.1.1.1.1.1.1.1.0; precedence = k.1.1.1.1.1.1.1.1.1 }
+subscriber_ranked = record { total = subscriber_total; same = subscriber_same }
 
 -- rules are ranked
 pub rule_ranked : IsRanked rule_cmp
-rule_ranked = on_ranked rule_key rule_back (λ _. refl) (pair_ranked text_ranked (pair_ranked nat_ranked (pair_ranked (list_ranked text_ranked) (pair_ranked nat_ranked (pair_ranked nat_ranked (pair_ranked nat_ranked (pair_ranked nat_ranked (pair_ranked nat_ranked (pair_ranked nat_ranked nat_ranked)))))))))
+rule_ranked = record { total = rule_total; same = rule_same }
 
 -- the value of those parts
 abbrev value_back : ValueKey → Value
