@@ -1,12 +1,11 @@
 -- Operations of initial requests end no session.
-use Rattle.std.proofs.Common.{◌≡◌, ℕ, Bool, true, false, List, [], ◌∷◌, ◌++◌, map, refl, ap, ◌∙◌, Ordering, Less, Equal, Greater, Option, Some, None}
-use Rattle.std.specs.List.{list_any}
+use Rattle.std.proofs.Common.{◌≡◌, false, List, [], ◌∷◌, ◌++◌, map, refl, ap, ◌∙◌, Ordering, Less, Equal, Greater}
 use Rattle.std.specs.FinMap.Entries.{by_order}
 use Rattle.lattice_core.specs.Ascending.{place, ascending}
 use Rattle.pcrf_model.specs.Sessions.{Session}
 use Rattle.pcrf_model.specs.Paths.{Path, whole}
 use Rattle.pcrf_model.specs.Facts.{Fact, Gone, Field, fact_cmp}
-use Rattle.pcrf_model.specs.Holdings.{blocks, is_gone}
+use Rattle.pcrf_model.specs.Holdings.{is_gone}
 use Rattle.pcrf_model.specs.Values.{Subscriber}
 use Rattle.pcrf_model.specs.Operations.{Operation, holding_of}
 use Rattle.pcrf_model.specs.Views.{view}

@@ -1,8 +1,7 @@
 -- A run, event by event.
-use Rattle.std.proofs.Common.{◌≡◌, ℕ, ◌+◌, List, [], ◌∷◌, ◌++◌, refl}
+use Rattle.std.proofs.Common.{◌≡◌, List, [], ◌∷◌, ◌++◌, refl}
 use Rattle.pcrf_world.specs.declared.world.WorldEvent.{WorldEvent}
 use Rattle.pcrf_world.specs.Worlds.{WorldValue, Agree}
-use Rattle.pcrf_world.specs.Sites.{SiteValue}
 use Rattle.pcrf_world.specs.Steps.{Answer, Gives, GivesAll, stepped, stepped_all}
 use Rattle.pcrf_model.proofs.UnionLaws.{holding_of-Same}
 

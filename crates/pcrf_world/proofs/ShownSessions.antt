@@ -1,5 +1,5 @@
 -- What operations of initial requests show of a gateway's session.
-use Rattle.std.proofs.Common.{◌≡◌, ℕ, inl, inr, Bool, true, false, cond, List, [], ◌∷◌, ◌++◌, map, Option, Some, None, refl, sym, ap, ◌∙◌, option_map, option_and_then, Ordering, Less, Equal, Greater}
+use Rattle.std.proofs.Common.{◌≡◌, ℕ, inl, inr, Bool, cond, List, [], ◌∷◌, ◌++◌, map, Option, Some, None, refl, sym, ap, ◌∙◌, option_map, option_and_then, Ordering, Less, Equal, Greater}
 use Rattle.std.specs.Ordering.{nat_cmp, is_eq, ordering_then}
 use Rattle.std.specs.List.{filter_map, cons_option}
 use Rattle.std.specs.Net.Addr.{ipv4_octets}
@@ -7,30 +7,29 @@ use Rattle.std.specs.declared.net.ipv4_addr.Ipv4Addr.{Ipv4Addr}
 use Rattle.std.specs.FinMap.Entries.{by_order}
 use Rattle.std.proofs.lemmas.List.{append-nil}
 use Rattle.std.proofs.lemmas.List.Elements.{filter_map-append}
-use Rattle.lattice_core.specs.Orders.{pair_cmp, text_cmp}
+use Rattle.lattice_core.specs.Orders.{text_cmp}
 use Rattle.lattice_core.specs.Ascending.{place, ascending}
 use Rattle.lattice_core.specs.Told.{tag_cmp, told_joined}
 use Rattle.lattice_core.specs.declared.tag.Tag.{Tag}
-use Rattle.pcrf_model.specs.Sets.{In, Same, greatest}
+use Rattle.pcrf_model.specs.Sets.{Same, greatest}
 use Rattle.pcrf_model.specs.Sessions.{Session, gx, session_cmp}
-use Rattle.pcrf_model.specs.Paths.{Path, address, apn, last, whole}
+use Rattle.pcrf_model.specs.Paths.{Path, address, apn, last}
 use Rattle.pcrf_model.specs.Values.{Value, Number, Text, Address, Subscriber, Entry, value_cmp, entry_cmp}
-use Rattle.pcrf_model.specs.Facts.{Fact, Gone, Field, fact_cmp, session_of}
-use Rattle.pcrf_model.specs.Holdings.{is_gone, entry_at, value_at, shown}
-use Rattle.pcrf_model.specs.Operations.{Operation, holding_of}
+use Rattle.pcrf_model.specs.Facts.{Fact, fact_cmp, session_of}
+use Rattle.pcrf_model.specs.Holdings.{entry_at, value_at, shown}
+use Rattle.pcrf_model.specs.Operations.{holding_of}
 use Rattle.pcrf_model.specs.Views.{View, view, as_address, as_text}
 use Rattle.pcrf_model.specs.Making.{ccr_fields}
-use Rattle.pcrf_model.proofs.SetLaws.{Same-itself, Same-through, Same-append, Same-turn, Same-back}
+use Rattle.pcrf_model.proofs.SetLaws.{Same-itself, Same-through, Same-append, Same-turn}
 use Rattle.pcrf_model.proofs.FactLaws.{fact_ranked, session_ranked}
 use Rattle.pcrf_model.proofs.AscendingLaws.{ascending-In, ascending-Same}
 use Rattle.pcrf_model.proofs.ViewLaws.{view-Same}
 use Rattle.pcrf_world.proofs.Fields.{AreFieldFacts, AreFieldFacts-append, fields_of_request, none_gone}
 use Rattle.pcrf_world.proofs.Greatest.{by_tag, greatest-map, greatest-push, joined_none}
-use Rattle.pcrf_world.specs.declared.operation.GxFields.{GxFields}
 use Rattle.pcrf_world.specs.declared.shown.GxSession.{GxSession}
 use Rattle.pcrf_world.specs.Operations.{OperationValue, operation_of, initial_request}
 use Rattle.pcrf_world.specs.Shown.{GxShown, shown_gx, shown_sessions}
-use Rattle.pcrf_world.specs.GxSessions.{gx_value, untold, address_cmp, with_told}
+use Rattle.pcrf_world.specs.GxSessions.{gx_value, address_cmp, with_told}
 
 -- ---- the facts of operations, one after another
 abbrev given_by : OperationValue → List Fact

@@ -1,5 +1,5 @@
 -- Sessions as registers hold them.
-use Rattle.std.specs.Prelude.{ℕ, List, Option, None, Some}
+use Rattle.std.specs.Prelude.{ℕ, List, None, Some}
 use Rattle.std.proofs.Common.{Ordering, option_map}
 use Rattle.std.specs.Ordering.{nat_cmp}
 use Rattle.std.specs.Net.Addr.{ipv4_octets}

@@ -4,7 +4,7 @@ use Rattle.std.specs.Net.Addr.{ipv4_octets}
 use Rattle.lattice_core.specs.declared.tag.Tag.{Tag}
 use Rattle.lattice_core.specs.Ascending.{ascending}
 use Rattle.pcrf_model.specs.Sessions.{gx}
-use Rattle.pcrf_model.specs.Facts.{Fact, fact_cmp}
+use Rattle.pcrf_model.specs.Facts.{fact_cmp}
 use Rattle.pcrf_model.specs.Requests.{CcrValue, Initial}
 use Rattle.pcrf_model.specs.Making.{ccr_fields}
 use Rattle.pcrf_model.specs.Refusals.{lacks_parameters}

@@ -1,5 +1,5 @@
 -- What a world answers to an event, and what the event makes of it.
-use Rattle.std.specs.Prelude.{◌≡◌, ℕ, ◌+◌, ◌<◌, List, [], ◌∷◌, ◌++◌, Option, Some, None, Result, Ok, Err, length, take, slice_get, slice_set}
+use Rattle.std.specs.Prelude.{◌≡◌, ℕ, ◌<◌, List, [], ◌∷◌, ◌++◌, Option, Some, None, Result, Ok, Err, length, take, slice_get, slice_set}
 use Rattle.pcrf_model.specs.Operations.{Operation}
 use Rattle.pcrf_world.specs.Sites.{SiteValue, site_holding, reply_of, served, takes}
 use Rattle.pcrf_world.specs.declared.request.Request.{Request}

@@ -1,4 +1,4 @@
-use Rattle.std.proofs.Common.{◌≡◌, ℕ, List, map, IfOk, ap, subst, sym, ◌∙◌, rules}
+use Rattle.std.proofs.Common.{◌≡◌, ℕ, List, map, IfOk, ap, subst, ◌∙◌}
 use Rattle.lattice_core.specs.Orders.{text_cmp}
 use Rattle.lattice_core.specs.Ascending.{ascending}
 use Rattle.pcrf_model.specs.Sessions.{gx}
@@ -7,7 +7,7 @@ use Rattle.pcrf_model.specs.Views.{View, view}
 use Rattle.pcrf_world.specs.GxSessions.{gx_value}
 use Rattle.pcrf_world.specs.Operations.{operation_of}
 use Rattle.pcrf_world.specs.Shown.{GxShown, shown_gx, shown_sessions}
-use Rattle.pcrf_world.specs.Sites.{SiteValue, site_holding}
+use Rattle.pcrf_world.specs.Sites.{SiteValue}
 use Rattle.pcrf_world.proofs.ShownSessions.{named, all_shown}
 use Rattle.pcrf_world.proofs.site.PlainSite.gx.Goals as goal
 

@@ -1,4 +1,4 @@
-use Rattle.std.proofs.Common.{◌≡◌, ◌<◌, ◌++◌, ◌∷◌, [], ◌∙◌, length, map, take, ap, arith, rules, append_assoc, refl}
+use Rattle.std.proofs.Common.{◌≡◌, ◌∷◌, [], ◌∙◌, ap, rules, append_assoc, refl}
 use Rattle.std.proofs.lemmas.List.{take-map}
 use Rattle.pcrf_world.proofs.Lists.{map_push}
 use Rattle.pcrf_world.specs.Operations.{operation_of}

@@ -1,5 +1,5 @@
-use Rattle.std.proofs.Common.{rules, arith, ◌≡◌, ◌+◌, ◌++◌, [], ◌∷◌, take, ◌∙◌, ap, sym}
-use Rattle.std.proofs.lemmas.List.{take_more, take_all}
+use Rattle.std.proofs.Common.{rules, ◌≡◌, ◌+◌, ◌++◌, [], ◌∷◌, take, ◌∙◌, ap, sym}
+use Rattle.std.proofs.lemmas.List.{take_more}
 use Rattle.pcrf_world.specs.Worlds.{WorldValue, start}
 use Rattle.pcrf_world.specs.Steps.{Gives, stepped, stepped_all}
 use Rattle.pcrf_world.proofs.Runs.{gives_push, stepped_push, agree}
