@@ -1,4 +1,7 @@
 //! The lines of a script.
+ghost use Rattle.std.specs.Prelude.{◌≡◌};
+ghost use Rattle.pcrf_world.specs.declared.lines.LineFault.TheVariants as fault;
+
 use std::alloc::{AllocError, AllocFailed, Global};
 
 /// A site or a letter as a script names it: any decimal number. Those that no world has are `usize::MAX`.
@@ -31,12 +34,16 @@ pub(crate) enum LineFault {
 }
 
 impl From<AllocError> for LineFault {
+    ghost from_gives = { λ _ e. e ≡ fault.NoMemory };
+
     fn from(_refused: AllocError) -> LineFault {
         LineFault::NoMemory
     }
 }
 
 impl<T: Drop> From<AllocFailed<T>> for LineFault {
+    ghost from_gives = { λ _ e. e ≡ fault.NoMemory };
+
     fn from(_refused: AllocFailed<T>) -> LineFault {
         LineFault::NoMemory
     }
