@@ -36,10 +36,10 @@ has byte bit = not (bit_and byte bit == 0)
 -- the command flags R, P, E and T
 abbrev pub flags_of : ℕ → Flags
 flags_of byte = record {
-  request = has byte 128;
-  proxiable = has byte 64;
-  error = has byte 32;
-  retransmitted = has byte 16;
+  request = has byte 0x80;
+  proxiable = has byte 0x40;
+  error = has byte 0x20;
+  retransmitted = has byte 0x10;
 }
 
 -- the header of 20 bytes, but for version and length
