@@ -1,7 +1,7 @@
 -- The subscribers that a request names (Subscription-Id, RFC 8506, 8.46 to 8.48).
 use Rattle.std.specs.Prelude.{ℕ, List, [], ◌∷◌, Option, Some, None, unwrap_or, map}
-use Rattle.lattice_core.specs.Ascending.{ascending}
-use Rattle.lattice_core.specs.Orders.{subscriber_cmp}
+use Rattle.ranked.specs.Ascending.{ascending}
+use Rattle.pcrf_values.specs.Subscribers.{subscriber_cmp}
 use Rattle.dia_codec.specs.Fields.{AvpValue}
 use Rattle.dia_codec.specs.Reading.{avps_of}
 use Rattle.dia_base.specs.Rows.{Row, Plain, NumberWithin, TextWithin, base_key, values_of, value_of, number_at}

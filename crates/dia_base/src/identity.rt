@@ -1,5 +1,5 @@
 //! Who answers.
-use lattice_core::DiameterIdentity;
+use pcrf_values::DiameterIdentity;
 use std::net::Ipv4Addr;
 
 /// The Diameter node that a site is: its Origin-Host and Origin-Realm (RFC 6733, 6.3 and 6.4), and its

@@ -3,7 +3,7 @@ ghost use Rattle.std.specs.Prelude.{◌≡◌, ◌<◌, ◌≤◌, ℕ, List, []
 ghost use Rattle.std.specs.Option.{option_to_list};
 ghost use Rattle.std.specs.Net.Addr.{ipv4_octets};
 ghost use Rattle.dia_codec.specs.Spelling.{avp_views};
-ghost use Rattle.lattice_core.specs.Texts.{folded};
+ghost use Rattle.pcrf_values.specs.Texts.{folded};
 ghost use Rattle.dia_base.specs.Rows.{base_key, values_of, value_of, number_at, row_refusal, plain_refusal, Number, NumberWithin, TextWithin, Address, too_often, IsRefusal};
 ghost use Rattle.dia_base.specs.declared.refusal.Refusal.{Refusal};
 
@@ -12,7 +12,7 @@ use crate::codes::results::{
 };
 use crate::refusal::{ReadFault, Refusal};
 use dia_codec::{Avp, AvpKey};
-use lattice_core::{Apn, BoundedText};
+use pcrf_values::{Apn, BoundedText};
 use std::alloc::Global;
 use std::net::Ipv4Addr;
 

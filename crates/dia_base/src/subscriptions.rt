@@ -9,7 +9,7 @@ use crate::codes::results::{AVP_OCCURS_TOO_MANY_TIMES, INVALID_AVP_LENGTH};
 use crate::refusal::{ReadFault, Refusal};
 use crate::rows::{base_key, count_of, required_number_within, required_text};
 use dia_codec::{Avp, MsgFault, read_group};
-use lattice_core::{Subscriber, Subscribers, SubscriptionType};
+use pcrf_values::{Subscriber, Subscribers, SubscriptionType};
 use std::alloc::Global;
 
 /// How many Subscription-Ids a request may have: this project's own limit.

@@ -2,7 +2,7 @@
 use Rattle.std.specs.Prelude.{ℕ, ◌==◌, if◌then◌else◌, List, [], ◌∷◌, Option, unwrap_or, option_map}
 use Rattle.std.specs.Net.Addr.{ipv4_octets}
 use Rattle.dia_codec.specs.Fields.{AvpValue}
-use Rattle.lattice_core.specs.Texts.{folded}
+use Rattle.pcrf_values.specs.Texts.{folded}
 use Rattle.pcrf_model.specs.Requests.{RequestKind as KindValue, Initial as InitialValue, Update as UpdateValue, Termination as TerminationValue, CcrValue}
 use Rattle.dia_base.specs.declared.refusal.Refusal.{Refusal}
 use Rattle.dia_base.specs.Rows.{Row, Plain, Grouped, Single, Group, Number, NumberWithin, TextWithin, Address, base_key, value_of, number_at, plain_refusal, grouped_refusal, rows_refusal}

@@ -13,7 +13,7 @@ use dia_base::{
     required_number_within, required_text,
 };
 use dia_codec::Message;
-use lattice_core::{Apn, DiameterIdentity, SessionId, Subscribers};
+use pcrf_values::{Apn, DiameterIdentity, SessionId, Subscribers};
 use std::alloc::Global;
 use std::net::Ipv4Addr;
 

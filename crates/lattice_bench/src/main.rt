@@ -4,7 +4,8 @@
 //! take. Without an argument it makes a small run and prints nothing.
 #![tactic(auto)]
 
-use lattice_core::{JoinTree, Listed, Reg, Tag, Text};
+use lattice_core::{JoinTree, Reg};
+use ranked::{Listed, Tag, Text};
 use std::alloc::{AllocError, AllocGlobal, Global};
 use std::env;
 use std::io::{self, Print};

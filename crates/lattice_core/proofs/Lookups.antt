@@ -7,7 +7,7 @@ use Rattle.std.specs.Cmp.{IsTotalOrder}
 use Rattle.std.proofs.lemmas.Cmp.{alike_right}
 use Rattle.lattice_core.specs.Entries.{value_at, IsBelow, IsAscending, put, put_all, map_joined}
 use Rattle.lattice_core.specs.Lookups.{joined_onto, option_joined}
-use Rattle.lattice_core.specs.MapLaws.{below_all, rises}
+use Rattle.lattice_core.specs.laws.Maps.{below_all, rises}
 
 -- nothing joined on changes nothing
 joined_nothing : {V : Type 0} (join : V → V → V) (x : Option V) → option_joined join x None ≡ x

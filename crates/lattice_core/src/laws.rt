@@ -9,8 +9,8 @@ ghost use Rattle.lattice_core.specs.Placed.{placed};
 
 use crate::join::Join;
 use crate::map::JoinMap;
-use crate::ranked::Ranked;
 use crate::tree::JoinTree;
+use ranked::Ranked;
 
 /// A value joined in at a key stands there joined onto what stood there, and every other key keeps its value.
 pub fn value_after_join_at<K: Ranked, V: Join>(map: &JoinMap<K, V>, key: &K, value: &V, asked: &K)

@@ -5,7 +5,7 @@ ghost use Rattle.std.specs.Slice.Iter.{iter_rest};
 ghost use Rattle.lattice_core.specs.Entries.{value_at, IsAscending, IsAt, IsGap, AllValues, put, put_all, map_joined};
 
 use crate::join::Join;
-use crate::ranked::Ranked;
+use ranked::Ranked;
 use std::alloc::{AllocError, Global};
 use std::cmp::Ordering;
 use std::marker::Model;
@@ -112,7 +112,7 @@ fn copy_entries<K: Ranked, V: Join>(map: &JoinMap<K, V>) -> Result<JoinMap<K, V>
 }
 
 impl<K: Ranked, V: Join> Join for JoinMap<K, V> {
-    ghost use Rattle.lattice_core.specs.MapLaws.{map_comm, map_assoc, map_idem, map_closed};
+    ghost use Rattle.lattice_core.specs.laws.Maps.{map_comm, map_assoc, map_idem, map_closed};
 
     ghost joined = { map_joined K.cmp V.joined };
 

@@ -1,11 +1,11 @@
 //! Registers, in which the value with the greatest tag stands.
 ghost use Rattle.std.specs.Prelude.{◌≡◌, Option, Some, None};
 ghost use Rattle.std.specs.Option.{option_copied};
-ghost use Rattle.lattice_core.specs.Told.{told_joined, told_comm, told_assoc, told_idem};
+ghost use Rattle.lattice_core.specs.Registers.{reg_joined};
+ghost use Rattle.lattice_core.specs.laws.Registers.{reg_comm, reg_assoc, reg_idem};
 
 use crate::join::Join;
-use crate::ranked::Ranked;
-use crate::tag::Tag;
+use ranked::{Ranked, Tag};
 use std::alloc::AllocError;
 use std::cmp::Ordering;
 use std::marker::Model;
@@ -18,7 +18,7 @@ pub struct Reg<T> {
 
 impl<T> Model for Reg<T> {
     ghost use Rattle.std.specs.Prelude.{Option};
-    ghost use Rattle.lattice_core.specs.declared.tag.Tag.{Tag};
+    ghost use Rattle.ranked.specs.declared.tag.Tag.{Tag};
 
     ghost Value = { Option (Tag × T) };
 
@@ -42,38 +42,38 @@ impl<T: Ranked> Reg<T> {
 
     /// Puts a value, which stands if the pair is above what stands.
     pub fn put(&mut self, tag: Tag, value: T)
-        ensures { self.new ≡ told_joined T.cmp self.old (Some (tag, value)) }
+        ensures { self.new ≡ reg_joined T.cmp self.old (Some (tag, value)) }
     {
         self.put_held(Some((tag, value)));
     }
 
     /// Joins another register into this one, without memory.
     pub fn join_reg(&mut self, other: Reg<T>)
-        ensures { self.new ≡ told_joined T.cmp self.old other }
+        ensures { self.new ≡ reg_joined T.cmp self.old other }
     {
         self.put_held(other.held);
     }
 
     // Puts what another register holds.
-    fn put_held(&mut self, told: Option<(Tag, T)>)
-        ensures { self.new ≡ told_joined T.cmp self.old told }
+    fn put_held(&mut self, given: Option<(Tag, T)>)
+        ensures { self.new ≡ reg_joined T.cmp self.old given }
     {
-        if self.held.cmp(&told) == Ordering::Less {
-            self.held = told;
+        if self.held.cmp(&given) == Ordering::Less {
+            self.held = given;
         }
     }
 }
 
 impl<T: Ranked> Join for Reg<T> {
-    ghost joined = { told_joined T.cmp };
+    ghost joined = { reg_joined T.cmp };
 
     ghost valid = { λ _. Unit {0} };
 
-    ghost commutative = { told_comm T.total T.same };
+    ghost commutative = { reg_comm T.total T.same };
 
-    ghost associative = { told_assoc T.total };
+    ghost associative = { reg_assoc T.total };
 
-    ghost idempotent = { λ x _. told_idem T.total x };
+    ghost idempotent = { λ x _. reg_idem T.total x };
 
     ghost closed = { λ _ _ _ _. tt };
 

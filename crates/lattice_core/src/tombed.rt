@@ -12,7 +12,8 @@ pub enum Tombed<T> {
 }
 
 impl<T: Join> Join for Tombed<T> {
-    ghost use Rattle.lattice_core.specs.Tombs.{tombed_joined, tombed_valid, tombed_comm, tombed_assoc, tombed_idem, tombed_closed};
+    ghost use Rattle.lattice_core.specs.Tombs.{tombed_joined, tombed_valid};
+    ghost use Rattle.lattice_core.specs.laws.Tombs.{tombed_comm, tombed_assoc, tombed_idem, tombed_closed};
 
     ghost joined = { tombed_joined T.joined };
 

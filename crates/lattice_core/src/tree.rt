@@ -6,7 +6,7 @@ ghost use Rattle.lattice_core.specs.Pages.{entries_after};
 ghost use Rattle.lattice_core.specs.Placed.{placed};
 
 use crate::join::Join;
-use crate::ranked::Ranked;
+use ranked::Ranked;
 use std::alloc::{AllocError, Global};
 use std::collections::BTreeMap;
 use std::collections::btree_map::{Iter, Range};
@@ -129,7 +129,7 @@ fn copy_tree<K: Ranked, V: Join>(map: &JoinTree<K, V>) -> Result<JoinTree<K, V>,
 }
 
 impl<K: Ranked, V: Join> Join for JoinTree<K, V> {
-    ghost use Rattle.lattice_core.specs.MapLaws.{map_comm, map_assoc, map_idem, map_closed};
+    ghost use Rattle.lattice_core.specs.laws.Maps.{map_comm, map_assoc, map_idem, map_closed};
 
     ghost joined = { map_joined K.cmp V.joined };
 

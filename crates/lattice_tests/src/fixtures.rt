@@ -1,5 +1,6 @@
 //! Values that several tests join.
-use lattice_core::{Listed, Reg, Tag, Text};
+use lattice_core::Reg;
+use ranked::{Listed, Tag, Text};
 use std::alloc::{AllocError, Global};
 
 pub fn text(alloc: Global, bytes: &[u8]) -> Result<Text, AllocError> {

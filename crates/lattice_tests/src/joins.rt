@@ -1,6 +1,7 @@
 //! Joins at the types that records have.
 use crate::fixtures::{text, told};
-use lattice_core::{Join, JoinMap, Reg, Text, Tombed};
+use lattice_core::{Join, JoinMap, Reg, Tombed};
+use ranked::Text;
 use std::alloc::{AllocError, Global};
 
 type Inner = JoinMap<u32, Reg<Text>>;

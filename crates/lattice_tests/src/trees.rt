@@ -1,6 +1,7 @@
 //! The map for many entries.
 use crate::fixtures::told;
-use lattice_core::{Join, JoinTree, Reg, Text};
+use lattice_core::{Join, JoinTree, Reg};
+use ranked::Text;
 use std::alloc::{AllocError, Global};
 
 type Tree = JoinTree<u32, Reg<Text>>;

@@ -1,9 +1,6 @@
 //! The ranges and orders of the value types.
-use lattice_core::{
-    Apn, BoundedText, Delta, FilterText, Filters, FlowStatus, Preemption, PriorityLevel, QosClass,
-    Ranked, RetentionPriority, Rule, RuleName, RuleQos, Subscriber, Subscribers, SubscriptionData,
-    SubscriptionType,
-};
+use pcrf_values::{Apn, BoundedText, Delta, FilterText, Filters, FlowStatus, Preemption, PriorityLevel, QosClass, RetentionPriority, Rule, RuleName, RuleQos, Subscriber, Subscribers, SubscriptionData, SubscriptionType};
+use ranked::Ranked;
 use std::alloc::Global;
 use std::net::Ipv4Addr;
 use std::process::Abort;

@@ -3,9 +3,9 @@ use Rattle.std.proofs.Common.{◌≡◌, Bool, true, false, cond, not, ◌&&◌,
 use Rattle.std.specs.Ordering.{is_eq, is_lt}
 use Rattle.std.specs.Cmp.{first_so, second_so, tied_itself}
 use Rattle.std.specs.List.{filter_map}
-use Rattle.lattice_core.specs.declared.tag.Tag.{Tag}
-use Rattle.pcrf_model.proofs.Plain.{clash, is_false, some_same, some_is, came_from, lt_less}
-use Rattle.pcrf_model.specs.Sets.{In, best, greatest}
+use Rattle.ranked.specs.declared.tag.Tag.{Tag}
+use Rattle.ranked.proofs.Plain.{clash, is_false, some_same, some_is, came_from, lt_less}
+use Rattle.ranked.specs.Sets.{In, best, greatest}
 use Rattle.pcrf_model.specs.Sessions.{Kind, Gx, Af, Session, session_cmp, gx, is_gx}
 use Rattle.pcrf_model.specs.Paths.{Path, path_cmp, address}
 use Rattle.pcrf_model.specs.Values.{Value, Entry, entry_cmp}
@@ -15,10 +15,10 @@ use Rattle.pcrf_model.specs.Views.{View, view, has}
 use Rattle.pcrf_model.specs.Live.{is_live, has_what_it_needs}
 use Rattle.pcrf_model.specs.Bindings.{Candidate, candidate_cmp, standing, candidate, matches, bind}
 use Rattle.pcrf_model.specs.Laws.{IsBinding}
-use Rattle.pcrf_model.proofs.SetLaws.{best-in, best-top, both_top, less_irr, less_trans, In-filter_map, filter_map-In, In-map}
-use Rattle.pcrf_model.proofs.Ranked.{IsRanked, nat_ranked, text_ranked, pair_ranked}
+use Rattle.ranked.proofs.SetLaws.{best-in, best-top, both_top, less_irr, less_trans, In-filter_map, filter_map-In, In-map}
+use Rattle.ranked.proofs.OrderLaws.{IsRanked, nat_ranked, text_ranked, pair_ranked}
 use Rattle.pcrf_model.proofs.FactLaws.{path_ranked, session_ranked, entry_ranked, eq_is}
-use Rattle.pcrf_model.proofs.AscendingLaws.{ascending-In}
+use Rattle.ranked.proofs.AscendingLaws.{ascending-In}
 
 -- candidates are ranked
 candidate_ranked : IsRanked candidate_cmp

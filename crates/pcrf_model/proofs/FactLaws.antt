@@ -2,18 +2,18 @@
 use Rattle.std.proofs.Common.{◌≡◌, ℕ, zero, suc, ◌<◌, cond, ◌==◌, List, [], ◌∷◌, length, true, false, ◌⊎◌, inl, inr, refl, sym, ap, subst, Ordering, ltb-true, lt-ltb, lt_trans, lt_irrefl}
 use Rattle.std.specs.Ordering.{is_eq}
 use Rattle.std.specs.Cmp.{first_so, second_so, Equal-is, tied_itself}
-use Rattle.lattice_core.specs.Orders.{subscriber_cmp}
-use Rattle.lattice_core.specs.OrderLaws.{subscriber_total, subscriber_same, rule_total, rule_same}
-use Rattle.lattice_core.specs.RuleValues.{rule_cmp}
-use Rattle.lattice_core.specs.declared.tag.Tag.{Tag}
-use Rattle.lattice_core.specs.Told.{tag_cmp}
+use Rattle.pcrf_values.specs.Subscribers.{subscriber_cmp}
+use Rattle.pcrf_values.specs.laws.Values.{subscriber_total, subscriber_same, rule_total, rule_same}
+use Rattle.pcrf_values.specs.RuleValues.{rule_cmp}
+use Rattle.ranked.specs.declared.tag.Tag.{Tag}
+use Rattle.ranked.specs.Tags.{tag_cmp}
 use Rattle.pcrf_model.specs.Sessions.{Kind, Gx, Af, Session, kind_number, session_cmp}
 use Rattle.pcrf_model.specs.Paths.{FieldName, FramedIpAddress, CalledStationId, SubscriptionIds, OriginHost, OriginRealm, RequestType, MediaType, FlowDescriptions, FlowUsage, FlowStatus, MaxRateUp, MaxRateDown, field_number, Step, Component, Flow, Part, RuleName, step_key, step_cmp, Path, path_cmp, is_front, is_at_or_above, is_above}
 use Rattle.pcrf_model.specs.Values.{Value, Number, Text, Address, Subscribers, Filters, Untold, Told, ValueKey, value_key, value_cmp, Entry, entry_cmp}
 use Rattle.pcrf_model.specs.Facts.{Fact, Gone, Field, session_of, fact_code, fact_key, fact_cmp, is_shaded_by}
-use Rattle.pcrf_model.proofs.Plain.{clash, is_false, both}
-use Rattle.pcrf_model.proofs.Ranked.{IsRanked, nat_ranked, list_ranked, text_ranked, pair_ranked, either_ranked, on_ranked}
-use Rattle.pcrf_model.proofs.SetLaws.{less_irr, less_trans}
+use Rattle.ranked.proofs.Plain.{clash, is_false, both}
+use Rattle.ranked.proofs.OrderLaws.{IsRanked, nat_ranked, list_ranked, text_ranked, pair_ranked, either_ranked, on_ranked}
+use Rattle.ranked.proofs.SetLaws.{less_irr, less_trans}
 
 -- the kind of that number
 abbrev kind_back : ℕ → Kind

@@ -2,15 +2,15 @@
 use Rattle.std.proofs.Common.{◌≡◌, ℕ, ◌-◌, true, not, List, ◌++◌, map, take, drop, length, inl, inr, refl, sym, ap, ◌∙◌, subst, filter, Less, Equal, Greater}
 use Rattle.std.specs.Ordering.{is_lt, ordering_then}
 use Rattle.std.specs.Cmp.{tied_itself}
-use Rattle.lattice_core.specs.Orders.{text_cmp}
-use Rattle.lattice_core.specs.RuleValues.{RuleValue, DeltaValue, rule_cmp}
-use Rattle.pcrf_model.proofs.Plain.{clash, is_false, split, not_true}
-use Rattle.pcrf_model.specs.Sets.{In, Same, Distinct}
+use Rattle.ranked.specs.Orders.{text_cmp}
+use Rattle.pcrf_values.specs.RuleValues.{RuleValue, DeltaValue, rule_cmp}
+use Rattle.ranked.proofs.Plain.{clash, is_false, split, not_true}
+use Rattle.ranked.specs.Sets.{In, Same, Distinct}
 use Rattle.pcrf_model.specs.Differences.{ToldRule, told_cmp, told_name_of, rule_name_of, IsTold, holds, difference, first, rest, as_told, stays, apply}
-use Rattle.pcrf_model.proofs.SetLaws.{In-filter, filter-In, In-map, map-In}
-use Rattle.pcrf_model.proofs.DistinctLaws.{take_or_drop, take-In, drop-In, not_in_both, Distinct-of_map, filter_past}
-use Rattle.pcrf_model.proofs.Ranked.{text_ranked}
-use Rattle.pcrf_model.proofs.AscendingLaws.{IsAscending, map-ascending, ascending-ascending, same_ascending, filter-ascending, drop-ascending, Distinct-ascending}
+use Rattle.ranked.proofs.SetLaws.{In-filter, filter-In, In-map, map-In}
+use Rattle.ranked.proofs.DistinctLaws.{take_or_drop, take-In, drop-In, not_in_both, Distinct-of_map, filter_past}
+use Rattle.ranked.proofs.OrderLaws.{text_ranked}
+use Rattle.ranked.proofs.AscendingLaws.{IsAscending, map-ascending, ascending-ascending, same_ascending, filter-ascending, drop-ascending, Distinct-ascending}
 use Rattle.pcrf_model.proofs.DifferenceLaws.{told_ranked, held, holds_one, stays_if, not_removed, not_installed, there, stays_in, installed_in, lacks, removed-In, installed-In, lacks_none, same_rule, same_told, none_anew}
 
 -- the name is below, where the entries are in order and no two have one name

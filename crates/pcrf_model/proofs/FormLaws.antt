@@ -1,10 +1,10 @@
 -- The operations that requests and pushes make are well formed.
 use Rattle.std.proofs.Common.{◌≡◌, ℕ, ◌<◌, ◌^◌, ◌+◌, Bool, true, false, cond, List, [], ◌∷◌, ◌++◌, map, Option, Some, None, inl, inr, refl, sym, ap, ◌∙◌, subst, option_map, flat_map, arith}
-use Rattle.lattice_core.specs.Ascending.{ascending}
-use Rattle.lattice_core.specs.RuleValues.{RuleValue, DeltaValue}
-use Rattle.lattice_core.specs.declared.tag.Tag.{Tag}
-use Rattle.pcrf_model.proofs.Plain.{clash}
-use Rattle.pcrf_model.specs.Sets.{In}
+use Rattle.ranked.specs.Ascending.{ascending}
+use Rattle.pcrf_values.specs.RuleValues.{RuleValue, DeltaValue}
+use Rattle.ranked.specs.declared.tag.Tag.{Tag}
+use Rattle.ranked.proofs.Plain.{clash}
+use Rattle.ranked.specs.Sets.{In}
 use Rattle.pcrf_model.specs.Sessions.{Session, gx, af}
 use Rattle.pcrf_model.specs.Paths.{FieldName, Path, whole, part, component, component_part, flow, flow_part, told_name}
 use Rattle.pcrf_model.specs.Values.{Value, Number, Text, Address, Subscribers, Filters, Untold, Told}
@@ -20,9 +20,9 @@ use Rattle.pcrf_model.specs.Replies.{ReplyValue, OnGx, Rejected, Refused, Done, 
 use Rattle.pcrf_model.specs.Serving.{delta_of, provisioned, accepted_ccr, refused_or, serve, serve_ccr, serve_aar, serve_str}
 use Rattle.pcrf_model.specs.Pushing.{due, push}
 use Rattle.pcrf_model.specs.Laws.{FitTheirAvps, IsFormed, IsWellFormed, RequestFits}
-use Rattle.pcrf_model.proofs.SetLaws.{In-cases}
+use Rattle.ranked.proofs.SetLaws.{In-cases}
 use Rattle.pcrf_model.proofs.FactLaws.{fact_ranked}
-use Rattle.pcrf_model.proofs.AscendingLaws.{ascending-In}
+use Rattle.ranked.proofs.AscendingLaws.{ascending-In}
 use Rattle.pcrf_model.proofs.TellingLaws.{is_told, same_field}
 
 -- ---- one fact

@@ -1,17 +1,12 @@
-pub mod AscendingLaws
 pub mod BindLaws
 pub mod DifferenceLaws
-pub mod DistinctLaws
 pub mod FactLaws
 pub mod FirstEntries
 pub mod FormLaws
 pub mod NameLaws
-pub mod Plain
 pub mod ProvisionLaws
-pub mod Ranked
 pub mod ReadingLaws
 pub mod RuleNames
-pub mod SetLaws
 pub mod ShownLaws
 pub mod StampLaws
 pub mod StepLaws

@@ -2,12 +2,12 @@
 use Rattle.std.proofs.Common.{◌≡◌, ℕ, ◌+◌, Bool, true, false, cond, ◌&&◌, List, [], ◌∷◌, ◌++◌, map, ◌⊎◌, Option, Some, None, inl, inr, refl, sym, ap, ◌∙◌, subst, option_map, arith, append_assoc, find, Less, Equal}
 use Rattle.std.specs.Ordering.{is_eq, nat_cmp, ordering_then}
 use Rattle.std.specs.Cmp.{nat_cmp_is, first_so, second_so}
-use Rattle.lattice_core.specs.Ascending.{ascending}
-use Rattle.lattice_core.specs.RuleValues.{RuleValue, DeltaValue}
-use Rattle.lattice_core.specs.declared.tag.Tag.{Tag}
-use Rattle.lattice_core.specs.Told.{tag_cmp}
-use Rattle.pcrf_model.proofs.Plain.{clash, is_false, not_true, both}
-use Rattle.pcrf_model.specs.Sets.{In, Same, Distinct}
+use Rattle.ranked.specs.Ascending.{ascending}
+use Rattle.pcrf_values.specs.RuleValues.{RuleValue, DeltaValue}
+use Rattle.ranked.specs.declared.tag.Tag.{Tag}
+use Rattle.ranked.specs.Tags.{tag_cmp}
+use Rattle.ranked.proofs.Plain.{clash, is_false, not_true, both}
+use Rattle.ranked.specs.Sets.{In, Same, Distinct}
 use Rattle.pcrf_model.specs.Sessions.{Session, session_cmp, gx, is_gx}
 use Rattle.pcrf_model.specs.Paths.{FieldName, Step, Component, Flow, Part, RuleName, Path, is_front, whole, part, address, apn, subscribers, host, realm, last, told_name}
 use Rattle.pcrf_model.specs.Values.{Value, Number, Text, Address, Subscribers}
@@ -23,10 +23,10 @@ use Rattle.pcrf_model.specs.Making.{given, given_list, ccr_fields, kind_value, t
 use Rattle.pcrf_model.specs.Serving.{delta_limit, delta_of, provisioned, with_added}
 use Rattle.pcrf_model.specs.Pushing.{is_due, due, push}
 use Rattle.pcrf_model.specs.Laws.{NamesRulesApart, FitTheirAvps, NumbersFit, IsStamped, TellsTheFirst}
-use Rattle.pcrf_model.proofs.SetLaws.{In-right, In-cases, In-any, any-In, In-map, map-In, Same-itself, Same-through, Same-append}
+use Rattle.ranked.proofs.SetLaws.{In-right, In-cases, In-any, any-In, In-map, map-In, Same-itself, Same-through, Same-append}
 use Rattle.pcrf_model.proofs.FactLaws.{session_ranked, fact_ranked}
-use Rattle.pcrf_model.proofs.AscendingLaws.{ascending-In}
-use Rattle.pcrf_model.proofs.DistinctLaws.{take-In, one_of_key}
+use Rattle.ranked.proofs.AscendingLaws.{ascending-In}
+use Rattle.ranked.proofs.DistinctLaws.{take-In, one_of_key}
 use Rattle.pcrf_model.proofs.DifferenceLaws.{no_name_twice, installed-In}
 use Rattle.pcrf_model.proofs.FirstEntries.{difference-first}
 use Rattle.pcrf_model.proofs.RuleNames.{rules-names_differ}

@@ -1,6 +1,6 @@
 -- What is read of a view, and what a site does, is the same on the kept facts.
 use Rattle.std.proofs.Common.{◌≡◌, ℕ, List, Option, refl, ap}
-use Rattle.pcrf_model.specs.Sets.{Same}
+use Rattle.ranked.specs.Sets.{Same}
 use Rattle.pcrf_model.specs.Facts.{Fact}
 use Rattle.pcrf_model.specs.Holdings.{kept, Holding, kept_of}
 use Rattle.pcrf_model.specs.Views.{View, view}

@@ -5,10 +5,10 @@ use Rattle.std.specs.Ordering.{is_eq}
 use Rattle.std.specs.Cmp.{first_so}
 use Rattle.std.specs.List.{filter_map}
 use Rattle.std.proofs.lemmas.List.{append_cancel_left}
-use Rattle.lattice_core.specs.Ascending.{ascending}
-use Rattle.lattice_core.specs.RuleValues.{RuleValue}
-use Rattle.pcrf_model.proofs.Plain.{clash, some_same, came_from}
-use Rattle.pcrf_model.specs.Sets.{In, Distinct}
+use Rattle.ranked.specs.Ascending.{ascending}
+use Rattle.pcrf_values.specs.RuleValues.{RuleValue}
+use Rattle.ranked.proofs.Plain.{clash, some_same, came_from}
+use Rattle.ranked.specs.Sets.{In, Distinct}
 use Rattle.pcrf_model.specs.Sessions.{Kind, Gx, Af, Session, session_cmp, is_gx}
 use Rattle.pcrf_model.specs.Paths.{FlowDescriptions, Step, Component, Flow, Part, Path, apn}
 use Rattle.pcrf_model.specs.Values.{Entry}
@@ -22,11 +22,11 @@ use Rattle.pcrf_model.specs.Flows.{FlowId, filters, class_of, flow_rule_name, fl
 use Rattle.pcrf_model.specs.Rules.{flow_at, rule_of, rule_at, apn_of, operator_rule, operator_rules, flow_rules, listed_cmp, rules}
 use Rattle.pcrf_model.specs.Differences.{rule_name_of}
 use Rattle.pcrf_model.specs.Laws.{NamesRulesApart, FitTheirAvps, NumbersFit}
-use Rattle.pcrf_model.proofs.SetLaws.{In-cases, filter_map-In, map-In}
-use Rattle.pcrf_model.proofs.Ranked.{IsRanked, nat_ranked, pair_ranked, on_ranked}
+use Rattle.ranked.proofs.SetLaws.{In-cases, filter_map-In, map-In}
+use Rattle.ranked.proofs.OrderLaws.{IsRanked, nat_ranked, pair_ranked, on_ranked}
 use Rattle.pcrf_model.proofs.FactLaws.{rule_ranked}
-use Rattle.pcrf_model.proofs.AscendingLaws.{ascending-In, ascending-ascending, Distinct-ascending}
-use Rattle.pcrf_model.proofs.DistinctLaws.{one_of_key, Distinct-map}
+use Rattle.ranked.proofs.AscendingLaws.{ascending-In, ascending-ascending, Distinct-ascending}
+use Rattle.ranked.proofs.DistinctLaws.{one_of_key, Distinct-map}
 use Rattle.pcrf_model.proofs.ViewLaws.{shown_ranked}
 use Rattle.pcrf_model.proofs.BindLaws.{bind-greatest}
 use Rattle.pcrf_model.proofs.NameLaws.{heads, parts_of_name}

@@ -3,13 +3,13 @@ use Rattle.std.proofs.Common.{◌≡◌, Bool, true, false, cond, List, ◌++◌
 use Rattle.std.specs.Ordering.{is_eq, is_lt}
 use Rattle.std.specs.Cmp.{first_so, second_so}
 use Rattle.std.specs.List.{filter_map}
-use Rattle.pcrf_model.proofs.Plain.{clash}
-use Rattle.pcrf_model.specs.Sets.{In, Same}
+use Rattle.ranked.proofs.Plain.{clash}
+use Rattle.ranked.specs.Sets.{In, Same}
 use Rattle.pcrf_model.specs.Paths.{Path, path_cmp, is_at_or_above}
 use Rattle.pcrf_model.specs.Values.{Entry, entry_cmp}
 use Rattle.pcrf_model.specs.Facts.{Fact, Gone, Field, is_shaded_by}
 use Rattle.pcrf_model.specs.Holdings.{kept, blocks, is_gone, entry_at, value_at, shown}
-use Rattle.pcrf_model.proofs.SetLaws.{In-any, any-Same, maximal-In, top_of, any-maximal, maximal-append, maximal-Same, greatest_reached, greatest-Same, In-filter_map, filter_map-In, filter_map-Same}
+use Rattle.ranked.proofs.SetLaws.{In-any, any-Same, maximal-In, top_of, any-maximal, maximal-append, maximal-Same, greatest_reached, greatest-Same, In-filter_map, filter_map-In, filter_map-Same}
 use Rattle.pcrf_model.proofs.FactLaws.{path_ranked, entry_ranked, eq_is, above_at, at_through, shaded_irr, shaded_trans}
 
 -- a union with the kept facts keeps what the union keeps

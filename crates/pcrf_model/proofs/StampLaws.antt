@@ -1,6 +1,6 @@
 -- What well-formed operations make has its counters below the clock.
 use Rattle.std.proofs.Common.{List, refl, arith}
-use Rattle.pcrf_model.specs.Sets.{In}
+use Rattle.ranked.specs.Sets.{In}
 use Rattle.pcrf_model.specs.Paths.{told_name}
 use Rattle.pcrf_model.specs.Facts.{Field}
 use Rattle.pcrf_model.specs.Operations.{Operation, holding_of}

@@ -3,12 +3,12 @@ use Rattle.std.proofs.Common.{◌≡◌, ℕ, Bool, true, false, cond, not, List
 use Rattle.std.specs.Ordering.{is_eq, is_lt, ordering_then}
 use Rattle.std.specs.Cmp.{both_ways}
 use Rattle.std.specs.List.{list_any, filter, filter_map, cons_option}
-use Rattle.lattice_core.specs.Ascending.{ascending}
-use Rattle.lattice_core.specs.RuleValues.{RuleValue, DeltaValue}
-use Rattle.lattice_core.specs.declared.tag.Tag.{Tag}
-use Rattle.lattice_core.specs.Told.{tag_cmp}
-use Rattle.pcrf_model.proofs.Plain.{clash, is_false, split, not_true}
-use Rattle.pcrf_model.specs.Sets.{In, Same}
+use Rattle.ranked.specs.Ascending.{ascending}
+use Rattle.pcrf_values.specs.RuleValues.{RuleValue, DeltaValue}
+use Rattle.ranked.specs.declared.tag.Tag.{Tag}
+use Rattle.ranked.specs.Tags.{tag_cmp}
+use Rattle.ranked.proofs.Plain.{clash, is_false, split, not_true}
+use Rattle.ranked.specs.Sets.{In, Same}
 use Rattle.pcrf_model.specs.Sessions.{Session, session_cmp}
 use Rattle.pcrf_model.specs.Paths.{Step, Component, Flow, Part, RuleName, Path, whole, told_name}
 use Rattle.pcrf_model.specs.Values.{Value, Untold, Told, value_cmp, Entry, entry_cmp}
@@ -21,11 +21,11 @@ use Rattle.pcrf_model.specs.Tables.{Tables}
 use Rattle.pcrf_model.specs.Rules.{flow_at, rule_of, rule_at, operator_rules, listed_cmp, rules}
 use Rattle.pcrf_model.specs.Differences.{ToldRule, told_cmp, told_entry, told, rule_name_of, as_told, stays, apply}
 use Rattle.pcrf_model.specs.Making.{told_facts}
-use Rattle.pcrf_model.proofs.SetLaws.{In-left, In-right, In-cases, In-filter, filter-In, In-any, any-In, In-map, map-In, In-filter_map, filter_map-In, greatest-Same}
-use Rattle.lattice_core.specs.Orders.{text_cmp}
-use Rattle.pcrf_model.proofs.Ranked.{text_ranked}
+use Rattle.ranked.proofs.SetLaws.{In-left, In-right, In-cases, In-filter, filter-In, In-any, any-In, In-map, map-In, In-filter_map, filter_map-In, greatest-Same}
+use Rattle.ranked.specs.Orders.{text_cmp}
+use Rattle.ranked.proofs.OrderLaws.{text_ranked}
 use Rattle.pcrf_model.proofs.FactLaws.{session_ranked, path_ranked, entry_ranked, eq_is, eq_itself}
-use Rattle.pcrf_model.proofs.AscendingLaws.{IsAscending, ascending-In, ascending-ascending, ascending-Same, same_ascending, filter-ascending}
+use Rattle.ranked.proofs.AscendingLaws.{IsAscending, ascending-In, ascending-ascending, ascending-Same, same_ascending, filter-ascending}
 use Rattle.pcrf_model.proofs.ViewLaws.{shown_ranked}
 use Rattle.pcrf_model.proofs.BindLaws.{entry_of, fact_there, greatest_is, greatest_some}
 use Rattle.pcrf_model.proofs.ToldLaws.{all_shows, told-shows, told_is_told}

@@ -3,11 +3,11 @@ use Rattle.std.proofs.Common.{◌≡◌, ℕ, true, false, cond, List, [], ◌�
 use Rattle.std.specs.Ordering.{is_eq, is_lt, ordering_then}
 use Rattle.std.specs.Cmp.{tied_itself}
 use Rattle.std.specs.List.{filter_map}
-use Rattle.lattice_core.specs.Orders.{text_cmp}
-use Rattle.lattice_core.specs.declared.tag.Tag.{Tag}
-use Rattle.lattice_core.specs.RuleValues.{rule_cmp}
-use Rattle.pcrf_model.proofs.Plain.{clash, some_same}
-use Rattle.pcrf_model.specs.Sets.{In}
+use Rattle.ranked.specs.Orders.{text_cmp}
+use Rattle.ranked.specs.declared.tag.Tag.{Tag}
+use Rattle.pcrf_values.specs.RuleValues.{rule_cmp}
+use Rattle.ranked.proofs.Plain.{clash, some_same}
+use Rattle.ranked.specs.Sets.{In}
 use Rattle.pcrf_model.specs.Sessions.{Session, session_cmp}
 use Rattle.pcrf_model.specs.Paths.{Step, RuleName, Path, path_cmp, told_name}
 use Rattle.pcrf_model.specs.Values.{Value, Told, Entry, entry_cmp}
@@ -15,10 +15,10 @@ use Rattle.pcrf_model.specs.Facts.{Fact, Gone, Field}
 use Rattle.pcrf_model.specs.Holdings.{shown}
 use Rattle.pcrf_model.specs.Views.{View, Shown, shown_cmp, showing, view}
 use Rattle.pcrf_model.specs.Differences.{ToldRule, told_cmp, told_entry, told, told_name_of, IsTold}
-use Rattle.pcrf_model.proofs.SetLaws.{filter_map-In}
-use Rattle.pcrf_model.proofs.Ranked.{text_ranked}
+use Rattle.ranked.proofs.SetLaws.{filter_map-In}
+use Rattle.ranked.proofs.OrderLaws.{text_ranked}
 use Rattle.pcrf_model.proofs.FactLaws.{session_ranked, path_ranked, eq_is}
-use Rattle.pcrf_model.proofs.AscendingLaws.{IsAscending, map-ascending, filter_map-ascending, ascending-In, ascending-ascending, ascending-itself, Distinct-ascending}
+use Rattle.ranked.proofs.AscendingLaws.{IsAscending, map-ascending, filter_map-ascending, ascending-In, ascending-ascending, ascending-itself, Distinct-ascending}
 use Rattle.pcrf_model.proofs.ViewLaws.{shown_ranked}
 use Rattle.pcrf_model.proofs.DifferenceLaws.{told_ranked}
 

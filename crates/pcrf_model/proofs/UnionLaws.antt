@@ -1,7 +1,7 @@
 -- Unions and what is kept of them.
 use Rattle.std.proofs.Common.{◌≡◌, ℕ, max, ◌≤◌, List, [], ◌∷◌, ◌++◌, ◌↔◌, inl, inr, refl, sym, ap, ◌∙◌, subst, arith, append_assoc}
-use Rattle.lattice_core.specs.Ascending.{ascending}
-use Rattle.pcrf_model.specs.Sets.{In, Same}
+use Rattle.ranked.specs.Ascending.{ascending}
+use Rattle.ranked.specs.Sets.{In, Same}
 use Rattle.pcrf_model.specs.Sessions.{Session}
 use Rattle.pcrf_model.specs.Facts.{Fact, fact_cmp, is_shaded_by}
 use Rattle.pcrf_model.specs.Holdings.{kept, Holding, nothing_held, union, kept_of}
@@ -9,10 +9,10 @@ use Rattle.pcrf_model.specs.Operations.{Operation, with_operation, holding_of}
 use Rattle.pcrf_model.specs.Views.{View, view}
 use Rattle.pcrf_model.specs.Tables.{Tables}
 use Rattle.pcrf_model.specs.Rules.{rules}
-use Rattle.pcrf_model.proofs.SetLaws.{In-left, In-right, In-cases, Same-itself, Same-back, Same-through, Same-append, Same-turn, Same-twice, maximal-maximal}
+use Rattle.ranked.proofs.SetLaws.{In-left, In-right, In-cases, Same-itself, Same-back, Same-through, Same-append, Same-turn, Same-twice, maximal-maximal}
 use Rattle.pcrf_model.proofs.FactLaws.{fact_ranked, shaded_irr, shaded_trans}
 use Rattle.pcrf_model.proofs.ShownLaws.{kept-append, kept-Same}
-use Rattle.pcrf_model.proofs.AscendingLaws.{ascending-In, ascending-Same}
+use Rattle.ranked.proofs.AscendingLaws.{ascending-In, ascending-Same}
 use Rattle.pcrf_model.proofs.ViewLaws.{view-Same, view-kept}
 
 -- the ascending list depends on the members alone

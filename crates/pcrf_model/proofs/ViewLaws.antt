@@ -2,20 +2,20 @@
 use Rattle.std.proofs.Common.{◌≡◌, true, false, cond, List, map, ◌⊎◌, Option, Some, None, inl, inr, refl, sym, ap, ◌∙◌, subst, option_map}
 use Rattle.std.specs.Cmp.{first_so}
 use Rattle.std.specs.List.{filter_map}
-use Rattle.lattice_core.specs.Ascending.{ascending}
-use Rattle.pcrf_model.proofs.Plain.{clash}
-use Rattle.pcrf_model.specs.Sets.{In, Same}
+use Rattle.ranked.specs.Ascending.{ascending}
+use Rattle.ranked.proofs.Plain.{clash}
+use Rattle.ranked.specs.Sets.{In, Same}
 use Rattle.pcrf_model.specs.Sessions.{Session, session_cmp}
 use Rattle.pcrf_model.specs.Paths.{Path, whole}
 use Rattle.pcrf_model.specs.Values.{Entry}
 use Rattle.pcrf_model.specs.Facts.{Fact, Gone, Field, session_of, is_shaded_by}
 use Rattle.pcrf_model.specs.Holdings.{kept, blocks, is_gone, value_at, shown}
 use Rattle.pcrf_model.specs.Views.{Shown, shown_cmp, view, showing}
-use Rattle.pcrf_model.proofs.SetLaws.{maximal-In, top_of, filter_map-Same, filter_map-In, In-filter_map, In-any, In-map, map-In, map-Same}
-use Rattle.pcrf_model.proofs.Ranked.{IsRanked, pair_ranked}
+use Rattle.ranked.proofs.SetLaws.{maximal-In, top_of, filter_map-Same, filter_map-In, In-filter_map, In-any, In-map, map-In, map-Same}
+use Rattle.ranked.proofs.OrderLaws.{IsRanked, pair_ranked}
 use Rattle.pcrf_model.proofs.FactLaws.{session_ranked, path_ranked, entry_ranked, eq_is, shaded_irr, shaded_trans, above_at}
 use Rattle.pcrf_model.proofs.ShownLaws.{is_gone-kept, is_gone-Same, shown-kept, shown-Same}
-use Rattle.pcrf_model.proofs.AscendingLaws.{ascending-Same}
+use Rattle.ranked.proofs.AscendingLaws.{ascending-Same}
 
 -- what shows is ranked
 pub shown_ranked : IsRanked shown_cmp

@@ -3,8 +3,9 @@ use Rattle.std.specs.Prelude.{ℕ, Bool, true, false, cond, not, ◌&&◌, List,
 use Rattle.std.proofs.Common.{Ordering, option_map, unwrap_or}
 use Rattle.std.specs.Ordering.{is_eq, nat_cmp}
 use Rattle.std.specs.List.{list_any, filter_map}
-use Rattle.lattice_core.specs.Orders.{pair_cmp, text_cmp, subscriber_cmp}
-use Rattle.pcrf_model.specs.Sets.{greatest}
+use Rattle.ranked.specs.Orders.{pair_cmp, text_cmp}
+use Rattle.pcrf_values.specs.Subscribers.{subscriber_cmp}
+use Rattle.ranked.specs.Sets.{greatest}
 use Rattle.pcrf_model.specs.Sessions.{Session, session_cmp, gx, is_gx}
 use Rattle.pcrf_model.specs.Paths.{address, apn, subscribers}
 use Rattle.pcrf_model.specs.Values.{Subscriber, Value, Subscribers, value_cmp, Entry}

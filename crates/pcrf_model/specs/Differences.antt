@@ -3,10 +3,10 @@ use Rattle.std.specs.Prelude.{◌≡◌, ℕ, ◌+◌, ◌-◌, ◌==◌, Bool, 
 use Rattle.std.proofs.Common.{Ordering, option_map}
 use Rattle.std.specs.Ordering.{is_eq}
 use Rattle.std.specs.List.{list_any, filter, filter_map}
-use Rattle.lattice_core.specs.Orders.{pair_cmp, text_cmp}
-use Rattle.lattice_core.specs.Ascending.{ascending}
-use Rattle.lattice_core.specs.RuleValues.{RuleValue, DeltaValue, rule_cmp}
-use Rattle.pcrf_model.specs.Sets.{Distinct}
+use Rattle.ranked.specs.Orders.{pair_cmp, text_cmp}
+use Rattle.ranked.specs.Ascending.{ascending}
+use Rattle.pcrf_values.specs.RuleValues.{RuleValue, DeltaValue, rule_cmp}
+use Rattle.ranked.specs.Sets.{Distinct}
 use Rattle.pcrf_model.specs.Sessions.{Session, session_cmp}
 use Rattle.pcrf_model.specs.Paths.{Step, RuleName}
 use Rattle.pcrf_model.specs.Values.{Value, Told, Entry}

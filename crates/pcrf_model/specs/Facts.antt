@@ -2,8 +2,8 @@
 use Rattle.std.specs.Prelude.{ℕ, Bool, false, ◌&&◌, List, [], ◌∷◌, ◌⊎◌}
 use Rattle.std.proofs.Common.{inl, inr, Ordering}
 use Rattle.std.specs.Ordering.{nat_cmp, is_eq, is_lt, on}
-use Rattle.lattice_core.specs.Orders.{pair_cmp, either_cmp}
-use Rattle.lattice_core.specs.declared.tag.Tag.{Tag}
+use Rattle.ranked.specs.Orders.{pair_cmp, either_cmp}
+use Rattle.ranked.specs.declared.tag.Tag.{Tag}
 use Rattle.pcrf_model.specs.Sessions.{Session, session_cmp}
 use Rattle.pcrf_model.specs.Paths.{Step, Component, Flow, Part, RuleName, Path, path_cmp, is_above}
 use Rattle.pcrf_model.specs.Values.{Value, Entry, entry_cmp}

@@ -2,8 +2,8 @@
 use Rattle.std.specs.Prelude.{ℕ, max, Bool, false, cond, List, [], ◌∷◌, ◌++◌, Option, Some, None}
 use Rattle.std.specs.Ordering.{is_eq}
 use Rattle.std.specs.List.{list_any, filter_map}
-use Rattle.lattice_core.specs.Ascending.{ascending}
-use Rattle.pcrf_model.specs.Sets.{greatest, maximal}
+use Rattle.ranked.specs.Ascending.{ascending}
+use Rattle.ranked.specs.Sets.{greatest, maximal}
 use Rattle.pcrf_model.specs.Sessions.{Session, session_cmp}
 use Rattle.pcrf_model.specs.Paths.{Step, Path, path_cmp, is_at_or_above}
 use Rattle.pcrf_model.specs.Values.{Entry, entry_cmp}

@@ -1,13 +1,13 @@
 -- The laws of the definitions.
 use Rattle.std.specs.Prelude.{◌≡◌, ℕ, ◌<◌, ◌≤◌, ◌^◌, [], ◌∷◌, true, false, List, ◌++◌, ◌↔◌, map, Option, Some, None}
 use Rattle.std.proofs.Common.{Less}
-use Rattle.lattice_core.specs.Ascending.{ascending}
-use Rattle.lattice_core.specs.RuleValues.{RuleValue}
-use Rattle.pcrf_model.specs.Sets.{In, Same, Distinct}
+use Rattle.ranked.specs.Ascending.{ascending}
+use Rattle.pcrf_values.specs.RuleValues.{RuleValue}
+use Rattle.ranked.specs.Sets.{In, Same, Distinct}
 use Rattle.pcrf_model.specs.Sessions.{Session, gx}
 use Rattle.pcrf_model.specs.Paths.{Step, Component, Flow, Part, RuleName, Path, told_name}
 use Rattle.pcrf_model.specs.Values.{Value}
-use Rattle.lattice_core.specs.declared.tag.Tag.{Tag}
+use Rattle.ranked.specs.declared.tag.Tag.{Tag}
 use Rattle.pcrf_model.specs.Facts.{Fact, Field, path_of, fact_code}
 use Rattle.pcrf_model.specs.Holdings.{kept, Holding, union, kept_of}
 use Rattle.pcrf_model.specs.Operations.{Operation, holding_of}

@@ -21,7 +21,6 @@ pub mod Samples
 pub mod Scenes
 pub mod Serving
 pub mod Sessions
-pub mod Sets
 pub mod Steps
 pub mod Tables
 pub mod Values

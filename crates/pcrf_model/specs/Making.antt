@@ -1,9 +1,9 @@
 -- The facts that accepted requests and pushes make.
 use Rattle.std.specs.Prelude.{ℕ, ◌+◌, ◌==◌, Bool, false, cond, List, [], ◌∷◌, ◌++◌, map, Option}
 use Rattle.std.proofs.Common.{option_map, option_to_list, unwrap_or, flat_map}
-use Rattle.lattice_core.specs.Ascending.{ascending}
-use Rattle.lattice_core.specs.RuleValues.{RuleValue, DeltaValue}
-use Rattle.lattice_core.specs.declared.tag.Tag.{Tag}
+use Rattle.ranked.specs.Ascending.{ascending}
+use Rattle.pcrf_values.specs.RuleValues.{RuleValue, DeltaValue}
+use Rattle.ranked.specs.declared.tag.Tag.{Tag}
 use Rattle.pcrf_model.specs.Sessions.{Session, gx, af}
 use Rattle.pcrf_model.specs.Paths.{MediaType, FlowDescriptions, FlowUsage, FlowStatus, MaxRateUp, MaxRateDown, Path, whole, address, apn, subscribers, host, realm, last, component, component_part, flow, flow_part, told_name}
 use Rattle.pcrf_model.specs.Values.{Value, Number, Text, Address, Subscribers, Filters, Untold, Told}

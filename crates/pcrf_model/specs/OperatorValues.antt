@@ -2,7 +2,7 @@
 use Rattle.std.specs.Prelude.{ℕ, cond, List, ◌∷◌, map, Option, Some, None}
 use Rattle.std.specs.Ordering.{is_eq}
 use Rattle.std.specs.List.{filter_map}
-use Rattle.lattice_core.specs.RuleValues.{RuleValue}
+use Rattle.pcrf_values.specs.RuleValues.{RuleValue}
 use Rattle.pcrf_model.specs.Sessions.{Session, session_cmp, Kind, Gx, Af}
 use Rattle.pcrf_model.specs.Paths.{Step, RuleName}
 use Rattle.pcrf_model.specs.Values.{Value}

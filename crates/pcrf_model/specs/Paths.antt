@@ -3,7 +3,7 @@ use Rattle.std.specs.Prelude.{ℕ, Bool, true, false, ◌&&◌, List, [], ◌∷
 use Rattle.std.proofs.Common.{inl, inr, Ordering}
 use Rattle.std.specs.Ordering.{is_eq, nat_cmp, on}
 use Rattle.std.specs.Cmp.Lexicographic.{slice_cmp}
-use Rattle.lattice_core.specs.Orders.{pair_cmp, either_cmp, text_cmp}
+use Rattle.ranked.specs.Orders.{pair_cmp, either_cmp, text_cmp}
 use Rattle.pcrf_model.specs.Sessions.{Session, session_cmp}
 
 -- The fields, by the AVP that gives them. Of a session: Framed-IP-Address, Called-Station-Id, Subscription-Id, Origin-Host,

@@ -2,7 +2,7 @@
 use Rattle.std.specs.Prelude.{ℕ, ◌==◌, Bool, true, false, not, ◌&&◌, List, [], Option, Some, None, find, is_some}
 use Rattle.std.proofs.Common.{option_map, unwrap_or}
 use Rattle.std.specs.Ordering.{is_eq}
-use Rattle.lattice_core.specs.Orders.{text_cmp}
+use Rattle.ranked.specs.Orders.{text_cmp}
 use Rattle.pcrf_model.specs.Sessions.{Session, is_gx}
 use Rattle.pcrf_model.specs.Paths.{host, realm}
 use Rattle.pcrf_model.specs.Holdings.{Holding}

@@ -1,6 +1,6 @@
 -- What a site replies to an event, and what the event adds to it.
 use Rattle.std.specs.Prelude.{ℕ, List, Option}
-use Rattle.lattice_core.specs.RuleValues.{DeltaValue}
+use Rattle.pcrf_values.specs.RuleValues.{DeltaValue}
 use Rattle.pcrf_model.specs.Holdings.{Holding}
 use Rattle.pcrf_model.specs.Operations.{Operation}
 use Rattle.pcrf_model.specs.Tables.{Quality}

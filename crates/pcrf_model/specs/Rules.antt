@@ -3,9 +3,9 @@ use Rattle.std.specs.Prelude.{cond, List, [], ◌∷◌, ◌++◌, map, Option, 
 use Rattle.std.proofs.Common.{Ordering, option_map, option_and_then, unwrap_or}
 use Rattle.std.specs.Ordering.{nat_cmp, on}
 use Rattle.std.specs.List.{filter_map}
-use Rattle.lattice_core.specs.Orders.{pair_cmp}
-use Rattle.lattice_core.specs.Ascending.{ascending}
-use Rattle.lattice_core.specs.RuleValues.{RuleValue, rule_cmp}
+use Rattle.ranked.specs.Orders.{pair_cmp}
+use Rattle.ranked.specs.Ascending.{ascending}
+use Rattle.pcrf_values.specs.RuleValues.{RuleValue, rule_cmp}
 use Rattle.pcrf_model.specs.Sessions.{Session}
 use Rattle.pcrf_model.specs.Paths.{FlowDescriptions, Step, Component, Flow, Part, apn}
 use Rattle.pcrf_model.specs.Views.{View, Shown, text}

@@ -1,6 +1,6 @@
 -- The operator tables, the requests and the rules of the worked examples.
 use Rattle.std.specs.Prelude.{ℕ, zero, suc, List, [], ◌∷◌, Option, Some, None, codes}
-use Rattle.lattice_core.specs.RuleValues.{RuleValue, DeltaValue}
+use Rattle.pcrf_values.specs.RuleValues.{RuleValue, DeltaValue}
 use Rattle.pcrf_model.specs.Sessions.{Session, gx, af}
 use Rattle.pcrf_model.specs.Values.{Subscriber}
 use Rattle.pcrf_model.specs.Tables.{Class, Quality, Listed, Tables}

@@ -1,8 +1,8 @@
 -- What the sites of the worked examples went through.
 use Rattle.std.specs.Prelude.{ℕ, List, [], ◌∷◌, Option, Some, None, codes, length, slice_get}
 use Rattle.std.proofs.Common.{option_map}
-use Rattle.lattice_core.specs.RuleValues.{DeltaValue}
-use Rattle.lattice_core.specs.declared.tag.Tag.{Tag}
+use Rattle.pcrf_values.specs.RuleValues.{DeltaValue}
+use Rattle.ranked.specs.declared.tag.Tag.{Tag}
 use Rattle.pcrf_model.specs.Paths.{FramedIpAddress, CalledStationId, SubscriptionIds, OriginHost, OriginRealm, RequestType, MediaType, FlowDescriptions, FlowUsage, FlowStatus, MaxRateUp, MaxRateDown, Component, Flow, Part, address}
 use Rattle.pcrf_model.specs.Values.{Number, Text, Subscribers, Filters, Address}
 use Rattle.pcrf_model.specs.Facts.{Field}

@@ -1,7 +1,7 @@
 -- Serving: what a site replies to a request, and the operation that the request makes there.
 use Rattle.std.specs.Prelude.{ℕ, [], ◌++◌, Option, Some, None}
 use Rattle.std.proofs.Common.{option_map, unwrap_or}
-use Rattle.lattice_core.specs.RuleValues.{DeltaValue}
+use Rattle.pcrf_values.specs.RuleValues.{DeltaValue}
 use Rattle.pcrf_model.specs.Sessions.{Session, gx, af}
 use Rattle.pcrf_model.specs.Holdings.{Holding}
 use Rattle.pcrf_model.specs.Operations.{Operation, with_operation}

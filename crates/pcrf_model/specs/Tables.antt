@@ -1,7 +1,7 @@
 -- The operator tables (this project's profile): which class of service each kind of media has, and what each access point has.
 use Rattle.std.specs.Prelude.{ℕ, List, [], Option, Some, None, ◌==◌, find}
 use Rattle.std.specs.Ordering.{is_eq}
-use Rattle.lattice_core.specs.Orders.{text_cmp}
+use Rattle.ranked.specs.Orders.{text_cmp}
 
 -- A class of service: QCI and ARP (priority level, pre-emption capability and vulnerability as AVP values; TS 29.212, 5.3.17 and 5.3.45),
 -- the caps on bit rates up and down in bit/s, and the precedence of its rules (TS 29.212, 5.3.11).

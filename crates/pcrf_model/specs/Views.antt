@@ -2,8 +2,8 @@
 use Rattle.std.specs.Prelude.{ℕ, Bool, List, map, Option, Some, None, is_some}
 use Rattle.std.proofs.Common.{Ordering, option_map, option_and_then}
 use Rattle.std.specs.List.{filter_map}
-use Rattle.lattice_core.specs.Orders.{pair_cmp}
-use Rattle.lattice_core.specs.Ascending.{ascending}
+use Rattle.ranked.specs.Orders.{pair_cmp}
+use Rattle.ranked.specs.Ascending.{ascending}
 use Rattle.pcrf_model.specs.Sessions.{Session, session_cmp}
 use Rattle.pcrf_model.specs.Paths.{Path, path_cmp, whole}
 use Rattle.pcrf_model.specs.Values.{Subscriber, Value, Number, Text, Address, Subscribers, Filters, Entry, entry_cmp}

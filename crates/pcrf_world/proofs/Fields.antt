@@ -1,7 +1,7 @@
 -- Operations of initial requests end no session.
 use Rattle.std.proofs.Common.{◌≡◌, false, List, [], ◌∷◌, ◌++◌, map, refl, ap, ◌∙◌, Ordering, Less, Equal, Greater}
 use Rattle.std.specs.FinMap.Entries.{by_order}
-use Rattle.lattice_core.specs.Ascending.{place, ascending}
+use Rattle.ranked.specs.Ascending.{place, ascending}
 use Rattle.pcrf_model.specs.Sessions.{Session}
 use Rattle.pcrf_model.specs.Paths.{Path, whole}
 use Rattle.pcrf_model.specs.Facts.{Fact, Gone, Field, fact_cmp}

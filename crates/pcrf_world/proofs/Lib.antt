@@ -1,5 +1,4 @@
 pub mod Fields
-pub mod Greatest
 pub mod Lists
 pub mod Replies
 pub mod Runs

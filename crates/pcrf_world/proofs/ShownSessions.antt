@@ -7,11 +7,12 @@ use Rattle.std.specs.declared.net.ipv4_addr.Ipv4Addr.{Ipv4Addr}
 use Rattle.std.specs.FinMap.Entries.{by_order}
 use Rattle.std.proofs.lemmas.List.{append-nil}
 use Rattle.std.proofs.lemmas.List.Elements.{filter_map-append}
-use Rattle.lattice_core.specs.Orders.{text_cmp}
-use Rattle.lattice_core.specs.Ascending.{place, ascending}
-use Rattle.lattice_core.specs.Told.{tag_cmp, told_joined}
-use Rattle.lattice_core.specs.declared.tag.Tag.{Tag}
-use Rattle.pcrf_model.specs.Sets.{Same, greatest}
+use Rattle.ranked.specs.Orders.{text_cmp}
+use Rattle.ranked.specs.Ascending.{place, ascending}
+use Rattle.ranked.specs.Tags.{tag_cmp}
+use Rattle.lattice_core.specs.Registers.{reg_joined}
+use Rattle.ranked.specs.declared.tag.Tag.{Tag}
+use Rattle.ranked.specs.Sets.{Same, greatest}
 use Rattle.pcrf_model.specs.Sessions.{Session, gx, session_cmp}
 use Rattle.pcrf_model.specs.Paths.{Path, address, apn, last}
 use Rattle.pcrf_model.specs.Values.{Value, Number, Text, Address, Subscriber, Entry, value_cmp, entry_cmp}
@@ -20,12 +21,13 @@ use Rattle.pcrf_model.specs.Holdings.{entry_at, value_at, shown}
 use Rattle.pcrf_model.specs.Operations.{holding_of}
 use Rattle.pcrf_model.specs.Views.{View, view, as_address, as_text}
 use Rattle.pcrf_model.specs.Making.{ccr_fields}
-use Rattle.pcrf_model.proofs.SetLaws.{Same-itself, Same-through, Same-append, Same-turn}
+use Rattle.ranked.proofs.SetLaws.{Same-itself, Same-through, Same-append, Same-turn}
 use Rattle.pcrf_model.proofs.FactLaws.{fact_ranked, session_ranked}
-use Rattle.pcrf_model.proofs.AscendingLaws.{ascending-In, ascending-Same}
+use Rattle.ranked.proofs.AscendingLaws.{ascending-In, ascending-Same}
 use Rattle.pcrf_model.proofs.ViewLaws.{view-Same}
 use Rattle.pcrf_world.proofs.Fields.{AreFieldFacts, AreFieldFacts-append, fields_of_request, none_gone}
-use Rattle.pcrf_world.proofs.Greatest.{by_tag, greatest-map, greatest-push, joined_none}
+use Rattle.lattice_core.proofs.Registers.{by_tag, greatest-push, joined_none}
+use Rattle.ranked.proofs.Greatest.{greatest-map}
 use Rattle.pcrf_world.specs.declared.shown.GxSession.{GxSession}
 use Rattle.pcrf_world.specs.Operations.{OperationValue, operation_of, initial_request}
 use Rattle.pcrf_world.specs.Shown.{GxShown, shown_gx, shown_sessions}
@@ -128,10 +130,10 @@ told R what id os = greatest (by_tag R) (filter_map (said what id) os)
 
 module _ {T : Type 0} (R : T → T → Ordering) (what : OperationValue → T) (id : List ℕ) where
   -- one operation more
-  told-push : (os : List OperationValue) (o : OperationValue) → told R what id (os ++ o ∷ []) ≡ told_joined R (told R what id os) (said what id o)
+  told-push : (os : List OperationValue) (o : OperationValue) → told R what id (os ++ o ∷ []) ≡ reg_joined R (told R what id os) (said what id o)
   told-push os o = ap (greatest (by_tag R)) (filter_map-append (said what id) os (o ∷ [])) ∙ more (said what id o)
     where
-      more : (s : Option (Tag × T)) → greatest (by_tag R) (filter_map (said what id) os ++ cons_option s []) ≡ told_joined R (told R what id os) s
+      more : (s : Option (Tag × T)) → greatest (by_tag R) (filter_map (said what id) os ++ cons_option s []) ≡ reg_joined R (told R what id os) s
       more None = ap (greatest (by_tag R)) (append-nil (filter_map (said what id) os)) ∙ sym (joined_none R (told R what id os))
       more (Some e) = greatest-push R (filter_map (said what id) os) e
 
@@ -235,9 +237,9 @@ told_of-push id os o =
     joined : Ordering → GxSession
     joined c = record {
       session = id;
-      address = told_joined address_cmp (address_told id os) (said_if c (o.tag, o.fields.address));
-      apn = told_joined text_cmp (apn_told id os) (said_if c (o.tag, o.fields.apn));
-      last = told_joined nat_cmp (last_told id os) (said_if c (o.tag, 1));
+      address = reg_joined address_cmp (address_told id os) (said_if c (o.tag, o.fields.address));
+      apn = reg_joined text_cmp (apn_told id os) (said_if c (o.tag, o.fields.apn));
+      last = reg_joined nat_cmp (last_told id os) (said_if c (o.tag, 1));
     }
 
     nothing : joined Less ≡ told_of id os

@@ -1,7 +1,7 @@
 -- What a frame asks for (RFC 6733, 7.1 and 7.2): which answer it gets before a site looks at what it holds.
 use Rattle.std.specs.Prelude.{ℕ, ◌<◌, ◌^◌, Bool, not, ◌&&◌, ◌||◌, ◌==◌, if◌then◌else◌, List, [], nat_lt, take, drop, Option, Some, None, Result, Ok, Err, ⊤}
 use Rattle.std.proofs.Common.{option_and_then}
-use Rattle.lattice_core.specs.Texts.{one_to}
+use Rattle.pcrf_values.specs.Texts.{one_to}
 use Rattle.dia_codec.specs.declared.fault.MsgFault.{MsgFault}
 use Rattle.dia_codec.specs.declared.fault.MsgFault.TheVariants.{NotWhole, BadVersion, BadFlags, BadAvpLength, NoMemory}
 use Rattle.dia_codec.specs.declared.message.Header.{Header}

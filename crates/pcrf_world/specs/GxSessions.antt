@@ -5,9 +5,9 @@ use Rattle.std.specs.Ordering.{nat_cmp}
 use Rattle.std.specs.Net.Addr.{ipv4_octets}
 use Rattle.std.specs.Cmp.Lexicographic.{slice_cmp}
 use Rattle.std.specs.declared.net.ipv4_addr.Ipv4Addr.{Ipv4Addr}
-use Rattle.lattice_core.specs.Orders.{text_cmp}
-use Rattle.lattice_core.specs.Told.{told_joined}
-use Rattle.lattice_core.specs.declared.tag.Tag.{Tag}
+use Rattle.ranked.specs.Orders.{text_cmp}
+use Rattle.lattice_core.specs.Registers.{reg_joined}
+use Rattle.ranked.specs.declared.tag.Tag.{Tag}
 use Rattle.pcrf_world.specs.declared.operation.GxFields.{GxFields}
 use Rattle.pcrf_world.specs.declared.shown.GxSession.{GxSession}
 use Rattle.pcrf_world.specs.Shown.{GxShown}
@@ -32,7 +32,7 @@ address_cmp a b = slice_cmp nat_cmp (ipv4_octets a) (ipv4_octets b)
 -- with what an initial request told of it
 abbrev pub with_told : GxSession → Tag → GxFields → GxSession
 with_told s t f = record s {
-  address = told_joined address_cmp s.address (Some (t, f.address));
-  apn = told_joined text_cmp s.apn (Some (t, f.apn));
-  last = told_joined nat_cmp s.last (Some (t, 1));
+  address = reg_joined address_cmp s.address (Some (t, f.address));
+  apn = reg_joined text_cmp s.apn (Some (t, f.apn));
+  last = reg_joined nat_cmp s.last (Some (t, 1));
 }

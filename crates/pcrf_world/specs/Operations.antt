@@ -1,8 +1,8 @@
 -- Operations as the definitions have them.
 use Rattle.std.specs.Prelude.{◌≡◌, ℕ, List, Option, Some, None, true, false}
 use Rattle.std.specs.Net.Addr.{ipv4_octets}
-use Rattle.lattice_core.specs.declared.tag.Tag.{Tag}
-use Rattle.lattice_core.specs.Ascending.{ascending}
+use Rattle.ranked.specs.declared.tag.Tag.{Tag}
+use Rattle.ranked.specs.Ascending.{ascending}
 use Rattle.pcrf_model.specs.Sessions.{gx}
 use Rattle.pcrf_model.specs.Facts.{fact_cmp}
 use Rattle.pcrf_model.specs.Requests.{CcrValue, Initial}

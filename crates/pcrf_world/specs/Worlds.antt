@@ -1,6 +1,6 @@
 -- Worlds: sites, and the letters between them, each as the operations that it means.
 use Rattle.std.specs.Prelude.{◌≡◌, ℕ, zero, suc, List, [], ◌∷◌, ◌++◌, Some, slice_get}
-use Rattle.pcrf_model.specs.Sets.{Same}
+use Rattle.ranked.specs.Sets.{Same}
 use Rattle.pcrf_model.specs.Operations.{Operation}
 use Rattle.pcrf_world.specs.Sites.{SiteValue, site_holding, fresh}
 

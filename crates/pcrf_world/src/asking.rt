@@ -20,7 +20,7 @@ use dia_codec::{
     write_message,
 };
 use gx_profile::{Ccr, read_ccr, write_cca};
-use lattice_core::SessionId;
+use pcrf_values::SessionId;
 use std::alloc::{AllocError, Global};
 
 /// What a frame asks for.

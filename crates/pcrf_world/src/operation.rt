@@ -1,7 +1,8 @@
 //! What accepted requests make, and what letters carry.
 ghost use Rattle.std.specs.Prelude.{◌≡◌, ◌<◌, ◌^◌, IfOk};
 
-use lattice_core::{Apn, DiameterIdentity, Ranked, SessionId, Subscribers, Tag};
+use pcrf_values::{Apn, DiameterIdentity, SessionId, Subscribers};
+use ranked::{Ranked, Tag};
 use std::alloc::{AllocError, Global};
 use std::marker::Model;
 use std::net::Ipv4Addr;

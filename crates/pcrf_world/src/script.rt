@@ -9,7 +9,7 @@ use crate::request::Request;
 use crate::world::{Outcome, World, WorldEvent};
 use dia_base::Identity;
 use dia_codec::{Assembler, Counted, FrameFault, Header};
-use lattice_core::DiameterIdentity;
+use pcrf_values::DiameterIdentity;
 use std::alloc::{AllocError, Global};
 use std::io::{Read, Write};
 use std::net::Ipv4Addr;

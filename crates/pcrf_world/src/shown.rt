@@ -3,8 +3,8 @@ ghost use Rattle.std.specs.Prelude.{◌≡◌, ℕ, List, map, IfOk, OnOk};
 ghost use Rattle.std.proofs.Common.{option_map};
 ghost use Rattle.std.specs.Option.{option_copied};
 ghost use Rattle.std.specs.Net.Addr.{ipv4_octets};
-ghost use Rattle.lattice_core.specs.Ascending.{ascending};
-ghost use Rattle.lattice_core.specs.Orders.{text_cmp};
+ghost use Rattle.ranked.specs.Ascending.{ascending};
+ghost use Rattle.ranked.specs.Orders.{text_cmp};
 ghost use Rattle.pcrf_model.specs.Sessions.{gx};
 ghost use Rattle.pcrf_model.specs.Operations.{holding_of};
 ghost use Rattle.pcrf_model.specs.Views.{view};
@@ -14,7 +14,9 @@ ghost use Rattle.pcrf_world.specs.Shown.{shown_gx};
 
 use crate::operation::{GxFields, Operation};
 use gx_profile::RequestKind;
-use lattice_core::{Apn, Ranked, Reg, SessionId, Tag, ascending_of};
+use lattice_core::Reg;
+use pcrf_values::{Apn, SessionId};
+use ranked::{Ranked, Tag, ascending_of};
 use std::alloc::{AllocError, Global};
 use std::net::Ipv4Addr;
 

@@ -12,7 +12,7 @@ use crate::shown::{GxSession, named_in, sessions_of};
 use dia_base::Refusal;
 use dia_base::codes::results::{INITIAL_PARAMETERS, UNABLE_TO_COMPLY};
 use gx_profile::{Ccr, GxReply, RequestKind};
-use lattice_core::{Ranked, Tag};
+use ranked::{Ranked, Tag};
 use std::alloc::{AllocError, Global};
 use std::marker::Model;
 

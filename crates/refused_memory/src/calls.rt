@@ -5,7 +5,8 @@ use crate::places::{Place, join_at, place_at, take_out};
 use crate::records::{Records, Tree};
 use crate::sample::{Fields, Record, Sample};
 use crate::value_calls::ValueCall;
-use lattice_core::{Reg, Text};
+use lattice_core::Reg;
+use ranked::Text;
 use std::alloc::{AllocError, Global};
 
 /// A call of each joined type.

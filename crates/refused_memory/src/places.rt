@@ -3,7 +3,8 @@ use crate::outcome::Outcome;
 use crate::records::{RecordMap, Tree, add_at, add_ended};
 use crate::sample::{Record, Sample, text};
 use crate::whole::Whole;
-use lattice_core::{Join, JoinTree, Text};
+use lattice_core::{Join, JoinTree};
+use ranked::Text;
 use std::alloc::{AllocError, Global};
 
 /// Where a record goes.

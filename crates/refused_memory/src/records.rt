@@ -1,7 +1,8 @@
 //! Maps of records by name, few or many of them.
 use crate::sample::{Record, Sample, text};
 use crate::whole::Whole;
-use lattice_core::{JoinMap, JoinTree, Text, Tombed};
+use lattice_core::{JoinMap, JoinTree, Tombed};
+use ranked::Text;
 use std::alloc::{AllocError, Global};
 
 /// Few records.

@@ -1,6 +1,7 @@
 //! Values that are joined, and what their joins have to be.
 use crate::whole::Whole;
-use lattice_core::{JoinMap, Listed, Reg, Tag, Text, Tombed};
+use lattice_core::{JoinMap, Reg, Tombed};
+use ranked::{Listed, Tag, Text};
 use std::alloc::{AllocError, Global};
 
 /// The fields of a record.

@@ -4,7 +4,8 @@ use crate::sample::text;
 use crate::values::{
     apn, delta, filters, rule, rule_name, subscriber, subscribers, subscribers_with,
 };
-use lattice_core::{Apn, Ranked, SessionId, Subscribers};
+use pcrf_values::{Apn, SessionId, Subscribers};
+use ranked::Ranked;
 use std::alloc::{AllocError, Global};
 
 /// A call on a value type.

@@ -1,9 +1,5 @@
 //! Values of the value types; `None` where a value is out of its range, which none of these is.
-use lattice_core::{
-    Apn, Delta, FilterText, Filters, FlowStatus, Preemption, PriorityLevel, QosClass,
-    RetentionPriority, Rule, RuleName, RuleQos, Subscriber, Subscribers, SubscriptionData,
-    SubscriptionType,
-};
+use pcrf_values::{Apn, Delta, FilterText, Filters, FlowStatus, Preemption, PriorityLevel, QosClass, RetentionPriority, Rule, RuleName, RuleQos, Subscriber, Subscribers, SubscriptionData, SubscriptionType};
 use std::alloc::{AllocError, Global};
 
 /// A subscriber with a telephone number.

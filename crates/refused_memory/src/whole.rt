@@ -1,5 +1,6 @@
 //! Whether two values are the same in every entry, key, tag and value.
-use lattice_core::{Join, JoinMap, JoinTree, Ranked, Reg, Tombed};
+use lattice_core::{Join, JoinMap, JoinTree, Reg, Tombed};
+use ranked::Ranked;
 
 /// Values that can be compared as a whole.
 pub trait Whole: Join {

@@ -1,12 +1,13 @@
 use Rattle.std.proofs.Common.{◌≤◌, length, arith, ◌∙◌, ap}
 use Rattle.std.proofs.lemmas.List.{length-map}
-use Rattle.lattice_core.specs.Ascending.{ascending}
-use Rattle.lattice_core.specs.Orders.{subscriber_cmp}
+use Rattle.ranked.specs.Ascending.{ascending}
+use Rattle.pcrf_values.specs.Subscribers.{subscriber_cmp}
 use Rattle.dia_codec.specs.Spelling.{avp_views}
 use Rattle.dia_base.specs.Rows.{base_key, values_of, grouped_refusal, plain_refusal, Group}
 use Rattle.dia_base.specs.Subscriptions.{subscription_rows, subscriber_of}
 use Rattle.dia_base.proofs.Refusals.{granted_within}
-use Rattle.dia_base.proofs.Sets.{length-ascending, unwrap_or-one_to}
+use Rattle.ranked.proofs.Lengths.{length-ascending}
+use Rattle.pcrf_values.proofs.Ranges.{unwrap_or-one_to}
 use Rattle.dia_base.proofs.subscriptions.read_subscribers.Goals as goal
 
 pub returns-clause-read : goal.returns-clause-read

@@ -4,7 +4,7 @@ use Rattle.std.specs.Cmp.Lexicographic.{pointwise}
 use Rattle.std.specs.Ordering.{is_eq}
 use Rattle.std.proofs.lemmas.List.{take_more, take_all}
 use Rattle.std.proofs.lemmas.Map.Text.{is_eq-slice_cmp}
-use Rattle.lattice_core.specs.Orders.{text_cmp}
+use Rattle.ranked.specs.Orders.{text_cmp}
 use Rattle.pcrf_world.specs.declared.shown.GxSession.{GxSession}
 use Rattle.pcrf_world.specs.GxSessions.{gx_value, with_told}
 use Rattle.pcrf_world.proofs.ShownSessions.{told_of, told_of-push, told_held}

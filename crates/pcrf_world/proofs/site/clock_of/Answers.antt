@@ -1,6 +1,6 @@
 use Rattle.std.proofs.Common.{◌≡◌, ℕ, List, max, map, take, ap, sym, ◌∙◌, arith}
 use Rattle.pcrf_world.proofs.Lists.{map_push, clock_push}
-use Rattle.lattice_core.specs.declared.tag.Tag.{Tag}
+use Rattle.ranked.specs.declared.tag.Tag.{Tag}
 use Rattle.pcrf_model.specs.Operations.{Operation, holding_of}
 use Rattle.pcrf_world.specs.Operations.{operation_of}
 use Rattle.pcrf_world.proofs.site.clock_of.Goals as goal

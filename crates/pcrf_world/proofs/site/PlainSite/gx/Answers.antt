@@ -1,6 +1,6 @@
 use Rattle.std.proofs.Common.{◌≡◌, ℕ, List, map, IfOk, ap, subst, ◌∙◌}
-use Rattle.lattice_core.specs.Orders.{text_cmp}
-use Rattle.lattice_core.specs.Ascending.{ascending}
+use Rattle.ranked.specs.Orders.{text_cmp}
+use Rattle.ranked.specs.Ascending.{ascending}
 use Rattle.pcrf_model.specs.Sessions.{gx}
 use Rattle.pcrf_model.specs.Operations.{Operation, holding_of}
 use Rattle.pcrf_model.specs.Views.{View, view}

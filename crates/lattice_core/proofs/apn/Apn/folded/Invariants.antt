@@ -1,7 +1,0 @@
-use Rattle.std.proofs.Common.{◌≡◌, take}
-use Rattle.lattice_core.specs.Texts.{folded}
-use Rattle.lattice_core.proofs.apn.Apn.folded.Given as goal
-
--- the letters are the folded bytes so far
-abbrev pub invariant-loop-byte : goal.invariant-loop-byte
-invariant-loop-byte l = l.letters.items ≡ folded (take l.byte-index l.bytes)

@@ -1,0 +1,6 @@
+pub mod Numbers
+pub mod RuleValues
+pub mod RuleViews
+pub mod Subscribers
+pub mod Texts
+pub mod laws

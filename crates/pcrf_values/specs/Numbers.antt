@@ -1,0 +1,32 @@
+-- The numbers by which the standards name the values of an enumeration, and numbers within a range.
+use Rattle.std.specs.Prelude.{ℕ, Option, Some, None, if◌then◌else◌, ◌&&◌, nat_le}
+use Rattle.pcrf_values.specs.declared.subscriber.SubscriptionType.{SubscriptionType}
+use Rattle.pcrf_values.specs.declared.subscriber.SubscriptionType.TheVariants as subscription
+use Rattle.pcrf_values.specs.declared.rule.FlowStatus.{FlowStatus}
+use Rattle.pcrf_values.specs.declared.rule.FlowStatus.TheVariants as flow
+use Rattle.pcrf_values.specs.declared.rule.Preemption.{Preemption}
+use Rattle.pcrf_values.specs.declared.rule.Preemption.TheVariants as preemption
+
+-- Subscription-Id-Type (RFC 4006, 8.47)
+abbrev pub subscription_number : SubscriptionType → ℕ
+subscription_number subscription.EndUserE164 = 0
+subscription_number subscription.EndUserImsi = 1
+subscription_number subscription.EndUserSipUri = 2
+subscription_number subscription.EndUserNai = 3
+subscription_number subscription.EndUserPrivate = 4
+
+-- Flow-Status (TS 29.214, 5.3.11)
+abbrev pub flow_status_number : FlowStatus → ℕ
+flow_status_number flow.EnabledUplink = 0
+flow_status_number flow.EnabledDownlink = 1
+flow_status_number flow.Enabled = 2
+flow_status_number flow.Disabled = 3
+
+-- Pre-emption-Capability and Pre-emption-Vulnerability (TS 29.212, 5.3.46 and 5.3.47)
+abbrev pub preemption_number : Preemption → ℕ
+preemption_number preemption.Enabled = 0
+preemption_number preemption.Disabled = 1
+
+-- the number, where it is from least to most
+abbrev pub number_within : ℕ → ℕ → ℕ → Option ℕ
+number_within least most n = if nat_le least n && nat_le n most then Some n else None

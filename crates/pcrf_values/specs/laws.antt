@@ -1,0 +1,2 @@
+-- Laws of the orders of values that the specs of other crates cite.
+pub mod Values

@@ -1,0 +1,106 @@
+//! Lists with a least and a greatest length, and the texts among them.
+ghost use Rattle.std.specs.Prelude.{◌≡◌, ◌<◌, ◌≤◌, length, IfOk};
+ghost use Rattle.pcrf_values.specs.Texts.{one_to};
+
+use ranked::{Listed, Ranked};
+use std::alloc::{AllocError, Global};
+use std::marker::Model;
+
+/// A list of 1 to `MOST` values, which contracts see as that list. Ordered member by member, a prefix first.
+#[derive(Drop, PartialEq, Eq, PartialOrd, Ord)]
+pub struct BoundedList<T, const MOST: usize> {
+    list: Listed<T>,
+}
+
+/// A text of 1 to `MOST` bytes.
+pub type BoundedText<const MOST: usize> = BoundedList<u8, MOST>;
+
+/// A Session-Id (RFC 6733, 8.8). Its greatest length is this project's own.
+pub type SessionId = BoundedText<512>;
+
+/// The name of a Diameter host or realm (RFC 6733, 4.3.1).
+pub type DiameterIdentity = BoundedText<255>;
+
+/// The number or name of a subscriber, as Subscription-Id-Data gives it (RFC 4006, 8.48).
+pub type SubscriptionData = BoundedText<255>;
+
+/// An IPFilterRule as it was given (RFC 6733, 4.3.1).
+pub type FilterText = BoundedText<255>;
+
+/// The one or two filters of a flow, in the order given (Flow-Description, TS 29.214, 5.3.8).
+pub type Filters = BoundedList<FilterText, 2>;
+
+/// The name of a rule, as Charging-Rule-Name gives it (TS 29.212, 5.3.6). Its greatest length is this project's own: it has
+/// room for a Session-Id and two numbers.
+pub type RuleName = BoundedText<600>;
+
+impl<T, const MOST: usize> Model for BoundedList<T, MOST> {
+    ghost use Rattle.std.specs.Prelude.{List, ◌<◌, ◌≤◌, length};
+
+    ghost Value = { List T };
+
+    ghost view = { λ b. b.list };
+
+    ghost inverse = { λ list. record { list = list } };
+
+    ghost invariant = { λ b. (0 < length b.list) × (length b.list ≤ MOST) };
+}
+
+impl<T: Drop, const MOST: usize> BoundedList<T, MOST> {
+    /// The list of these values; `None` where there are none or more than `MOST` of them.
+    pub fn of(items: Vec<T>) -> Option<BoundedList<T, MOST>>
+        ensures { result ≡ one_to MOST items.items }
+    {
+        if items.is_empty() || items.len() > MOST {
+            return None;
+        }
+        Some(BoundedList {
+            list: Listed::of(items),
+        })
+    }
+
+    /// The values.
+    pub fn as_slice(&self) -> &[T]
+        ensures items { result.now ≡ self.now }
+        ensures not_empty { 0 < length self.now }
+        ensures within { length self.now ≤ MOST }
+    {
+        self.list.as_slice()
+    }
+
+    /// The values, out of the list.
+    pub fn into_vec(self) -> Vec<T>
+        ensures items { result.items ≡ self }
+        ensures not_empty { 0 < length self }
+        ensures within { length self ≤ MOST }
+    {
+        self.list.into_vec()
+    }
+}
+
+impl<const MOST: usize> BoundedList<u8, MOST> {
+    /// The text of a copy of these bytes; `None` where there are none or more than `MOST` of them.
+    pub fn read(alloc: Global, bytes: &[u8]) -> Result<Option<BoundedText<MOST>>, AllocError>
+        ensures { IfOk result (λ text. text ≡ one_to MOST bytes.now) }
+    {
+        if bytes.is_empty() || bytes.len() > MOST {
+            return Ok(None);
+        }
+        let copy = Vec::from_slice(alloc, bytes)?;
+        Ok(Some(BoundedList {
+            list: Listed::of(copy),
+        }))
+    }
+}
+
+impl<T: Ranked, const MOST: usize> Ranked for BoundedList<T, MOST> {
+    ghost use Rattle.ranked.specs.laws.Exact.{list_same};
+
+    ghost same = { list_same T.same };
+
+    fn try_copy(&self) -> Result<BoundedList<T, MOST>, AllocError> {
+        Ok(BoundedList {
+            list: self.list.try_copy()?,
+        })
+    }
+}

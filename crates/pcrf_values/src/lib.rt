@@ -1,0 +1,21 @@
+//! The values that requests, facts, rules and letters share, each keeping its range by its type.
+#![tactic(auto)]
+
+mod apn;
+mod bounded_list;
+mod bounded_number;
+mod delta;
+mod rule;
+mod subscriber;
+mod subscribers;
+
+pub use apn::Apn;
+pub use bounded_list::{
+    BoundedList, BoundedText, DiameterIdentity, FilterText, Filters, RuleName, SessionId,
+    SubscriptionData,
+};
+pub use bounded_number::{BoundedNumber, PriorityLevel, QosClass};
+pub use delta::Delta;
+pub use rule::{FlowStatus, Preemption, RetentionPriority, Rule, RuleQos};
+pub use subscriber::{Subscriber, SubscriptionType};
+pub use subscribers::Subscribers;

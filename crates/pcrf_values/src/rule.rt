@@ -1,0 +1,288 @@
+//! PCC rules and differences of rules.
+ghost use Rattle.std.specs.Prelude.{◌≡◌, ◌<◌, ◌≤◌, IfSome, IfNone};
+ghost use Rattle.pcrf_values.specs.Numbers.{flow_status_number, preemption_number};
+ghost use Rattle.pcrf_values.specs.RuleValues.{rule_cmp};
+ghost use Rattle.pcrf_values.specs.RuleViews.{rule_value, numbers_of};
+
+use crate::bounded_list::{Filters, RuleName};
+use crate::bounded_number::{PriorityLevel, QosClass};
+use ranked::Ranked;
+use std::alloc::AllocError;
+use std::cmp::Ordering;
+use std::marker::Model;
+
+/// Which directions of a flow are open (Flow-Status, TS 29.214, 5.3.11). REMOVED, 4, is no status of a rule.
+#[derive(Clone, Copy, Debug, PartialEq, Eq, PartialOrd, Ord)]
+pub enum FlowStatus {
+    /// Uplink alone.
+    EnabledUplink,
+    /// Downlink alone.
+    EnabledDownlink,
+    /// Both.
+    Enabled,
+    /// Neither.
+    Disabled,
+}
+
+impl FlowStatus {
+    /// The status that has a number.
+    pub fn from_number(number: u32) -> Option<FlowStatus>
+        ensures known { IfSome result (λ status. flow_status_number status ≡ number) }
+        ensures unknown { IfNone result (3 < number) }
+    {
+        match number {
+            0 => Some(FlowStatus::EnabledUplink),
+            1 => Some(FlowStatus::EnabledDownlink),
+            2 => Some(FlowStatus::Enabled),
+            3 => Some(FlowStatus::Disabled),
+            _ => None,
+        }
+    }
+
+    /// The number of the status.
+    pub fn number(self) -> u32
+        ensures number { result ≡ flow_status_number self }
+        ensures within { result ≤ 3 }
+    {
+        match self {
+            FlowStatus::EnabledUplink => 0,
+            FlowStatus::EnabledDownlink => 1,
+            FlowStatus::Enabled => 2,
+            FlowStatus::Disabled => 3,
+        }
+    }
+}
+
+/// Whether a bearer may take resources from others, or lose its own to them
+/// (Pre-emption-Capability and Pre-emption-Vulnerability, TS 29.212, 5.3.46 and 5.3.47).
+#[derive(Clone, Copy, Debug, PartialEq, Eq, PartialOrd, Ord)]
+pub enum Preemption {
+    /// It may.
+    Enabled,
+    /// It may not.
+    Disabled,
+}
+
+impl Preemption {
+    /// The value that has a number.
+    pub fn from_number(number: u32) -> Option<Preemption>
+        ensures known { IfSome result (λ preemption. preemption_number preemption ≡ number) }
+        ensures unknown { IfNone result (1 < number) }
+    {
+        match number {
+            0 => Some(Preemption::Enabled),
+            1 => Some(Preemption::Disabled),
+            _ => None,
+        }
+    }
+
+    /// The number of the value.
+    pub fn number(self) -> u32
+        ensures number { result ≡ preemption_number self }
+        ensures within { result ≤ 1 }
+    {
+        match self {
+            Preemption::Enabled => 0,
+            Preemption::Disabled => 1,
+        }
+    }
+}
+
+/// The priority of allocation and retention of a bearer (Allocation-Retention-Priority, TS 29.212, 5.3.32).
+#[derive(Clone, Copy)]
+pub struct RetentionPriority {
+    pub level: PriorityLevel,
+    /// Whether it may take resources from bearers of a lower priority.
+    pub capability: Preemption,
+    /// Whether it may lose its resources to bearers of a higher priority.
+    pub vulnerability: Preemption,
+}
+
+/// The quality of service of a rule (QoS-Information, TS 29.212, 5.3.16).
+#[derive(Clone, Copy)]
+pub struct RuleQos {
+    pub class: QosClass,
+    pub priority: RetentionPriority,
+    /// The greatest bit rate up, in bit/s.
+    pub max_uplink: u32,
+    /// The greatest bit rate down, in bit/s.
+    pub max_downlink: u32,
+}
+
+/// A PCC rule (Charging-Rule-Definition, TS 29.212, 5.3.4), which contracts see as a `RuleValue`. Ordered field by field.
+#[derive(Drop)]
+pub struct Rule {
+    name: RuleName,
+    status: FlowStatus,
+    filters: Filters,
+    qos: RuleQos,
+    precedence: u32,
+}
+
+impl Model for Rule {
+    ghost use Rattle.pcrf_values.specs.RuleValues.{RuleValue};
+    ghost use Rattle.pcrf_values.specs.RuleViews.{rule_value};
+
+    ghost Value = { RuleValue };
+
+    ghost view = { λ r. rule_value r.name r.status r.filters r.qos r.precedence };
+}
+
+impl Rule {
+    /// The rule of these parts. Of two rules that a packet fits, the one with the lesser precedence applies.
+    pub fn of(
+        name: RuleName,
+        status: FlowStatus,
+        filters: Filters,
+        qos: RuleQos,
+        precedence: u32,
+    ) -> Rule
+        ensures { result ≡ rule_value name status filters qos precedence }
+    {
+        Rule {
+            name,
+            status,
+            filters,
+            qos,
+            precedence,
+        }
+    }
+
+    /// The name.
+    pub fn name(&self) -> &RuleName
+        ensures { result.now ≡ self.now.name }
+    {
+        &self.name
+    }
+
+    /// Which directions are open.
+    pub fn status(&self) -> FlowStatus
+        ensures { flow_status_number result ≡ self.now.status }
+    {
+        self.status
+    }
+
+    /// The filters that pick the packets.
+    pub fn filters(&self) -> &Filters
+        ensures { result.now ≡ self.now.filters }
+    {
+        &self.filters
+    }
+
+    /// The quality of service.
+    pub fn qos(&self) -> RuleQos
+        ensures class { result.class ≡ self.now.qci }
+        ensures level { result.priority.level ≡ self.now.priority }
+        ensures capability { preemption_number result.priority.capability ≡ self.now.capability }
+        ensures vulnerability { preemption_number result.priority.vulnerability ≡ self.now.vulnerability }
+        ensures uplink { result.max_uplink ≡ self.now.max_ul }
+        ensures downlink { result.max_downlink ≡ self.now.max_dl }
+    {
+        self.qos
+    }
+
+    /// The precedence, the least first.
+    pub fn precedence(&self) -> u32
+        ensures { result ≡ self.now.precedence }
+    {
+        self.precedence
+    }
+
+    // The numbers behind the filters, in the order in which rules are compared.
+    fn numbers(&self) -> [u32; 7]
+        ensures { result ≡ numbers_of self.now }
+    {
+        let RuleQos {
+            class,
+            priority,
+            max_uplink,
+            max_downlink,
+        } = self.qos();
+        let precedence = self.precedence();
+        [
+            class.get(),
+            priority.level.get(),
+            priority.capability.number(),
+            priority.vulnerability.number(),
+            max_uplink,
+            max_downlink,
+            precedence,
+        ]
+    }
+}
+
+impl PartialEq for Rule {
+    ghost use Rattle.std.specs.Ordering.{eq_by_cmp};
+    ghost use Rattle.std.specs.Cmp.{partial_equiv_from_equiv};
+    ghost use Rattle.std.proofs.lemmas.Cmp.{eq_by_cmp_equiv};
+    ghost use Rattle.pcrf_values.specs.laws.Values.{rule_total};
+
+    ghost eq = { eq_by_cmp rule_cmp };
+
+    ghost laws = { partial_equiv_from_equiv (eq_by_cmp_equiv rule_total) };
+
+    fn eq(&self, other: &Rule) -> bool {
+        self.cmp(other) == Ordering::Equal
+    }
+}
+
+impl Eq for Rule {
+    ghost use Rattle.std.proofs.lemmas.Cmp.{eq_by_cmp_equiv};
+    ghost use Rattle.pcrf_values.specs.laws.Values.{rule_total};
+
+    ghost laws = { eq_by_cmp_equiv rule_total };
+}
+
+impl PartialOrd for Rule {
+    ghost use Rattle.std.specs.Ordering.{as_partial_cmp};
+    ghost use Rattle.std.specs.Cmp.{partial_order_from_total};
+    ghost use Rattle.pcrf_values.specs.laws.Values.{rule_total};
+
+    ghost partial_cmp = { as_partial_cmp rule_cmp };
+
+    ghost laws = { partial_order_from_total rule_total };
+
+    fn partial_cmp(&self, other: &Rule) -> Option<Ordering> {
+        Some(self.cmp(other))
+    }
+}
+
+impl Ord for Rule {
+    ghost use Rattle.std.specs.Prelude.{refl};
+    ghost use Rattle.pcrf_values.specs.laws.Values.{rule_total};
+
+    ghost cmp = { rule_cmp };
+
+    ghost total = { rule_total };
+
+    ghost matches_partial_cmp = { λ _ _. refl };
+
+    ghost matches_eq = { λ _ _. refl };
+
+    fn cmp(&self, other: &Rule) -> Ordering {
+        let numbers = self.numbers().cmp(&other.numbers());
+        let filters = self.filters.cmp(&other.filters).then(numbers);
+        let status = self
+            .status
+            .number()
+            .cmp(&other.status.number())
+            .then(filters);
+        self.name.cmp(&other.name).then(status)
+    }
+}
+
+impl Ranked for Rule {
+    ghost use Rattle.pcrf_values.specs.laws.Values.{rule_same};
+
+    ghost same = { rule_same };
+
+    fn try_copy(&self) -> Result<Rule, AllocError> {
+        Ok(Rule {
+            name: self.name.try_copy()?,
+            status: self.status,
+            filters: self.filters.try_copy()?,
+            qos: self.qos,
+            precedence: self.precedence,
+        })
+    }
+}
