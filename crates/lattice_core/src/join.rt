@@ -1,5 +1,5 @@
 //! Values that are joined with one another.
-ghost use Rattle.std.specs.Prelude.{◌≡◌, IfOk, IfErr};
+ghost use Rattle.std.specs.Prelude.{◌≡◌, IfOk, OnErr, IfErr};
 
 use std::alloc::AllocError;
 
@@ -18,7 +18,8 @@ pub trait Join: Drop + Sized {
     /// Joins `other` into this value; a refusal changes nothing and gives `other` back.
     fn join_in(&mut self, other: Self) -> Result<(), (AllocError, Self)>
         ensures joins { IfOk result (λ _. self.new ≡ joined self.old other) }
-        ensures refused { IfErr result (λ e. (self.new ≡ self.old) × (e.1 ≡ other)) }
+        ensures unchanged { OnErr result (self.new ≡ self.old) }
+        ensures given_back { IfErr result (λ e. e.1 ≡ other) }
     {
         match self.joined_copy(&other) {
             Ok(both) => {
@@ -32,7 +33,8 @@ pub trait Join: Drop + Sized {
     /// The join of two values; a refusal gives both back.
     fn join(self, other: Self) -> Result<Self, (AllocError, Self, Self)>
         ensures joins { IfOk result (λ r. r ≡ joined self other) }
-        ensures refused { IfErr result (λ e. (e.1 ≡ self) × (e.2 ≡ other)) }
+        ensures ours_back { IfErr result (λ e. e.1 ≡ self) }
+        ensures theirs_back { IfErr result (λ e. e.2 ≡ other) }
     {
         let mut both = self;
         match both.join_in(other) {

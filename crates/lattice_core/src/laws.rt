@@ -25,7 +25,8 @@ pub fn value_after_join_at<K: Ranked, V: Join>(map: &JoinMap<K, V>, key: &K, val
 /// What stands at a key in the join of two maps is the join of what stands there in either.
 pub fn value_after_join<K: Ranked, V: Join>(ours: &JoinMap<K, V>, theirs: &JoinMap<K, V>, asked: &K)
     ensures { value_at K.cmp (map_joined K.cmp V.joined ours.now theirs.now) asked.now
-        ≡ option_joined V.joined (value_at K.cmp ours.now asked.now) (value_at K.cmp theirs.now asked.now) }
+        ≡ option_joined V.joined
+        (value_at K.cmp ours.now asked.now) (value_at K.cmp theirs.now asked.now) }
 {
     ours.note_valid();
     theirs.note_valid();
@@ -33,7 +34,8 @@ pub fn value_after_join<K: Ranked, V: Join>(ours: &JoinMap<K, V>, theirs: &JoinM
 
 /// Two maps with the same look-ups are the same map.
 pub fn same_by_values<K: Ranked, V: Join>(ours: &JoinMap<K, V>, theirs: &JoinMap<K, V>)
-    ensures { ((k : K) → value_at K.cmp ours.now k ≡ value_at K.cmp theirs.now k) → ours.now ≡ theirs.now }
+    ensures { ((k : K) → value_at K.cmp ours.now k ≡ value_at K.cmp theirs.now k)
+        → ours.now ≡ theirs.now }
 {
     ours.note_valid();
     theirs.note_valid();
@@ -54,7 +56,8 @@ pub fn value_after_place_at<K: Ranked, V: Join>(
 
 /// What stood at a key, put back there, makes the map what it was.
 pub fn place_back<K: Ranked, V: Join>(map: &JoinTree<K, V>, key: &K, value: &Option<V>)
-    ensures { placed K.cmp (placed K.cmp map.now key.now value.now) key.now (value_at K.cmp map.now key.now)
+    ensures { placed K.cmp (placed K.cmp map.now key.now value.now) key.now
+        (value_at K.cmp map.now key.now)
         ≡ map.now }
 {
     map.note_valid();

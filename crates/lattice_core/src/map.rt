@@ -1,5 +1,5 @@
 //! Maps that are joined entry by entry, for few entries.
-ghost use Rattle.std.specs.Prelude.{◌≡◌, [], IfOk, IfErr, MatchResult};
+ghost use Rattle.std.specs.Prelude.{◌≡◌, [], IfOk, OnErr, IfErr, MatchResult};
 ghost use Rattle.std.specs.Option.{option_copied};
 ghost use Rattle.std.specs.Slice.Iter.{iter_rest};
 ghost use Rattle.lattice_core.specs.Entries.{value_at, IsAscending, IsAt, IsGap, AllValues, put, put_all, map_joined};
@@ -67,7 +67,8 @@ impl<K: Ranked, V: Join> JoinMap<K, V> {
     /// Joins a value into the one at a key; a refusal changes nothing and gives the value back.
     pub fn join_at(&mut self, key: K, value: V) -> Result<(), (AllocError, V)>
         ensures joins { IfOk result (λ _. self.new ≡ put K.cmp V.joined self.old key value) }
-        ensures refused { IfErr result (λ e. (self.new ≡ self.old) × (e.1 ≡ value)) }
+        ensures unchanged { OnErr result (self.new ≡ self.old) }
+        ensures given_back { IfErr result (λ e. e.1 ≡ value) }
     {
         value.note_valid();
         match self.place(&key) {

@@ -77,7 +77,8 @@ impl<K: Ranked, V: Join> JoinTree<K, V> {
     /// Joins a value into the one at a key; a refusal changes nothing and gives the value back.
     pub fn join_at(&mut self, key: K, value: V) -> Result<(), (AllocError, V)>
         ensures joins { IfOk result (λ _. self.new ≡ put K.cmp V.joined self.old key value) }
-        ensures refused { IfErr result (λ e. (self.new ≡ self.old) × (e.1 ≡ value)) }
+        ensures unchanged { OnErr result (self.new ≡ self.old) }
+        ensures given_back { IfErr result (λ e. e.1 ≡ value) }
     {
         value.note_valid();
         if let Some(slot) = self.tree.get_mut(&key) {
@@ -94,7 +95,9 @@ impl<K: Ranked, V: Join> JoinTree<K, V> {
     pub fn place_at(&mut self, key: &K, value: Option<V>) -> Result<Option<V>, AllocError>
         ensures stood { IfOk result (λ stood. stood ≡ value_at K.cmp self.old key.now) }
         ensures placed { IfOk result (λ _. self.new ≡ placed K.cmp self.old key.now value) }
-        ensures refused { OnErr result ((self.new ≡ self.old) × IsSome value × (value_at K.cmp self.old key.now ≡ None)) }
+        ensures unchanged { OnErr result (self.new ≡ self.old) }
+        ensures refused_value { OnErr result (IsSome value) }
+        ensures refused_new { OnErr result (value_at K.cmp self.old key.now ≡ None) }
     {
         let Some(value) = value else {
             return Ok(self.tree.remove(key));

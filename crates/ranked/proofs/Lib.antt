@@ -3,6 +3,7 @@ pub mod DistinctLaws
 pub mod Greatest
 pub mod Lengths
 pub mod OrderLaws
+pub mod PartLaws
 pub mod Placing
 pub mod Plain
 pub mod SetLaws

@@ -1,5 +1,5 @@
 use Rattle.std.proofs.Common.{◌≤◌}
-use Rattle.lattice_bench.proofs.count_present.Given as goal
+use Rattle.pcrf_bench.proofs.map.count_present.Given as goal
 
 -- at most the keys that were looked up were there
 abbrev pub invariant-loop-place : goal.invariant-loop-place

@@ -1,0 +1,215 @@
+//! Joins and exchanges at one name of a map.
+use crate::fingerprint::{Fingerprint, mixed};
+use crate::samples::{Named, Sample, add_to, text};
+use crate::trial::Call;
+use lattice_core::{Join, JoinTree};
+use ranked::{Ranked, Text};
+use std::alloc::{AllocError, Global};
+
+/// The name at which the trials put a value.
+const NAME: u8 = b'b';
+
+/// Where a value goes.
+#[derive(Clone, Copy, Debug, PartialEq, Eq)]
+pub enum Place {
+    /// A name that is there, among others.
+    Present,
+    /// A new name in an empty map.
+    First,
+    /// A new name among as many others as a block of memory has room for.
+    FullBlock,
+}
+
+impl Place {
+    /// All places.
+    pub const ALL: [Place; 3] = [Place::Present, Place::First, Place::FullBlock];
+
+    /// What a report calls the place.
+    pub fn name(self) -> &'static str {
+        match self {
+            Place::Present => "a name that is there",
+            Place::First => "the first name",
+            Place::FullBlock => "a name past a full block",
+        }
+    }
+
+    /// The names of the others.
+    fn others<M: Named>(self) -> &'static [u8] {
+        match self {
+            Place::Present => b"ac",
+            Place::First => b"",
+            Place::FullBlock => M::full_block(),
+        }
+    }
+
+    /// The map with the others alone.
+    fn rest<M: Named>(self, alloc: Global) -> Result<M, AllocError> {
+        let mut map = M::empty(alloc);
+        for name in self.others::<M>() {
+            add_to(&mut map, alloc, *name, M::Value::theirs(alloc)?)?;
+        }
+        Ok(map)
+    }
+
+    /// The map before: with the left value where the name is there.
+    fn map<M: Named>(self, alloc: Global) -> Result<M, AllocError> {
+        let mut map = self.rest::<M>(alloc)?;
+        if self == Place::Present {
+            add_to(&mut map, alloc, NAME, M::Value::ours(alloc)?)?;
+        }
+        Ok(map)
+    }
+
+    /// The map after a value was put at the name.
+    fn with<M: Named>(self, alloc: Global, value: M::Value) -> Result<M, AllocError> {
+        let mut map = self.rest::<M>(alloc)?;
+        add_to(&mut map, alloc, NAME, value)?;
+        Ok(map)
+    }
+}
+
+/// A join of the right value at a name.
+#[derive(Drop)]
+pub struct JoinAt<M: Named> {
+    map: M,
+    key: M::Key,
+    value: M::Value,
+}
+
+impl<M: Named> Call for JoinAt<M> {
+    type Case = Place;
+
+    fn operands(alloc: Global, place: Place) -> Result<JoinAt<M>, AllocError> {
+        let map = place.map::<M>(alloc)?;
+        let key = M::key(alloc, NAME)?;
+        let value = M::Value::theirs(alloc)?;
+        Ok(JoinAt { map, key, value })
+    }
+
+    fn expected(alloc: Global, place: Place) -> Result<u64, AllocError> {
+        let after = match place {
+            Place::Present => M::Value::joined(alloc)?,
+            Place::First | Place::FullBlock => M::Value::theirs(alloc)?,
+        };
+        Ok(place.with::<M>(alloc, after)?.fingerprint())
+    }
+
+    fn fingerprint(&self) -> u64 {
+        mixed(self.map.fingerprint(), self.value.fingerprint())
+    }
+
+    // The key is copied, so that it is there for a second call.
+    fn make(self) -> Result<u64, JoinAt<M>> {
+        let Ok(again) = self.key.try_copy() else {
+            return Err(self);
+        };
+        let JoinAt {
+            mut map,
+            key,
+            value,
+        } = self;
+        match map.add(key, value) {
+            Ok(()) => Ok(map.fingerprint()),
+            Err((_, value)) => Err(JoinAt {
+                map,
+                key: again,
+                value,
+            }),
+        }
+    }
+}
+
+/// The right value put at a name, in the place of one that may be there.
+#[derive(Drop)]
+pub struct PlaceAt<V: Sample> {
+    tree: JoinTree<Text, V>,
+    key: Text,
+    value: V,
+}
+
+impl<V: Sample> Call for PlaceAt<V> {
+    type Case = Place;
+
+    fn operands(alloc: Global, place: Place) -> Result<PlaceAt<V>, AllocError> {
+        let tree = place.map::<JoinTree<Text, V>>(alloc)?;
+        let key = text(alloc, &[NAME])?;
+        let value = V::theirs(alloc)?;
+        Ok(PlaceAt { tree, key, value })
+    }
+
+    fn expected(alloc: Global, place: Place) -> Result<u64, AllocError> {
+        let stood = match place {
+            Place::Present => Some(V::ours(alloc)?.fingerprint()),
+            Place::First | Place::FullBlock => None,
+        };
+        let after = place.with::<JoinTree<Text, V>>(alloc, V::theirs(alloc)?)?;
+        Ok(mixed(after.fingerprint(), fingerprint_if(stood)))
+    }
+
+    fn fingerprint(&self) -> u64 {
+        mixed(self.tree.fingerprint(), self.value.fingerprint())
+    }
+
+    // The value is copied, so that it is there for a second call.
+    fn make(self) -> Result<u64, PlaceAt<V>> {
+        let mut call = self;
+        let Ok(value) = call.value.try_copy() else {
+            return Err(call);
+        };
+        match exchange(&mut call.tree, &call.key, Some(value)) {
+            Ok(print) => Ok(print),
+            Err(_) => Err(call),
+        }
+    }
+}
+
+/// Puts a value at a key or takes it out: the fingerprint of the tree then, and of what stood.
+fn exchange<V: Sample>(
+    tree: &mut JoinTree<Text, V>,
+    key: &Text,
+    value: Option<V>,
+) -> Result<u64, AllocError> {
+    let stood = tree.place_at(key, value)?;
+    let stood = stood.map(|value| value.fingerprint());
+    Ok(mixed(tree.fingerprint(), fingerprint_if(stood)))
+}
+
+/// The fingerprint of what may stand there.
+fn fingerprint_if(stood: Option<u64>) -> u64 {
+    stood.map_or(0, |print| mixed(1, print))
+}
+
+/// A value taken out, which needs no memory.
+#[derive(Drop)]
+pub struct TakeOut<V: Sample> {
+    tree: JoinTree<Text, V>,
+    key: Text,
+}
+
+impl<V: Sample> Call for TakeOut<V> {
+    type Case = ();
+
+    fn operands(alloc: Global, _case: ()) -> Result<TakeOut<V>, AllocError> {
+        let tree = Place::Present.map::<JoinTree<Text, V>>(alloc)?;
+        let key = text(alloc, &[NAME])?;
+        Ok(TakeOut { tree, key })
+    }
+
+    fn expected(alloc: Global, _case: ()) -> Result<u64, AllocError> {
+        let stood = Some(V::ours(alloc)?.fingerprint());
+        let rest = Place::Present.rest::<JoinTree<Text, V>>(alloc)?;
+        Ok(mixed(rest.fingerprint(), fingerprint_if(stood)))
+    }
+
+    fn fingerprint(&self) -> u64 {
+        self.tree.fingerprint()
+    }
+
+    fn make(self) -> Result<u64, TakeOut<V>> {
+        let mut call = self;
+        match exchange(&mut call.tree, &call.key, None) {
+            Ok(print) => Ok(print),
+            Err(_) => Err(call),
+        }
+    }
+}
