@@ -1,16 +1,18 @@
 -- What a frame asks for (RFC 6733, 7.1 and 7.2): which answer it gets before a site looks at what it holds.
 use Rattle.std.specs.Prelude.{ℕ, ◌<◌, ◌^◌, Bool, not, ◌&&◌, ◌||◌, ◌==◌, if◌then◌else◌, List, [], nat_lt, take, drop, Option, Some, None, Result, Ok, Err, ⊤}
 use Rattle.std.proofs.Common.{option_and_then}
+use Rattle.pcrf_values.specs.Applications.{base_application, gx_application, rx_application}
+use Rattle.pcrf_values.specs.Results.{command_unsupported, application_unsupported, invalid_hdr_bits, unsupported_version, invalid_avp_length}
 use Rattle.pcrf_values.specs.Texts.{one_to}
+use Rattle.pcrf_values.specs.declared.refusal.Refusal.{Refusal}
 use Rattle.dia_codec.specs.declared.fault.MsgFault.{MsgFault}
 use Rattle.dia_codec.specs.declared.fault.MsgFault.TheVariants.{NotWhole, BadVersion, BadFlags, BadAvpLength, NoMemory}
 use Rattle.dia_codec.specs.declared.message.Header.{Header}
 use Rattle.dia_codec.specs.Fields.{AvpValue, MessageValue, header_of}
 use Rattle.dia_codec.specs.Reading.{avps_of, message_of}
-use Rattle.dia_base.specs.declared.refusal.Refusal.{Refusal}
-use Rattle.dia_base.specs.Rows.{base, base_key, value_of, or_else}
+use Rattle.dia_base.specs.Rows.{base_key, value_of, or_else}
 use Rattle.pcrf_model.specs.Requests.{CcrValue}
-use Rattle.gx_profile.specs.Requests.{ccr_view, ccr_refusal, ccr_of}
+use Rattle.gx_profile.specs.Requests.{ccr_view, ccr_table_refusal, ccr_of}
 use Rattle.dia_codec.specs.Written.{written, written_len}
 use Rattle.dia_base.specs.declared.identity.Identity.{Identity}
 use Rattle.gx_profile.specs.Answers.{cca}
@@ -47,30 +49,30 @@ abbrev pub session_if_cut : Option (List AvpValue) → Option (List ℕ)
 session_if_cut None = None
 session_if_cut (Some avps) = session_among avps
 
--- DIAMETER_UNSUPPORTED_VERSION, DIAMETER_INVALID_HDR_BITS, DIAMETER_INVALID_AVP_LENGTH
+-- a version, flags or AVP lengths that the base protocol doesn't have
 abbrev pub fault_refusal : MsgFault → Refusal
-fault_refusal BadVersion = base 5011
-fault_refusal BadFlags = base 3008
-fault_refusal BadAvpLength = base 5014
-fault_refusal NotWhole = base 5014
-fault_refusal NoMemory = base 5014
+fault_refusal BadVersion = unsupported_version
+fault_refusal BadFlags = invalid_hdr_bits
+fault_refusal BadAvpLength = invalid_avp_length
+fault_refusal NotWhole = invalid_avp_length
+fault_refusal NoMemory = invalid_avp_length
 
 -- the base protocol, Gx and Rx
 abbrev pub is_known : ℕ → Bool
-is_known application = application == 0 || application == 16777238 || application == 16777236
+is_known application = application == base_application || application == gx_application || application == rx_application
 
--- DIAMETER_APPLICATION_UNSUPPORTED, and then DIAMETER_COMMAND_UNSUPPORTED: credit control under Gx alone is served as yet
+-- the application is judged, and then the command: credit control under Gx alone is served as yet
 abbrev pub header_refusal : Header → Option Refusal
 header_refusal header =
-    if not (is_known header.application) then Some (base 3007) else
-    if header.application == 16777238 && header.command == 272 then None else Some (base 3001)
+    if not (is_known header.application) then Some application_unsupported else
+    if header.application == gx_application && header.command == 272 then None else Some command_unsupported
 
 abbrev pub asked_unless : MessageValue → Option Refusal → AskedValue
 asked_unless m None = ToServe m.header (ccr_of m.avps)
 asked_unless m (Some refusal) = ToRefuse m.header (session_among m.avps) refusal
 
 abbrev pub asked_by : List ℕ → Result MessageValue MsgFault → AskedValue
-asked_by frame (Ok m) = asked_unless m (or_else (header_refusal m.header) (ccr_refusal m.avps))
+asked_by frame (Ok m) = asked_unless m (or_else (header_refusal m.header) (ccr_table_refusal m.avps))
 asked_by frame (Err fault) = ToRefuse (header_of (take 20 frame)) (session_if_cut (avps_of (drop 20 frame))) (fault_refusal fault)
 
 -- An answer is passed over, whatever else is wrong with it. A request is refused by the first fault of its version, its flags and the lengths of its
