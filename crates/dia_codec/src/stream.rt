@@ -79,10 +79,15 @@ pub fn frames_of(alloc: Global, pieces: &[&[u8]]) -> Result<FramedStream, AllocE
 
 /// A law: a stream is cut into frames in one way, and has one end.
 pub fn one_cut()
-    ensures splits { (stream : List ℕ) (frames others : List (List ℕ)) (rest last : List ℕ)
-        → Splits stream frames rest → Splits stream others last
-        → (frames ≡ others) × (rest ≡ last) }
-    ensures cuts { (stream : List ℕ) (frames others : List (List ℕ)) (end last : StreamEnd)
-        → CutsInto stream frames end → CutsInto stream others last
-        → (frames ≡ others) × (end ≡ last) }
+    // frame by frame
+    ensures frames { (stream : List ℕ) (frames others : List (List ℕ)) (rest last : List ℕ)
+        → Splits stream frames rest → Splits stream others last → frames ≡ others }
+    ensures rest { (stream : List ℕ) (frames others : List (List ℕ)) (rest last : List ℕ)
+        → Splits stream frames rest → Splits stream others last → rest ≡ last }
+
+    // as a whole
+    ensures all_frames { (stream : List ℕ) (frames others : List (List ℕ)) (end last : StreamEnd)
+        → CutsInto stream frames end → CutsInto stream others last → frames ≡ others }
+    ensures end { (stream : List ℕ) (frames others : List (List ℕ)) (end last : StreamEnd)
+        → CutsInto stream frames end → CutsInto stream others last → end ≡ last }
 {}
