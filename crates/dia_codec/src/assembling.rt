@@ -124,7 +124,8 @@ impl Assembler {
             self.new ≡ record self.old { fault = Some e }) }
 
         // Memory runs out.
-        ensures no_memory { OnOk (front_of self.old.bytes) (IfErr result (λ e. e ≡ faults.NoMemory)) }
+        ensures no_memory { OnOk (front_of self.old.bytes)
+            (IfErr result (λ e. e ≡ faults.NoMemory)) }
         ensures unchanged { OnOk (front_of self.old.bytes) (OnErr result (self.new ≡ self.old)) }
     {
         if let Some(fault) = self.fault {

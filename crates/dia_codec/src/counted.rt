@@ -1,8 +1,9 @@
 //! Readers and writers that remember whether a call has failed.
 
-ghost use Rattle.std.specs.Prelude.{◌≡◌, ◌+◌, ◌-◌, ◌^◌, ◌<◌, min, true, false, length, IfOk, OnOk, OnErr};
+ghost use Rattle.std.specs.Prelude.{◌≡◌, ◌+◌, ◌<◌, min, true, false, length, IfOk, OnOk, OnErr};
 ghost use Rattle.std.specs.Io.{ReadsAtMost, WritesAtMost};
 ghost use Rattle.std.specs.Io.KnownBytes.{Appends, Keeps, ReadConsumes, WriteAppends};
+ghost use Rattle.dia_codec.specs.Counted.{most_calls};
 
 use std::io;
 use std::io::{ErrorKind, Read, Write};
@@ -67,7 +68,7 @@ impl<R: Read> Read for Counted<R> {
             result buf.new }
         ensures failed { OnErr result (self.new.failed ≡ true) }
         ensures kept { OnOk result (self.new.failed ≡ self.old.failed) }
-        ensures calls { self.new.calls ≡ min (self.old.calls + 1) (2 ^ 64 - 1) }
+        ensures calls { self.new.calls ≡ min (self.old.calls + 1) most_calls }
     {
         self.calls = self.calls.saturating_add(1);
         let result = self.inner.read(buf);

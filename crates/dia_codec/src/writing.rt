@@ -99,7 +99,8 @@ fn put_word(out: &mut Vec<u8>, number: u32) -> Result<(), AllocError>
 /// Adds a header, with the length of the whole message.
 fn put_header(out: &mut Vec<u8>, length: u32, header: &Header) -> Result<(), AllocError>
     requires { header.now.command < command_bound }
-    ensures written { OnOk result (out.new.items ≡ out.old.items ++ written_header length header.now) }
+    ensures written { OnOk result
+        (out.new.items ≡ out.old.items ++ written_header length header.now) }
     ensures fits { OnOk result (FitsNumbers header.now) }
 {
     out.push(VERSION)?;
@@ -135,7 +136,8 @@ fn avp_flag_byte(avp: &Avp) -> u8
 /// Adds an AVP and its padding.
 fn put_avp(out: &mut Vec<u8>, avp: &Avp) -> Result<(), AllocError>
     requires { length avp.now.value.items ≤ longest_message }
-    ensures written { OnOk result (out.new.items ≡ out.old.items ++ written_avp (avp_view avp.now)) }
+    ensures written { OnOk result
+        (out.new.items ≡ out.old.items ++ written_avp (avp_view avp.now)) }
     ensures fits { OnOk result (FitsAvp (avp_view avp.now)) }
 {
     let length = own_len(avp);

@@ -5,6 +5,6 @@ pub returns : goal.returns
 returns c = record {
   frames = λ stream frames others rest last one other. (one_split stream frames others rest last one other).0;
   rest = λ stream frames others rest last one other. (one_split stream frames others rest last one other).1;
-  all_frames = λ stream frames others end last one other. (one_end stream frames others end last one other).0;
+  cut_frames = λ stream frames others end last one other. (one_end stream frames others end last one other).0;
   end = λ stream frames others end last one other. (one_end stream frames others end last one other).1;
 }
