@@ -18,7 +18,7 @@ use joins::{CopyOfJoined, Join, JoinIn, JoinedCopy};
 use lattice_core::{JoinMap, JoinTree, Reg, Tombed};
 use makings::{Copy, FoldApn, GatherSubscribers, ReadText};
 use pcrf_values::{Apn, Delta, Filters, Rule, RuleName, Subscriber, Subscribers};
-use places::{JoinAt, Place, PlaceAt, TakeOut};
+use places::{JoinAt, Place, PlaceAt};
 use ranked::Text;
 use samples::Sample;
 use std::alloc::Global;
@@ -71,7 +71,6 @@ fn try_tree<V: Sample>(alloc: Global, tally: &mut Tally) {
     try_joins::<JoinTree<Text, V>>(alloc, tally, "tree");
     try_places::<JoinAt<JoinTree<Text, V>>>(alloc, tally, "join at a name of a tree");
     try_places::<PlaceAt<V>>(alloc, tally, "place at a name of a tree");
-    tally.count(outcome_of::<TakeOut<V>>(alloc, ()), "take out", "tree");
 }
 
 /// A record that can end, of registers under numbers, and records under texts.

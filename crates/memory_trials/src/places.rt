@@ -178,38 +178,3 @@ fn exchange<V: Sample>(
 fn fingerprint_if(stood: Option<u64>) -> u64 {
     stood.map_or(0, |print| mixed(1, print))
 }
-
-/// A value taken out, which needs no memory.
-#[derive(Drop)]
-pub struct TakeOut<V: Sample> {
-    tree: JoinTree<Text, V>,
-    key: Text,
-}
-
-impl<V: Sample> Call for TakeOut<V> {
-    type Case = ();
-
-    fn operands(alloc: Global, _case: ()) -> Result<TakeOut<V>, AllocError> {
-        let tree = Place::Present.map::<JoinTree<Text, V>>(alloc)?;
-        let key = text(alloc, &[NAME])?;
-        Ok(TakeOut { tree, key })
-    }
-
-    fn expected(alloc: Global, _case: ()) -> Result<u64, AllocError> {
-        let stood = Some(V::ours(alloc)?.fingerprint());
-        let rest = Place::Present.rest::<JoinTree<Text, V>>(alloc)?;
-        Ok(mixed(rest.fingerprint(), fingerprint_if(stood)))
-    }
-
-    fn fingerprint(&self) -> u64 {
-        self.tree.fingerprint()
-    }
-
-    fn make(self) -> Result<u64, TakeOut<V>> {
-        let mut call = self;
-        match exchange(&mut call.tree, &call.key, None) {
-            Ok(print) => Ok(print),
-            Err(_) => Err(call),
-        }
-    }
-}

@@ -24,7 +24,8 @@ use Rattle.pcrf_model.specs.Rules.{rules}
 use Rattle.pcrf_model.specs.Differences.{told, rule_name_of, difference}
 use Rattle.pcrf_model.specs.Requests.{CcrValue}
 use Rattle.pcrf_model.specs.Making.{given, given_list, ccr_fields, told_facts, next_tag, next_operation}
-use Rattle.pcrf_model.specs.Serving.{delta_limit, delta_of, provisioned, with_added}
+use Rattle.pcrf_model.specs.Serving.{delta_of, provisioned, with_added}
+use Rattle.pcrf_model.specs.Limits.{delta_limit}
 use Rattle.pcrf_model.specs.Pushing.{is_due, due, push}
 use Rattle.pcrf_model.specs.Laws.{NamesRulesApart, FitTheirAvps, NumbersFit, IsStamped, TellsTheFirst}
 use Rattle.pcrf_model.proofs.FactLaws.{session_ranked, fact_ranked}

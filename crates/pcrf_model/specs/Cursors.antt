@@ -1,5 +1,6 @@
 -- Cursors: what a site took of each maker's operations, and what it knows that its peers took of its own (this project's profile).
 use Rattle.std.specs.Prelude.{ℕ, ◌+◌, max, ◌==◌, Bool, true, false, cond, ◌&&◌, List, replicate, length, nat_lt, nat_le, slice_index_or, slice_set, Option, Some, None}
+use Rattle.pcrf_model.specs.Limits.{site_limit}
 use Rattle.pcrf_model.specs.Letters.{AckValue, LetterBody, Range, Snapshot, Acknowledgement, LetterValue, letter_from}
 use Rattle.pcrf_model.specs.Replies.{ReplyValue}
 use Rattle.pcrf_model.specs.Steps.{SiteEvent, AskOwn, AskWhole}
@@ -9,7 +10,7 @@ pub record Cursor : Type 0 where
   pub epoch : ℕ
   pub cursor : ℕ
 
--- The site and its epoch; for each of the 16 sites as a maker how much was taken of it; for each as a peer how much it said it took, if it said so.
+-- The site and its epoch; for each site as a maker how much was taken of it; for each as a peer how much it said it took, if it said so.
 pub record CursorsValue : Type 0 where
   pub site : ℕ
   pub epoch : ℕ
@@ -22,7 +23,7 @@ nothing_taken = record { epoch = 0; cursor = 0 }
 
 -- of a site that begins an epoch: nothing was taken, and nothing is known of its peers
 abbrev pub start_cursors : ℕ → ℕ → CursorsValue
-start_cursors site epoch = record { site = site; epoch = epoch; makers = replicate 16 nothing_taken; peers = replicate 16 None }
+start_cursors site epoch = record { site = site; epoch = epoch; makers = replicate site_limit nothing_taken; peers = replicate site_limit None }
 
 -- what was taken of that maker
 abbrev pub maker_entry : CursorsValue → ℕ → Cursor
@@ -35,13 +36,13 @@ peer_entry c peer = slice_index_or c.peers peer None
 -- ---- making a letter for a peer
 
 -- the whole state where nothing is known to be taken, else the operations past the cursor
-abbrev pub asked_of : Option Cursor → SiteEvent
-asked_of None = AskWhole
-asked_of (Some c) = cond (c.cursor == 0) AskWhole (AskOwn c.cursor)
+abbrev pub asked_past : Option Cursor → SiteEvent
+asked_past None = AskWhole
+asked_past (Some c) = cond (c.cursor == 0) AskWhole (AskOwn c.cursor)
 
 -- what the site is asked, to make a letter for the peer
 abbrev pub ask : CursorsValue → ℕ → SiteEvent
-ask c peer = asked_of (peer_entry c peer)
+ask c peer = asked_past (peer_entry c peer)
 
 -- the letter that the site's reply makes, where operations were asked for from that position on
 abbrev pub letter_of : CursorsValue → ℕ → ℕ → ReplyValue → Option LetterValue

@@ -20,7 +20,8 @@ use Rattle.pcrf_model.specs.Differences.{ToldRule, told_cmp, told, told_name_of,
 use Rattle.pcrf_model.specs.OperatorValues.{operator_value}
 use Rattle.pcrf_model.specs.Requests.{CcrValue, FlowValue, ComponentValue, RequestValue, Aar}
 use Rattle.pcrf_model.specs.Making.{ccr_fields, next_tag}
-use Rattle.pcrf_model.specs.Serving.{delta_limit, delta_of, provisioned, serve, with_added}
+use Rattle.pcrf_model.specs.Serving.{delta_of, provisioned, serve, with_added}
+use Rattle.pcrf_model.specs.Limits.{delta_limit}
 use Rattle.pcrf_model.specs.Pushing.{due, push, lacks_counter}
 use Rattle.pcrf_model.specs.Replies.{ReplyValue}
 use Rattle.pcrf_model.specs.Steps.{SiteState, kept_state, SiteEvent, MayReply, stepped}

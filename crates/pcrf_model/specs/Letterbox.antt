@@ -1,9 +1,9 @@
 -- Letters and worlds of the worked examples.
 use Rattle.std.specs.Prelude.{ℕ, List, [], ◌∷◌, Option, None, Ok, length, slice_get}
 use Rattle.std.proofs.Common.{option_map}
-use Rattle.pcrf_model.specs.Holdings.{Holding}
+use Rattle.pcrf_model.specs.Holdings.{Holding, nothing_held}
 use Rattle.pcrf_model.specs.Replies.{Done}
-use Rattle.pcrf_model.specs.Letters.{LetterBody, Range, LetterValue}
+use Rattle.pcrf_model.specs.Letters.{LetterBody, Range, Snapshot, LetterValue}
 use Rattle.pcrf_model.specs.Cursors.{Cursor, CursorsValue, start_cursors, maker_entry, took}
 use Rattle.pcrf_model.specs.Worlds.{WorldEvent, ServeAt, Letter, Merge, Ack, Restart, Replied, Lettered, Merged, Restarted, WorldAnswer, SiteTook, SentLetter, WorldTook, start, LetterRule, by_cursors, held, after_all}
 use Rattle.pcrf_model.specs.Samples.{operator, first_session, host_address, initial, update}
@@ -18,6 +18,10 @@ letter epoch body = record { edition = 7; site = 0; epoch = epoch; body = body }
 -- one operation, at that position
 abbrev pub range_at : ℕ → LetterValue
 range_at n = letter 1 (Range n one.log)
+
+-- a snapshot of nothing, of the next epoch
+abbrev pub newer_epoch : LetterValue
+newer_epoch = letter 2 (Snapshot nothing_held 0)
 
 -- the cursors of site 1 after these letters
 abbrev pub taking_letters : List LetterValue → CursorsValue

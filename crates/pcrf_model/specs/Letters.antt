@@ -1,9 +1,9 @@
 -- Letters between sites, and what each means (this project's profile).
-use Rattle.std.specs.Prelude.{ℕ, ◌+◌, ◌-◌, ◌^◌, cond, ◌&&◌, List, [], length, nat_le, Option, Some, None}
+use Rattle.std.specs.Prelude.{ℕ, ◌+◌, cond, ◌&&◌, List, [], length, nat_le, Option, Some, None}
 use Rattle.pcrf_model.specs.Holdings.{Holding}
 use Rattle.pcrf_model.specs.Operations.{Operation}
 use Rattle.pcrf_model.specs.Replies.{ReplyValue, Own, Copy}
-use Rattle.pcrf_model.specs.Steps.{range_limit}
+use Rattle.pcrf_model.specs.Limits.{last_counter, range_limit}
 
 -- a maker, its epoch, and how many of its operations of that epoch the sender took; the sender and its epoch stand on the letter
 pub record AckValue : Type 0 where
@@ -34,16 +34,12 @@ meaning taken (Range from os) = os
 meaning taken (Snapshot h n) = taken
 meaning taken (Acknowledgement m e c) = []
 
--- what letters can carry: positions and counters end at 2 ^ 63 - 1
-abbrev pub last_position : ℕ
-last_position = 2 ^ 63 - 1
-
 -- the letter of a reply to one who asked for operations from that position on, or for the whole; none for any other reply, or where a letter can't carry it
 abbrev pub letter_from : ℕ → ℕ → ℕ → ℕ → ReplyValue → Option LetterValue
 letter_from edition site epoch from (Own os n) =
-    cond (nat_le (length os) range_limit && nat_le (from + length os) last_position)
+    cond (nat_le (length os) range_limit && nat_le (from + length os) last_counter)
     (Some (record { edition = edition; site = site; epoch = epoch; body = Range from os })) None
 letter_from edition site epoch from (Copy h n) =
-    cond (nat_le h.clock last_position && nat_le n last_position)
+    cond (nat_le h.clock last_counter && nat_le n last_counter)
     (Some (record { edition = edition; site = site; epoch = epoch; body = Snapshot h n })) None
 letter_from edition site epoch from r = None

@@ -1,5 +1,5 @@
 -- The refusals by what a site holds, in order: the first that applies counts.
-use Rattle.std.specs.Prelude.{ℕ, ◌-◌, ◌^◌, ◌==◌, Bool, true, false, cond, not, ◌&&◌, ◌||◌, List, [], ◌∷◌, ◌++◌, Option, Some, None, is_none}
+use Rattle.std.specs.Prelude.{ℕ, ◌==◌, Bool, true, false, cond, not, ◌&&◌, ◌||◌, List, [], ◌∷◌, ◌++◌, Option, Some, None, is_none}
 use Rattle.std.proofs.Common.{option_map, unwrap_or}
 use Rattle.std.specs.List.{list_any}
 use Rattle.pcrf_values.specs.Applications.{gx_application, rx_application, relay_application}
@@ -7,6 +7,7 @@ use Rattle.pcrf_values.specs.Results.{unknown_session_id, authorization_rejected
 use Rattle.pcrf_values.specs.declared.refusal.Refusal.{Refusal}
 use Rattle.pcrf_values.specs.declared.request_kind.RequestKind.{RequestKind}
 use Rattle.pcrf_values.specs.declared.request_kind.RequestKind.TheVariants.{Initial, Update, Termination}
+use Rattle.pcrf_model.specs.Limits.{last_counter}
 use Rattle.pcrf_model.specs.Sessions.{gx, af}
 use Rattle.pcrf_model.specs.Holdings.{Holding}
 use Rattle.pcrf_model.specs.Views.{View, view}
@@ -21,9 +22,9 @@ abbrev pub first_cause : List (Bool × Refusal) → Option Refusal
 first_cause [] = None
 first_cause (x ∷ xs) = cond x.0 (Some x.1) (first_cause xs)
 
--- counters end at 2 ^ 63 - 1 (this project's profile)
+-- no counter is left
 abbrev pub is_clock_full : Holding → Bool
-is_clock_full h = h.clock == 2 ^ 63 - 1
+is_clock_full h = h.clock == last_counter
 
 -- the tables have no row of that access point
 abbrev pub has_no_row : Tables → List ℕ → Bool

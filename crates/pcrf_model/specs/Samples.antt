@@ -55,6 +55,10 @@ e164 = (0, codes "15550001")
 abbrev pub host_address : ℕ → List ℕ
 host_address n = 10 ∷ 0 ∷ 0 ∷ n ∷ []
 
+-- 10.9.9.9, which no session has
+abbrev pub nobodys_address : List ℕ
+nobodys_address = 10 ∷ 9 ∷ 9 ∷ 9 ∷ []
+
 -- a session of the gateway
 abbrev pub first_session : Session
 first_session = gx (codes "gw;1;1")
@@ -76,6 +80,20 @@ initial s a = Ccr (record { session = s.id; host = codes "gw"; realm = codes "r"
 -- an initial request by its address, access point and subscribers, each if it gives them
 abbrev pub initial_with : Option (List ℕ) → Option (List ℕ) → List Subscriber → RequestValue
 initial_with a n ids = Ccr (record { session = first_session.id; host = codes "gw"; realm = codes "r"; kind = Initial; number = 0; address = a; apn = n; subscribers = ids })
+
+-- an initial request of one subscriber for that access point
+abbrev pub initial_to : List ℕ → RequestValue
+initial_to n = initial_with (Some (host_address 1)) (Some n) (imsi ∷ [])
+
+-- one without an access point, without an address, and without a subscriber
+abbrev pub without_access_point : RequestValue
+without_access_point = initial_with (Some (host_address 1)) None (e164 ∷ imsi ∷ [])
+
+abbrev pub without_address : RequestValue
+without_address = initial_with None (Some (codes "none")) (e164 ∷ imsi ∷ [])
+
+abbrev pub without_subscriber : RequestValue
+without_subscriber = initial_with (Some (host_address 1)) (Some (codes "ims")) []
 
 -- an update of the first session, with an address or without
 abbrev pub update : ℕ → Option (List ℕ) → RequestValue

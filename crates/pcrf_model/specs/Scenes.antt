@@ -4,6 +4,7 @@ use Rattle.std.proofs.Common.{option_map}
 use Rattle.ranked.specs.declared.tag.Tag.{Tag}
 use Rattle.pcrf_values.specs.declared.refusal.Refusal.{Refusal}
 use Rattle.pcrf_values.specs.RuleValues.{DeltaValue}
+use Rattle.pcrf_model.specs.Limits.{last_counter}
 use Rattle.pcrf_model.specs.Paths.{FramedIpAddress, CalledStationId, SubscriptionIds, OriginHost, OriginRealm, RequestType, MediaType, FlowDescriptions, FlowUsage, FlowStatus, MaxRateUp, MaxRateDown, Component, Flow, Part, address}
 use Rattle.pcrf_model.specs.Values.{Number, Text, Subscribers, Filters, Address}
 use Rattle.pcrf_model.specs.Facts.{Field}
@@ -16,7 +17,7 @@ use Rattle.pcrf_model.specs.Serving.{serve}
 use Rattle.pcrf_model.specs.Pushing.{push}
 use Rattle.pcrf_model.specs.OperatorValues.{FieldShown, SessionValue, LiveGx}
 use Rattle.pcrf_model.specs.Steps.{SiteState, adding}
-use Rattle.pcrf_model.specs.Samples.{imsi, e164, sip_rule, uplink, any_to_any, operator, first_session, second_session, host_address, initial, update, termination, call, hang_up, audio, status_only, many_flows, ims_quality}
+use Rattle.pcrf_model.specs.Samples.{imsi, e164, sip_rule, uplink, any_to_any, operator, first_session, second_session, host_address, initial, update, termination, call, hang_up, audio, no_media, status_only, many_flows, ims_quality}
 
 -- ---- one step of a site
 
@@ -79,9 +80,17 @@ first_counter s = option_map (λ (o : Operation). o.counter) (slice_get s.log 0)
 abbrev pub one : SiteState
 one = serves 0 empty_site (initial first_session (host_address 1))
 
+-- and the same request again
+abbrev pub repeated : SiteState
+repeated = serves 0 one (initial first_session (host_address 1))
+
 -- and its call
 abbrev pub with_call : SiteState
 with_call = serves 0 one (call (Some (host_address 1)) (audio ∷ []))
+
+-- or a call with a signalling flow
+abbrev pub with_signalling : SiteState
+with_signalling = serves 0 one (call (Some (host_address 1)) (no_media ∷ audio ∷ []))
 
 -- whose rules are pushed
 abbrev pub call_pushed : SiteState
@@ -199,14 +208,14 @@ newer_first = taking (taking (taking (taking empty_site after_restart.log) after
 -- ---- the last counter
 
 -- an operation under the last counter
-abbrev pub last_counter : Operation
-last_counter =
-    let t : Tag = record { number = 0; counter = 9223372036854775807; site = 1 } in
-    record { counter = 9223372036854775807; site = 1; number = 0; session = second_session; facts = Field (address second_session) t (Address (host_address 2)) ∷ [] }
+abbrev pub last_operation : Operation
+last_operation =
+    let t : Tag = record { number = 0; counter = last_counter; site = 1 } in
+    record { counter = last_counter; site = 1; number = 0; session = second_session; facts = Field (address second_session) t (Address (host_address 2)) ∷ [] }
 
 -- site 0 took it
 abbrev pub at_the_end : SiteState
-at_the_end = taking one (last_counter ∷ [])
+at_the_end = taking one (last_operation ∷ [])
 
 -- ---- more rules than a message carries
 

@@ -6,6 +6,7 @@ use Rattle.pcrf_values.specs.Results.{success}
 use Rattle.pcrf_values.specs.declared.refusal.Refusal.{Refusal}
 use Rattle.pcrf_values.specs.declared.request_kind.RequestKind.{RequestKind}
 use Rattle.pcrf_values.specs.declared.request_kind.RequestKind.TheVariants.{Initial, Update, Termination}
+use Rattle.pcrf_model.specs.Limits.{delta_limit}
 use Rattle.pcrf_model.specs.Sessions.{Session, gx, af}
 use Rattle.pcrf_model.specs.Holdings.{Holding}
 use Rattle.pcrf_model.specs.Operations.{Operation, with_operation}
@@ -17,10 +18,6 @@ use Rattle.pcrf_model.specs.Requests.{CcrValue, AarValue, StrValue, BaseValue, R
 use Rattle.pcrf_model.specs.Replies.{Granted, Rejected, ReplyValue, OnGx, Done, Refused, OnBase, Outcome}
 use Rattle.pcrf_model.specs.Making.{ccr_fields, told_facts, end_facts, aar_facts, next_tag, next_operation}
 use Rattle.pcrf_model.specs.Refusals.{ccr_refusal, aar_refusal, str_refusal, base_refusal}
-
--- how many entries of a difference a message carries (this project's profile)
-abbrev pub delta_limit : ℕ
-delta_limit = 40
 
 -- no names and no rules
 abbrev pub empty_delta : DeltaValue

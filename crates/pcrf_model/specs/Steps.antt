@@ -1,5 +1,6 @@
 -- The step of a site for every event, and the replay of a history.
 use Rattle.std.specs.Prelude.{◌≡◌, ℕ, ◌≤◌, false, List, [], ◌∷◌, ◌++◌, take, drop, length, Option, Some, None}
+use Rattle.pcrf_model.specs.Limits.{range_limit}
 use Rattle.pcrf_model.specs.Holdings.{Holding, union, kept_of}
 use Rattle.pcrf_model.specs.Operations.{Operation, holding_of}
 use Rattle.pcrf_model.specs.Tables.{Tables}
@@ -26,10 +27,6 @@ pub record SiteState : Type 0 where
 -- without the overshadowed facts
 abbrev pub kept_state : SiteState → SiteState
 kept_state s = record s { holding = kept_of s.holding }
-
--- the most operations that are answered at once (this project's profile)
-abbrev pub range_limit : ℕ
-range_limit = 100
 
 -- with an operation of its own, if there is one
 abbrev pub adding : SiteState → Option Operation → SiteState

@@ -11,4 +11,4 @@ use Rattle.pcrf_model.proofs.examples.calls_are_refused_in_order.Goals as goal
 
 pub returns : goal.returns
 unfolding digits view bind rules told ccr_refusal aar_refusal str_refusal provisioned serve_ccr serve_aar serve_str due push
-returns c = record { nobodys_address = refl; nothing = refl; no_row = refl; row_before_binding = refl; removed = refl; no_address = refl }
+returns c = record { nobody = refl; nothing = refl; no_row = refl; row_before_binding = refl; removed = refl; no_address = refl }
