@@ -1,135 +1,113 @@
 //! Joins and copies of joined values.
-use crate::fingerprint::mixed;
+use crate::fingerprint::{Fingerprint, mixed};
 use crate::samples::Sample;
 use crate::trial::Call;
 use std::alloc::{AllocError, Global};
 
-/// The join of two values that are given away.
+/// The calls of `Join` that allocate.
+#[derive(Clone, Copy, Debug, PartialEq, Eq)]
+pub enum Form {
+    /// The join of two values that are given away.
+    Join,
+    /// The join of a value into another.
+    JoinIn,
+    /// The join of two values that are kept.
+    JoinedCopy,
+    /// A copy of a value that is kept.
+    Copy,
+}
+
+impl Form {
+    /// All calls.
+    pub const ALL: [Form; 4] = [Form::Join, Form::JoinIn, Form::JoinedCopy, Form::Copy];
+
+    /// What a report calls it.
+    pub fn name(self) -> &'static str {
+        match self {
+            Form::Join => "join",
+            Form::JoinIn => "join in",
+            Form::JoinedCopy => "joined copy",
+            Form::Copy => "copy",
+        }
+    }
+}
+
+/// One of these calls on two values.
 #[derive(Drop)]
-pub struct Join<V> {
+pub struct Joining<V: Sample> {
+    form: Form,
     ours: V,
     theirs: V,
 }
 
-impl<V: Sample> Call for Join<V> {
-    type Case = ();
-
-    fn operands(alloc: Global, _case: ()) -> Result<Join<V>, AllocError> {
-        let ours = V::ours(alloc)?;
-        let theirs = V::theirs(alloc)?;
-        Ok(Join { ours, theirs })
-    }
-
-    fn expected(alloc: Global, _case: ()) -> Result<u64, AllocError> {
-        Ok(V::joined(alloc)?.fingerprint())
-    }
-
-    fn fingerprint(&self) -> u64 {
-        mixed(self.ours.fingerprint(), self.theirs.fingerprint())
-    }
-
-    fn make(self) -> Result<u64, Join<V>> {
-        let Join { ours, theirs } = self;
+impl<V: Sample> Joining<V> {
+    fn join(self) -> Result<u64, Joining<V>> {
+        let Joining { form, ours, theirs } = self;
         match ours.join(theirs) {
             Ok(both) => Ok(both.fingerprint()),
-            Err((_, ours, theirs)) => Err(Join { ours, theirs }),
+            Err((_, ours, theirs)) => Err(Joining { form, ours, theirs }),
         }
     }
-}
 
-/// The join of a value into another.
-#[derive(Drop)]
-pub struct JoinIn<V> {
-    ours: V,
-    theirs: V,
-}
-
-impl<V: Sample> Call for JoinIn<V> {
-    type Case = ();
-
-    fn operands(alloc: Global, _case: ()) -> Result<JoinIn<V>, AllocError> {
-        let ours = V::ours(alloc)?;
-        let theirs = V::theirs(alloc)?;
-        Ok(JoinIn { ours, theirs })
-    }
-
-    fn expected(alloc: Global, _case: ()) -> Result<u64, AllocError> {
-        Ok(V::joined(alloc)?.fingerprint())
-    }
-
-    fn fingerprint(&self) -> u64 {
-        mixed(self.ours.fingerprint(), self.theirs.fingerprint())
-    }
-
-    fn make(self) -> Result<u64, JoinIn<V>> {
-        let JoinIn { mut ours, theirs } = self;
+    fn join_in(self) -> Result<u64, Joining<V>> {
+        let Joining {
+            form,
+            mut ours,
+            theirs,
+        } = self;
         match ours.join_in(theirs) {
             Ok(()) => Ok(ours.fingerprint()),
-            Err((_, theirs)) => Err(JoinIn { ours, theirs }),
+            Err((_, theirs)) => Err(Joining { form, ours, theirs }),
+        }
+    }
+
+    /// The fingerprint of what a call gave that keeps both values, and of these.
+    fn kept(self, given: Result<V, AllocError>) -> Result<u64, Joining<V>> {
+        match given {
+            Ok(value) => Ok(mixed(self.fingerprint(), value.fingerprint())),
+            Err(_) => Err(self),
         }
     }
 }
 
-/// The join of two values that are kept.
-#[derive(Drop)]
-pub struct JoinedCopy<V> {
-    ours: V,
-    theirs: V,
-}
+impl<V: Sample> Call for Joining<V> {
+    type Case = Form;
 
-impl<V: Sample> Call for JoinedCopy<V> {
-    type Case = ();
-
-    fn operands(alloc: Global, _case: ()) -> Result<JoinedCopy<V>, AllocError> {
+    fn operands(alloc: Global, form: Form) -> Result<Joining<V>, AllocError> {
         let ours = V::ours(alloc)?;
         let theirs = V::theirs(alloc)?;
-        Ok(JoinedCopy { ours, theirs })
+        Ok(Joining { form, ours, theirs })
     }
 
-    fn expected(alloc: Global, _case: ()) -> Result<u64, AllocError> {
-        let kept = JoinedCopy::<V>::operands(alloc, ())?.fingerprint();
-        Ok(mixed(kept, V::joined(alloc)?.fingerprint()))
+    fn expected(alloc: Global, form: Form) -> Result<u64, AllocError> {
+        let ours = V::ours(alloc)?.fingerprint();
+        let both = mixed(ours, V::theirs(alloc)?.fingerprint());
+        let joined = V::joined(alloc)?.fingerprint();
+        Ok(match form {
+            Form::Join | Form::JoinIn => joined,
+            Form::JoinedCopy => mixed(both, joined),
+            Form::Copy => mixed(both, ours),
+        })
     }
 
+    fn make(self) -> Result<u64, Joining<V>> {
+        match self.form {
+            Form::Join => self.join(),
+            Form::JoinIn => self.join_in(),
+            Form::JoinedCopy => {
+                let given = self.ours.joined_copy(&self.theirs);
+                self.kept(given)
+            }
+            Form::Copy => {
+                let given = self.ours.try_copy();
+                self.kept(given)
+            }
+        }
+    }
+}
+
+impl<V: Sample> Fingerprint for Joining<V> {
     fn fingerprint(&self) -> u64 {
         mixed(self.ours.fingerprint(), self.theirs.fingerprint())
-    }
-
-    fn make(self) -> Result<u64, JoinedCopy<V>> {
-        match self.ours.joined_copy(&self.theirs) {
-            Ok(both) => Ok(mixed(Call::fingerprint(&self), both.fingerprint())),
-            Err(_) => Err(self),
-        }
-    }
-}
-
-/// A copy of a joined value.
-#[derive(Drop)]
-pub struct CopyOfJoined<V> {
-    value: V,
-}
-
-impl<V: Sample> Call for CopyOfJoined<V> {
-    type Case = ();
-
-    fn operands(alloc: Global, _case: ()) -> Result<CopyOfJoined<V>, AllocError> {
-        let value = V::ours(alloc)?;
-        Ok(CopyOfJoined { value })
-    }
-
-    fn expected(alloc: Global, _case: ()) -> Result<u64, AllocError> {
-        let print = V::ours(alloc)?.fingerprint();
-        Ok(mixed(print, print))
-    }
-
-    fn fingerprint(&self) -> u64 {
-        self.value.fingerprint()
-    }
-
-    fn make(self) -> Result<u64, CopyOfJoined<V>> {
-        match self.value.try_copy() {
-            Ok(copy) => Ok(mixed(self.value.fingerprint(), copy.fingerprint())),
-            Err(_) => Err(self),
-        }
     }
 }

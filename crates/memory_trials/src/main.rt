@@ -14,7 +14,7 @@ mod tally;
 mod trial;
 mod values;
 
-use joins::{CopyOfJoined, Join, JoinIn, JoinedCopy};
+use joins::{Form, Joining};
 use lattice_core::{JoinMap, JoinTree, Reg, Tombed};
 use makings::{Copy, FoldApn, GatherSubscribers, ReadText};
 use pcrf_values::{Apn, Delta, Filters, Rule, RuleName, Subscriber, Subscribers};
@@ -50,10 +50,9 @@ fn spend(alloc: Global, count: u32) {
 }
 
 fn try_joins<V: Sample>(alloc: Global, tally: &mut Tally, on: &'static str) {
-    tally.count(outcome_of::<Join<V>>(alloc, ()), "join", on);
-    tally.count(outcome_of::<JoinIn<V>>(alloc, ()), "join in", on);
-    tally.count(outcome_of::<JoinedCopy<V>>(alloc, ()), "joined copy", on);
-    tally.count(outcome_of::<CopyOfJoined<V>>(alloc, ()), "copy", on);
+    for form in Form::ALL {
+        tally.count(outcome_of::<Joining<V>>(alloc, form), form.name(), on);
+    }
 }
 
 fn try_places<C: Call<Case = Place>>(alloc: Global, tally: &mut Tally, call: &'static str) {

@@ -25,15 +25,17 @@ impl<T: Made> Call for Copy<T> {
         Ok(mixed(print, print))
     }
 
-    fn fingerprint(&self) -> u64 {
-        self.value.fingerprint()
-    }
-
     fn make(self) -> Result<u64, Copy<T>> {
         match self.value.try_copy() {
             Ok(copy) => Ok(mixed(self.value.fingerprint(), copy.fingerprint())),
             Err(_) => Err(self),
         }
+    }
+}
+
+impl<T: Made> Fingerprint for Copy<T> {
+    fn fingerprint(&self) -> u64 {
+        self.value.fingerprint()
     }
 }
 
@@ -54,15 +56,17 @@ impl Call for ReadText {
         Ok(mixed(1, fingerprint_of(b"gw;1;1")))
     }
 
-    fn fingerprint(&self) -> u64 {
-        EMPTY
-    }
-
     fn make(self) -> Result<u64, ReadText> {
         match SessionId::read(self.alloc, b"gw;1;1") {
             Ok(text) => Ok(text.fingerprint()),
             Err(_) => Err(self),
         }
+    }
+}
+
+impl Fingerprint for ReadText {
+    fn fingerprint(&self) -> u64 {
+        EMPTY
     }
 }
 
@@ -83,15 +87,17 @@ impl Call for FoldApn {
         Ok(mixed(1, fingerprint_of(b"ims.mnc001")))
     }
 
-    fn fingerprint(&self) -> u64 {
-        EMPTY
-    }
-
     fn make(self) -> Result<u64, FoldApn> {
         match Apn::folded(self.alloc, b"IMS.mnc001") {
             Ok(apn) => Ok(apn.fingerprint()),
             Err(_) => Err(self),
         }
+    }
+}
+
+impl Fingerprint for FoldApn {
+    fn fingerprint(&self) -> u64 {
+        EMPTY
     }
 }
 
@@ -117,10 +123,6 @@ impl Call for GatherSubscribers {
         Ok(Some(Subscribers::made(alloc)?).fingerprint())
     }
 
-    fn fingerprint(&self) -> u64 {
-        self.given.fingerprint()
-    }
-
     // The list is copied, so that it is there for a second call.
     fn make(self) -> Result<u64, GatherSubscribers> {
         let Ok(given) = self.given.try_copy() else {
@@ -130,5 +132,11 @@ impl Call for GatherSubscribers {
             Ok(set) => Ok(set.fingerprint()),
             Err(_) => Err(self),
         }
+    }
+}
+
+impl Fingerprint for GatherSubscribers {
+    fn fingerprint(&self) -> u64 {
+        self.given.fingerprint()
     }
 }

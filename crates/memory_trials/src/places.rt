@@ -94,10 +94,6 @@ impl<M: Named> Call for JoinAt<M> {
         Ok(place.with::<M>(alloc, after)?.fingerprint())
     }
 
-    fn fingerprint(&self) -> u64 {
-        mixed(self.map.fingerprint(), self.value.fingerprint())
-    }
-
     // The key is copied, so that it is there for a second call.
     fn make(self) -> Result<u64, JoinAt<M>> {
         let Ok(again) = self.key.try_copy() else {
@@ -116,6 +112,12 @@ impl<M: Named> Call for JoinAt<M> {
                 value,
             }),
         }
+    }
+}
+
+impl<M: Named> Fingerprint for JoinAt<M> {
+    fn fingerprint(&self) -> u64 {
+        mixed(self.map.fingerprint(), self.value.fingerprint())
     }
 }
 
@@ -146,10 +148,6 @@ impl<V: Sample> Call for PlaceAt<V> {
         Ok(mixed(after.fingerprint(), fingerprint_if(stood)))
     }
 
-    fn fingerprint(&self) -> u64 {
-        mixed(self.tree.fingerprint(), self.value.fingerprint())
-    }
-
     // The value is copied, so that it is there for a second call.
     fn make(self) -> Result<u64, PlaceAt<V>> {
         let mut call = self;
@@ -160,6 +158,12 @@ impl<V: Sample> Call for PlaceAt<V> {
             Ok(print) => Ok(print),
             Err(_) => Err(call),
         }
+    }
+}
+
+impl<V: Sample> Fingerprint for PlaceAt<V> {
+    fn fingerprint(&self) -> u64 {
+        mixed(self.tree.fingerprint(), self.value.fingerprint())
     }
 }
 

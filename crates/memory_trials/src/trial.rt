@@ -1,8 +1,9 @@
 //! A call made where an allocation may be refused: the one trial that every call goes through.
+use crate::fingerprint::Fingerprint;
 use std::alloc::{AllocError, Global};
 
-/// A call that allocates, with what it is made of.
-pub trait Call: Drop + Sized {
+/// A call that allocates, with what it is made of, of which it has the fingerprint.
+pub trait Call: Fingerprint + Drop + Sized {
     /// What tells cases of the call apart.
     type Case: Copy;
 
@@ -11,9 +12,6 @@ pub trait Call: Drop + Sized {
 
     /// The fingerprint that what it gives in a case has to have.
     fn expected(alloc: Global, case: Self::Case) -> Result<u64, AllocError>;
-
-    /// The fingerprint of what it is made of.
-    fn fingerprint(&self) -> u64;
 
     /// Makes the call: the fingerprint of what it gives, or, where it is refused, what it was made of.
     fn make(self) -> Result<u64, Self>;
