@@ -1,6 +1,7 @@
 pub mod Bindings
 pub mod Cursors
 pub mod Differences
+pub mod Edges
 pub mod Facts
 pub mod Flows
 pub mod Holdings

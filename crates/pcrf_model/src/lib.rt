@@ -1,5 +1,6 @@
 //! The definitions of the product: sessions, bindings, rules and differences as a model, and its laws.
 #![tactic(auto)]
 
+pub mod edge_examples;
 pub mod examples;
 pub mod laws;
