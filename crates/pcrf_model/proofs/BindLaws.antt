@@ -72,7 +72,7 @@ fact_there facts p e h =
     subst (λ (f : Fact). In f facts) (entry_of p r.0 e r.2) r.1
 
 -- a session that shows something is among those that have a fact
-shows-In : (facts : List Fact) (p : Path) (e : Entry) → (view facts).shows p ≡ Some e → In p.session (view facts).sessions
+pub shows-In : (facts : List Fact) (p : Path) (e : Entry) → (view facts).shows p ≡ Some e → In p.session (view facts).sessions
 unfolding view
 shows-In facts p e h =
     (ascending-In session_cmp session_ranked (map session_of facts) p.session).1 (In-map session_of (Field p e.0 e.1) facts (fact_there facts p e h))
@@ -93,7 +93,7 @@ module _ (v : View) (a s : Session) (m : matches v a s ≡ true) where
   live = second_so (not (is_gx a.kind) && is_gx s.kind && is_live v a) _ kinds_and_lives
 
 -- a live Gx session shows an address
-has_address : (v : View) (s : Session) (k : Kind) → is_gx k ≡ true → has_what_it_needs v s k ≡ true → has v (address s) ≡ true
+pub has_address : (v : View) (s : Session) (k : Kind) → is_gx k ≡ true → has_what_it_needs v s k ≡ true → has v (address s) ≡ true
 has_address v s Gx g h = first_so _ _ (first_so _ _ (first_so _ _ (first_so _ _ (first_so _ _ h))))
 has_address v s Af g h = clash false g refl
 

@@ -10,7 +10,8 @@ use Rattle.pcrf_model.specs.Differences.{ToldRule, told_cmp, told_name_of, rule_
 use Rattle.ranked.proofs.SetLaws.{In-filter, filter-In, In-map, map-In}
 use Rattle.ranked.proofs.DistinctLaws.{take_or_drop, take-In, drop-In, not_in_both, Distinct-of_map, filter_past}
 use Rattle.ranked.proofs.OrderLaws.{text_ranked}
-use Rattle.ranked.proofs.AscendingLaws.{IsAscending, map-ascending, ascending-ascending, same_ascending, filter-ascending, drop-ascending, Distinct-ascending}
+use Rattle.ranked.proofs.AscendingLaws.{map-ascending, ascending-ascending, same_ascending, filter-ascending, drop-ascending, Distinct-ascending}
+use Rattle.ranked.specs.Ascending.{Rises}
 use Rattle.pcrf_model.proofs.DifferenceLaws.{told_ranked, held, holds_one, stays_if, not_removed, not_installed, there, stays_in, installed_in, lacks, removed-In, installed-In, lacks_none, same_rule, same_told, none_anew}
 
 -- the name is below, where the entries are in order and no two have one name
@@ -22,7 +23,7 @@ name_below p q l one = elim (text_cmp p.0 q.0) as (λ r. text_cmp p.0 q.0 ≡ r 
 ] refl l
 
 -- the names of entries in order are in order
-names_ascending : (us : List ToldRule) → IsAscending told_cmp us → ((p q : ToldRule) → In p us → In q us → p.0 ≡ q.0 → p ≡ q) → IsAscending text_cmp (map told_name_of us)
+names_ascending : (us : List ToldRule) → Rises told_cmp us → ((p q : ToldRule) → In p us → In q us → p.0 ≡ q.0 → p ≡ q) → Rises text_cmp (map told_name_of us)
 names_ascending us s one = map-ascending told_cmp text_cmp told_name_of us (λ p q i j l. name_below p q l (one p q i j)) s
 
 module _ (n : ℕ) (t : List ToldRule) (rs : List RuleValue) (w : IsTold t) (g : Distinct (map rule_name_of rs)) where
@@ -95,15 +96,15 @@ module _ (n : ℕ) (t : List ToldRule) (rs : List RuleValue) (w : IsTold t) (g :
       named_by p x m q = subst (λ (z : List ℕ). In z (map rule_name_of (take k installed))) (sym q) (In-map rule_name_of x (take k installed) m)
 
   -- the names told before are in order
-  old_names : IsAscending text_cmp (map told_name_of t)
-  old_names = names_ascending t (subst (IsAscending told_cmp) w.in_order (ascending-ascending told_cmp told_ranked t)) (same_told t rs w.one_each g)
+  old_names : Rises text_cmp (map told_name_of t)
+  old_names = names_ascending t (subst (Rises told_cmp) w.in_order (ascending-ascending told_cmp told_ranked t)) (same_told t rs w.one_each g)
 
   -- the names told after are in order
-  new_names : IsAscending text_cmp (map told_name_of u)
+  new_names : Rises text_cmp (map told_name_of u)
   new_names = names_ascending u (ascending-ascending told_cmp told_ranked (filter (stays e) t ++ map as_told e.installed)) one_name
 
   -- the names to be removed are in order
-  removed_ascending : IsAscending text_cmp removed
+  removed_ascending : Rises text_cmp removed
   removed_ascending = filter-ascending text_cmp (lacks t rs) (map told_name_of t) old_names
 
   -- the rules lack afterwards just the names past the first

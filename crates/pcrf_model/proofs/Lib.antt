@@ -3,6 +3,7 @@ pub mod DifferenceLaws
 pub mod FactLaws
 pub mod FirstEntries
 pub mod FormLaws
+pub mod GreatestLaws
 pub mod NameLaws
 pub mod ProvisionLaws
 pub mod ReadingLaws

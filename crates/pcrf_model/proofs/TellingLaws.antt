@@ -25,7 +25,8 @@ use Rattle.ranked.proofs.SetLaws.{In-left, In-right, In-cases, In-filter, filter
 use Rattle.ranked.specs.Orders.{text_cmp}
 use Rattle.ranked.proofs.OrderLaws.{text_ranked}
 use Rattle.pcrf_model.proofs.FactLaws.{session_ranked, path_ranked, entry_ranked, eq_is, eq_itself}
-use Rattle.ranked.proofs.AscendingLaws.{IsAscending, ascending-In, ascending-ascending, ascending-Same, same_ascending, filter-ascending}
+use Rattle.ranked.proofs.AscendingLaws.{ascending-In, ascending-ascending, ascending-Same, same_ascending, filter-ascending}
+use Rattle.ranked.specs.Ascending.{Rises}
 use Rattle.pcrf_model.proofs.ViewLaws.{shown_ranked}
 use Rattle.pcrf_model.proofs.BindLaws.{entry_of, fact_there, greatest_is, greatest_some}
 use Rattle.pcrf_model.proofs.ToldLaws.{all_shows, told-shows, told_is_told}
@@ -339,6 +340,6 @@ module _ (xs : List Fact) (s : Session) (g : Tag) (d : DeltaValue) where
       -- the told entries are those before, with the difference applied
       pub told_after : told (view (xs ++ ts)) s ≡ apply (told (view xs) s) d
       told_after = same_ascending told_cmp told_ranked _ _
-          (subst (IsAscending told_cmp) (told_is_told (xs ++ ts) s).in_order (ascending-ascending told_cmp told_ranked (told (view (xs ++ ts)) s)))
+          (subst (Rises told_cmp) (told_is_told (xs ++ ts) s).in_order (ascending-ascending told_cmp told_ranked (told (view (xs ++ ts)) s)))
           (ascending-ascending told_cmp told_ranked (filter (stays d) (told (view xs) s) ++ map as_told d.installed))
           (λ p. (told_onward p, told_backward p))

@@ -18,7 +18,8 @@ use Rattle.pcrf_model.specs.Differences.{ToldRule, told_cmp, told_entry, told, t
 use Rattle.ranked.proofs.SetLaws.{filter_map-In}
 use Rattle.ranked.proofs.OrderLaws.{text_ranked}
 use Rattle.pcrf_model.proofs.FactLaws.{session_ranked, path_ranked, eq_is}
-use Rattle.ranked.proofs.AscendingLaws.{IsAscending, map-ascending, filter_map-ascending, ascending-In, ascending-ascending, ascending-itself, Distinct-ascending}
+use Rattle.ranked.proofs.AscendingLaws.{map-ascending, filter_map-ascending, ascending-In, ascending-ascending, ascending-itself, Distinct-ascending}
+use Rattle.ranked.specs.Ascending.{Rises}
 use Rattle.pcrf_model.proofs.ViewLaws.{shown_ranked}
 use Rattle.pcrf_model.proofs.DifferenceLaws.{told_ranked}
 
@@ -67,7 +68,7 @@ module _ (facts : List Fact) (s : Session) where
   all_shows x i = let r = filter_map-In (showing (shown facts)) x facts ((ascending-In shown_cmp shown_ranked (filter_map (showing (shown facts)) facts) x).0 i) in shows_it r.0 x r.2
 
   -- they are in order
-  all_ascending : IsAscending shown_cmp v.all
+  all_ascending : Rises shown_cmp v.all
   unfolding view
   all_ascending = ascending-ascending shown_cmp shown_ranked (filter_map (showing (shown facts)) facts)
 
@@ -88,13 +89,13 @@ module _ (facts : List Fact) (s : Session) where
   name_cmp a b = text_cmp a.0 b.0
 
   -- the told entries are in order by name
-  by_name : IsAscending name_cmp (filter_map entry v.all)
+  by_name : Rises name_cmp (filter_map entry v.all)
   by_name = filter_map-ascending shown_cmp name_cmp entry v.all
       (λ x y u w i j l e h. name_order s u.0 w.0 ((λ k. path_cmp (sym (at_name x u e).0 k) (sym (at_name y w h).0 k)) ∙ path_below x y i j l))
       all_ascending
 
   -- and so in their own order
-  weaker : (us : List ToldRule) → IsAscending name_cmp us → IsAscending told_cmp us
+  weaker : (us : List ToldRule) → Rises name_cmp us → Rises told_cmp us
   weaker [] a = tt
   weaker (u ∷ us) a = (λ y i. ap (λ r. ordering_then r (rule_cmp u.1 y.1)) (a.0 y i), weaker us a.1)
 

@@ -1,15 +1,16 @@
 -- The laws of the definitions.
-use Rattle.std.specs.Prelude.{◌≡◌, ℕ, ◌<◌, ◌≤◌, ◌^◌, [], ◌∷◌, true, false, List, ◌++◌, ◌↔◌, map, Option, Some, None}
+use Rattle.std.specs.Prelude.{◌≡◌, ℕ, ◌+◌, ◌<◌, ◌≤◌, ◌^◌, length, [], ◌∷◌, true, false, List, ◌++◌, ◌↔◌, map, Option, Some, None}
 use Rattle.std.proofs.Common.{Less}
+use Rattle.std.specs.Ordering.{is_lt}
 use Rattle.ranked.specs.Ascending.{ascending}
-use Rattle.pcrf_values.specs.RuleValues.{RuleValue}
+use Rattle.pcrf_values.specs.RuleValues.{RuleValue, DeltaValue}
 use Rattle.ranked.specs.Sets.{In, Same, Distinct}
-use Rattle.pcrf_model.specs.Sessions.{Session, gx}
+use Rattle.pcrf_model.specs.Sessions.{Session, session_cmp, gx}
 use Rattle.pcrf_model.specs.Paths.{Step, Component, Flow, Part, RuleName, Path, told_name}
-use Rattle.pcrf_model.specs.Values.{Value}
+use Rattle.pcrf_model.specs.Values.{Value, Entry, entry_cmp}
 use Rattle.ranked.specs.declared.tag.Tag.{Tag}
 use Rattle.pcrf_model.specs.Facts.{Fact, Field, path_of, fact_code}
-use Rattle.pcrf_model.specs.Holdings.{kept, Holding, union, kept_of}
+use Rattle.pcrf_model.specs.Holdings.{kept, value_at, Holding, union, kept_of}
 use Rattle.pcrf_model.specs.Operations.{Operation, holding_of}
 use Rattle.pcrf_model.specs.Views.{View, view}
 use Rattle.pcrf_model.specs.Live.{is_live, is_partial, home}
@@ -22,7 +23,7 @@ use Rattle.pcrf_model.specs.Requests.{CcrValue, FlowValue, ComponentValue, Reque
 use Rattle.pcrf_model.specs.Making.{ccr_fields, next_tag}
 use Rattle.pcrf_model.specs.Serving.{delta_of, provisioned, serve, with_added}
 use Rattle.pcrf_model.specs.Limits.{delta_limit}
-use Rattle.pcrf_model.specs.Pushing.{due, push, lacks_counter}
+use Rattle.pcrf_model.specs.Pushing.{is_due, due, push, lacks_counter}
 use Rattle.pcrf_model.specs.Replies.{ReplyValue}
 use Rattle.pcrf_model.specs.Steps.{SiteState, kept_state, SiteEvent, MayReply, stepped}
 
@@ -62,7 +63,24 @@ OnlyOperationsCount = (xs ys : List Operation) → Same xs ys → holding_of xs 
 abbrev pub HoldsTheUnion : Type 0
 HoldsTheUnion = (xs ys : List Operation) → holding_of (xs ++ ys) ≡ union (holding_of xs) (holding_of ys)
 
+-- a fact is in the holding of operations exactly where it is in one of them
+abbrev pub HoldsJustTheFacts : Type 0
+HoldsJustTheFacts = (f : Fact) (os : List Operation) → In f (holding_of os).facts ↔ (o : Operation) × In o os × In f o.facts
+
 -- ---- what is read
+
+-- the value at a path is that of a fact there, and no fact there is above it
+pub record IsGreatestAt (facts : List Fact) (p : Path) (e : Entry) : Type 0 where
+  pub there : In (Field p e.0 e.1) facts
+  pub none_above : (t : Tag) (x : Value) → In (Field p t x) facts → is_lt (entry_cmp e (t, x)) ≡ false
+
+-- so it is
+abbrev pub ValueIsTheGreatest : Type 0
+ValueIsTheGreatest = (facts : List Fact) (p : Path) (e : Entry) → value_at facts p ≡ Some e → IsGreatestAt facts p e
+
+-- there is one where there is a fact
+abbrev pub FactGivesAValue : Type 0
+FactGivesAValue = (facts : List Fact) (p : Path) (t : Tag) (x : Value) → In (Field p t x) facts → (e : Entry) × (value_at facts p ≡ Some e)
 
 -- the kept facts have the view of all
 abbrev pub KeptShowsTheSame : Type 0
@@ -126,6 +144,10 @@ abbrev pub FirstLeavesTheRest : Type 0
 FirstLeavesTheRest = (n : ℕ) (t : List ToldRule) (rs : List RuleValue) → IsTold t → Distinct (map rule_name_of rs) →
     difference (apply t (first n (difference t rs))) rs ≡ rest n (difference t rs)
 
+-- the first entries of a difference that has no more of them are all of it
+abbrev pub FirstIsAll : Type 0
+FirstIsAll = (n : ℕ) (d : DeltaValue) → length d.removed + length d.installed ≤ n → first n d ≡ d
+
 -- the told entries of a session are in order, with no name twice
 abbrev pub ToldIsTold : Type 0
 ToldIsTold = (facts : List Fact) (s : Session) → IsTold (told (view facts) s)
@@ -152,6 +174,21 @@ BindsToTheGreatest = (facts : List Fact) (a s : Session) → bind (view facts) a
 -- it is bound to none just where none matches
 abbrev pub BindsToNoneWhereNoneMatches : Type 0
 BindsToNoneWhereNoneMatches = (facts : List Fact) (a : Session) → bind (view facts) a ≡ None ↔ ((s : Session) → matches (view facts) a s ≡ false)
+
+-- ---- pushes
+
+-- s is due, and none that is due is before it
+pub record IsFirstDue (t : Tables) (i : ℕ) (facts : List Fact) (name : Option (List ℕ)) (s : Session) : Type 0 where
+  pub is_one : is_due t i (view facts) name s ≡ true
+  pub none_before : (r : Session) → is_due t i (view facts) name r ≡ true → session_cmp r s ≡ Less → ⊥
+
+-- the session that is pushed is the first that is due
+abbrev pub PushesTheFirstDue : Type 0
+PushesTheFirstDue = (t : Tables) (i : ℕ) (facts : List Fact) (name : Option (List ℕ)) (s : Session) → due t i (view facts) name ≡ Some s → IsFirstDue t i facts name s
+
+-- none is pushed just where none is due
+abbrev pub PushesNoneWhereNoneIsDue : Type 0
+PushesNoneWhereNoneIsDue = (t : Tables) (i : ℕ) (facts : List Fact) (name : Option (List ℕ)) → due t i (view facts) name ≡ None → (s : Session) → is_due t i (view facts) name s ≡ false
 
 -- ---- names of rules
 

@@ -1,6 +1,6 @@
 //! The laws of the definitions, each the contract of a function without a body.
 
-ghost use Rattle.pcrf_model.specs.Laws.{KeepsUnions, KeepsUnionsOfHoldings, KeepsOnce, UnionIsCommutative, UnionIsAssociative, UnionIsIdempotent, OnlyOperationsCount, HoldsTheUnion, KeptShowsTheSame, OnlyMembersCount, KeptReadsTheSame, MembersReadTheSame, KeptHasTheSameValue, KeptServesTheSame, KeptPushesTheSame, KeptStepsTheSame, ToldIsTold, SessionIsTold, DifferenceLeadsThere, NoNameTwice, FirstLeavesTheRest, BindsToTheGreatest, BindsToNoneWhereNoneMatches, RuleNamesDiffer, AddsWellFormed, OperationsStamp, ProvisioningTells, PushingTells};
+ghost use Rattle.pcrf_model.specs.Laws.{KeepsUnions, KeepsUnionsOfHoldings, KeepsOnce, UnionIsCommutative, UnionIsAssociative, UnionIsIdempotent, OnlyOperationsCount, HoldsTheUnion, HoldsJustTheFacts, ValueIsTheGreatest, FactGivesAValue, PushesTheFirstDue, PushesNoneWhereNoneIsDue, FirstIsAll, KeptShowsTheSame, OnlyMembersCount, KeptReadsTheSame, MembersReadTheSame, KeptHasTheSameValue, KeptServesTheSame, KeptPushesTheSame, KeptStepsTheSame, ToldIsTold, SessionIsTold, DifferenceLeadsThere, NoNameTwice, FirstLeavesTheRest, BindsToTheGreatest, BindsToNoneWhereNoneMatches, RuleNamesDiffer, AddsWellFormed, OperationsStamp, ProvisioningTells, PushingTells};
 
 /// What is kept of what was kept and of more is what is kept of all.
 pub fn keeping_keeps_unions()
@@ -20,6 +20,13 @@ pub fn union_is_a_join()
 pub fn only_the_set_of_operations_counts()
     ensures same { OnlyOperationsCount }
     ensures union { HoldsTheUnion }
+    ensures facts { HoldsJustTheFacts }
+{}
+
+/// The value at a path is the greatest of the facts there, and there is one where there is a fact.
+pub fn value_is_the_greatest_fact()
+    ensures greatest { ValueIsTheGreatest }
+    ensures some { FactGivesAValue }
 {}
 
 /// The kept facts show what all facts show, and only the set of facts counts.
@@ -47,12 +54,19 @@ pub fn difference_leads_to_the_rules()
     ensures whole { DifferenceLeadsThere }
     ensures apart { NoNameTwice }
     ensures first { FirstLeavesTheRest }
+    ensures all { FirstIsAll }
 {}
 
 /// An AF session is bound to just the Gx session that matches and that no other one that matches exceeds, and to none just where none matches.
 pub fn binding_is_the_greatest_match()
     ensures greatest { BindsToTheGreatest }
     ensures none { BindsToNoneWhereNoneMatches }
+{}
+
+/// The session that is pushed is due and none that is due is before it; none is pushed just where none is due.
+pub fn first_due_session_is_pushed()
+    ensures first { PushesTheFirstDue }
+    ensures none { PushesNoneWhereNoneIsDue }
 {}
 
 /// No two rules of one session have one name.

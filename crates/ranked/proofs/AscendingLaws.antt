@@ -3,7 +3,7 @@ use Rattle.std.proofs.Common.{◌≡◌, ℕ, zero, suc, drop, Bool, true, false
 use Rattle.std.specs.Ordering.{ordering_reverse, is_lt}
 use Rattle.std.specs.Cmp.{tied_itself}
 use Rattle.std.specs.FinMap.Entries.{by_order}
-use Rattle.ranked.specs.Ascending.{place, ascending}
+use Rattle.ranked.specs.Ascending.{place, ascending, IsBelowAll, Rises}
 use Rattle.std.specs.List.{filter, filter_map, cons_option}
 use Rattle.ranked.proofs.Plain.{clash}
 use Rattle.ranked.specs.Sets.{In, Same, Distinct}
@@ -11,32 +11,23 @@ use Rattle.ranked.proofs.SetLaws.{Same-back, Same-through, filter-In, map-In, fi
 use Rattle.ranked.proofs.OrderLaws.{IsRanked}
 
 module _ {A : Type 0} (cmp : A → A → Ordering) where
-  -- below each member
-  abbrev pub IsBelowAll : A → List A → Type 0
-  IsBelowAll x xs = (y : A) → In y xs → cmp x y ≡ Less
-
-  -- each below all that follow
-  abbrev pub IsAscending : List A → Type 0
-  IsAscending [] = Unit {0}
-  IsAscending (x ∷ xs) = IsBelowAll x xs × IsAscending xs
-
   -- a filter of a list in order is in order
-  pub filter-ascending : (p : A → Bool) (xs : List A) → IsAscending xs → IsAscending (filter p xs)
+  pub filter-ascending : (p : A → Bool) (xs : List A) → Rises cmp xs → Rises cmp (filter p xs)
   filter-ascending p [] s = tt
-  filter-ascending p (x ∷ xs) s = elim (p x) as (λ b. IsAscending (cond b (x ∷ filter p xs) (filter p xs))) [
+  filter-ascending p (x ∷ xs) s = elim (p x) as (λ b. Rises cmp (cond b (x ∷ filter p xs) (filter p xs))) [
     | true ↦ (λ y i. s.0 y (filter-In p y xs i).0, filter-ascending p xs s.1)
     | false ↦ filter-ascending p xs s.1
   ]
 
   -- and so is what is left past its first members
-  pub drop-ascending : (n : ℕ) (xs : List A) → IsAscending xs → IsAscending (drop n xs)
+  pub drop-ascending : (n : ℕ) (xs : List A) → Rises cmp xs → Rises cmp (drop n xs)
   drop-ascending zero xs s = s
   drop-ascending (suc n) [] s = tt
   drop-ascending (suc n) (x ∷ xs) s = drop-ascending n xs s.1
 
 module _ {A B : Type 0} (R : A → A → Ordering) (S : B → B → Ordering) where
   -- a map that keeps the order of members keeps lists in order
-  pub map-ascending : (f : A → B) (xs : List A) → ((x y : A) → In x xs → In y xs → R x y ≡ Less → S (f x) (f y) ≡ Less) → IsAscending R xs → IsAscending S (map f xs)
+  pub map-ascending : (f : A → B) (xs : List A) → ((x y : A) → In x xs → In y xs → R x y ≡ Less → S (f x) (f y) ≡ Less) → Rises R xs → Rises S (map f xs)
   map-ascending f [] keeps s = tt
   map-ascending f (x ∷ xs) keeps s = (
     λ y i. let r = map-In f y xs i in subst (λ (z : B). S (f x) z ≡ Less) (sym r.2) (keeps x r.0 (inl refl) (inr r.1) (s.0 r.0 r.1)),
@@ -46,9 +37,9 @@ module _ {A B : Type 0} (R : A → A → Ordering) (S : B → B → Ordering) wh
   -- and so does one that leaves members out
   pub filter_map-ascending : (g : A → Option B) (xs : List A)
       → ((x y : A) (u w : B) → In x xs → In y xs → R x y ≡ Less → g x ≡ Some u → g y ≡ Some w → S u w ≡ Less)
-      → IsAscending R xs → IsAscending S (filter_map g xs)
+      → Rises R xs → Rises S (filter_map g xs)
   filter_map-ascending g [] keeps s = tt
-  filter_map-ascending g (x ∷ xs) keeps s = elim (g x) as (λ r. g x ≡ r → IsAscending S (cons_option r (filter_map g xs))) [
+  filter_map-ascending g (x ∷ xs) keeps s = elim (g x) as (λ r. g x ≡ r → Rises S (cons_option r (filter_map g xs))) [
     | None ↦ λ _. filter_map-ascending g xs (λ y z u w i j. keeps y z u w (inr i) (inr j)) s.1
     | Some u ↦ λ e. (
       λ w i. let r = filter_map-In g w xs i in keeps x r.0 u w (inl refl) (inr r.1) (s.0 r.0 r.1) e r.2,
@@ -93,9 +84,9 @@ module _ {A : Type 0} (cmp : A → A → Ordering) (o : IsRanked cmp) where
   below_more x z zs l b y (inr h) = o.total.trans x z y l (b y h)
 
   -- placing keeps the order
-  place-ascending : (x : A) (ys : List A) → IsAscending cmp ys → IsAscending cmp (place cmp x ys)
+  place-ascending : (x : A) (ys : List A) → Rises cmp ys → Rises cmp (place cmp x ys)
   place-ascending x [] s = (λ y i. absurd i, tt)
-  place-ascending x (z ∷ zs) s = elim (cmp x z) as (λ r. cmp x z ≡ r → IsAscending cmp (by_order r (x ∷ z ∷ zs) (z ∷ zs) (z ∷ place cmp x zs))) [
+  place-ascending x (z ∷ zs) s = elim (cmp x z) as (λ r. cmp x z ≡ r → Rises cmp (by_order r (x ∷ z ∷ zs) (z ∷ zs) (z ∷ place cmp x zs))) [
     | Less ↦ λ e. (below_more x z zs e s.0, s)
     | Equal ↦ λ e. s
     | Greater ↦ λ e. (below_place z x zs (turned x z e) s.0, place-ascending x zs s.1)
@@ -110,7 +101,7 @@ module _ {A : Type 0} (cmp : A → A → Ordering) (o : IsRanked cmp) where
       (λ h. elim (p.0 h) [ inl q ↦ inl q | inr i ↦ inr (ih.0 i) ], elim [ inl q ↦ p.1 (inl q) | inr i ↦ p.1 (inr (ih.1 i)) ])
 
   -- the ascending list is in order
-  pub ascending-ascending : (xs : List A) → IsAscending cmp (ascending cmp xs)
+  pub ascending-ascending : (xs : List A) → Rises cmp (ascending cmp xs)
   ascending-ascending [] = tt
   ascending-ascending (x ∷ xs) = place-ascending x (ascending cmp xs) (ascending-ascending xs)
 
@@ -126,7 +117,7 @@ module _ {A : Type 0} (cmp : A → A → Ordering) (o : IsRanked cmp) where
   tail x y xs ys b e z i (inr j) = j
 
   -- lists in order with the same members are the same
-  pub same_ascending : (xs ys : List A) → IsAscending cmp xs → IsAscending cmp ys → Same xs ys → xs ≡ ys
+  pub same_ascending : (xs ys : List A) → Rises cmp xs → Rises cmp ys → Same xs ys → xs ≡ ys
   same_ascending [] [] s t e = refl
   same_ascending [] (y ∷ ys) s t e = absurd ((e y).1 (inl refl))
   same_ascending (x ∷ xs) [] s t e = absurd ((e x).0 (inl refl))
@@ -142,10 +133,14 @@ module _ {A : Type 0} (cmp : A → A → Ordering) (o : IsRanked cmp) where
       (Same-through _ xs _ (ascending-In xs) (Same-through xs ys _ e (Same-back _ _ (ascending-In ys))))
 
   -- in a list in order no member comes twice
-  pub Distinct-ascending : (xs : List A) → IsAscending cmp xs → Distinct xs
+  pub Distinct-ascending : (xs : List A) → Rises cmp xs → Distinct xs
   Distinct-ascending [] s = tt
   Distinct-ascending (x ∷ xs) s = (λ i. clash _ (ap is_lt (s.0 x i)) (ap is_lt (tied_itself o.total x)), Distinct-ascending xs s.1)
 
   -- a list in order is its own ascending list
-  pub ascending-itself : (xs : List A) → IsAscending cmp xs → ascending cmp xs ≡ xs
+  pub ascending-itself : (xs : List A) → Rises cmp xs → ascending cmp xs ≡ xs
   ascending-itself xs s = same_ascending _ _ (ascending-ascending xs) s (ascending-In xs)
+
+  -- so an ascending list is its own ascending list
+  pub ascending_twice : (xs : List A) → ascending cmp (ascending cmp xs) ≡ ascending cmp xs
+  ascending_twice xs = ascending-itself (ascending cmp xs) (ascending-ascending xs)

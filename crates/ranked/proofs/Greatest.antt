@@ -1,5 +1,5 @@
 -- The greatest of a list, as it grows and as it is mapped.
-use Rattle.std.proofs.Common.{◌≡◌, Bool, true, false, cond, List, [], ◌∷◌, ◌++◌, map, Option, Some, None, refl, ap, ◌∙◌, option_map, Ordering, if◌then◌else◌}
+use Rattle.std.proofs.Common.{◌≡◌, Bool, true, false, cond, List, [], ◌∷◌, ◌++◌, map, Some, refl, ap, ◌∙◌, option_map, Ordering, if◌then◌else◌}
 use Rattle.std.specs.Ordering.{is_lt}
 use Rattle.ranked.specs.Sets.{best, greatest}
 

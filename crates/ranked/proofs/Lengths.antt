@@ -1,5 +1,5 @@
 -- A set as an ascending list has no more members than the list that it is made of.
-use Rattle.std.proofs.Common.{◌≤◌, ℕ, ◌+◌, List, [], ◌∷◌, length, arith, Ordering, Less, Equal, Greater}
+use Rattle.std.proofs.Common.{◌≤◌, ◌+◌, List, [], ◌∷◌, length, arith, Ordering, Less, Equal, Greater}
 use Rattle.std.specs.FinMap.Entries.{by_order}
 use Rattle.ranked.specs.Ascending.{place, ascending}
 
