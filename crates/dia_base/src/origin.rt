@@ -13,7 +13,7 @@ use pcrf_values::DiameterIdentity;
 use std::alloc::Global;
 
 /// The node that sent a request (RFC 6733, 6.3 and 6.4).
-#[derive(Drop)]
+#[derive(Drop, PartialEq, Eq)]
 pub struct Origin {
     /// Origin-Host.
     pub host: DiameterIdentity,
