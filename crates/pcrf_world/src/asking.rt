@@ -2,7 +2,7 @@
 ghost use Rattle.std.specs.Prelude.{◌≡◌, ◌≤◌, ◌<◌, ◌^◌, ◌&&◌, false, [], length, None, IfOk, IfErr};
 ghost use Rattle.dia_codec.specs.Reading.{avps_of};
 ghost use Rattle.dia_codec.specs.Spelling.{avp_views, message_view};
-ghost use Rattle.dia_base.specs.Rows.{or_else, IsRefusal};
+ghost use Rattle.dia_base.specs.Rows.{or_else, IsFaultOf};
 ghost use Rattle.std.specs.Option.{option_copied};
 ghost use Rattle.dia_base.specs.Answers.{refusal_answer};
 ghost use Rattle.gx_profile.specs.Requests.{ccr_view, ccr_table_refusal, ccr_of};
@@ -85,7 +85,7 @@ fn header_refusal(header: &Header) -> Option<Refusal>
 /// The request that a message asks to serve.
 fn read_body(alloc: Global, message: &Message) -> Result<Ccr, ReadFault>
     ensures read { IfOk result (λ ccr. (or_else (header_refusal message.now.header) (ccr_table_refusal (avp_views message.now.avps.items)) ≡ None) × (ccr_view ccr ≡ ccr_of (avp_views message.now.avps.items))) }
-    ensures refused { IfErr result (λ fault. IsRefusal fault (or_else (header_refusal message.now.header) (ccr_table_refusal (avp_views message.now.avps.items)))) }
+    ensures refused { IfErr result (IsFaultOf (or_else (header_refusal message.now.header) (ccr_table_refusal (avp_views message.now.avps.items)))) }
 {
     if let Some(refusal) = header_refusal(&message.header) {
         return Err(ReadFault::Refused(refusal));
