@@ -1,6 +1,6 @@
 -- What a command's grammar asks of a message's AVPs (RFC 6733, 3.2), as rows of a table, and the first refusal of
 -- what breaks it (7.1.5).
-use Rattle.std.specs.Prelude.{◌≡◌, ℕ, Bool, ◌&&◌, ◌==◌, nat_lt, nat_le, if◌then◌else◌, List, [], ◌∷◌, length, find, Option, Some, None, option_map, option_to_list, ⊤}
+use Rattle.std.specs.Prelude.{◌≡◌, ℕ, Bool, ◌&&◌, ◌==◌, nat_lt, nat_le, if◌then◌else◌, List, [], ◌∷◌, length, find, Option, Some, None, option_map, option_to_list, unwrap_or, ⊤}
 use Rattle.std.specs.List.{filter_map}
 use Rattle.std.specs.Option.{option_eq}
 use Rattle.pcrf_values.specs.Results.{invalid_avp_value, missing_avp, avp_occurs_too_many_times, invalid_avp_length}
@@ -34,6 +34,10 @@ first_of (x ∷ xs) = Some x
 -- the first value at a key
 abbrev pub value_of : AvpKey → List AvpValue → Option (List ℕ)
 value_of key avps = first_of (values_of key avps)
+
+-- the first value at a key, empty where there is none
+abbrev pub text_at : AvpKey → List AvpValue → List ℕ
+text_at key avps = unwrap_or (value_of key avps) []
 
 -- the number that the first value at a key is, big-endian
 abbrev pub number_at : AvpKey → List AvpValue → Option ℕ
@@ -82,6 +86,10 @@ required key kind = record { key = key; least = 1; most = 1; kind = kind }
 abbrev pub optional : AvpKey → Kind → Row
 optional key kind = record { key = key; least = 0; most = 1; kind = kind }
 
+-- the row of an AVP that may stand so many times
+abbrev pub repeated : AvpKey → ℕ → Kind → Row
+repeated key most kind = record { key = key; least = 0; most = most; kind = kind }
+
 -- The first refusal of one row: the AVP stands too often, or too seldom, or one of its values is refused.
 unfoldable pub row_refusal : Row → List AvpValue → Option Refusal
 row_refusal row avps =
@@ -106,6 +114,10 @@ enumerated least most value =
     if length value == 4
     then (if nat_le least (word_at value 0) && nat_le (word_at value 0) most then None else Some invalid_avp_value)
     else Some invalid_avp_length
+
+-- any bytes (OctetString, 4.2)
+abbrev pub octet_string : Kind
+octet_string value = None
 
 -- one byte to so many (OctetString, 4.2, and what derives from it)
 abbrev pub text_to : ℕ → Kind

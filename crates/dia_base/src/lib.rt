@@ -7,6 +7,7 @@ pub mod codes;
 mod identity;
 mod origin;
 mod read_fault;
+mod repeated;
 mod rows;
 mod subscriptions;
 mod writer;
@@ -16,9 +17,10 @@ pub use identity::Identity;
 pub use origin::{Origin, read_origin};
 pub use pcrf_values::Refusal;
 pub use read_fault::ReadFault;
+pub use repeated::{FromValue, read_each};
 pub use rows::{
-    base_key, count_of, first_with, optional_address, optional_apn, required_number,
-    required_number_within, required_text,
+    base_key, count_of, first_with, optional_address, optional_apn, optional_number,
+    optional_number_within, required_number, required_number_within, required_text, tgpp_key,
 };
 pub use subscriptions::read_subscribers;
 pub use writer::AvpWriter;

@@ -1,13 +1,14 @@
 //! AVPs of a request, judged row by row. Each reader judges one row of a table and gives what stands there.
-ghost use Rattle.std.specs.Prelude.{◌≡◌, ◌<◌, ◌≤◌, length, OnOk, OnErr, IfOk, IfErr, Some, option_map, option_copied};
+ghost use Rattle.std.specs.Prelude.{◌≡◌, ◌<◌, ◌≤◌, length, OnOk, OnErr, IfOk, IfErr, IfSome, Some, option_map, option_copied};
 ghost use Rattle.std.specs.Net.Addr.{ipv4_octets};
 ghost use Rattle.pcrf_values.specs.Limits.{apn_limit};
 ghost use Rattle.pcrf_values.specs.Results.{avp_occurs_too_many_times};
 ghost use Rattle.pcrf_values.specs.Texts.{folded};
 ghost use Rattle.dia_codec.specs.Spelling.{avp_view, avp_views};
-ghost use Rattle.dia_base.specs.Avps.{base_key};
+ghost use Rattle.dia_base.specs.Avps.{base_key, tgpp_key};
 ghost use Rattle.dia_base.specs.Rows.{first_at, values_of, value_of, value_in, number_at, IsOnlyAt, required, optional, unsigned32, enumerated, text_to, ipv4_address, Accepts, RefusesWith, RefusesAnyKind, FaultsWith};
 
+use crate::codes::TGPP;
 use crate::codes::results::{
     AVP_OCCURS_TOO_MANY_TIMES, INVALID_AVP_LENGTH, INVALID_AVP_VALUE, MISSING_AVP,
 };
@@ -22,6 +23,16 @@ pub const fn base_key(code: u32) -> AvpKey
     ensures { result ≡ base_key code }
 {
     AvpKey { code, vendor: None }
+}
+
+/// The name of an AVP of 3GPP.
+pub const fn tgpp_key(code: u32) -> AvpKey
+    ensures { result ≡ tgpp_key code }
+{
+    AvpKey {
+        code,
+        vendor: Some(TGPP),
+    }
 }
 
 /// How many AVPs have a key.
@@ -137,6 +148,52 @@ pub fn required_number_within(
         return Err(Refusal::base(INVALID_AVP_VALUE));
     }
     Ok(number)
+}
+
+/// Reads a number, which may stand once.
+#[tactic(auto, unfolding(crate::specs::Rows::row_refusal))]
+pub fn optional_number(avps: &[Avp], key: AvpKey) -> Result<Option<u32>, Refusal>
+    ensures accepted { OnOk result (Accepts (optional key unsigned32) (avp_views avps.now)) }
+    ensures number { IfOk result (λ number. number ≡ number_at key (avp_views avps.now)) }
+    ensures refused { IfErr result (RefusesWith (optional key unsigned32) (avp_views avps.now)) }
+{
+    let found = at_most_once(avps, key)?;
+    let Some(avp) = found else {
+        return Ok(None);
+    };
+    let Some(number) = avp.number() else {
+        return Err(Refusal::base(INVALID_AVP_LENGTH));
+    };
+    Ok(Some(number))
+}
+
+/// Reads a number within a range, which may stand once.
+#[tactic(auto, unfolding(crate::specs::Rows::row_refusal))]
+pub fn optional_number_within(
+    avps: &[Avp],
+    key: AvpKey,
+    least: u32,
+    most: u32,
+) -> Result<Option<u32>, Refusal>
+    ensures accepted { OnOk result
+        (Accepts (optional key (enumerated least most)) (avp_views avps.now)) }
+    ensures number { IfOk result (λ number. number ≡ number_at key (avp_views avps.now)) }
+    ensures least { IfOk result (λ number. IfSome number (λ given. least ≤ given)) }
+    ensures most { IfOk result (λ number. IfSome number (λ given. given ≤ most)) }
+    ensures refused { IfErr result
+        (RefusesWith (optional key (enumerated least most)) (avp_views avps.now)) }
+{
+    let found = at_most_once(avps, key)?;
+    let Some(avp) = found else {
+        return Ok(None);
+    };
+    let Some(number) = avp.number() else {
+        return Err(Refusal::base(INVALID_AVP_LENGTH));
+    };
+    if number < least || number > most {
+        return Err(Refusal::base(INVALID_AVP_VALUE));
+    }
+    Ok(Some(number))
 }
 
 /// Reads an IPv4 address, which may stand once.

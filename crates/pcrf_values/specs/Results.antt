@@ -68,6 +68,14 @@ invalid_avp_length = base_result 5014
 
 -- ---- those of 3GPP
 
+-- INVALID_SERVICE_INFORMATION (TS 29.214, 5.5)
+abbrev pub invalid_service_information : Refusal
+invalid_service_information = tgpp_result 5061
+
+-- FILTER_RESTRICTIONS (TS 29.214, 5.5)
+abbrev pub filter_restrictions : Refusal
+filter_restrictions = tgpp_result 5062
+
 -- REQUESTED_SERVICE_NOT_AUTHORIZED (TS 29.214, 5.5)
 abbrev pub service_not_authorized : Refusal
 service_not_authorized = tgpp_result 5063

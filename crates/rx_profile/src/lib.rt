@@ -1,0 +1,9 @@
+//! The Rx profile: what is read of AA requests and session termination requests, and the bytes of their answers
+//! (TS 29.214).
+#![tactic(auto)]
+
+mod answer;
+mod termination;
+
+pub use answer::{write_aaa, write_sta};
+pub use termination::{Str, read_str};
