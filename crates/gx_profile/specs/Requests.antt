@@ -26,7 +26,7 @@ ccr_view q = record {
   number = q.number;
   address = option_map ipv4_octets q.address;
   apn = q.apn;
-  subscribers = unwrap_or q.subscribers [];
+  subscribers = q.subscribers;
 }
 
 -- ---- the table
