@@ -5,6 +5,7 @@ use Rattle.std.specs.Int.{w32, from_be_bytes}
 use Rattle.dia_codec.specs.declared.message.Flags.{Flags}
 use Rattle.dia_codec.specs.declared.message.Header.{Header}
 use Rattle.dia_codec.specs.declared.message.AvpKey.{AvpKey}
+use Rattle.dia_codec.specs.Limits.{request_bit, proxiable_bit, error_bit, retransmitted_bit}
 
 -- an AVP without where it lies in memory
 pub record AvpValue : Type 0 where
@@ -23,11 +24,21 @@ pub record MessageValue : Type 0 where
 
 -- the number that four bytes from a place on are, big-endian
 unfoldable pub word_at : List ℕ → ℕ → ℕ
-word_at bytes at = from_be_bytes w32 (get_or bytes at 0 ∷ get_or bytes (at + 1) 0 ∷ get_or bytes (at + 2) 0 ∷ get_or bytes (at + 3) 0 ∷ [])
+word_at bytes at = from_be_bytes w32
+    (get_or bytes at 0 ∷ get_or bytes (at + 1) 0 ∷ get_or bytes (at + 2) 0 ∷ get_or bytes (at + 3) 0 ∷ [])
 
 -- the number that three bytes from a place on are, big-endian
 unfoldable pub three_at : List ℕ → ℕ → ℕ
-three_at bytes at = from_be_bytes w32 (0 ∷ get_or bytes at 0 ∷ get_or bytes (at + 1) 0 ∷ get_or bytes (at + 2) 0 ∷ [])
+three_at bytes at = from_be_bytes w32
+    (0 ∷ get_or bytes at 0 ∷ get_or bytes (at + 1) 0 ∷ get_or bytes (at + 2) 0 ∷ [])
+
+-- the length field of a message
+abbrev pub message_length : List ℕ → ℕ
+message_length bytes = three_at bytes 1
+
+-- the length field of an AVP
+abbrev pub avp_length : List ℕ → ℕ
+avp_length own = three_at own 5
 
 -- a bit of a byte is set
 abbrev pub has : ℕ → ℕ → Bool
@@ -36,10 +47,10 @@ has byte bit = not (bit_and byte bit == 0)
 -- the command flags R, P, E and T
 abbrev pub flags_of : ℕ → Flags
 flags_of byte = record {
-  request = has byte 0x80;
-  proxiable = has byte 0x40;
-  error = has byte 0x20;
-  retransmitted = has byte 0x10;
+  request = has byte request_bit;
+  proxiable = has byte proxiable_bit;
+  error = has byte error_bit;
+  retransmitted = has byte retransmitted_bit;
 }
 
 -- the header of 20 bytes, but for version and length

@@ -1,7 +1,7 @@
 //! Frames from a stream in pieces. A frame is the bytes of one message, cut by its length field alone.
 
-ghost use Rattle.std.specs.Prelude.{◌≡◌, ◌==◌, ◌++◌, [], IfOk, OnOk, IfErr, IfSome, IfNone, ◌⊎◌, ◌≤◌, length, take, drop};
-ghost use Rattle.std.specs.Prelude.{Some, None, Ok, Err, IsOk};
+ghost use Rattle.std.specs.Prelude.{◌≡◌, ◌==◌, ◌++◌, [], IfOk, OnOk, IfErr, OnErr, IfSome, IfNone, ◌≤◌, length, take, drop};
+ghost use Rattle.std.specs.Prelude.{Some, None, Ok, Err, unwrap_or};
 ghost use Rattle.dia_codec.specs.Stream.{front_of};
 ghost use Rattle.dia_codec.specs.Spelling.{IsFrame};
 ghost use Rattle.dia_codec.specs.declared.fault.FrameFault.TheVariants as faults;
@@ -16,8 +16,9 @@ use std::marker::Model;
 /// bytes are there.
 #[tactic(auto, unfolding(crate::specs::Stream::front_of))]
 fn whole_len(bytes: &[u8]) -> Result<Option<usize>, FrameFault>
-    ensures whole { IfOk result (λ found. IfSome found (λ n. (n ≤ length bytes.now)
-        × (front_of bytes.now ≡ Ok (Some (take n bytes.now, drop n bytes.now))))) }
+    ensures within { IfOk result (λ found. IfSome found (λ n. n ≤ length bytes.now)) }
+    ensures whole { IfOk result (λ found. IfSome found (λ n.
+        front_of bytes.now ≡ Ok (Some (take n bytes.now, drop n bytes.now)))) }
     ensures none { IfOk result (λ found. IfNone found (front_of bytes.now ≡ Ok None)) }
     ensures err { IfErr result (λ e. front_of bytes.now ≡ Err e) }
 {
@@ -88,10 +89,11 @@ impl Assembler {
     /// Takes the next piece of the stream, unless `next` has answered a bad length.
     pub fn feed(&mut self, piece: &[u8]) -> Result<(), FrameFault>
         ensures sticky { IfSome self.old.fault (λ f. result ≡ Err f) }
-        ensures taken { OnOk result ((self.old.fault ≡ None)
-            × (self.new ≡ record self.old { bytes = self.old.bytes ++ piece.now })) }
-        ensures refused { IfErr result (λ e. (self.new ≡ self.old)
-            × ((self.old.fault ≡ Some e) ⊎ ((self.old.fault ≡ None) × (e ≡ faults.NoMemory)))) }
+        ensures sound { OnOk result (self.old.fault ≡ None) }
+        ensures taken { OnOk result
+            (self.new ≡ record self.old { bytes = self.old.bytes ++ piece.now }) }
+        ensures fault { IfErr result (λ e. e ≡ unwrap_or self.old.fault faults.NoMemory) }
+        ensures unchanged { OnErr result (self.new ≡ self.old) }
     {
         if let Some(fault) = self.fault {
             return Err(fault);
@@ -103,15 +105,28 @@ impl Assembler {
     /// The next whole frame, None if none is whole. A bad length at the front is answered now, and by each later call.
     pub fn next(&mut self) -> Result<Option<Vec<u8>>, FrameFault>
         ensures sticky { IfSome self.old.fault (λ f. result ≡ Err f) }
-        ensures none { IfOk result (λ given. IfNone given ((front_of self.old.bytes ≡ Ok None)
-            × (self.new ≡ self.old))) }
+        ensures sound { OnOk result (self.new.fault ≡ None) }
+
+        // No frame is whole.
+        ensures none { IfOk result (λ given. IfNone given (front_of self.old.bytes ≡ Ok None)) }
+        ensures waits { IfOk result (λ given. IfNone given (self.new ≡ self.old)) }
+
+        // The frame at the front is whole.
         ensures some { IfOk result (λ given. IfSome given (λ frame.
-            (front_of self.old.bytes ≡ Ok (Some (frame.items, self.new.bytes))) × (self.new.fault ≡ None))) }
-        ensures frame { IfOk result (λ given. IfSome given (λ frame.
-            IsFrame frame.items × (self.old.bytes ≡ frame.items ++ self.new.bytes))) }
-        ensures refused { IfErr result (λ e.
-            ((front_of self.old.bytes ≡ Err e) × (self.new ≡ record self.old { fault = Some e }))
-            ⊎ ((e ≡ faults.NoMemory) × IsOk (front_of self.old.bytes) × (self.new ≡ self.old))) }
+            front_of self.old.bytes ≡ Ok (Some (frame.items, self.new.bytes)))) }
+        ensures frame { IfOk result (λ given. IfSome given (λ frame. IsFrame frame.items)) }
+        ensures parts { IfOk result (λ given. IfSome given (λ frame.
+            self.old.bytes ≡ frame.items ++ self.new.bytes)) }
+
+        // The length at the front is bad.
+        ensures bad { IfErr (front_of self.old.bytes) (λ e. result ≡ Err e) }
+        ensures stays { IfErr (front_of self.old.bytes) (λ e.
+            self.new ≡ record self.old { fault = Some e }) }
+
+        // Memory runs out.
+        ensures no_memory { OnOk (front_of self.old.bytes)
+            (IfErr result (λ e. e ≡ faults.NoMemory)) }
+        ensures unchanged { OnOk (front_of self.old.bytes) (OnErr result (self.new ≡ self.old)) }
     {
         if let Some(fault) = self.fault {
             return Err(fault);

@@ -1,8 +1,9 @@
 //! Readers and writers that remember whether a call has failed.
 
-ghost use Rattle.std.specs.Prelude.{◌≡◌, ◌+◌, ◌-◌, ◌^◌, ◌<◌, min, true, false, length, IfOk, OnOk, OnErr};
+ghost use Rattle.std.specs.Prelude.{◌≡◌, ◌+◌, ◌<◌, min, true, false, length, IfOk, OnOk, OnErr};
 ghost use Rattle.std.specs.Io.{ReadsAtMost, WritesAtMost};
 ghost use Rattle.std.specs.Io.KnownBytes.{Appends, Keeps, ReadConsumes, WriteAppends};
+ghost use Rattle.dia_codec.specs.Counted.{most_calls};
 
 use std::io;
 use std::io::{ErrorKind, Read, Write};
@@ -48,7 +49,8 @@ impl<D> Counted<D> {
         ensures same { result ≡ given }
         ensures failed { OnErr given (self.new.failed ≡ true) }
         ensures kept { OnOk given (self.new.failed ≡ self.old.failed) }
-        ensures others { (self.new.inner ≡ self.old.inner) × (self.new.calls ≡ self.old.calls) }
+        ensures inner { self.new.inner ≡ self.old.inner }
+        ensures calls { self.new.calls ≡ self.old.calls }
     {
         if given.is_err() {
             self.failed = true;
@@ -62,10 +64,11 @@ impl<R: Read> Read for Counted<R> {
 
     fn read(&mut self, buf: &mut [u8]) -> io::Result<usize>
         ensures bound { ReadsAtMost result buf.new }
-        ensures bytes { ReadConsumes (R.remaining self.old.inner) (R.remaining self.new.inner) result buf.new }
+        ensures bytes { ReadConsumes (R.remaining self.old.inner) (R.remaining self.new.inner)
+            result buf.new }
         ensures failed { OnErr result (self.new.failed ≡ true) }
         ensures kept { OnOk result (self.new.failed ≡ self.old.failed) }
-        ensures calls { self.new.calls ≡ min (self.old.calls + 1) (2 ^ 64 - 1) }
+        ensures calls { self.new.calls ≡ min (self.old.calls + 1) most_calls }
     {
         self.calls = self.calls.saturating_add(1);
         let result = self.inner.read(buf);
@@ -80,7 +83,8 @@ impl<W: Write> Write for Counted<W> {
 
     fn write(&mut self, buf: &[u8]) -> io::Result<usize>
         ensures bound { WritesAtMost result buf.now }
-        ensures bytes { WriteAppends (W.contents self.old.inner) (W.contents self.new.inner) result buf.now }
+        ensures bytes { WriteAppends (W.contents self.old.inner) (W.contents self.new.inner)
+            result buf.now }
         ensures takes { IfOk result (λ n. 0 < length buf.now → 0 < n) }
         ensures failed { OnErr result (self.new.failed ≡ true) }
         ensures kept { OnOk result (self.new.failed ≡ self.old.failed) }
@@ -104,8 +108,10 @@ impl<W: Write> Write for Counted<W> {
     }
 
     fn write_all(&mut self, buf: &[u8]) -> io::Result<()>
-        ensures bytes { OnOk result (Appends (W.contents self.old.inner) (W.contents self.new.inner) buf.now) }
-        ensures part { OnErr result (AppendsPart (W.contents self.old.inner) (W.contents self.new.inner) buf.now) }
+        ensures bytes { OnOk result
+            (Appends (W.contents self.old.inner) (W.contents self.new.inner) buf.now) }
+        ensures part { OnErr result
+            (AppendsPart (W.contents self.old.inner) (W.contents self.new.inner) buf.now) }
         ensures failed { OnErr result (self.new.failed ≡ true) }
         ensures kept { OnOk result (self.new.failed ≡ self.old.failed) }
         ensures calls { self.new.calls ≡ self.old.calls }
@@ -123,8 +129,10 @@ impl<W: Write> Counted<W> {
 
     /// Writes all of the bytes, or fails with some first part of them written.
     pub fn put(&mut self, bytes: &[u8]) -> io::Result<()>
-        ensures bytes { OnOk result (Appends (W.contents self.old.inner) (W.contents self.new.inner) bytes.now) }
-        ensures part { OnErr result (AppendsPart (W.contents self.old.inner) (W.contents self.new.inner) bytes.now) }
+        ensures bytes { OnOk result
+            (Appends (W.contents self.old.inner) (W.contents self.new.inner) bytes.now) }
+        ensures part { OnErr result
+            (AppendsPart (W.contents self.old.inner) (W.contents self.new.inner) bytes.now) }
         ensures failed { OnErr result (self.new.failed ≡ true) }
         ensures kept { OnOk result (self.new.failed ≡ self.old.failed) }
         ensures calls { self.new.calls ≡ self.old.calls }

@@ -24,6 +24,3 @@ pub use message::{Avp, AvpKey, Flags, Header, Message};
 pub use reading::{read_group, read_message};
 pub use stream::{FramedStream, StreamEnd, frames_of, one_cut};
 pub use writing::{round_trip, write_group, write_message};
-
-#[cfg(test)]
-mod tests;

@@ -43,7 +43,7 @@ pub struct AvpKey {
 }
 
 /// An attribute-value pair (RFC 6733, section 4). Reserved flag bits and padding are not kept.
-#[derive(Debug, Drop)]
+#[derive(Debug, Drop, PartialEq, Eq)]
 pub struct Avp {
     pub code: u32,
     /// The Vendor-Id as it was read; there is one exactly where the V bit, 0x80, is set.
@@ -102,7 +102,7 @@ impl Avp {
 }
 
 /// A message: its header, and its AVPs in their order.
-#[derive(Debug, Drop)]
+#[derive(Debug, Drop, PartialEq, Eq)]
 pub struct Message {
     pub header: Header,
     pub avps: Vec<Avp>,

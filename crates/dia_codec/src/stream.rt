@@ -21,7 +21,7 @@ pub enum StreamEnd {
 }
 
 /// A stream cut into frames.
-#[derive(Debug, Drop)]
+#[derive(Debug, Drop, PartialEq, Eq)]
 pub struct FramedStream {
     /// The whole frames in their order, up to the stream's end or its first bad length.
     pub frames: Vec<Vec<u8>>,
@@ -79,10 +79,15 @@ pub fn frames_of(alloc: Global, pieces: &[&[u8]]) -> Result<FramedStream, AllocE
 
 /// A law: a stream is cut into frames in one way, and has one end.
 pub fn one_cut()
-    ensures splits { (stream : List ℕ) (frames others : List (List ℕ)) (rest last : List ℕ)
-        → Splits stream frames rest → Splits stream others last
-        → (frames ≡ others) × (rest ≡ last) }
-    ensures cuts { (stream : List ℕ) (frames others : List (List ℕ)) (end last : StreamEnd)
-        → CutsInto stream frames end → CutsInto stream others last
-        → (frames ≡ others) × (end ≡ last) }
+    // A stream, and what is left of it.
+    ensures frames { (stream : List ℕ) (frames others : List (List ℕ)) (rest last : List ℕ)
+        → Splits stream frames rest → Splits stream others last → frames ≡ others }
+    ensures rest { (stream : List ℕ) (frames others : List (List ℕ)) (rest last : List ℕ)
+        → Splits stream frames rest → Splits stream others last → rest ≡ last }
+
+    // A stream, and how it ends.
+    ensures cut_frames { (stream : List ℕ) (frames others : List (List ℕ)) (end last : StreamEnd)
+        → CutsInto stream frames end → CutsInto stream others last → frames ≡ others }
+    ensures end { (stream : List ℕ) (frames others : List (List ℕ)) (end last : StreamEnd)
+        → CutsInto stream frames end → CutsInto stream others last → end ≡ last }
 {}

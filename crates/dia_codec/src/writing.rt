@@ -1,8 +1,9 @@
 //! Messages and groups as bytes (RFC 6733, sections 3 and 4).
 
-ghost use Rattle.std.specs.Prelude.{◌≡◌, ◌+◌, ◌≤◌, ◌<◌, ◌^◌, ◌++◌, ◌&&◌, ◌↔◌, false, length, IfOk, IfSome, OnOk, MatchOption, IsErrOf, Ok};
+ghost use Rattle.std.specs.Prelude.{◌≡◌, ◌+◌, ◌≤◌, ◌<◌, ◌++◌, ◌&&◌, ◌↔◌, false, length, IfNone, IfOk, IfSome, OnOk, IsErrOf, Ok};
 ghost use Rattle.std.specs.List.{flat_map, sum_by, AllByRecursion};
 ghost use Rattle.dia_codec.specs.Fields.{MessageValue, padding};
+ghost use Rattle.dia_codec.specs.Limits.{command_bound, longest_message, unsigned32_bound};
 ghost use Rattle.dia_codec.specs.Reading.{message_of};
 ghost use Rattle.dia_codec.specs.Spelling.{avp_view, avp_views, message_view, SpellsMessage};
 ghost use Rattle.dia_codec.specs.Written.{bit_if, flag_byte, avp_flag_byte, vendor_bytes, word_bytes, three_bytes};
@@ -10,7 +11,11 @@ ghost use Rattle.dia_codec.specs.Written.{own_len, padded_len, written_len, writ
 ghost use Rattle.dia_codec.specs.Written.{Fits, FitsAvp, FitsNumbers};
 
 use crate::fault::WriteFault;
-use crate::fields::{HEADER_BYTES, MOST_BYTES, padding};
+use crate::fields::{
+    AVP_HEADER_BYTES, ERROR_BIT, HEADER_BYTES, MANDATORY_BIT, MOST_BYTES, PROTECTED_BIT,
+    PROXIABLE_BIT, REQUEST_BIT, RETRANSMITTED_BIT, VENDOR_AVP_HEADER_BYTES, VENDOR_BIT, VERSION,
+    padding,
+};
 use crate::message::{Avp, Flags, Header, Message};
 use std::alloc::{AllocError, Global};
 
@@ -25,24 +30,30 @@ fn bit_if(is: bool, bit: u8) -> u8
 fn flag_byte(flags: Flags) -> u8
     ensures { result ≡ flag_byte flags }
 {
-    bit_if(flags.request, 0x80)
-        | bit_if(flags.proxiable, 0x40)
-        | bit_if(flags.error, 0x20)
-        | bit_if(flags.retransmitted, 0x10)
+    bit_if(flags.request, REQUEST_BIT)
+        | bit_if(flags.proxiable, PROXIABLE_BIT)
+        | bit_if(flags.error, ERROR_BIT)
+        | bit_if(flags.retransmitted, RETRANSMITTED_BIT)
 }
 
 /// How many bytes an AVP has without its padding, as its length field says.
 fn own_len(avp: &Avp) -> usize
-    requires { length avp.now.value.items ≤ 65532 }
+    requires { length avp.now.value.items ≤ longest_message }
     ensures { result ≡ own_len (avp_view avp.now) }
 {
-    let head = if avp.vendor.is_some() { 12 } else { 8 };
+    let head = if avp.vendor.is_some() {
+        VENDOR_AVP_HEADER_BYTES
+    } else {
+        AVP_HEADER_BYTES
+    };
     head + avp.value.len()
 }
 
 /// How many bytes the AVPs have with their padding, None above the most that a message may have.
 fn avps_len(avps: &[Avp]) -> Option<usize>
-    ensures { MatchOption result (65532 < sum_by padded_len (avp_views avps.now)) (λ n. (n ≡ sum_by padded_len (avp_views avps.now)) × (n ≤ 65532)) }
+    ensures length { IfSome result (λ n. n ≡ sum_by padded_len (avp_views avps.now)) }
+    ensures fits { IfSome result (λ n. n ≤ longest_message) }
+    ensures too_long { IfNone result (longest_message < sum_by padded_len (avp_views avps.now)) }
 {
     let mut length = 0;
     for avp in avps {
@@ -60,8 +71,9 @@ fn avps_len(avps: &[Avp]) -> Option<usize>
 
 /// How many bytes the message has, None above the most.
 fn written_len(message: &Message) -> Option<usize>
-    ensures { MatchOption result (65532 < written_len (message_view message.now))
-        (λ n. (n ≡ written_len (message_view message.now)) × (n ≤ 65532)) }
+    ensures length { IfSome result (λ n. n ≡ written_len (message_view message.now)) }
+    ensures fits { IfSome result (λ n. n ≤ longest_message) }
+    ensures too_long { IfNone result (longest_message < written_len (message_view message.now)) }
 {
     let length = HEADER_BYTES + avps_len(&message.avps)?;
     (length <= MOST_BYTES).then_some(length)
@@ -79,18 +91,19 @@ fn put_three(out: &mut Vec<u8>, number: u32) -> Result<(), AllocError>
 #[tactic(auto, unfolding(crate::specs::Written::word_bytes))]
 fn put_word(out: &mut Vec<u8>, number: u32) -> Result<(), AllocError>
     ensures written { OnOk result (out.new.items ≡ out.old.items ++ word_bytes number) }
-    ensures fits { number < 2 ^ 32 }
+    ensures fits { number < unsigned32_bound }
 {
     out.extend_from_slice(&number.to_be_bytes())
 }
 
 /// Adds a header, with the length of the whole message.
 fn put_header(out: &mut Vec<u8>, length: u32, header: &Header) -> Result<(), AllocError>
-    requires { header.now.command < 2 ^ 24 }
-    ensures written { OnOk result (out.new.items ≡ out.old.items ++ written_header length header.now) }
+    requires { header.now.command < command_bound }
+    ensures written { OnOk result
+        (out.new.items ≡ out.old.items ++ written_header length header.now) }
     ensures fits { OnOk result (FitsNumbers header.now) }
 {
-    out.push(1)?;
+    out.push(VERSION)?;
     put_three(out, length)?;
     out.push(flag_byte(header.flags))?;
     put_three(out, header.command)?;
@@ -103,7 +116,7 @@ fn put_header(out: &mut Vec<u8>, length: u32, header: &Header) -> Result<(), All
 /// Adds the Vendor-Id, if there is one.
 fn put_vendor(out: &mut Vec<u8>, vendor: Option<u32>) -> Result<(), AllocError>
     ensures written { OnOk result (out.new.items ≡ out.old.items ++ vendor_bytes vendor) }
-    ensures fits { OnOk result (IfSome vendor (λ number. number < 2 ^ 32)) }
+    ensures fits { OnOk result (IfSome vendor (λ number. number < unsigned32_bound)) }
 {
     if let Some(vendor) = vendor {
         put_word(out, vendor)?;
@@ -115,13 +128,16 @@ fn put_vendor(out: &mut Vec<u8>, vendor: Option<u32>) -> Result<(), AllocError>
 fn avp_flag_byte(avp: &Avp) -> u8
     ensures { result ≡ avp_flag_byte (avp_view avp.now) }
 {
-    bit_if(avp.vendor.is_some(), 0x80) | bit_if(avp.mandatory, 0x40) | bit_if(avp.protected, 0x20)
+    bit_if(avp.vendor.is_some(), VENDOR_BIT)
+        | bit_if(avp.mandatory, MANDATORY_BIT)
+        | bit_if(avp.protected, PROTECTED_BIT)
 }
 
 /// Adds an AVP and its padding.
 fn put_avp(out: &mut Vec<u8>, avp: &Avp) -> Result<(), AllocError>
-    requires { length avp.now.value.items ≤ 65532 }
-    ensures written { OnOk result (out.new.items ≡ out.old.items ++ written_avp (avp_view avp.now)) }
+    requires { length avp.now.value.items ≤ longest_message }
+    ensures written { OnOk result
+        (out.new.items ≡ out.old.items ++ written_avp (avp_view avp.now)) }
     ensures fits { OnOk result (FitsAvp (avp_view avp.now)) }
 {
     let length = own_len(avp);
@@ -136,8 +152,9 @@ fn put_avp(out: &mut Vec<u8>, avp: &Avp) -> Result<(), AllocError>
 
 /// Adds the AVPs, each with its padding.
 fn put_avps(out: &mut Vec<u8>, avps: &[Avp]) -> Result<(), AllocError>
-    requires { sum_by padded_len (avp_views avps.now) ≤ 65532 }
-    ensures written { OnOk result (out.new.items ≡ out.old.items ++ flat_map written_avp (avp_views avps.now)) }
+    requires { sum_by padded_len (avp_views avps.now) ≤ longest_message }
+    ensures written { OnOk result
+        (out.new.items ≡ out.old.items ++ flat_map written_avp (avp_views avps.now)) }
     ensures fits { OnOk result (AllByRecursion FitsAvp (avp_views avps.now)) }
 {
     for avp in avps {
@@ -149,7 +166,8 @@ fn put_avps(out: &mut Vec<u8>, avps: &[Avp]) -> Result<(), AllocError>
 /// The value of a group of these AVPs, each with its padding. What is longer than the longest message is refused.
 pub fn write_group(alloc: Global, avps: &[Avp]) -> Result<Vec<u8>, WriteFault>
     ensures written { IfOk result (λ v. v.items ≡ flat_map written_avp (avp_views avps.now)) }
-    ensures too_long { IsErrOf result WriteFault.TooLong ↔ (65532 < sum_by padded_len (avp_views avps.now)) }
+    ensures too_long { IsErrOf result WriteFault.TooLong
+        ↔ (longest_message < sum_by padded_len (avp_views avps.now)) }
 {
     let Some(length) = avps_len(avps) else {
         return Err(WriteFault::TooLong);
@@ -163,7 +181,7 @@ pub fn write_group(alloc: Global, avps: &[Avp]) -> Result<Vec<u8>, WriteFault>
 ///
 /// A command has three bytes, and no request has the error flag (RFC 6733, section 3).
 pub fn write_message(alloc: Global, message: &Message) -> Result<Vec<u8>, WriteFault>
-    requires command { message.now.header.command < 2 ^ 24 }
+    requires command { message.now.header.command < command_bound }
     requires flags { (message.now.header.flags.request && message.now.header.flags.error)
         ≡ false }
     ensures written { IfOk result (λ v. v.items ≡ written (message_view message.now)) }
@@ -171,7 +189,7 @@ pub fn write_message(alloc: Global, message: &Message) -> Result<Vec<u8>, WriteF
     ensures fits { OnOk result (Fits (message_view message.now)) }
 
     ensures too_long { IsErrOf result WriteFault.TooLong
-        ↔ (65532 < written_len (message_view message.now)) }
+        ↔ (longest_message < written_len (message_view message.now)) }
 {
     let Some(length) = written_len(message) else {
         return Err(WriteFault::TooLong);
