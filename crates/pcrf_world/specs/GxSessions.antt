@@ -10,11 +10,11 @@ use Rattle.lattice_core.specs.Registers.{reg_joined}
 use Rattle.ranked.specs.declared.tag.Tag.{Tag}
 use Rattle.pcrf_world.specs.declared.operation.GxFields.{GxFields}
 use Rattle.pcrf_world.specs.declared.shown.GxSession.{GxSession}
-use Rattle.pcrf_world.specs.Shown.{GxShown}
+use Rattle.pcrf_world.specs.Shown.{GxSessionValue}
 
 -- what a session shows
-abbrev pub gx_value : GxSession → GxShown
-gx_value s = record {
+abbrev pub gx_session_value : GxSession → GxSessionValue
+gx_session_value s = record {
   session = s.session;
   address = option_map (λ (e : Tag × Ipv4Addr). ipv4_octets e.1) s.address;
   apn = option_map (λ (e : Tag × List ℕ). e.1) s.apn;

@@ -1,26 +1,22 @@
-//! From the bytes of a message to the request that it asks to serve, and from the reply to the bytes of the answer.
-ghost use Rattle.std.specs.Prelude.{◌≡◌, ◌≤◌, ◌<◌, ◌^◌, ◌&&◌, false, [], length, None, IfOk, IfErr};
+//! From the bytes of a message to the request that it asks to serve.
+ghost use Rattle.std.specs.Prelude.{◌≡◌, ◌≤◌, ◌<◌, length, None, IfOk, OnOk, IfErr, Ok};
+ghost use Rattle.dia_codec.specs.Limits.{header_bytes, command_bound};
 ghost use Rattle.dia_codec.specs.Reading.{avps_of};
 ghost use Rattle.dia_codec.specs.Spelling.{avp_views, message_view};
-ghost use Rattle.dia_base.specs.Rows.{or_else, IsRefusal};
-ghost use Rattle.std.specs.Option.{option_copied};
-ghost use Rattle.dia_base.specs.Answers.{refusal_answer};
-ghost use Rattle.gx_profile.specs.Requests.{ccr_view, ccr_refusal, ccr_of};
-ghost use Rattle.pcrf_world.specs.Asking.{HeaderFits, answer_bytes, reply_bytes, asked_view, asked_of, asked_by, session_among, session_if_cut, fault_refusal, header_refusal};
+ghost use Rattle.dia_base.specs.Rows.{IsRefusal};
+ghost use Rattle.gx_profile.specs.Requests.{ccr_view, ccr_of};
+ghost use Rattle.pcrf_wire.specs.Asking.{HeaderFits, asked_value, fault_refusal, header_refusal, meaning_of_frame, meaning_of_request, message_refusal, session_among, session_if_cut};
 
-use crate::request::{Reply, Request};
+use crate::request::Request;
 use dia_base::codes::results::{
     APPLICATION_UNSUPPORTED, COMMAND_UNSUPPORTED, INVALID_AVP_LENGTH, INVALID_HDR_BITS,
     UNSUPPORTED_VERSION,
 };
 use dia_base::codes::{GX, RX, avps, commands};
-use dia_base::{Identity, ReadFault, Refusal, base_key, first_with, refusal_answer};
-use dia_codec::{
-    Avp, Header, Message, MsgFault, WriteFault, read_group, read_header, read_message,
-    write_message,
-};
-use gx_profile::{Ccr, read_ccr, write_cca};
-use pcrf_values::SessionId;
+use dia_base::{ReadFault, base_key, first_with};
+use dia_codec::{Avp, Header, Message, MsgFault, read_group, read_header, read_message};
+use gx_profile::{Ccr, read_ccr};
+use pcrf_values::{Refusal, SessionId};
 use std::alloc::{AllocError, Global};
 
 /// What a frame asks for.
@@ -84,8 +80,10 @@ fn header_refusal(header: &Header) -> Option<Refusal>
 
 /// The request that a message asks to serve.
 fn read_body(alloc: Global, message: &Message) -> Result<Ccr, ReadFault>
-    ensures read { IfOk result (λ ccr. (or_else (header_refusal message.now.header) (ccr_refusal (avp_views message.now.avps.items)) ≡ None) × (ccr_view ccr ≡ ccr_of (avp_views message.now.avps.items))) }
-    ensures refused { IfErr result (λ fault. IsRefusal fault (or_else (header_refusal message.now.header) (ccr_refusal (avp_views message.now.avps.items)))) }
+    ensures served { OnOk result (message_refusal (message_view message.now) ≡ None) }
+    ensures read { IfOk result (λ ccr. ccr_view ccr ≡ ccr_of (avp_views message.now.avps.items)) }
+    ensures refused { IfErr result (λ fault.
+        IsRefusal fault (message_refusal (message_view message.now))) }
 {
     if let Some(refusal) = header_refusal(&message.header) {
         return Err(ReadFault::Refused(refusal));
@@ -94,9 +92,10 @@ fn read_body(alloc: Global, message: &Message) -> Result<Ccr, ReadFault>
 }
 
 /// What a message asks for.
-fn asked_unless(alloc: Global, message: &Message) -> Result<Asked, AllocError>
-    requires { message.now.header.command < 2 ^ 24 }
-    ensures asked { IfOk result (λ asked. asked_view asked ≡ asked_by [] (Ok (message_view message.now))) }
+fn asked_by(alloc: Global, message: &Message) -> Result<Asked, AllocError>
+    requires { message.now.header.command < command_bound }
+    ensures asked { IfOk result (λ asked.
+        asked_value asked ≡ meaning_of_request [] (Ok (message_view message.now))) }
     ensures command { IfOk result HeaderFits }
 {
     match read_body(alloc, message) {
@@ -111,10 +110,10 @@ fn asked_unless(alloc: Global, message: &Message) -> Result<Asked, AllocError>
 
 /// What a frame asks for: an answer of the peer's is passed over, whatever else is wrong with it; then the first of
 /// these refuses: the version, the flags, the lengths of the AVPs, the application, the command, the command's table.
-#[tactic(auto, unfolding(crate::specs::Asking::asked_of))]
+#[tactic(auto, unfolding(crate::specs::Asking::meaning_of_frame))]
 pub fn read_request(alloc: Global, frame: &[u8]) -> Result<Asked, AllocError>
-    requires { 20 ≤ length frame.now }
-    ensures asked { IfOk result (λ asked. asked_view asked ≡ asked_of frame.now) }
+    requires { header_bytes ≤ length frame.now }
+    ensures asked { IfOk result (λ asked. asked_value asked ≡ meaning_of_frame frame.now) }
     ensures command { IfOk result HeaderFits }
 {
     let Some((first, rest)) = frame.split_first_chunk::<20>() else {
@@ -125,58 +124,11 @@ pub fn read_request(alloc: Global, frame: &[u8]) -> Result<Asked, AllocError>
         return Ok(Asked::Silent);
     }
     match read_message(alloc, frame) {
-        Ok(message) => asked_unless(alloc, &message),
+        Ok(message) => asked_by(alloc, &message),
         Err(MsgFault::NoMemory) => Err(AllocError),
         Err(fault) => {
             let session = session_if_cut(alloc, rest)?;
             Ok(Asked::Refused(header, session, fault_refusal(fault)))
         }
     }
-}
-
-/// The bytes of an answer; none where it is longer than any message.
-fn bytes_of(alloc: Global, answer: &Message) -> Result<Vec<u8>, AllocError>
-    requires command { answer.now.header.command < 2 ^ 24 }
-    requires flags { (answer.now.header.flags.request && answer.now.header.flags.error) ≡ false }
-    ensures { IfOk result (λ bytes. bytes.items ≡ answer_bytes (message_view answer.now)) }
-{
-    match write_message(alloc, answer) {
-        Ok(bytes) => Ok(bytes),
-        Err(WriteFault::TooLong) => Ok(Vec::new(alloc)),
-        Err(WriteFault::NoMemory) => Err(AllocError),
-    }
-}
-
-/// The bytes of the answer to a request that was served.
-#[tactic(auto, unfolding(gx_profile::specs::Answers::cca))]
-pub fn write_reply(
-    alloc: Global,
-    identity: &Identity,
-    header: &Header,
-    request: &Request,
-    reply: &Reply,
-) -> Result<Vec<u8>, AllocError>
-    requires { header.now.command < 2 ^ 24 }
-    ensures { IfOk result (λ bytes. bytes.items ≡ reply_bytes identity.now header.now request.now reply.now) }
-{
-    let (Request::Ccr(ccr), Reply::Gx(reply)) = (request, reply);
-    let answer = write_cca(alloc, identity, header, ccr, reply)?;
-    bytes_of(alloc, &answer)
-}
-
-/// The bytes of the answer to a request that could not be read.
-#[tactic(auto, unfolding(dia_base::specs::Answers::refusal_answer))]
-pub fn write_refusal(
-    alloc: Global,
-    identity: &Identity,
-    header: &Header,
-    session: Option<&SessionId>,
-    refusal: Refusal,
-) -> Result<Vec<u8>, AllocError>
-    requires { header.now.command < 2 ^ 24 }
-    ensures { IfOk result (λ bytes. bytes.items ≡ answer_bytes (refusal_answer identity.now header.now refusal (option_copied session.entry))) }
-{
-    let id = session.map(|session| session.as_slice());
-    let answer = refusal_answer(alloc, identity, header, refusal, id)?;
-    bytes_of(alloc, &answer)
 }

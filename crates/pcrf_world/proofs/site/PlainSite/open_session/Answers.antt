@@ -8,7 +8,7 @@ use Rattle.gx_profile.specs.Requests.{ccr_view, kind_value}
 use Rattle.pcrf_world.specs.Sites.{SiteValue, site_holding}
 use Rattle.pcrf_world.proofs.Fields.{never_ended_in}
 use Rattle.pcrf_world.proofs.Replies.{lacking, at_the_end, granted}
-use Rattle.pcrf_world.proofs.site.PlainSite.serve_initial.Goals as goal
+use Rattle.pcrf_world.proofs.site.PlainSite.open_session.Goals as goal
 
 pub returns-in_default-clause-reply : goal.returns-in_default-clause-reply
 returns-in_default-clause-reply c =

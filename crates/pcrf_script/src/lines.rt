@@ -1,8 +1,9 @@
 //! The lines of a script.
 ghost use Rattle.std.specs.Prelude.{◌≡◌};
-ghost use Rattle.pcrf_world.specs.declared.lines.LineFault.TheVariants as fault;
+ghost use Rattle.pcrf_script.specs.declared.lines.LineFault.TheVariants as fault;
 
 use std::alloc::{AllocError, AllocFailed, Global};
+use thiserror::Error;
 
 /// A site or a letter as a script names it: any decimal number. Those that no world has are `usize::MAX`.
 pub(crate) type Named = usize;
@@ -25,11 +26,11 @@ pub(crate) enum Line {
 }
 
 /// Why a line is not obeyed.
-#[derive(Clone, Copy, Debug, PartialEq, Eq)]
+#[derive(Clone, Copy, Debug, PartialEq, Eq, Error)]
 pub(crate) enum LineFault {
-    /// It fits no form, or not at its place.
+    #[error("the line fits no form, or not at its place")]
     Bad,
-    /// Memory ran out.
+    #[error("no memory")]
     NoMemory,
 }
 

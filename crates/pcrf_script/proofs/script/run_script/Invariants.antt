@@ -1,5 +1,5 @@
 use Rattle.std.proofs.Common.{◌≤◌, ◌+◌}
-use Rattle.pcrf_world.proofs.script.run_script.Given as goal
+use Rattle.pcrf_script.proofs.script.run_script.Given as goal
 
 abbrev pub invariant-loop-byte : goal.invariant-loop-byte
 invariant-loop-byte g l = l._turn + 1 ≤ l.reader.calls

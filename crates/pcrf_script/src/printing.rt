@@ -1,7 +1,5 @@
 //! What a script prints.
-use crate::shown::GxSession;
-use crate::site::PlainSite;
-use crate::world::{Outcome, WorldFault};
+use pcrf_world::{GxSession, Outcome, PlainSite, WorldFault};
 use std::alloc::AllocError;
 use std::fmt::Write as _;
 
@@ -32,7 +30,7 @@ fn put_session(out: &mut String, session: &GxSession) -> Result<(), AllocError> 
 
 /// What a site holds: its clock, and its sessions ascending.
 pub(crate) fn put_site(out: &mut String, site: &PlainSite) -> Result<(), AllocError> {
-    let sessions = site.gx()?;
+    let sessions = site.shown_sessions()?;
     let clock = site.clock();
     writeln!(out, "clock {clock}")?;
     for session in &sessions {
