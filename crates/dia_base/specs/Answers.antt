@@ -1,11 +1,13 @@
 -- What answers are made of (RFC 6733).
 use Rattle.std.specs.Prelude.{ℕ, ◌/◌, Bool, true, false, ◌&&◌, ◌||◌, ◌==◌, if◌then◌else◌, List, [], ◌∷◌, ◌++◌, Option, Some, None}
+use Rattle.std.specs.List.{flat_map}
+use Rattle.std.specs.Option.{option_map_or}
+use Rattle.pcrf_values.specs.Results.{success}
+use Rattle.pcrf_values.specs.declared.refusal.Refusal.{Refusal}
 use Rattle.dia_codec.specs.declared.message.Header.{Header}
 use Rattle.dia_codec.specs.Fields.{AvpValue, MessageValue}
-use Rattle.std.specs.List.{flat_map}
 use Rattle.dia_codec.specs.Written.{word_bytes, written_avp}
 use Rattle.dia_base.specs.declared.identity.Identity.{Identity}
-use Rattle.dia_base.specs.declared.refusal.Refusal.{Refusal}
 
 -- ---- AVPs as they are written: those of RFC 6733 without a vendor and with M (4.1)
 abbrev pub text_avp : ℕ → List ℕ → AvpValue
@@ -21,27 +23,33 @@ group_avp code avps = text_avp code (flat_map written_avp avps)
 
 -- ---- answers
 
+-- a protocol error, which sets E (7.1.3)
+abbrev pub is_protocol_error : Refusal → Bool
+is_protocol_error r = r.code / 1000 == 3
+
+-- a permanent failure (7.1.5)
+abbrev pub is_permanent_failure : Refusal → Bool
+is_permanent_failure r = r.code / 1000 == 5
+
 -- an answer repeats the request's command, application, identifiers and P (3, 6.2); R and T are clear
-abbrev pub answer_header : Header → Bool → Header
-answer_header h error = record {
-  flags = record { request = false; proxiable = h.flags.proxiable; error = error; retransmitted = false };
+abbrev pub answer_header : Header → Option Refusal → Header
+answer_header h refusal = record {
+  flags = record {
+    request = false;
+    proxiable = h.flags.proxiable;
+    error = option_map_or is_protocol_error refusal false;
+    retransmitted = false;
+  };
   command = h.command;
   application = h.application;
   hop_id = h.hop_id;
   end_id = h.end_id;
 }
 
--- a protocol error, which sets E (7.1.3)
-abbrev pub is_protocol_error : ℕ → Bool
-is_protocol_error code = code / 1000 == 3
-
--- a permanent failure (7.1.5)
-abbrev pub is_permanent_failure : ℕ → Bool
-is_permanent_failure code = code / 1000 == 5
-
--- Result-Code (7.1), or Experimental-Result with 3GPP as the vendor (7.6)
-abbrev pub result_avp : Refusal → AvpValue
-result_avp r =
+-- Result-Code (7.1), or Experimental-Result with 3GPP as the vendor (7.6); no refusal is DIAMETER_SUCCESS
+abbrev pub result_avp : Option Refusal → AvpValue
+result_avp None = number_avp 268 success
+result_avp (Some r) =
     if r.experimental
     then group_avp 297 (number_avp 266 10415 ∷ number_avp 298 r.code ∷ [])
     else number_avp 268 r.code
@@ -56,15 +64,15 @@ session_avps None = []
 session_avps (Some id) = text_avp 263 id ∷ []
 
 -- Auth-Application-Id (6.8) stands in the answer to a CCR under Gx or an AAR under Rx that fails for good
-abbrev pub names_application : Header → ℕ → Bool
-names_application h code = is_permanent_failure code && ((h.command == 272 && h.application == 16777238) || (h.command == 265 && h.application == 16777236))
+abbrev pub names_application : Header → Refusal → Bool
+names_application h r = is_permanent_failure r && ((h.command == 272 && h.application == 16777238) || (h.command == 265 && h.application == 16777236))
 
-abbrev pub application_avps : Header → ℕ → List AvpValue
-application_avps h code = if names_application h code then number_avp 258 h.application ∷ [] else []
+abbrev pub application_avps : Header → Refusal → List AvpValue
+application_avps h r = if names_application h r then number_avp 258 h.application ∷ [] else []
 
 -- the answer to a request that could not be read, or isn't served (7.2)
 unfoldable pub refusal_answer : Identity → Header → Refusal → Option (List ℕ) → MessageValue
 refusal_answer i h r id = record {
-  header = answer_header h (is_protocol_error r.code);
-  avps = session_avps id ++ application_avps h r.code ++ origin_avps i ++ result_avp r ∷ [];
+  header = answer_header h (Some r);
+  avps = session_avps id ++ application_avps h r ++ origin_avps i ++ result_avp (Some r) ∷ [];
 }

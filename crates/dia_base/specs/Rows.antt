@@ -1,31 +1,15 @@
 -- What a command's grammar asks of a message's AVPs (RFC 6733, 3.2), as rows of a table, and the first refusal of
 -- what breaks it (7.1.5).
-use Rattle.std.specs.Prelude.{◌≡◌, ℕ, Bool, false, ◌&&◌, ◌==◌, nat_lt, nat_le, if◌then◌else◌, List, [], ◌∷◌, length, Option, Some, None, option_map, ⊤}
+use Rattle.std.specs.Prelude.{◌≡◌, ℕ, Bool, ◌&&◌, ◌==◌, nat_lt, nat_le, if◌then◌else◌, List, [], ◌∷◌, length, Option, Some, None, option_map, ⊤}
 use Rattle.std.specs.List.{filter_map}
+use Rattle.pcrf_values.specs.Results.{invalid_avp_value, missing_avp, avp_occurs_too_many_times, invalid_avp_length}
 use Rattle.dia_codec.specs.declared.message.AvpKey.{AvpKey}
 use Rattle.std.specs.Option.{option_eq}
 use Rattle.dia_codec.specs.Fields.{AvpValue, key_of, word_at}
 use Rattle.dia_codec.specs.Reading.{avps_of}
-use Rattle.dia_base.specs.declared.refusal.Refusal.{Refusal}
-use Rattle.dia_base.specs.declared.refusal.ReadFault.{ReadFault}
-use Rattle.dia_base.specs.declared.refusal.ReadFault.TheVariants.{Refused, NoMemory}
-
--- a refusal by a Result-Code of RFC 6733
-abbrev pub base : ℕ → Refusal
-base code = record { code = code; experimental = false }
-
--- DIAMETER_INVALID_AVP_VALUE, DIAMETER_MISSING_AVP, DIAMETER_AVP_OCCURS_TOO_MANY_TIMES, DIAMETER_INVALID_AVP_LENGTH
-abbrev pub bad_value : Refusal
-bad_value = base 5004
-
-abbrev pub missing : Refusal
-missing = base 5005
-
-abbrev pub too_often : Refusal
-too_often = base 5009
-
-abbrev pub bad_length : Refusal
-bad_length = base 5014
+use Rattle.pcrf_values.specs.declared.refusal.Refusal.{Refusal}
+use Rattle.dia_base.specs.declared.read_fault.ReadFault.{ReadFault}
+use Rattle.dia_base.specs.declared.read_fault.ReadFault.TheVariants.{Refused, NoMemory}
 
 -- an AVP of RFC 6733, and one of 3GPP
 abbrev pub base_key : ℕ → AvpKey
@@ -62,9 +46,9 @@ or_else None second = second
 or_else (Some first) second = Some first
 
 -- the first refusal of a list's members
-abbrev pub first_refusal : {X : Type 0} → (X → Option Refusal) → List X → Option Refusal
-first_refusal judge [] = None
-first_refusal judge (x ∷ xs) = or_else (judge x) (first_refusal judge xs)
+abbrev pub refusal_among : {X : Type 0} → (X → Option Refusal) → List X → Option Refusal
+refusal_among judge [] = None
+refusal_among judge (x ∷ xs) = or_else (judge x) (refusal_among judge xs)
 
 -- a value that isn't a group
 pub data Plain : Type 0 where
@@ -77,13 +61,13 @@ pub data Plain : Type 0 where
 
 -- A number that isn't four bytes long has a bad length; every other value outside the table is a bad value.
 abbrev pub plain_refusal : Plain → List ℕ → Option Refusal
-plain_refusal Number value = if length value == 4 then None else Some bad_length
+plain_refusal Number value = if length value == 4 then None else Some invalid_avp_length
 plain_refusal (NumberWithin least most) value =
     if length value == 4
-    then (if nat_le least (word_at value 0) && nat_le (word_at value 0) most then None else Some bad_value)
-    else Some bad_length
-plain_refusal (TextWithin least most) value = if nat_le least (length value) && nat_le (length value) most then None else Some bad_value
-plain_refusal Address value = if length value == 4 then None else Some bad_value
+    then (if nat_le least (word_at value 0) && nat_le (word_at value 0) most then None else Some invalid_avp_value)
+    else Some invalid_avp_length
+plain_refusal (TextWithin least most) value = if nat_le least (length value) && nat_le (length value) most then None else Some invalid_avp_value
+plain_refusal Address value = if length value == 4 then None else Some invalid_avp_value
 
 -- A row: an AVP, how often it stands at least and at most, and what its value is.
 pub record Row (Kind : Type 0) : Type 0 where
@@ -95,13 +79,13 @@ pub record Row (Kind : Type 0) : Type 0 where
 -- The first refusal of one row: the AVP stands too often, or too seldom, or one of its values is refused.
 unfoldable pub row_refusal : AvpKey → ℕ → ℕ → (List ℕ → Option Refusal) → List AvpValue → Option Refusal
 row_refusal key least most judge avps =
-    if nat_lt most (length (values_of key avps)) then Some too_often else
-    if nat_lt (length (values_of key avps)) least then Some missing else
-    first_refusal judge (values_of key avps)
+    if nat_lt most (length (values_of key avps)) then Some avp_occurs_too_many_times else
+    if nat_lt (length (values_of key avps)) least then Some missing_avp else
+    refusal_among judge (values_of key avps)
 
 -- The first refusal of a table, row by row.
 abbrev pub rows_refusal : {Kind : Type 0} → (Kind → List ℕ → Option Refusal) → List (Row Kind) → List AvpValue → Option Refusal
-rows_refusal {Kind} judge rows avps = first_refusal (λ (row : Row Kind). row_refusal row.key row.least row.most (judge row.kind) avps) rows
+rows_refusal {Kind} judge rows avps = refusal_among (λ (row : Row Kind). row_refusal row.key row.least row.most (judge row.kind) avps) rows
 
 -- a value that may be a group, whose rows are of the kind below
 pub data Grouped (Kind : Type 0) : Type 0 where
@@ -110,7 +94,7 @@ pub data Grouped (Kind : Type 0) : Type 0 where
 
 -- a group that can't be cut into AVPs has a bad length
 abbrev pub cut_refusal : {Kind : Type 0} → (Kind → List ℕ → Option Refusal) → List (Row Kind) → Option (List AvpValue) → Option Refusal
-cut_refusal judge rows None = Some bad_length
+cut_refusal judge rows None = Some invalid_avp_length
 cut_refusal judge rows (Some avps) = rows_refusal judge rows avps
 
 abbrev pub grouped_refusal : {Kind : Type 0} → (Kind → List ℕ → Option Refusal) → Grouped Kind → List ℕ → Option Refusal

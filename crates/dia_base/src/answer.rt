@@ -1,28 +1,28 @@
 //! What every answer is made of, and the answer that refuses a request.
-ghost use Rattle.std.specs.Prelude.{◌≡◌, ◌++◌, ◌∷◌, [], IfOk, OnOk};
+ghost use Rattle.std.specs.Prelude.{◌≡◌, ◌++◌, ◌∷◌, [], IfOk, OnErr, OnOk};
 ghost use Rattle.std.specs.Option.{option_copied};
 ghost use Rattle.std.specs.List.{flat_map};
 ghost use Rattle.dia_codec.specs.Spelling.{message_view};
 ghost use Rattle.dia_codec.specs.Written.{written_avp};
 ghost use Rattle.dia_base.specs.Answers.{answer_header, is_protocol_error, is_permanent_failure, names_application, number_avp, origin_avps, refusal_answer, result_avp};
 
-use crate::codes::{GX, RX, TGPP, avps, commands};
+use crate::codes::{GX, RX, TGPP, avps, commands, results};
 use crate::identity::Identity;
-use crate::refusal::Refusal;
 use crate::writer::AvpWriter;
 use dia_codec::{Flags, Header, Message, WriteFault, write_group};
+use pcrf_values::Refusal;
 use std::alloc::{AllocError, Global};
 
-/// The header of an answer: the request's command, application, identifiers and P bit; E where the answer tells of a
-/// protocol error (RFC 6733, 3 and 6.2).
-pub fn answer_header(header: &Header, error: bool) -> Header
-    ensures { result ≡ answer_header header.now error }
+/// The header of an answer that tells of this refusal, or of success: the request's command, application, identifiers
+/// and P bit; E where the refusal is a protocol error (RFC 6733, 3 and 6.2).
+pub fn answer_header(header: &Header, refusal: Option<Refusal>) -> Header
+    ensures { result ≡ answer_header header.now refusal }
 {
     Header {
         flags: Flags {
             request: false,
             proxiable: header.flags.proxiable,
-            error,
+            error: refusal.is_some_and(is_protocol_error),
             retransmitted: false,
         },
         command: header.command,
@@ -32,11 +32,11 @@ pub fn answer_header(header: &Header, error: bool) -> Header
     }
 }
 
-/// Whether a Result-Code tells of a protocol error (RFC 6733, 7.1.3).
-pub fn is_protocol_error(code: u32) -> bool
-    ensures { result ≡ is_protocol_error code }
+/// Whether the refusal is a protocol error (RFC 6733, 7.1.3).
+fn is_protocol_error(refusal: Refusal) -> bool
+    ensures { result ≡ is_protocol_error refusal }
 {
-    code / 1000 == 3
+    refusal.code / 1000 == 3
 }
 
 /// Writes Origin-Host and Origin-Realm (RFC 6733, 6.3 and 6.4).
@@ -61,24 +61,33 @@ fn experimental_result(alloc: Global, code: u32) -> Result<Vec<u8>, AllocError>
     }
 }
 
-/// Writes the Result-Code, or the Experimental-Result of a code of 3GPP (RFC 6733, 7.1 and 7.6).
-pub fn put_result(alloc: Global, out: &mut AvpWriter, result_of: Refusal) -> Result<(), AllocError>
-    ensures { OnOk result (out.new ≡ out.old ++ result_avp result_of ∷ []) }
+/// Writes the result: DIAMETER_SUCCESS where there is no refusal, else the refusal's Result-Code, or the
+/// Experimental-Result of a code of 3GPP (RFC 6733, 7.1 and 7.6).
+pub fn put_result(
+    alloc: Global,
+    out: &mut AvpWriter,
+    refusal: Option<Refusal>,
+) -> Result<(), AllocError>
+    ensures written { OnOk result (out.new ≡ out.old ++ result_avp refusal ∷ []) }
+    ensures unchanged { OnErr result (out.new ≡ out.old) }
 {
-    if result_of.experimental {
-        let value = experimental_result(alloc, result_of.code)?;
-        return out.put(avps::EXPERIMENTAL_RESULT, value);
+    match refusal {
+        None => out.number(avps::RESULT_CODE, results::SUCCESS),
+        Some(refusal) if refusal.experimental => {
+            let value = experimental_result(alloc, refusal.code)?;
+            out.put(avps::EXPERIMENTAL_RESULT, value)
+        }
+        Some(refusal) => out.number(avps::RESULT_CODE, refusal.code),
     }
-    out.number(avps::RESULT_CODE, result_of.code)
 }
 
-/// Whether the Auth-Application-Id stands in an answer with this code.
-fn names_application(header: &Header, code: u32) -> bool
-    ensures { result ≡ names_application header.now code }
+/// Whether the Auth-Application-Id stands in an answer that tells of this refusal.
+fn names_application(header: &Header, refusal: Refusal) -> bool
+    ensures { result ≡ names_application header.now refusal }
 {
     let gx = header.command == commands::CREDIT_CONTROL && header.application == GX;
     let rx = header.command == commands::AUTHORIZATION && header.application == RX;
-    code / 1000 == 5 && (gx || rx)
+    refusal.code / 1000 == 5 && (gx || rx)
 }
 
 /// The answer to a request that could not be read or isn't served (RFC 6733, 7.2): its Session-Id where one is known,
@@ -98,13 +107,13 @@ pub fn refusal_answer(
     if let Some(id) = session {
         out.text(avps::SESSION_ID, id)?;
     }
-    if names_application(header, refusal.code) {
+    if names_application(header, refusal) {
         out.number(avps::AUTH_APPLICATION_ID, header.application)?;
     }
     put_origin(&mut out, identity)?;
-    put_result(alloc, &mut out, refusal)?;
+    put_result(alloc, &mut out, Some(refusal))?;
     Ok(Message {
-        header: answer_header(header, is_protocol_error(refusal.code)),
+        header: answer_header(header, Some(refusal)),
         avps: out.into_avps(),
     })
 }

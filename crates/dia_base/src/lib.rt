@@ -5,14 +5,15 @@
 mod answer;
 pub mod codes;
 mod identity;
-mod refusal;
+mod read_fault;
 mod rows;
 mod subscriptions;
 mod writer;
 
-pub use answer::{answer_header, is_protocol_error, put_origin, put_result, refusal_answer};
+pub use answer::{answer_header, put_origin, put_result, refusal_answer};
 pub use identity::Identity;
-pub use refusal::{ReadFault, Refusal};
+pub use pcrf_values::Refusal;
+pub use read_fault::ReadFault;
 pub use rows::{
     base_key, count_of, first_with, optional_address, optional_apn, required_number,
     required_number_within, required_text,

@@ -4,15 +4,16 @@ ghost use Rattle.std.specs.Option.{option_to_list};
 ghost use Rattle.std.specs.Net.Addr.{ipv4_octets};
 ghost use Rattle.dia_codec.specs.Spelling.{avp_views};
 ghost use Rattle.pcrf_values.specs.Texts.{folded};
-ghost use Rattle.dia_base.specs.Rows.{base_key, values_of, value_of, number_at, row_refusal, plain_refusal, Number, NumberWithin, TextWithin, Address, too_often, IsRefusal};
-ghost use Rattle.dia_base.specs.declared.refusal.Refusal.{Refusal};
+ghost use Rattle.dia_base.specs.Rows.{base_key, values_of, value_of, number_at, row_refusal, plain_refusal, Number, NumberWithin, TextWithin, Address, IsRefusal};
+ghost use Rattle.pcrf_values.specs.Results.{avp_occurs_too_many_times};
+ghost use Rattle.pcrf_values.specs.declared.refusal.Refusal.{Refusal};
 
 use crate::codes::results::{
     AVP_OCCURS_TOO_MANY_TIMES, INVALID_AVP_LENGTH, INVALID_AVP_VALUE, MISSING_AVP,
 };
-use crate::refusal::{ReadFault, Refusal};
+use crate::read_fault::ReadFault;
 use dia_codec::{Avp, AvpKey};
-use pcrf_values::{Apn, BoundedText};
+use pcrf_values::{Apn, BoundedText, Refusal};
 use std::alloc::Global;
 use std::net::Ipv4Addr;
 
@@ -51,7 +52,7 @@ pub fn first_with(avps: &[Avp], key: AvpKey) -> Option<&Avp>
 /// The AVP with a key, which may stand once at most.
 fn at_most_once(avps: &[Avp], key: AvpKey) -> Result<Option<&Avp>, Refusal>
     ensures found { IfOk result (λ found. values_of key (avp_views avps.now) ≡ option_to_list (option_map (λ avp. avp.now.value.items) found)) }
-    ensures refused { IfErr result (λ refusal. (refusal ≡ too_often) × (1 < length (values_of key (avp_views avps.now)))) }
+    ensures refused { IfErr result (λ refusal. (refusal ≡ avp_occurs_too_many_times) × (1 < length (values_of key (avp_views avps.now)))) }
 {
     let mut found: Option<&Avp> = None;
     for avp in avps {

@@ -6,10 +6,10 @@ ghost use Rattle.dia_base.specs.Subscriptions.{subscription_rows, subscriber_of,
 
 use crate::codes::avps::{SUBSCRIPTION_ID, SUBSCRIPTION_ID_DATA, SUBSCRIPTION_ID_TYPE};
 use crate::codes::results::{AVP_OCCURS_TOO_MANY_TIMES, INVALID_AVP_LENGTH};
-use crate::refusal::{ReadFault, Refusal};
+use crate::read_fault::ReadFault;
 use crate::rows::{base_key, count_of, required_number_within, required_text};
 use dia_codec::{Avp, MsgFault, read_group};
-use pcrf_values::{Subscriber, Subscribers, SubscriptionType};
+use pcrf_values::{Refusal, Subscriber, Subscribers, SubscriptionType};
 use std::alloc::Global;
 
 /// How many Subscription-Ids a request may have: this project's own limit.

@@ -1,29 +1,16 @@
 -- Credit control requests as they are read (TS 29.212, 5.6.2).
-use Rattle.std.specs.Prelude.{ℕ, ◌==◌, if◌then◌else◌, List, [], ◌∷◌, Option, unwrap_or, option_map}
+use Rattle.std.specs.Prelude.{ℕ, List, [], ◌∷◌, Option, unwrap_or, option_map}
 use Rattle.std.specs.Net.Addr.{ipv4_octets}
-use Rattle.dia_codec.specs.Fields.{AvpValue}
+use Rattle.pcrf_values.specs.Numbers.{request_kind_of}
 use Rattle.pcrf_values.specs.Texts.{folded}
-use Rattle.pcrf_model.specs.Requests.{RequestKind as KindValue, Initial as InitialValue, Update as UpdateValue, Termination as TerminationValue, CcrValue}
-use Rattle.dia_base.specs.declared.refusal.Refusal.{Refusal}
+use Rattle.pcrf_values.specs.declared.refusal.Refusal.{Refusal}
+use Rattle.pcrf_values.specs.declared.request_kind.RequestKind.{RequestKind}
+use Rattle.pcrf_values.specs.declared.request_kind.RequestKind.TheVariants.{Initial}
+use Rattle.dia_codec.specs.Fields.{AvpValue}
+use Rattle.pcrf_model.specs.Requests.{CcrValue}
 use Rattle.dia_base.specs.Rows.{Row, Plain, Grouped, Single, Group, Number, NumberWithin, TextWithin, Address, base_key, value_of, number_at, plain_refusal, grouped_refusal, rows_refusal}
 use Rattle.dia_base.specs.Subscriptions.{subscription_rows, subscribers_of}
 use Rattle.gx_profile.specs.declared.ccr.Ccr.{Ccr}
-use Rattle.gx_profile.specs.declared.ccr.RequestKind.{RequestKind}
-use Rattle.gx_profile.specs.declared.ccr.RequestKind.TheVariants.{Initial, Update, Termination}
-
-abbrev pub kind_value : RequestKind → KindValue
-kind_value Initial = InitialValue
-kind_value Update = UpdateValue
-kind_value Termination = TerminationValue
-
--- INITIAL_REQUEST, UPDATE_REQUEST and TERMINATION_REQUEST (RFC 8506, 8.3)
-abbrev pub kind_number : RequestKind → ℕ
-kind_number Initial = 1
-kind_number Update = 2
-kind_number Termination = 3
-
-abbrev pub kind_of_number : ℕ → KindValue
-kind_of_number number = if number == 1 then InitialValue else (if number == 2 then UpdateValue else TerminationValue)
 
 -- The request without where it lies in memory.
 abbrev pub ccr_view : Ccr → CcrValue
@@ -31,7 +18,7 @@ ccr_view q = record {
   session = q.session;
   host = q.host;
   realm = q.realm;
-  kind = kind_value q.kind;
+  kind = q.kind;
   number = q.number;
   address = option_map ipv4_octets q.address;
   apn = q.apn;
@@ -53,8 +40,8 @@ ccr_rows =
     ∷ []
 
 -- the first refusal of a credit control request's AVPs
-abbrev pub ccr_refusal : List AvpValue → Option Refusal
-ccr_refusal avps = rows_refusal (grouped_refusal plain_refusal) ccr_rows avps
+abbrev pub ccr_table_refusal : List AvpValue → Option Refusal
+ccr_table_refusal avps = rows_refusal (grouped_refusal plain_refusal) ccr_rows avps
 
 abbrev pub text_at : ℕ → List AvpValue → List ℕ
 text_at code avps = unwrap_or (value_of (base_key code) avps) []
@@ -62,13 +49,17 @@ text_at code avps = unwrap_or (value_of (base_key code) avps) []
 abbrev pub number_of : ℕ → List AvpValue → ℕ
 number_of code avps = unwrap_or (number_at (base_key code) avps) 0
 
+-- the CC-Request-Type
+abbrev pub kind_at : List AvpValue → RequestKind
+kind_at avps = unwrap_or (request_kind_of (number_of 416 avps)) Initial
+
 -- what AVPs that aren't refused ask for
 abbrev pub ccr_of : List AvpValue → CcrValue
 ccr_of avps = record {
   session = text_at 263 avps;
   host = text_at 264 avps;
   realm = text_at 296 avps;
-  kind = kind_of_number (number_of 416 avps);
+  kind = kind_at avps;
   number = number_of 415 avps;
   address = value_of (base_key 8) avps;
   apn = option_map folded (value_of (base_key 30) avps);

@@ -1,13 +1,11 @@
 //! Answers to credit control requests (TS 29.212, 5.6.3).
 ghost use Rattle.std.specs.Prelude.{◌≡◌, IfOk};
 ghost use Rattle.dia_codec.specs.Spelling.{message_view};
-ghost use Rattle.gx_profile.specs.Answers.{cca, result_of};
+ghost use Rattle.gx_profile.specs.Answers.{cca, reply_refusal};
 
 use crate::ccr::Ccr;
-use dia_base::codes::{GX, avps, results};
-use dia_base::{
-    AvpWriter, Identity, Refusal, answer_header, is_protocol_error, put_origin, put_result,
-};
+use dia_base::codes::{GX, avps};
+use dia_base::{AvpWriter, Identity, Refusal, answer_header, put_origin, put_result};
 use dia_codec::{Header, Message};
 use std::alloc::{AllocError, Global};
 
@@ -21,13 +19,13 @@ pub enum GxReply {
 }
 
 impl GxReply {
-    /// The result that the answer tells: DIAMETER_SUCCESS, or the refusal.
-    pub fn result_of(&self) -> Refusal
-        ensures { result ≡ result_of self.now }
+    /// The refusal that the reply is, if it is one.
+    pub fn refusal(&self) -> Option<Refusal>
+        ensures { result ≡ reply_refusal self.now }
     {
         match self {
-            GxReply::Granted => Refusal::base(results::SUCCESS),
-            GxReply::Refused(refusal) => *refusal,
+            GxReply::Granted => None,
+            GxReply::Refused(refusal) => Some(*refusal),
         }
     }
 }
@@ -43,16 +41,16 @@ pub fn write_cca(
 ) -> Result<Message, AllocError>
     ensures { IfOk result (λ message. message_view message ≡ cca identity.now header.now ccr.now reply.now) }
 {
-    let told = reply.result_of();
+    let refusal = reply.refusal();
     let mut out = AvpWriter::start(alloc);
     out.text(avps::SESSION_ID, ccr.session.as_slice())?;
     out.number(avps::AUTH_APPLICATION_ID, GX)?;
     put_origin(&mut out, identity)?;
-    put_result(alloc, &mut out, told)?;
+    put_result(alloc, &mut out, refusal)?;
     out.number(avps::CC_REQUEST_TYPE, ccr.kind.number())?;
     out.number(avps::CC_REQUEST_NUMBER, ccr.number)?;
     Ok(Message {
-        header: answer_header(header, is_protocol_error(told.code)),
+        header: answer_header(header, refusal),
         avps: out.into_avps(),
     })
 }

@@ -5,4 +5,5 @@ mod answer;
 mod ccr;
 
 pub use answer::{GxReply, write_cca};
-pub use ccr::{Ccr, RequestKind, read_ccr};
+pub use ccr::{Ccr, read_ccr};
+pub use pcrf_values::RequestKind;

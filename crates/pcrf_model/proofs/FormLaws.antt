@@ -1,10 +1,16 @@
 -- The operations that requests and pushes make are well formed.
 use Rattle.std.proofs.Common.{◌≡◌, ℕ, ◌<◌, ◌^◌, ◌+◌, Bool, true, false, cond, List, [], ◌∷◌, ◌++◌, map, Option, Some, None, inl, inr, refl, sym, ap, ◌∙◌, subst, option_map, flat_map, arith}
 use Rattle.ranked.specs.Ascending.{ascending}
-use Rattle.pcrf_values.specs.RuleValues.{RuleValue, DeltaValue}
 use Rattle.ranked.specs.declared.tag.Tag.{Tag}
 use Rattle.ranked.proofs.Plain.{clash}
 use Rattle.ranked.specs.Sets.{In}
+use Rattle.ranked.proofs.SetLaws.{In-cases}
+use Rattle.ranked.proofs.AscendingLaws.{ascending-In}
+use Rattle.pcrf_values.specs.RuleValues.{RuleValue, DeltaValue}
+use Rattle.pcrf_values.specs.declared.refusal.Refusal.{Refusal}
+use Rattle.pcrf_values.specs.declared.request_kind.RequestKind.{RequestKind}
+use Rattle.pcrf_values.specs.declared.request_kind.RequestKind.TheVariants.{Initial, Update, Termination}
+use Rattle.pcrf_values.specs.Numbers.{request_kind_number}
 use Rattle.pcrf_model.specs.Sessions.{Session, gx, af}
 use Rattle.pcrf_model.specs.Paths.{FieldName, Path, whole, part, component, component_part, flow, flow_part, told_name}
 use Rattle.pcrf_model.specs.Values.{Value, Number, Text, Address, Subscribers, Filters, Untold, Told}
@@ -13,16 +19,14 @@ use Rattle.pcrf_model.specs.Holdings.{Holding}
 use Rattle.pcrf_model.specs.Operations.{Operation}
 use Rattle.pcrf_model.specs.Views.{view}
 use Rattle.pcrf_model.specs.Tables.{Tables}
-use Rattle.pcrf_model.specs.Requests.{RequestKind, Initial, Update, Termination, CcrValue, FlowValue, ComponentValue, AarValue, StrValue, RequestValue, Ccr, Aar, Str, Base, RefusalValue}
-use Rattle.pcrf_model.specs.Making.{given, given_list, ccr_fields, kind_value, told_facts, end_facts, is_removed, flow_facts, component_facts, aar_facts, next_tag, next_operation}
+use Rattle.pcrf_model.specs.Requests.{CcrValue, FlowValue, ComponentValue, AarValue, StrValue, RequestValue, Ccr, Aar, Str, Base}
+use Rattle.pcrf_model.specs.Making.{given, given_list, ccr_fields, told_facts, end_facts, is_removed, flow_facts, component_facts, aar_facts, next_tag, next_operation}
 use Rattle.pcrf_model.specs.Refusals.{ccr_refusal, aar_refusal, str_refusal}
 use Rattle.pcrf_model.specs.Replies.{ReplyValue, OnGx, Rejected, Refused, Done, Outcome}
 use Rattle.pcrf_model.specs.Serving.{delta_of, provisioned, accepted_ccr, refused_or, serve, serve_ccr, serve_aar, serve_str}
 use Rattle.pcrf_model.specs.Pushing.{due, push}
 use Rattle.pcrf_model.specs.Laws.{FitTheirAvps, IsFormed, IsWellFormed, RequestFits}
-use Rattle.ranked.proofs.SetLaws.{In-cases}
 use Rattle.pcrf_model.proofs.FactLaws.{fact_ranked}
-use Rattle.ranked.proofs.AscendingLaws.{ascending-In}
 use Rattle.pcrf_model.proofs.TellingLaws.{is_told, same_field}
 
 -- ---- one fact
@@ -121,7 +125,7 @@ ccr_formed : (q : CcrValue) (t : Tag) → AllFormed t.counter (ccr_fields q t)
 ccr_formed q t =
     let s : Session = gx q.session in
     all_given (at_session s _) t Address q.address and all_given (at_session s _) t Text q.apn and all_listed (at_session s _) t Subscribers q.subscribers
-    and more (field_formed (at_session s _) t (Text q.host)) (more (field_formed (at_session s _) t (Text q.realm)) (more (field_formed (at_session s _) t (Number (kind_value q.kind))) none))
+    and more (field_formed (at_session s _) t (Text q.host)) (more (field_formed (at_session s _) t (Text q.realm)) (more (field_formed (at_session s _) t (Number (request_kind_number q.kind))) none))
 
 -- what is told, under number 0
 told_formed : (s : Session) (t : Tag) (d : DeltaValue) → t.number ≡ 0 → AllFormed t.counter (told_facts s t d)
@@ -175,7 +179,7 @@ adds_this : (p : Operation) → IsWellFormed p → Good (Some p)
 adds_this p w o e = let same : p ≡ o = cc in subst IsWellFormed same w
 
 -- whether refused or not
-good_or : (as_reply : RefusalValue → ReplyValue) (x : Option RefusalValue) (a : Outcome) → Good a.added → Good (refused_or as_reply x a).added
+good_or : (as_reply : Refusal → ReplyValue) (x : Option Refusal) (a : Outcome) → Good a.added → Good (refused_or as_reply x a).added
 good_or as_reply None a w = w
 good_or as_reply (Some r) a w = λ o e. absurd (cc)
 

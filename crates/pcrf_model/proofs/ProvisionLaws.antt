@@ -3,11 +3,15 @@ use Rattle.std.proofs.Common.{◌≡◌, ℕ, ◌+◌, Bool, true, false, cond, 
 use Rattle.std.specs.Ordering.{is_eq, nat_cmp, ordering_then}
 use Rattle.std.specs.Cmp.{nat_cmp_is, first_so, second_so}
 use Rattle.ranked.specs.Ascending.{ascending}
-use Rattle.pcrf_values.specs.RuleValues.{RuleValue, DeltaValue}
 use Rattle.ranked.specs.declared.tag.Tag.{Tag}
 use Rattle.ranked.specs.Tags.{tag_cmp}
 use Rattle.ranked.proofs.Plain.{clash, is_false, not_true, both}
 use Rattle.ranked.specs.Sets.{In, Same, Distinct}
+use Rattle.ranked.proofs.SetLaws.{In-right, In-cases, In-any, any-In, In-map, map-In, Same-itself, Same-through, Same-append}
+use Rattle.ranked.proofs.AscendingLaws.{ascending-In}
+use Rattle.ranked.proofs.DistinctLaws.{take-In, one_of_key}
+use Rattle.pcrf_values.specs.RuleValues.{RuleValue, DeltaValue}
+use Rattle.pcrf_values.specs.Numbers.{request_kind_number}
 use Rattle.pcrf_model.specs.Sessions.{Session, session_cmp, gx, is_gx}
 use Rattle.pcrf_model.specs.Paths.{FieldName, Step, Component, Flow, Part, RuleName, Path, is_front, whole, part, address, apn, subscribers, host, realm, last, told_name}
 use Rattle.pcrf_model.specs.Values.{Value, Number, Text, Address, Subscribers}
@@ -19,14 +23,11 @@ use Rattle.pcrf_model.specs.Tables.{Tables}
 use Rattle.pcrf_model.specs.Rules.{rules}
 use Rattle.pcrf_model.specs.Differences.{told, rule_name_of, difference}
 use Rattle.pcrf_model.specs.Requests.{CcrValue}
-use Rattle.pcrf_model.specs.Making.{given, given_list, ccr_fields, kind_value, told_facts, next_tag, next_operation}
+use Rattle.pcrf_model.specs.Making.{given, given_list, ccr_fields, told_facts, next_tag, next_operation}
 use Rattle.pcrf_model.specs.Serving.{delta_limit, delta_of, provisioned, with_added}
 use Rattle.pcrf_model.specs.Pushing.{is_due, due, push}
 use Rattle.pcrf_model.specs.Laws.{NamesRulesApart, FitTheirAvps, NumbersFit, IsStamped, TellsTheFirst}
-use Rattle.ranked.proofs.SetLaws.{In-right, In-cases, In-any, any-In, In-map, map-In, Same-itself, Same-through, Same-append}
 use Rattle.pcrf_model.proofs.FactLaws.{session_ranked, fact_ranked}
-use Rattle.ranked.proofs.AscendingLaws.{ascending-In}
-use Rattle.ranked.proofs.DistinctLaws.{take-In, one_of_key}
 use Rattle.pcrf_model.proofs.DifferenceLaws.{no_name_twice, installed-In}
 use Rattle.pcrf_model.proofs.FirstEntries.{difference-first}
 use Rattle.pcrf_model.proofs.RuleNames.{rules-names_differ}
@@ -125,7 +126,7 @@ of_request q t f i =
     let a : List Fact = given (address s) t Address q.address in
     let b : List Fact = given (apn s) t Text q.apn in
     let c : List Fact = given_list (subscribers s) t Subscribers q.subscribers in
-    let d : List Fact = Field (host s) t (Text q.host) ∷ Field (realm s) t (Text q.realm) ∷ Field (last s) t (Number (kind_value q.kind)) ∷ [] in
+    let d : List Fact = Field (host s) t (Text q.host) ∷ Field (realm s) t (Text q.realm) ∷ Field (last s) t (Number (request_kind_number q.kind)) ∷ [] in
     elim (In-cases f (a ++ b ++ c) d i) [
       | inl j ↦ elim (In-cases f (a ++ b) c j) [
         | inl k ↦ elim (In-cases f a b k) [ inl l ↦ given_field s _ t Address q.address f l | inr l ↦ given_field s _ t Text q.apn f l ]
@@ -134,10 +135,10 @@ of_request q t f i =
       | inr j ↦ always j
     ]
   where
-    always : In f (Field (host (gx q.session)) t (Text q.host) ∷ Field (realm (gx q.session)) t (Text q.realm) ∷ Field (last (gx q.session)) t (Number (kind_value q.kind)) ∷ []) → IsFieldOf (gx q.session) f
+    always : In f (Field (host (gx q.session)) t (Text q.host) ∷ Field (realm (gx q.session)) t (Text q.realm) ∷ Field (last (gx q.session)) t (Number (request_kind_number q.kind)) ∷ []) → IsFieldOf (gx q.session) f
     always (inl e) = record { name = _; tag = t; value = Text q.host; is = e }
     always (inr (inl e)) = record { name = _; tag = t; value = Text q.realm; is = e }
-    always (inr (inr (inl e))) = record { name = _; tag = t; value = Number (kind_value q.kind); is = e }
+    always (inr (inr (inl e))) = record { name = _; tag = t; value = Number (request_kind_number q.kind); is = e }
     always (inr (inr (inr j))) = absurd j
 
 -- ---- a holding with the fields of a request
@@ -216,7 +217,7 @@ provisioning-tells t i h q rows stamped alive =
     let own : Fact = Field (host s) (next_tag i h q.number) (Text q.host) in
     let there : In own (h.facts ++ fs) = In-right own h.facts fs (In-right own
     (given (address s) (next_tag i h q.number) Address q.address ++ given (apn s) (next_tag i h q.number) Text q.apn ++ given_list (subscribers s) (next_tag i h q.number) Subscribers q.subscribers)
-    (own ∷ Field (realm s) (next_tag i h q.number) (Text q.realm) ∷ Field (last s) (next_tag i h q.number) (Number (kind_value q.kind)) ∷ []) (inl refl)) in
+    (own ∷ Field (realm s) (next_tag i h q.number) (Text q.realm) ∷ Field (last s) (next_tag i h q.number) (Number (request_kind_number q.kind)) ∷ []) (inl refl)) in
     let new : List Fact = told_facts s g (delta_of t (view (h.facts ++ fs)) s) in
     let told_so : TellsTheFirst t (view (h.facts ++ fs)) (view (h.facts ++ fs ++ new)) s =
     tells_the_first t (h.facts ++ fs) s g (In-map session_of own (h.facts ++ fs) there)

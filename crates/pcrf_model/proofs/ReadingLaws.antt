@@ -1,6 +1,8 @@
 -- What is read of a view, and what a site does, is the same on the kept facts.
 use Rattle.std.proofs.Common.{◌≡◌, ℕ, List, Option, refl, ap}
 use Rattle.ranked.specs.Sets.{Same}
+use Rattle.pcrf_values.specs.declared.request_kind.RequestKind.{RequestKind}
+use Rattle.pcrf_values.specs.declared.request_kind.RequestKind.TheVariants.{Initial, Update, Termination}
 use Rattle.pcrf_model.specs.Facts.{Fact}
 use Rattle.pcrf_model.specs.Holdings.{kept, Holding, kept_of}
 use Rattle.pcrf_model.specs.Views.{View, view}
@@ -10,7 +12,7 @@ use Rattle.pcrf_model.specs.Tables.{Tables}
 use Rattle.pcrf_model.specs.Rules.{rules}
 use Rattle.pcrf_model.specs.Differences.{told, difference}
 use Rattle.pcrf_model.specs.OperatorValues.{OperatorValue, operator_value, session_values}
-use Rattle.pcrf_model.specs.Requests.{RequestKind, Initial, Update, Termination, CcrValue, AarValue, StrValue, RequestValue, Ccr, Aar, Str, Base}
+use Rattle.pcrf_model.specs.Requests.{CcrValue, AarValue, StrValue, RequestValue, Ccr, Aar, Str, Base}
 use Rattle.pcrf_model.specs.Making.{ccr_fields, aar_facts, next_tag}
 use Rattle.pcrf_model.specs.Refusals.{ccr_refusal, aar_refusal, str_refusal}
 use Rattle.pcrf_model.specs.Serving.{accepted_ccr, serve, serve_ccr, serve_aar, serve_str, provisioned}

@@ -2,15 +2,16 @@
 use Rattle.std.specs.Prelude.{ℕ, ◌+◌, ◌==◌, Bool, false, cond, List, [], ◌∷◌, ◌++◌, map, Option}
 use Rattle.std.proofs.Common.{option_map, option_to_list, unwrap_or, flat_map}
 use Rattle.ranked.specs.Ascending.{ascending}
-use Rattle.pcrf_values.specs.RuleValues.{RuleValue, DeltaValue}
 use Rattle.ranked.specs.declared.tag.Tag.{Tag}
+use Rattle.pcrf_values.specs.RuleValues.{RuleValue, DeltaValue}
+use Rattle.pcrf_values.specs.Numbers.{request_kind_number}
 use Rattle.pcrf_model.specs.Sessions.{Session, gx, af}
 use Rattle.pcrf_model.specs.Paths.{MediaType, FlowDescriptions, FlowUsage, FlowStatus, MaxRateUp, MaxRateDown, Path, whole, address, apn, subscribers, host, realm, last, component, component_part, flow, flow_part, told_name}
 use Rattle.pcrf_model.specs.Values.{Value, Number, Text, Address, Subscribers, Filters, Untold, Told}
 use Rattle.pcrf_model.specs.Facts.{Fact, Gone, Field, fact_cmp}
 use Rattle.pcrf_model.specs.Holdings.{Holding}
 use Rattle.pcrf_model.specs.Operations.{Operation}
-use Rattle.pcrf_model.specs.Requests.{RequestKind, Initial, Update, Termination, CcrValue, FlowValue, ComponentValue, AarValue}
+use Rattle.pcrf_model.specs.Requests.{CcrValue, FlowValue, ComponentValue, AarValue}
 
 -- the fact that a request gives, if it gives it
 abbrev pub given : {A : Type 0} → Path → Tag → (A → Value) → Option A → List Fact
@@ -23,12 +24,6 @@ given_list p t as_value (x ∷ xs) = Field p t (as_value (x ∷ xs)) ∷ []
 
 -- ---- Gx (TS 29.212, 4.5.1)
 
--- the CC-Request-Type as its AVP value (RFC 8506, 8.3)
-abbrev pub kind_value : RequestKind → ℕ
-kind_value Initial = 1
-kind_value Update = 2
-kind_value Termination = 3
-
 -- the fields of an initial request or an update
 abbrev pub ccr_fields : CcrValue → Tag → List Fact
 ccr_fields q t =
@@ -36,7 +31,7 @@ ccr_fields q t =
     given (address s) t Address q.address
     ++ given (apn s) t Text q.apn
     ++ given_list (subscribers s) t Subscribers q.subscribers
-    ++ (Field (host s) t (Text q.host) ∷ Field (realm s) t (Text q.realm) ∷ Field (last s) t (Number (kind_value q.kind)) ∷ [])
+    ++ (Field (host s) t (Text q.host) ∷ Field (realm s) t (Text q.realm) ∷ Field (last s) t (Number (request_kind_number q.kind)) ∷ [])
 
 -- what the gateway is told by a difference: each removed name, and each installed rule
 abbrev pub told_facts : Session → Tag → DeltaValue → List Fact

@@ -2,53 +2,22 @@
 use Rattle.std.specs.Prelude.{ℕ, ◌-◌, ◌^◌, ◌==◌, Bool, true, false, cond, not, ◌&&◌, ◌||◌, List, [], ◌∷◌, ◌++◌, Option, Some, None, is_none}
 use Rattle.std.proofs.Common.{option_map, unwrap_or}
 use Rattle.std.specs.List.{list_any}
+use Rattle.pcrf_values.specs.Applications.{gx_application, rx_application, relay_application}
+use Rattle.pcrf_values.specs.Results.{unknown_session_id, authorization_rejected, missing_avp, no_common_application, unable_to_comply, service_not_authorized, session_not_available, initial_parameters}
+use Rattle.pcrf_values.specs.declared.refusal.Refusal.{Refusal}
+use Rattle.pcrf_values.specs.declared.request_kind.RequestKind.{RequestKind}
+use Rattle.pcrf_values.specs.declared.request_kind.RequestKind.TheVariants.{Initial, Update, Termination}
 use Rattle.pcrf_model.specs.Sessions.{gx, af}
 use Rattle.pcrf_model.specs.Holdings.{Holding}
 use Rattle.pcrf_model.specs.Views.{View, view}
 use Rattle.pcrf_model.specs.Live.{is_live}
 use Rattle.pcrf_model.specs.Bindings.{bind}
 use Rattle.pcrf_model.specs.Tables.{Tables, media_row, apn_row}
-use Rattle.pcrf_model.specs.Requests.{RequestKind, Initial, Update, Termination, CcrValue, ComponentValue, AarValue, StrValue, BaseKind, CapabilitiesExchange, DeviceWatchdog, DisconnectPeer, RefusalValue}
+use Rattle.pcrf_model.specs.Requests.{CcrValue, ComponentValue, AarValue, StrValue, BaseKind, CapabilitiesExchange, DeviceWatchdog, DisconnectPeer}
 use Rattle.pcrf_model.specs.Making.{is_removed, aar_facts, next_tag}
 
--- ---- their codes
-
--- DIAMETER_UNKNOWN_SESSION_ID (RFC 6733, 7.1.5)
-abbrev pub unknown_session_id : RefusalValue
-unknown_session_id = record { code = 5002; experimental = false }
-
--- DIAMETER_AUTHORIZATION_REJECTED (RFC 6733, 7.1.5)
-abbrev pub authorization_rejected : RefusalValue
-authorization_rejected = record { code = 5003; experimental = false }
-
--- DIAMETER_MISSING_AVP (RFC 6733, 7.1.5)
-abbrev pub missing_avp : RefusalValue
-missing_avp = record { code = 5005; experimental = false }
-
--- DIAMETER_NO_COMMON_APPLICATION (RFC 6733, 7.1.5)
-abbrev pub no_common_application : RefusalValue
-no_common_application = record { code = 5010; experimental = false }
-
--- DIAMETER_UNABLE_TO_COMPLY (RFC 6733, 7.1.5)
-abbrev pub unable_to_comply : RefusalValue
-unable_to_comply = record { code = 5012; experimental = false }
-
--- REQUESTED_SERVICE_NOT_AUTHORIZED (TS 29.214, 5.5)
-abbrev pub service_not_authorized : RefusalValue
-service_not_authorized = record { code = 5063; experimental = true }
-
--- IP-CAN_SESSION_NOT_AVAILABLE (TS 29.214, 5.5)
-abbrev pub session_not_available : RefusalValue
-session_not_available = record { code = 5065; experimental = true }
-
--- DIAMETER_ERROR_INITIAL_PARAMETERS (TS 29.212, 5.5.3)
-abbrev pub initial_parameters : RefusalValue
-initial_parameters = record { code = 5140; experimental = true }
-
--- ---- in order
-
 -- the first refusal whose cause stands
-abbrev pub first_cause : List (Bool × RefusalValue) → Option RefusalValue
+abbrev pub first_cause : List (Bool × Refusal) → Option Refusal
 first_cause [] = None
 first_cause (x ∷ xs) = cond x.0 (Some x.1) (first_cause xs)
 
@@ -73,7 +42,7 @@ lacks_parameters q = is_none q.address || is_none q.apn || is_empty q.subscriber
     is_empty (x ∷ xs) = false
 
 -- of a credit control request, by its type
-abbrev pub ccr_causes : Tables → Holding → View → CcrValue → RequestKind → List (Bool × RefusalValue)
+abbrev pub ccr_causes : Tables → Holding → View → CcrValue → RequestKind → List (Bool × Refusal)
 ccr_causes t h v q Initial =
     (v.ended (gx q.session), unknown_session_id)
     ∷ (lacks_parameters q, initial_parameters)
@@ -88,7 +57,7 @@ ccr_causes t h v q Termination =
     ∷ (is_clock_full h, unable_to_comply) ∷ []
 
 -- the refusal of a credit control request, if it is refused
-unfoldable pub ccr_refusal : Tables → Holding → CcrValue → Option RefusalValue
+unfoldable pub ccr_refusal : Tables → Holding → CcrValue → Option Refusal
 ccr_refusal t h q = first_cause (ccr_causes t h (view h.facts) q q.kind)
 
 -- a component that is not removed has a Media-Type without a row
@@ -100,7 +69,7 @@ abbrev pub binds_to_none : ℕ → Holding → AarValue → Bool
 binds_to_none i h q = is_none (bind (view (h.facts ++ aar_facts q (next_tag i h 0))) (af q.session))
 
 -- of an AA request
-abbrev pub aar_causes : Tables → ℕ → Holding → View → AarValue → List (Bool × RefusalValue)
+abbrev pub aar_causes : Tables → ℕ → Holding → View → AarValue → List (Bool × Refusal)
 aar_causes t i h v q =
     (v.ended (af q.session), unknown_session_id)
     ∷ (not (is_live v (af q.session)) && is_none q.address, missing_avp)
@@ -109,19 +78,19 @@ aar_causes t i h v q =
     ∷ (is_clock_full h, unable_to_comply) ∷ []
 
 -- the refusal of an AA request, if it is refused
-unfoldable pub aar_refusal : Tables → ℕ → Holding → AarValue → Option RefusalValue
+unfoldable pub aar_refusal : Tables → ℕ → Holding → AarValue → Option Refusal
 aar_refusal t i h q = first_cause (aar_causes t i h (view h.facts) q)
 
 -- the refusal of a session termination request, if it is refused
-unfoldable pub str_refusal : Holding → StrValue → Option RefusalValue
+unfoldable pub str_refusal : Holding → StrValue → Option Refusal
 str_refusal h q = first_cause ((not (is_live (view h.facts) (af q.session)), unknown_session_id) ∷ (is_clock_full h, unable_to_comply) ∷ [])
 
--- Gx and Rx (TS 29.212, 5.1; TS 29.214, 5.1), and a relay's (RFC 6733, 2.4)
+-- an application that a site serves, or a relay's
 abbrev pub is_common : ℕ → Bool
-is_common a = a == 16777238 || a == 16777236 || a == 0xFFFFFFFF
+is_common a = a == gx_application || a == rx_application || a == relay_application
 
 -- a capabilities exchange has to advertise an application in common (RFC 6733, 5.3)
-abbrev pub base_refusal : BaseKind → Option RefusalValue
+abbrev pub base_refusal : BaseKind → Option Refusal
 base_refusal (CapabilitiesExchange applications) = cond (list_any is_common applications) None (Some no_common_application)
 base_refusal DeviceWatchdog = None
 base_refusal DisconnectPeer = None

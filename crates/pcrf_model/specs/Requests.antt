@@ -1,10 +1,7 @@
--- The requests that a site serves, as read, and their refusals: plain values without memory.
-use Rattle.std.specs.Prelude.{ℕ, Bool, List, Option}
+-- The requests that a site serves, as read: plain values without memory.
+use Rattle.std.specs.Prelude.{ℕ, List, Option}
+use Rattle.pcrf_values.specs.declared.request_kind.RequestKind.{RequestKind}
 use Rattle.pcrf_model.specs.Values.{Subscriber}
-
--- CC-Request-Type (RFC 8506, 8.3) as far as Gx has it: INITIAL_REQUEST 1, UPDATE_REQUEST 2, TERMINATION_REQUEST 3
-pub data RequestKind : Type 0 where
-  Initial Update Termination : RequestKind
 
 -- A credit control request (TS 29.212, 5.6.2): Session-Id, Origin-Host, Origin-Realm, CC-Request-Type, CC-Request-Number, Framed-IP-Address
 -- as four octets, Called-Station-Id in small letters, and the Subscription-Ids, ascending, without repeats, empty where none was given.
@@ -72,8 +69,3 @@ pub data RequestValue : Type 0 where
   Aar : AarValue → RequestValue
   Str : StrValue → RequestValue
   Base : BaseValue → RequestValue
-
--- A Result-Code, or the Experimental-Result-Code of vendor 3GPP (RFC 6733, 7.1 and 7.6).
-pub record RefusalValue : Type 0 where
-  pub code : ℕ
-  pub experimental : Bool

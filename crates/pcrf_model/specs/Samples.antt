@@ -1,10 +1,11 @@
 -- The operator tables, the requests and the rules of the worked examples.
 use Rattle.std.specs.Prelude.{ℕ, zero, suc, List, [], ◌∷◌, Option, Some, None, codes}
 use Rattle.pcrf_values.specs.RuleValues.{RuleValue, DeltaValue}
+use Rattle.pcrf_values.specs.declared.request_kind.RequestKind.TheVariants.{Initial, Update, Termination}
 use Rattle.pcrf_model.specs.Sessions.{Session, gx, af}
 use Rattle.pcrf_model.specs.Values.{Subscriber}
 use Rattle.pcrf_model.specs.Tables.{Class, Quality, Listed, Tables}
-use Rattle.pcrf_model.specs.Requests.{Initial, Update, Termination, FlowValue, ComponentValue, CapabilitiesExchange, RequestValue, Ccr, Aar, Str, Base}
+use Rattle.pcrf_model.specs.Requests.{FlowValue, ComponentValue, CapabilitiesExchange, RequestValue, Ccr, Aar, Str, Base}
 
 -- ---- an operator with telephony
 

@@ -1,15 +1,16 @@
 -- What the sites of the worked examples went through.
 use Rattle.std.specs.Prelude.{ℕ, List, [], ◌∷◌, Option, Some, None, codes, length, slice_get}
 use Rattle.std.proofs.Common.{option_map}
-use Rattle.pcrf_values.specs.RuleValues.{DeltaValue}
 use Rattle.ranked.specs.declared.tag.Tag.{Tag}
+use Rattle.pcrf_values.specs.declared.refusal.Refusal.{Refusal}
+use Rattle.pcrf_values.specs.RuleValues.{DeltaValue}
 use Rattle.pcrf_model.specs.Paths.{FramedIpAddress, CalledStationId, SubscriptionIds, OriginHost, OriginRealm, RequestType, MediaType, FlowDescriptions, FlowUsage, FlowStatus, MaxRateUp, MaxRateDown, Component, Flow, Part, address}
 use Rattle.pcrf_model.specs.Values.{Number, Text, Subscribers, Filters, Address}
 use Rattle.pcrf_model.specs.Facts.{Field}
 use Rattle.pcrf_model.specs.Holdings.{nothing_held, union}
 use Rattle.pcrf_model.specs.Operations.{Operation, holding_of}
 use Rattle.pcrf_model.specs.Views.{View, view}
-use Rattle.pcrf_model.specs.Requests.{RequestValue, RefusalValue}
+use Rattle.pcrf_model.specs.Requests.{RequestValue}
 use Rattle.pcrf_model.specs.Replies.{PushValue, ReplyValue, OnGx, Pushed, Granted, Rejected}
 use Rattle.pcrf_model.specs.Serving.{serve}
 use Rattle.pcrf_model.specs.Pushing.{push}
@@ -52,7 +53,7 @@ abbrev pub granted : DeltaValue → ReplyValue
 granted d = OnGx (Granted d (Some ims_quality))
 
 -- a credit control request refused
-abbrev pub rejected : RefusalValue → ReplyValue
+abbrev pub rejected : Refusal → ReplyValue
 rejected r = OnGx (Rejected r)
 
 -- a push to the gateway of the first session

@@ -2,6 +2,10 @@
 use Rattle.std.specs.Prelude.{ℕ, [], ◌++◌, Option, Some, None}
 use Rattle.std.proofs.Common.{option_map, unwrap_or}
 use Rattle.pcrf_values.specs.RuleValues.{DeltaValue}
+use Rattle.pcrf_values.specs.Results.{success}
+use Rattle.pcrf_values.specs.declared.refusal.Refusal.{Refusal}
+use Rattle.pcrf_values.specs.declared.request_kind.RequestKind.{RequestKind}
+use Rattle.pcrf_values.specs.declared.request_kind.RequestKind.TheVariants.{Initial, Update, Termination}
 use Rattle.pcrf_model.specs.Sessions.{Session, gx, af}
 use Rattle.pcrf_model.specs.Holdings.{Holding}
 use Rattle.pcrf_model.specs.Operations.{Operation, with_operation}
@@ -9,7 +13,7 @@ use Rattle.pcrf_model.specs.Views.{View, view}
 use Rattle.pcrf_model.specs.Tables.{Tables}
 use Rattle.pcrf_model.specs.Rules.{rules, quality_of}
 use Rattle.pcrf_model.specs.Differences.{told, difference, first}
-use Rattle.pcrf_model.specs.Requests.{RequestKind, Initial, Update, Termination, CcrValue, AarValue, StrValue, BaseValue, RequestValue, Ccr, Aar, Str, Base, RefusalValue}
+use Rattle.pcrf_model.specs.Requests.{CcrValue, AarValue, StrValue, BaseValue, RequestValue, Ccr, Aar, Str, Base}
 use Rattle.pcrf_model.specs.Replies.{Granted, Rejected, ReplyValue, OnGx, Done, Refused, OnBase, Outcome}
 use Rattle.pcrf_model.specs.Making.{ccr_fields, told_facts, end_facts, aar_facts, next_tag, next_operation}
 use Rattle.pcrf_model.specs.Refusals.{ccr_refusal, aar_refusal, str_refusal, base_refusal}
@@ -21,10 +25,6 @@ delta_limit = 40
 -- no names and no rules
 abbrev pub empty_delta : DeltaValue
 empty_delta = record { removed = []; installed = [] }
-
--- DIAMETER_SUCCESS (RFC 6733, 7.1.2)
-abbrev pub success : ℕ
-success = 2001
 
 -- what the gateway is to be told of a session: the first entries of the difference
 abbrev pub delta_of : Tables → View → Session → DeltaValue
@@ -54,7 +54,7 @@ accepted_ccr t i h q Update = provisioned t i h q
 accepted_ccr t i h q Termination = terminated i h q
 
 -- refused, with nothing added, or accepted
-abbrev pub refused_or : (RefusalValue → ReplyValue) → Option RefusalValue → Outcome → Outcome
+abbrev pub refused_or : (Refusal → ReplyValue) → Option Refusal → Outcome → Outcome
 refused_or as_reply None accepted = accepted
 refused_or as_reply (Some r) accepted = record { reply = as_reply r; added = None }
 
@@ -72,7 +72,7 @@ serve_str i h q = refused_or Refused (str_refusal h q) (record { reply = Done; a
 
 -- a base request adds nothing
 abbrev pub serve_base : BaseValue → Outcome
-serve_base q = record { reply = OnBase (unwrap_or (option_map (λ (r : RefusalValue). r.code) (base_refusal q.kind)) success); added = None }
+serve_base q = record { reply = OnBase (unwrap_or (option_map (λ (r : Refusal). r.code) (base_refusal q.kind)) success); added = None }
 
 -- what site i, which holds h, replies and adds; a refused request adds nothing
 abbrev pub serve : Tables → ℕ → Holding → RequestValue → Outcome

@@ -10,7 +10,8 @@ ghost use Rattle.pcrf_model.specs.Bindings.{bind};
 ghost use Rattle.pcrf_model.specs.Rules.{rules};
 ghost use Rattle.pcrf_model.specs.Differences.{told};
 ghost use Rattle.pcrf_model.specs.OperatorValues.{Ended, Partial, LiveAf, operator_value};
-ghost use Rattle.pcrf_model.specs.Refusals.{unknown_session_id, authorization_rejected, missing_avp, unable_to_comply, service_not_authorized, session_not_available, initial_parameters};
+ghost use Rattle.pcrf_values.specs.Applications.{gx_application};
+ghost use Rattle.pcrf_values.specs.Results.{success, unknown_session_id, authorization_rejected, missing_avp, no_common_application, unable_to_comply, service_not_authorized, session_not_available, initial_parameters};
 ghost use Rattle.pcrf_model.specs.Replies.{OnGx, Granted, Done, Refused, OnBase};
 ghost use Rattle.pcrf_model.specs.Serving.{serve};
 ghost use Rattle.pcrf_model.specs.Tables.{open_tables};
@@ -166,8 +167,8 @@ pub fn ended_session_leaves_its_call_unbound()
 
 /// A capabilities exchange needs an application in common: Gx, Rx or a relay's.
 pub fn capabilities_need_a_common_application()
-    ensures none { answers 0 empty_site (capabilities (4 ∷ [])) ≡ OnBase 5010 }
-    ensures gx { answers 0 empty_site (capabilities (4 ∷ 16777238 ∷ [])) ≡ OnBase 2001 }
+    ensures none { answers 0 empty_site (capabilities (4 ∷ [])) ≡ OnBase no_common_application.code }
+    ensures gx { answers 0 empty_site (capabilities (4 ∷ gx_application ∷ [])) ≡ OnBase success }
 {}
 
 /// Without operator tables an initial request for any access point is granted, with no rule and no quality of service.

@@ -1,4 +1,6 @@
+pub mod Applications
 pub mod Numbers
+pub mod Results
 pub mod RuleValues
 pub mod RuleViews
 pub mod Subscribers

@@ -1,5 +1,7 @@
 -- The numbers by which the standards name the values of an enumeration, and numbers within a range.
-use Rattle.std.specs.Prelude.{ℕ, Option, Some, None, if◌then◌else◌, ◌&&◌, nat_le}
+use Rattle.std.specs.Prelude.{ℕ, Option, Some, None, if◌then◌else◌, ◌&&◌, ◌==◌, nat_le}
+use Rattle.pcrf_values.specs.declared.request_kind.RequestKind.{RequestKind}
+use Rattle.pcrf_values.specs.declared.request_kind.RequestKind.TheVariants as request
 use Rattle.pcrf_values.specs.declared.subscriber.SubscriptionType.{SubscriptionType}
 use Rattle.pcrf_values.specs.declared.subscriber.SubscriptionType.TheVariants as subscription
 use Rattle.pcrf_values.specs.declared.rule.FlowStatus.{FlowStatus}
@@ -14,6 +16,19 @@ subscription_number subscription.EndUserImsi = 1
 subscription_number subscription.EndUserSipUri = 2
 subscription_number subscription.EndUserNai = 3
 subscription_number subscription.EndUserPrivate = 4
+
+-- CC-Request-Type as far as Gx has it: INITIAL_REQUEST, UPDATE_REQUEST, TERMINATION_REQUEST (RFC 8506, 8.3)
+abbrev pub request_kind_number : RequestKind → ℕ
+request_kind_number request.Initial = 1
+request_kind_number request.Update = 2
+request_kind_number request.Termination = 3
+
+-- the kind that has a number
+abbrev pub request_kind_of : ℕ → Option RequestKind
+request_kind_of n =
+    if n == request_kind_number request.Initial then Some request.Initial else
+    if n == request_kind_number request.Update then Some request.Update else
+    if n == request_kind_number request.Termination then Some request.Termination else None
 
 -- Flow-Status (TS 29.214, 5.3.11)
 abbrev pub flow_status_number : FlowStatus → ℕ

@@ -5,6 +5,8 @@ mod apn;
 mod bounded_list;
 mod bounded_number;
 mod delta;
+mod refusal;
+mod request_kind;
 mod rule;
 mod subscriber;
 mod subscribers;
@@ -16,6 +18,8 @@ pub use bounded_list::{
 };
 pub use bounded_number::{BoundedNumber, PriorityLevel, QosClass};
 pub use delta::Delta;
+pub use refusal::Refusal;
+pub use request_kind::RequestKind;
 pub use rule::{FlowStatus, Preemption, RetentionPriority, Rule, RuleQos};
 pub use subscriber::{Subscriber, SubscriptionType};
 pub use subscribers::Subscribers;

@@ -64,7 +64,7 @@ is_known application = application == base_application || application == gx_appl
 abbrev pub header_refusal : Header → Option Refusal
 header_refusal header =
     if not (is_known header.application) then Some application_unsupported else
-    if header.application == gx_application && header.command == credit_control then None else Some command_unsupported
+    if header.application == gx_application && header.command == 272 then None else Some command_unsupported
 
 -- by the application, by the command, and then by the command's table
 abbrev pub message_refusal : MessageValue → Option Refusal

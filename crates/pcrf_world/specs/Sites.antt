@@ -1,13 +1,16 @@
 -- Sites as the list of what they took, and what they reply and add by the definitions.
 use Rattle.std.specs.Prelude.{ℕ, List, [], ◌∷◌, ◌++◌, Option, Some, None}
+use Rattle.pcrf_values.specs.Results.{unable_to_comply}
+use Rattle.pcrf_values.specs.declared.refusal.Refusal.{Refusal}
+use Rattle.pcrf_values.specs.declared.request_kind.RequestKind.{RequestKind}
+use Rattle.pcrf_values.specs.declared.request_kind.RequestKind.TheVariants.{Initial, Update, Termination}
 use Rattle.pcrf_model.specs.Sessions.{gx}
 use Rattle.pcrf_model.specs.Holdings.{Holding}
 use Rattle.pcrf_model.specs.Operations.{Operation, holding_of}
 use Rattle.pcrf_model.specs.Tables.{open_tables}
-use Rattle.pcrf_model.specs.Requests.{RequestKind, Initial, Update, Termination, CcrValue, RefusalValue}
-use Rattle.pcrf_model.specs.Refusals.{ccr_refusal, unable_to_comply}
+use Rattle.pcrf_model.specs.Requests.{CcrValue}
+use Rattle.pcrf_model.specs.Refusals.{ccr_refusal}
 use Rattle.pcrf_model.specs.Making.{ccr_fields, next_tag, next_operation}
-use Rattle.dia_base.specs.declared.refusal.Refusal.{Refusal}
 use Rattle.gx_profile.specs.declared.answer.GxReply.{GxReply}
 use Rattle.gx_profile.specs.declared.answer.GxReply.TheVariants.{Granted, Refused}
 use Rattle.gx_profile.specs.Requests.{ccr_view}
@@ -18,17 +21,14 @@ use Rattle.pcrf_wire.specs.declared.request.Reply.TheVariants.{Gx}
 
 -- ---- what is replied
 
-abbrev pub refusal_of : RefusalValue → Refusal
-refusal_of r = record { code = r.code; experimental = r.experimental }
-
 -- granted, or the first refusal
-abbrev pub granted_unless : Option RefusalValue → GxReply
+abbrev pub granted_unless : Option Refusal → GxReply
 granted_unless None = Granted
-granted_unless (Some r) = Refused (refusal_of r)
+granted_unless (Some r) = Refused r
 
 -- The refusal of a request: an initial one by what the site holds, where every access point has a row; updates and
 -- terminations are not served yet.
-abbrev pub refusal_by_kind : Holding → CcrValue → RequestKind → Option RefusalValue
+abbrev pub refusal_by_kind : Holding → CcrValue → RequestKind → Option Refusal
 refusal_by_kind h q Initial = ccr_refusal open_tables h q
 refusal_by_kind h q Update = Some unable_to_comply
 refusal_by_kind h q Termination = Some unable_to_comply

@@ -1,4 +1,4 @@
-use Rattle.std.proofs.Common.{◌≡◌, ◌+◌, ◌++◌, ◌∷◌, ℕ, List, true, false, rules, drop, take, ap, sym, ◌∙◌}
+use Rattle.std.proofs.Common.{◌≡◌, ◌+◌, ◌++◌, ◌∷◌, ℕ, List, true, false, rules, drop, ap, sym, ◌∙◌}
 use Rattle.dia_codec.specs.Fields.{key_of}
 use Rattle.dia_codec.specs.Spelling.{avp_view, avp_views}
 use Rattle.dia_base.specs.Rows.{same_key, values_of, first_of}

@@ -3,11 +3,11 @@ use Rattle.std.proofs.lemmas.List.{take_all, map-append}
 use Rattle.std.proofs.lemmas.Result.{err_from_is_err_and}
 use Rattle.dia_codec.specs.Fields.{key_of}
 use Rattle.dia_codec.specs.Spelling.{avp_view, avp_views}
-use Rattle.dia_base.specs.declared.refusal.Refusal.{Refusal}
+use Rattle.pcrf_values.specs.declared.refusal.Refusal.{Refusal}
 use Rattle.dia_base.specs.Rows.{base_key, same_key, values_of, grouped_refusal, plain_refusal, Group}
 use Rattle.dia_base.specs.Subscriptions.{subscription_rows, subscriber_of}
 use Rattle.dia_base.proofs.Values.{values_keyed, values_other}
-use Rattle.dia_base.proofs.Refusals.{first_refusal_push, row_refused_at, row_too_often, row_judged}
+use Rattle.dia_base.proofs.Refusals.{refusal_among_push, row_refused_at, row_too_often, row_judged}
 use Rattle.dia_base.proofs.subscriptions.read_subscriptions.Goals as goal
 use Rattle.dia_base.proofs.subscriptions.read_subscriptions.Goals.{then-eq+in_ok-read_subscription+in_ok-push, else-eq}
 
@@ -33,7 +33,7 @@ loop-avp-preserved c =
           let keyed : same_key (key_of (avp_view c.avp-item.result)) c.base_key-key.result ≡ true = search rules in
           let more = values_keyed c.base_key-key.result c.args.avps.now c.loop-avp.avp-index c.avp-item.result c.loop-avp-test.true c.avp-item.is keyed in
           record {
-            granted = rw more (first_refusal_push judge _ c.avp-item.result.value.items c.loop-avp.invariant.granted (search rules));
+            granted = rw more (refusal_among_push judge _ c.avp-item.result.value.items c.loop-avp.invariant.granted (search rules));
             read = rw (w.subscribers-is, w.in_ok-push.ensures.items, w.in_ok-read_subscription.ensures.read.1, w.text.ensures, more, map-append) (ap (λ (front : List (ℕ × List ℕ)). front ++ subscriber_of c.avp-item.result.value.items ∷ []) c.loop-avp.invariant.read);
           }
       | else-eq w ↦

@@ -1,0 +1,39 @@
+//! Why a request could not be read.
+ghost use Rattle.std.specs.Prelude.{◌≡◌};
+ghost use Rattle.dia_base.specs.declared.read_fault.ReadFault.TheVariants as faults;
+
+use pcrf_values::Refusal;
+use std::alloc::{AllocError, AllocFailed};
+
+/// Why a request could not be read.
+#[derive(Clone, Copy, Debug, PartialEq, Eq)]
+pub enum ReadFault {
+    /// The request is answered by this refusal.
+    Refused(Refusal),
+    /// Memory ran out; nothing is known of the request.
+    NoMemory,
+}
+
+impl From<Refusal> for ReadFault {
+    ghost from_gives = { λ refusal fault. fault ≡ faults.Refused refusal };
+
+    fn from(refusal: Refusal) -> ReadFault {
+        ReadFault::Refused(refusal)
+    }
+}
+
+impl From<AllocError> for ReadFault {
+    ghost from_gives = { λ _ fault. fault ≡ faults.NoMemory };
+
+    fn from(_refused: AllocError) -> ReadFault {
+        ReadFault::NoMemory
+    }
+}
+
+impl<T: Drop> From<AllocFailed<T>> for ReadFault {
+    ghost from_gives = { λ _ fault. fault ≡ faults.NoMemory };
+
+    fn from(_refused: AllocFailed<T>) -> ReadFault {
+        ReadFault::NoMemory
+    }
+}
