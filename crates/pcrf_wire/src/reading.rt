@@ -1,5 +1,5 @@
 //! From the bytes of a message to the request that it asks to serve.
-ghost use Rattle.std.specs.Prelude.{◌≡◌, ◌≤◌, ◌<◌, length, None, IfOk, OnOk, IfErr, Ok};
+ghost use Rattle.std.specs.Prelude.{◌≡◌, ◌≤◌, ◌<◌, [], length, None, IfOk, OnOk, IfErr, Ok};
 ghost use Rattle.dia_codec.specs.Limits.{header_bytes, command_bound};
 ghost use Rattle.dia_codec.specs.Reading.{avps_of};
 ghost use Rattle.dia_codec.specs.Spelling.{avp_views, message_view};
