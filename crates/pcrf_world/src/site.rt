@@ -1,9 +1,9 @@
 //! One site, which keeps a plain list of the operations that it took.
-ghost use Rattle.std.specs.Prelude.{◌≡◌, ◌<◌, ◌^◌, [], ◌∷◌, length, take, map, IfOk, OnOk, OnErr, IfErr};
+ghost use Rattle.std.specs.Prelude.{◌≡◌, ◌<◌, [], ◌∷◌, length, take, map, IfOk, OnOk, OnErr, IfErr};
 ghost use Rattle.gx_profile.specs.Requests.{ccr_view};
 ghost use Rattle.pcrf_model.specs.Operations.{holding_of};
 ghost use Rattle.pcrf_world.specs.GxSessions.{gx_session_value};
-ghost use Rattle.pcrf_world.specs.Operations.{operation_of, AreFields};
+ghost use Rattle.pcrf_world.specs.Operations.{operation_of, counter_bound, AreFields};
 ghost use Rattle.pcrf_world.specs.Shown.{shown_sessions};
 
 use crate::identity::identity_of;

@@ -7,4 +7,4 @@ use Rattle.pcrf_world.proofs.identity.host_of.Goals as goal
 pub unreachable-requires : goal.unreachable-requires
 unreachable-requires c =
     let text : c.as_bytes.result.now ≡ host_text c.args.number = search rules in
-    c.in_default.not-Some (host_text c.args.number) (c.in_ok-host.ensures tt ∙ ap (one_to 255) text ∙ host_fits c.args.number c.ranges.number)
+    c.in_default.not-Some (host_text c.args.number) (c.in_ok-host.ensures ∙ ap (one_to 255) text ∙ host_fits c.args.number c.ranges.number.fits)
