@@ -3,7 +3,7 @@
 #![tactic(auto)]
 
 use dia_codec::Counted;
-use pcrf_world::{ScriptEnd, run_script};
+use pcrf_script::{ScriptEnd, run_script};
 use std::process::ExitCode;
 
 #[cfg(test)]
