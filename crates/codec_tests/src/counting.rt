@@ -58,7 +58,8 @@ fn a_writer_that_fails_is_remembered(rt: HostRuntime) {
     assert!(rt; writer.put(b"abc").is_ok());
     assert!(rt; writer.flush().is_ok());
     assert!(rt; !writer.failed());
-    assert!(rt; writer.put(b"de").is_err());
+    let refused = writer.put(b"de").err().expect(&rt, "the second byte fails");
+    assert!(rt; matches!(refused.kind(), ErrorKind::BrokenPipe));
     assert!(rt; writer.failed());
     let mut flushed = Counted::start(Failing { left: 0 });
     assert!(rt; flushed.flush().is_err());

@@ -3,7 +3,8 @@ use crate::vectors::{
     AA_REFUSAL, DEVICE_WATCHDOG_REQUEST, FREELY_SPELLED_REQUEST, INITIAL_GX_REQUEST,
 };
 use dia_codec::{
-    Avp, AvpKey, Flags, Header, MsgFault, WriteFault, read_header, read_message, write_message,
+    Avp, AvpKey, Flags, HEADER_BYTES, Header, MsgFault, WriteFault, read_header, read_message,
+    write_message,
 };
 use std::net::Ipv4Addr;
 
@@ -45,7 +46,7 @@ fn the_initial_gx_request_says_what_was_sent(rt: HostRuntime) {
         end_id: 2,
     };
     let (first, _) = INITIAL_GX_REQUEST
-        .split_first_chunk::<20>()
+        .split_first_chunk::<HEADER_BYTES>()
         .expect(&rt, "a header");
     assert_eq!(rt; read_header(first), header);
     let message = read_message(rt.alloc(), &INITIAL_GX_REQUEST).expect(&rt, "a message");

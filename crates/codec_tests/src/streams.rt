@@ -30,14 +30,21 @@ fn the_initial_gx_request_comes_in_single_bytes(rt: HostRuntime) {
     assert!(rt; assembler.is_empty());
 }
 
+/// Whether an assembler answers a fault, whatever it is asked.
+fn is_stopped_by(assembler: &mut Assembler, fault: FrameFault) -> bool {
+    let next = assembler.next().err();
+    let fed = assembler.feed(&DEVICE_WATCHDOG_REQUEST).err();
+    let later = assembler.next().err();
+    next == Some(fault) && fed == Some(fault) && later == Some(fault)
+}
+
 #[test]
 fn a_bad_length_stays(rt: HostRuntime) {
-    for (length, fault) in [
-        (16u32, FrameFault::ShortLength),
-        (22, FrameFault::OddLength),
-        (65_536, FrameFault::TooLong),
+    for (word, fault) in [
+        (b"\x01\x00\x00\x10", FrameFault::ShortLength),
+        (b"\x01\x00\x00\x16", FrameFault::OddLength),
+        (b"\x01\x01\x00\x00", FrameFault::TooLong),
     ] {
-        let word = (0x0100_0000 | length).to_be_bytes();
         let mut assembler = Assembler::start(rt.alloc());
         assembler
             .feed(&DEVICE_WATCHDOG_REQUEST)
@@ -48,33 +55,35 @@ fn a_bad_length_stays(rt: HostRuntime) {
         assert_eq!(rt; frame.as_slice(), DEVICE_WATCHDOG_REQUEST.as_slice());
         assert!(rt; assembler.next().expect(&rt, "memory").is_none());
         assembler.feed(&word[3..]).expect(&rt, "memory");
-        assert!(rt; assembler.next().err() == Some(fault));
-        assert!(rt; assembler.feed(&DEVICE_WATCHDOG_REQUEST).err() == Some(fault));
-        assert!(rt; assembler.next().err() == Some(fault));
-        let pieces = [
-            DEVICE_WATCHDOG_REQUEST.as_slice(),
-            word.as_slice(),
-            DEVICE_WATCHDOG_REQUEST.as_slice(),
-        ];
-        let stream = frames_of(rt.alloc(), &pieces).expect(&rt, "memory");
-        assert!(rt; stream.end == StreamEnd::Bad(fault));
-        assert_eq!(rt; stream.frames.len(), 1);
+        assert!(rt; is_stopped_by(&mut assembler, fault), "{fault}");
     }
 }
 
+// Nothing after a bad length is read.
 #[test]
-fn a_stream_ends_in_a_frame_or_after_it(rt: HostRuntime) {
-    for (last, end) in [
-        (b"".as_slice(), StreamEnd::Whole),
-        (&INITIAL_GX_REQUEST[..163], StreamEnd::Cut),
-    ] {
-        let pieces = [
+fn a_stream_ends_whole_cut_or_bad(rt: HostRuntime) {
+    for (third, last, end) in [
+        (b"".as_slice(), b"".as_slice(), StreamEnd::Whole),
+        (&INITIAL_GX_REQUEST[..163], b"".as_slice(), StreamEnd::Cut),
+        (
+            b"\x01\x00\x00\x10".as_slice(),
             DEVICE_WATCHDOG_REQUEST.as_slice(),
-            AA_REFUSAL.as_slice(),
-            last,
-        ];
+            StreamEnd::Bad(FrameFault::ShortLength),
+        ),
+        (
+            b"\x01\x00\x00\x16".as_slice(),
+            DEVICE_WATCHDOG_REQUEST.as_slice(),
+            StreamEnd::Bad(FrameFault::OddLength),
+        ),
+        (
+            b"\x01\x01\x00\x00".as_slice(),
+            DEVICE_WATCHDOG_REQUEST.as_slice(),
+            StreamEnd::Bad(FrameFault::TooLong),
+        ),
+    ] {
+        let pieces = [&DEVICE_WATCHDOG_REQUEST, AA_REFUSAL.as_slice(), third, last];
         let stream = frames_of(rt.alloc(), &pieces).expect(&rt, "memory");
-        assert!(rt; stream.end == end);
+        assert!(rt; stream.end == end, "{end:?}");
         assert_eq!(rt; stream.frames.len(), 2);
         assert_eq!(rt;
             stream.frames[0].as_slice(),

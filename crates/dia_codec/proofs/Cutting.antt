@@ -1,6 +1,6 @@
 -- Cutting bytes into AVPs.
 use Rattle.std.proofs.Common.{◌≡◌, ℕ, zero, suc, ◌+◌, ◌≤◌, ◌<◌, Bool, true, false, cond, List, [], ◌∷◌, ◌++◌, length, take, drop, Option, Some, None, refl, sym, ap, ◌∙◌, append_assoc, arith}
-use Rattle.std.specs.Prelude.{IsSome}
+use Rattle.std.specs.Prelude.{IsSome, IfSome}
 use Rattle.std.proofs.lemmas.Bool.{ltb-false}
 use Rattle.std.proofs.lemmas.List.{append-nil, length-take, length-drop, get_or-take, get_or_append_left}
 use Rattle.dia_codec.specs.Fields.{AvpValue, three_at, padding}
@@ -143,10 +143,15 @@ pub is_done : (front : List AvpValue) (bytes : List ℕ) (total : Option (List A
 is_done front [] total none so_far = sym so_far ∙ rw avps_end (ap some (append-nil front))
 is_done front (b ∷ bytes) total none so_far = absurd (omega arith)
 
--- the AVPs so far are front, whatever they say
-pub record IsAfter (bytes rest : List ℕ) : Type 0 where
+-- the AVPs so far are front, so many of them, whatever they say
+pub record IsAfter (bytes rest : List ℕ) (count : ℕ) : Type 0 where
   pub front : List AvpValue
+  pub counted : length front ≡ count
   pub total : with_front front (avps_of rest) ≡ avps_of bytes
+
+-- AVPs that were read are so many
+pub count_is : (bytes : List ℕ) (front : List AvpValue) (count : ℕ) → length front ≡ count → avps_of bytes ≡ Some front → IfSome (avps_of bytes) (λ avps. Some count ≡ Some (length avps))
+count_is bytes front count e read = rw read (ap some (sym e))
 
 -- AVPs that were read are there
 pub counts : (bytes : List ℕ) (front : List AvpValue) → avps_of bytes ≡ Some front → IsSome (avps_of bytes)

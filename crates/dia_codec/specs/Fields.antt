@@ -40,6 +40,10 @@ message_length bytes = three_at bytes 1
 abbrev pub avp_length : List ℕ → ℕ
 avp_length own = three_at own 5
 
+-- the flags of an AVP
+abbrev pub avp_flags : List ℕ → ℕ
+avp_flags own = get_or own 4 0
+
 -- a bit of a byte is set
 abbrev pub has : ℕ → ℕ → Bool
 has byte bit = not (bit_and byte bit == 0)

@@ -19,7 +19,7 @@ mod writing;
 pub use assembling::Assembler;
 pub use counted::Counted;
 pub use fault::{FrameFault, MsgFault, WriteFault};
-pub use fields::read_header;
+pub use fields::{HEADER_BYTES, read_header};
 pub use message::{Avp, AvpKey, Flags, Header, Message};
 pub use reading::{read_group, read_message};
 pub use stream::{FramedStream, StreamEnd, frames_of, one_cut};
