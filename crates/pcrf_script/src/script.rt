@@ -1,5 +1,5 @@
 //! Scripts of a world: one command a line, and what it prints.
-ghost use Rattle.std.specs.Prelude.{◌≡◌, ◌≢◌, ◌≤◌, ◌⊎◌, true, IfErr, IsErrOf};
+ghost use Rattle.std.specs.Prelude.{◌≡◌, ◌≢◌, ◌≤◌, ◌⊎◌, true, OnOk, IfErr, IsErrOf};
 ghost use Rattle.pcrf_script.specs.Limits.{read_limit};
 
 use crate::lines::{Line, LineFault, read_line};
@@ -105,6 +105,8 @@ impl Script {
     /// The line is whole: obeys it, and writes what it prints.
     fn end_line<W: Write>(&mut self, writer: &mut Counted<W>) -> Result<(), ScriptEnd>
         ensures write_failed { IsErrOf result ScriptEnd.WriteFailed → writer.new.failed ≡ true }
+        ensures written { OnOk result (writer.new.failed ≡ writer.old.failed) }
+        ensures not_done { IfErr result (λ e. e ≢ ScriptEnd.Done) }
         ensures other { IfErr result (λ e. e ≢ ScriptEnd.ReadFailed) }
     {
         self.number = self.number.saturating_add(1);
@@ -125,6 +127,8 @@ impl Script {
     /// Takes the next byte of the script.
     fn take<W: Write>(&mut self, byte: u8, writer: &mut Counted<W>) -> Result<(), ScriptEnd>
         ensures write_failed { IsErrOf result ScriptEnd.WriteFailed → writer.new.failed ≡ true }
+        ensures written { OnOk result (writer.new.failed ≡ writer.old.failed) }
+        ensures not_done { IfErr result (λ e. e ≢ ScriptEnd.Done) }
         ensures other { IfErr result (λ e. e ≢ ScriptEnd.ReadFailed) }
     {
         if byte == b'\n' {
@@ -142,6 +146,7 @@ impl Script {
     /// The script has ended: obeys what stands behind the last line end, if anything.
     fn last_line<W: Write>(&mut self, writer: &mut Counted<W>) -> ScriptEnd
         ensures write_failed { result ≡ ScriptEnd.WriteFailed → writer.new.failed ≡ true }
+        ensures written { result ≡ ScriptEnd.Done → writer.new.failed ≡ writer.old.failed }
         ensures other { result ≢ ScriptEnd.ReadFailed }
     {
         if self.line.is_empty() {
@@ -163,6 +168,11 @@ pub fn run_script<R: Read, W: Write>(
     ensures read_failed { result ≡ ScriptEnd.ReadFailed
         → (reader.new.failed ≡ true) ⊎ (read_limit ≤ reader.new.calls) }
     ensures write_failed { result ≡ ScriptEnd.WriteFailed → writer.new.failed ≡ true }
+
+    // All was read, to its end, and written.
+    ensures ended { result ≡ ScriptEnd.Done → reader.new.ended ≡ true }
+    ensures no_read_failed { result ≡ ScriptEnd.Done → reader.new.failed ≡ reader.old.failed }
+    ensures written { result ≡ ScriptEnd.Done → writer.new.failed ≡ writer.old.failed }
 {
     let mut script = Script::start(alloc);
     let mut piece = [0u8; 4096];

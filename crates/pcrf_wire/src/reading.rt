@@ -14,7 +14,9 @@ use dia_base::codes::results::{
 };
 use dia_base::codes::{GX, RX, avps, commands};
 use dia_base::{ReadFault, base_key, first_with};
-use dia_codec::{Avp, Header, Message, MsgFault, read_group, read_header, read_message};
+use dia_codec::{
+    Avp, HEADER_BYTES, Header, Message, MsgFault, read_group, read_header, read_message_with,
+};
 use gx_profile::{Ccr, read_ccr};
 use pcrf_values::{Refusal, SessionId};
 use std::alloc::{AllocError, Global};
@@ -116,14 +118,14 @@ pub fn read_request(alloc: Global, frame: &[u8]) -> Result<Asked, AllocError>
     ensures asked { IfOk result (λ asked. asked_value asked ≡ meaning_of_frame frame.now) }
     ensures command { IfOk result HeaderFits }
 {
-    let Some((first, rest)) = frame.split_first_chunk::<20>() else {
+    let Some((first, rest)) = frame.split_first_chunk::<HEADER_BYTES>() else {
         unreachable!()
     };
     let header = read_header(first);
     if !header.flags.request {
         return Ok(Asked::Silent);
     }
-    match read_message(alloc, frame) {
+    match read_message_with(alloc, header, frame) {
         Ok(message) => asked_by(alloc, &message),
         Err(MsgFault::NoMemory) => Err(AllocError),
         Err(fault) => {
