@@ -294,9 +294,9 @@ ascending_gx : (os : List GxOperationValue) → ascending session_cmp (map (λ (
 ascending_gx [] = refl
 ascending_gx (o ∷ os) = ap (place session_cmp (gx o.session)) (ascending_gx os) ∙ place_gx o.session (ascending text_cmp (named os))
 
-sessions_named : (os : List GxOperationValue) → (view (facts_of os)).sessions ≡ map gx (ascending text_cmp (named os))
+view_sessions : (os : List GxOperationValue) → (view (facts_of os)).sessions ≡ map gx (ascending text_cmp (named os))
 unfolding view
-sessions_named os = ascending-Same session_cmp session_ranked (map session_of (facts_of os)) (map (λ (o : GxOperationValue). gx o.session) os) (sessions_Same os) ∙ ascending_gx os
+view_sessions os = ascending-Same session_cmp session_ranked (map session_of (facts_of os)) (map (λ (o : GxOperationValue). gx o.session) os) (sessions_Same os) ∙ ascending_gx os
 
 -- map after map
 map_gx : (v : View) (ids : List (List ℕ)) → map (λ (id : List ℕ). shown_session v (gx id)) ids ≡ map (shown_session v) (map gx ids)
@@ -307,5 +307,5 @@ map_gx v (x ∷ xs) = ap (λ (l : List GxSessionValue). shown_session v (gx x) �
 pub all_shown : (os : List GxOperationValue) → map (λ (id : List ℕ). shown_session (view (holding_of (map operation_of os)).facts) (gx id)) (ascending text_cmp (named os)) ≡ shown_sessions (holding_of (map operation_of os))
 all_shown os =
     let v : View = view (holding_of (map operation_of os)).facts in
-    let ids : v.sessions ≡ map gx (ascending text_cmp (named os)) = ap (λ (w : View). w.sessions) (view_held os) ∙ sessions_named os in
+    let ids : v.sessions ≡ map gx (ascending text_cmp (named os)) = ap (λ (w : View). w.sessions) (view_held os) ∙ view_sessions os in
     map_gx v (ascending text_cmp (named os)) ∙ ap (map (shown_session v)) (sym ids)

@@ -18,4 +18,5 @@ new_world n = record { sites = new_sites n; letters = [] }
 
 -- any two sites that took the same operations hold the same
 abbrev pub Agree : WorldValue → Type 0
-Agree w = (i j : ℕ) (a b : SiteValue) → slice_get w.sites i ≡ Some a → slice_get w.sites j ≡ Some b → Same a.taken b.taken → site_holding a ≡ site_holding b
+Agree w = (i j : ℕ) (a b : SiteValue) → slice_get w.sites i ≡ Some a → slice_get w.sites j ≡ Some b
+    → Same a.taken b.taken → site_holding a ≡ site_holding b

@@ -1,21 +1,13 @@
 //! The gateways' sessions as a site shows them.
-ghost use Rattle.std.specs.Prelude.{◌≡◌, ℕ, List, map, IfOk, OnOk};
+ghost use Rattle.std.specs.Prelude.{◌≡◌, map, IfOk, OnOk};
 ghost use Rattle.std.proofs.Common.{option_map};
 ghost use Rattle.std.specs.Option.{option_copied};
 ghost use Rattle.std.specs.Net.Addr.{ipv4_octets};
-ghost use Rattle.ranked.specs.Ascending.{ascending};
-ghost use Rattle.ranked.specs.Orders.{text_cmp};
-ghost use Rattle.pcrf_model.specs.Sessions.{gx};
-ghost use Rattle.pcrf_model.specs.Operations.{holding_of};
-ghost use Rattle.pcrf_model.specs.Views.{view};
-ghost use Rattle.pcrf_world.specs.GxSessions.{gx_session_value, untold, with_told};
-ghost use Rattle.pcrf_world.specs.Operations.{GxOperationValue, operation_of};
-ghost use Rattle.pcrf_world.specs.Shown.{shown_session};
+ghost use Rattle.pcrf_world.specs.GxSessions.{gx_session_value, untold, with_told, sessions_named, shown_by};
 
 use crate::operation::{GxFields, GxOperation};
-use gx_profile::RequestKind;
 use lattice_core::Reg;
-use pcrf_values::{Apn, SessionId};
+use pcrf_values::{Apn, RequestKind, SessionId};
 use ranked::{Ranked, Tag, ascending_of};
 use std::alloc::{AllocError, Global};
 use std::net::Ipv4Addr;
@@ -87,7 +79,7 @@ pub(crate) fn named_in(
     alloc: Global,
     operations: &[GxOperation],
 ) -> Result<Vec<SessionId>, AllocError>
-    ensures { IfOk result (λ named. named.items ≡ ascending text_cmp (map (λ (o : GxOperationValue). o.session) operations.now)) }
+    ensures { IfOk result (λ named. named.items ≡ sessions_named operations.now) }
 {
     let mut named = Vec::new(alloc);
     for operation in operations {
@@ -102,8 +94,8 @@ pub(crate) fn sessions_of(
     named: &[SessionId],
     operations: &[GxOperation],
 ) -> Result<Vec<GxSession>, AllocError>
-    ensures { IfOk result (λ sessions. map gx_session_value sessions.items
-        ≡ map (λ (id : List ℕ). shown_session (view (holding_of (map operation_of operations.now)).facts) (gx id)) named.now) }
+    ensures { IfOk result (λ sessions.
+        map gx_session_value sessions.items ≡ map (shown_by operations.now) named.now) }
 {
     let mut sessions = Vec::new(alloc);
     for session in named {
@@ -114,7 +106,7 @@ pub(crate) fn sessions_of(
 
 /// The session with this Session-Id, as operations show it.
 fn session_of(session: SessionId, operations: &[GxOperation]) -> Result<GxSession, AllocError>
-    ensures { IfOk result (λ shown. gx_session_value shown ≡ shown_session (view (holding_of (map operation_of operations.now)).facts) (gx session)) }
+    ensures { IfOk result (λ shown. gx_session_value shown ≡ shown_by operations.now session) }
 {
     let mut shown = GxSession::start(session);
     for operation in operations {

@@ -41,7 +41,11 @@ impl Model for PlainSite {
 
     ghost Value = { SiteValue };
 
-    ghost view = { λ s. record { number = s.number; taken = map operation_of s.taken.items; log = map operation_of s.log.items } };
+    ghost view = { λ s. record {
+        number = s.number;
+        taken = map operation_of s.taken.items;
+        log = map operation_of s.log.items;
+    } };
 
     ghost invariant = { λ s. s.identity ≡ identity_of s.number };
 }
@@ -97,7 +101,8 @@ impl PlainSite {
 
     /// Serves a request. An error changes nothing.
     pub fn serve(&mut self, request: &Request) -> Result<Reply, AllocError>
-        ensures reply { IfOk result (λ reply. reply ≡ reply_of (site_holding self.old) request.now) }
+        ensures reply { IfOk result (λ reply.
+            reply ≡ reply_of (site_holding self.old) request.now) }
         ensures ok { IfOk result (λ reply. self.new ≡ served self.old request.now reply) }
         ensures err { OnErr result (self.new ≡ self.old) }
     {
@@ -161,7 +166,8 @@ impl PlainSite {
 
     /// Takes operations in order. An error tells how many stand taken.
     pub fn take_all(&mut self, operations: &[GxOperation]) -> Result<(), (usize, AllocError)>
-        ensures ok { OnOk result (self.new ≡ with_taken (map operation_of operations.now) self.old) }
+        ensures ok { OnOk result
+            (self.new ≡ with_taken (map operation_of operations.now) self.old) }
         ensures part { IfErr result (λ e. e.0 < length operations.now) }
         ensures err { IfErr result (λ e.
             self.new ≡ with_taken (take e.0 (map operation_of operations.now)) self.old) }
@@ -176,7 +182,8 @@ impl PlainSite {
 
     /// Takes one operation, or changes nothing.
     fn take(&mut self, operation: &GxOperation) -> Result<(), AllocError>
-        ensures ok { OnOk result (self.new ≡ with_taken (operation_of operation.now ∷ []) self.old) }
+        ensures ok { OnOk result
+            (self.new ≡ with_taken (operation_of operation.now ∷ []) self.old) }
         ensures err { OnErr result (self.new ≡ self.old) }
     {
         let copy = operation.try_copy()?;

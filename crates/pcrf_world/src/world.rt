@@ -178,7 +178,8 @@ impl World {
         // Each answer is one that the definitions give on what the sites took.
         ensures answers { IfOk result (λ r. MayGiveAll (new_world n) events.now r.1.items) }
         // Each site took what the events and the answers say.
-        ensures taken { IfOk result (λ r. r.0 ≡ world_after_all (new_world n) events.now r.1.items) }
+        ensures taken { IfOk result (λ r.
+            r.0 ≡ world_after_all (new_world n) events.now r.1.items) }
         // Any two sites that took the same operations hold the same.
         ensures same { IfOk result (λ r. Agree r.0) }
     {
