@@ -2,29 +2,26 @@
 -- what breaks it (7.1.5).
 use Rattle.std.specs.Prelude.{◌≡◌, ℕ, Bool, ◌&&◌, ◌==◌, nat_lt, nat_le, if◌then◌else◌, List, [], ◌∷◌, length, Option, Some, None, option_map, ⊤}
 use Rattle.std.specs.List.{filter_map}
-use Rattle.pcrf_values.specs.Results.{invalid_avp_value, missing_avp, avp_occurs_too_many_times, invalid_avp_length}
-use Rattle.dia_codec.specs.declared.message.AvpKey.{AvpKey}
 use Rattle.std.specs.Option.{option_eq}
+use Rattle.pcrf_values.specs.Results.{invalid_avp_value, missing_avp, avp_occurs_too_many_times, invalid_avp_length}
+use Rattle.pcrf_values.specs.declared.refusal.Refusal.{Refusal}
+use Rattle.dia_codec.specs.declared.message.Avp.{Avp}
+use Rattle.dia_codec.specs.declared.message.AvpKey.{AvpKey}
 use Rattle.dia_codec.specs.Fields.{AvpValue, key_of, word_at}
 use Rattle.dia_codec.specs.Reading.{avps_of}
-use Rattle.pcrf_values.specs.declared.refusal.Refusal.{Refusal}
 use Rattle.dia_base.specs.declared.read_fault.ReadFault.{ReadFault}
 use Rattle.dia_base.specs.declared.read_fault.ReadFault.TheVariants.{Refused, NoMemory}
-
--- an AVP of RFC 6733, and one of 3GPP
-abbrev pub base_key : ℕ → AvpKey
-base_key code = record { code = code; vendor = None }
-
-abbrev pub tgpp_key : ℕ → AvpKey
-tgpp_key code = record { code = code; vendor = Some 10415 }
 
 -- ---- what stands at a key
 
 abbrev pub same_key : AvpKey → AvpKey → Bool
 same_key x y = (x.code == y.code) && option_eq (λ a b. a == b) x.vendor y.vendor
 
+abbrev pub has_key : AvpKey → AvpValue → Bool
+has_key key a = same_key (key_of a) key
+
 abbrev pub value_if : AvpKey → AvpValue → Option (List ℕ)
-value_if key a = if same_key (key_of a) key then Some a.value else None
+value_if key a = if has_key key a then Some a.value else None
 
 -- the values of the AVPs with this key, in order
 abbrev pub values_of : AvpKey → List AvpValue → List (List ℕ)
@@ -38,6 +35,15 @@ first_of (x ∷ xs) = Some x
 abbrev pub value_of : AvpKey → List AvpValue → Option (List ℕ)
 value_of key avps = first_of (values_of key avps)
 
+-- the number that the first value at a key is, big-endian
+abbrev pub number_at : AvpKey → List AvpValue → Option ℕ
+number_at key avps = option_map (λ value. word_at value 0) (value_of key avps)
+
+-- the value of an AVP that was found, alone
+abbrev pub value_found : Option Avp → List (List ℕ)
+value_found None = []
+value_found (Some avp) = avp.value.items ∷ []
+
 -- ---- refusals
 
 -- the first of two, if it is one, else the second
@@ -50,64 +56,91 @@ abbrev pub refusal_among : {X : Type 0} → (X → Option Refusal) → List X �
 refusal_among judge [] = None
 refusal_among judge (x ∷ xs) = or_else (judge x) (refusal_among judge xs)
 
--- a value that isn't a group
-pub data Plain : Type 0 where
-  Number : Plain
-  -- a number from the first to the second
-  NumberWithin : ℕ → ℕ → Plain
-  -- so many bytes, from the first to the second
-  TextWithin : ℕ → ℕ → Plain
-  Address : Plain
+-- What a value has to be: the refusal of one that isn't.
+abbrev pub Kind : Type 0
+Kind = List ℕ → Option Refusal
 
--- A number that isn't four bytes long has a bad length; every other value outside the table is a bad value.
-abbrev pub plain_refusal : Plain → List ℕ → Option Refusal
-plain_refusal Number value = if length value == 4 then None else Some invalid_avp_length
-plain_refusal (NumberWithin least most) value =
-    if length value == 4
-    then (if nat_le least (word_at value 0) && nat_le (word_at value 0) most then None else Some invalid_avp_value)
-    else Some invalid_avp_length
-plain_refusal (TextWithin least most) value = if nat_le least (length value) && nat_le (length value) most then None else Some invalid_avp_value
-plain_refusal Address value = if length value == 4 then None else Some invalid_avp_value
-
--- A row: an AVP, how often it stands at least and at most, and what its value is.
-pub record Row (Kind : Type 0) : Type 0 where
+-- A row: an AVP, how often it stands at least and at most, and what its value has to be.
+pub record Row : Type 0 where
   pub key : AvpKey
   pub least : ℕ
   pub most : ℕ
   pub kind : Kind
 
+-- the row of an AVP that stands exactly once
+abbrev pub required : AvpKey → Kind → Row
+required key kind = record { key = key; least = 1; most = 1; kind = kind }
+
+-- the row of an AVP that may stand once
+abbrev pub optional : AvpKey → Kind → Row
+optional key kind = record { key = key; least = 0; most = 1; kind = kind }
+
 -- The first refusal of one row: the AVP stands too often, or too seldom, or one of its values is refused.
-unfoldable pub row_refusal : AvpKey → ℕ → ℕ → (List ℕ → Option Refusal) → List AvpValue → Option Refusal
-row_refusal key least most judge avps =
-    if nat_lt most (length (values_of key avps)) then Some avp_occurs_too_many_times else
-    if nat_lt (length (values_of key avps)) least then Some missing_avp else
-    refusal_among judge (values_of key avps)
+unfoldable pub row_refusal : Row → List AvpValue → Option Refusal
+row_refusal row avps =
+    if nat_lt row.most (length (values_of row.key avps)) then Some avp_occurs_too_many_times else
+    if nat_lt (length (values_of row.key avps)) row.least then Some missing_avp else
+    refusal_among row.kind (values_of row.key avps)
 
 -- The first refusal of a table, row by row.
-abbrev pub rows_refusal : {Kind : Type 0} → (Kind → List ℕ → Option Refusal) → List (Row Kind) → List AvpValue → Option Refusal
-rows_refusal {Kind} judge rows avps = refusal_among (λ (row : Row Kind). row_refusal row.key row.least row.most (judge row.kind) avps) rows
+abbrev pub rows_refusal : List Row → List AvpValue → Option Refusal
+rows_refusal rows avps = refusal_among (λ row. row_refusal row avps) rows
 
--- a value that may be a group, whose rows are of the kind below
-pub data Grouped (Kind : Type 0) : Type 0 where
-  Single : Plain → Grouped Kind
-  Group : List (Row Kind) → Grouped Kind
+-- ---- Kinds of values. A number that isn't four bytes long, and a group that can't be cut into AVPs, have a bad length;
+-- ---- every other value outside the table is a bad value.
 
--- a group that can't be cut into AVPs has a bad length
-abbrev pub cut_refusal : {Kind : Type 0} → (Kind → List ℕ → Option Refusal) → List (Row Kind) → Option (List AvpValue) → Option Refusal
-cut_refusal judge rows None = Some invalid_avp_length
-cut_refusal judge rows (Some avps) = rows_refusal judge rows avps
+-- four bytes (Unsigned32, 4.2)
+abbrev pub unsigned32 : Kind
+unsigned32 value = if length value == 4 then None else Some invalid_avp_length
 
-abbrev pub grouped_refusal : {Kind : Type 0} → (Kind → List ℕ → Option Refusal) → Grouped Kind → List ℕ → Option Refusal
-grouped_refusal judge (Single plain) = plain_refusal plain
-grouped_refusal judge (Group rows) = λ value. cut_refusal judge rows (avps_of value)
+-- a number from the first to the second (Enumerated, 4.3.1)
+abbrev pub enumerated : ℕ → ℕ → Kind
+enumerated least most value =
+    if length value == 4
+    then (if nat_le least (word_at value 0) && nat_le (word_at value 0) most then None else Some invalid_avp_value)
+    else Some invalid_avp_length
 
--- ---- what a reader answers
+-- one byte to so many (OctetString, 4.2, and what derives from it)
+abbrev pub text_to : ℕ → Kind
+text_to most value = if nat_le 1 (length value) && nat_le (length value) most then None else Some invalid_avp_value
+
+-- four bytes, an IPv4 address (RFC 7155, 4.4.10.5.1)
+abbrev pub ipv4_address : Kind
+ipv4_address value = if length value == 4 then None else Some invalid_avp_value
+
+abbrev pub cut_refusal : List Row → Option (List AvpValue) → Option Refusal
+cut_refusal rows None = Some invalid_avp_length
+cut_refusal rows (Some avps) = rows_refusal rows avps
+
+-- AVPs that a table judges (Grouped, 4.4)
+abbrev pub grouped : List Row → Kind
+grouped rows value = cut_refusal rows (avps_of value)
+
+-- ---- what a row says of AVPs
+
+-- they break nothing of it
+abbrev pub Accepts : Row → List AvpValue → Type 0
+Accepts row avps = row_refusal row avps ≡ None
+
+-- they are refused by it with this refusal
+abbrev pub RefusesWith : Row → List AvpValue → Refusal → Type 0
+RefusesWith row avps refusal = row_refusal row avps ≡ Some refusal
+
+-- they are refused with this refusal wherever the AVP has to stand, whatever its value has to be
+abbrev pub RefusesAnyKind : AvpKey → List AvpValue → Refusal → Type 0
+RefusesAnyKind key avps refusal = (kind : Kind) → RefusesWith (required key kind) avps refusal
+
+-- they break nothing of a table
+abbrev pub AcceptsAll : List Row → List AvpValue → Type 0
+AcceptsAll rows avps = rows_refusal rows avps ≡ None
+
+-- ---- why a request isn't read
 
 -- A fault says this refusal, unless memory ran out.
-abbrev pub IsRefusal : ReadFault → Option Refusal → Type 0
-IsRefusal NoMemory refusal = ⊤
-IsRefusal (Refused refusal) expected = expected ≡ Some refusal
+abbrev pub IsFaultOf : Option Refusal → ReadFault → Type 0
+IsFaultOf refusal NoMemory = ⊤
+IsFaultOf expected (Refused refusal) = expected ≡ Some refusal
 
--- the number that the first value at a key is, big-endian
-abbrev pub number_at : AvpKey → List AvpValue → Option ℕ
-number_at key avps = option_map (λ value. word_at value 0) (value_of key avps)
+-- a row refuses AVPs with what the fault says, unless memory ran out
+abbrev pub FaultsWith : Row → List AvpValue → ReadFault → Type 0
+FaultsWith row avps fault = IsFaultOf (row_refusal row avps) fault

@@ -1,26 +1,43 @@
 -- The subscribers that a request names (Subscription-Id, RFC 8506, 8.46 to 8.48).
 use Rattle.std.specs.Prelude.{ℕ, List, [], ◌∷◌, Option, Some, None, unwrap_or, map}
 use Rattle.ranked.specs.Ascending.{ascending}
+use Rattle.pcrf_values.specs.Limits.{subscribers_limit, subscription_data_limit}
+use Rattle.pcrf_values.specs.Numbers.{subscription_number}
 use Rattle.pcrf_values.specs.Subscribers.{subscriber_cmp}
+use Rattle.pcrf_values.specs.declared.subscriber.SubscriptionType.TheVariants.{EndUserE164, EndUserPrivate}
 use Rattle.dia_codec.specs.Fields.{AvpValue}
 use Rattle.dia_codec.specs.Reading.{avps_of}
-use Rattle.dia_base.specs.Rows.{Row, Plain, NumberWithin, TextWithin, base_key, values_of, value_of, number_at}
+use Rattle.dia_base.specs.Avps.{subscription_id, subscription_id_data, subscription_id_type}
+use Rattle.dia_base.specs.Rows.{Row, Kind, required, enumerated, text_to, grouped, values_of, value_of, number_at}
 
--- Subscription-Id-Type, and then Subscription-Id-Data
-abbrev pub subscription_rows : List (Row Plain)
-subscription_rows =
-    record { key = base_key 450; least = 1; most = 1; kind = NumberWithin 0 4 }
-    ∷ record { key = base_key 444; least = 1; most = 1; kind = TextWithin 1 255 }
-    ∷ []
+-- the Subscription-Id-Types
+abbrev pub subscription_type : Kind
+subscription_type = enumerated (subscription_number EndUserE164) (subscription_number EndUserPrivate)
+
+-- a Subscription-Id: Subscription-Id-Type, and then Subscription-Id-Data
+abbrev pub subscription : Kind
+subscription = grouped
+    (required subscription_id_type subscription_type
+    ∷ required subscription_id_data (text_to subscription_data_limit)
+    ∷ [])
+
+-- the row of the Subscription-Ids of a request
+abbrev pub subscription_row : Row
+subscription_row = record { key = subscription_id; least = 0; most = subscribers_limit; kind = subscription }
 
 -- the type and the data in a group
 abbrev pub subscriber_in : Option (List AvpValue) → ℕ × List ℕ
 subscriber_in None = (0, [])
-subscriber_in (Some avps) = (unwrap_or (number_at (base_key 450) avps) 0, unwrap_or (value_of (base_key 444) avps) [])
+subscriber_in (Some avps) =
+    (unwrap_or (number_at subscription_id_type avps) 0, unwrap_or (value_of subscription_id_data avps) [])
 
 abbrev pub subscriber_of : List ℕ → ℕ × List ℕ
 subscriber_of value = subscriber_in (avps_of value)
 
+-- the subscribers that a request names, in the order in which they stand
+abbrev pub named_subscribers : List AvpValue → List (ℕ × List ℕ)
+named_subscribers avps = map subscriber_of (values_of subscription_id avps)
+
 -- the subscribers of a request, ascending, each once
 abbrev pub subscribers_of : List AvpValue → List (ℕ × List ℕ)
-subscribers_of avps = ascending subscriber_cmp (map subscriber_of (values_of (base_key 443) avps))
+subscribers_of avps = ascending subscriber_cmp (named_subscribers avps)

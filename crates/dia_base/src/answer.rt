@@ -4,7 +4,7 @@ ghost use Rattle.std.specs.Option.{option_copied};
 ghost use Rattle.std.specs.List.{flat_map};
 ghost use Rattle.dia_codec.specs.Spelling.{message_view};
 ghost use Rattle.dia_codec.specs.Written.{written_avp};
-ghost use Rattle.dia_base.specs.Answers.{answer_header, is_protocol_error, is_permanent_failure, names_application, number_avp, origin_avps, refusal_answer, result_avp};
+ghost use Rattle.dia_base.specs.Answers.{AddsSome, answer_header, is_protocol_error, is_permanent_failure, names_application, experimental_avps, origin_avps, refusal_answer, result_avp};
 
 use crate::codes::{GX, RX, TGPP, avps, commands, results};
 use crate::identity::Identity;
@@ -39,9 +39,11 @@ fn is_protocol_error(refusal: Refusal) -> bool
     refusal.code / 1000 == 3
 }
 
-/// Writes Origin-Host and Origin-Realm (RFC 6733, 6.3 and 6.4).
+/// Writes Origin-Host and Origin-Realm (RFC 6733, 6.3 and 6.4). After an error the writer holds what it held, or the
+/// Origin-Host besides.
 pub fn put_origin(out: &mut AvpWriter, identity: &Identity) -> Result<(), AllocError>
-    ensures { OnOk result (out.new ≡ out.old ++ origin_avps identity.now) }
+    ensures written { OnOk result (out.new ≡ out.old ++ origin_avps identity.now) }
+    ensures begun { OnErr result (AddsSome (origin_avps identity.now) out.old out.new) }
 {
     out.text(avps::ORIGIN_HOST, identity.host.as_slice())?;
     out.text(avps::ORIGIN_REALM, identity.realm.as_slice())
@@ -49,7 +51,7 @@ pub fn put_origin(out: &mut AvpWriter, identity: &Identity) -> Result<(), AllocE
 
 /// The value of the Experimental-Result of a code of 3GPP (RFC 6733, 7.6).
 fn experimental_result(alloc: Global, code: u32) -> Result<Vec<u8>, AllocError>
-    ensures { IfOk result (λ value. value.items ≡ flat_map written_avp (number_avp 266 10415 ∷ number_avp 298 code ∷ [])) }
+    ensures { IfOk result (λ value. value.items ≡ flat_map written_avp (experimental_avps code)) }
 {
     let mut group = AvpWriter::start(alloc);
     group.number(avps::VENDOR_ID, TGPP)?;
@@ -101,7 +103,8 @@ pub fn refusal_answer(
     refusal: Refusal,
     session: Option<&[u8]>,
 ) -> Result<Message, AllocError>
-    ensures { IfOk result (λ message. message_view message ≡ refusal_answer identity.now header.now refusal (option_copied session.entry)) }
+    ensures { IfOk result (λ message. message_view message ≡
+        refusal_answer identity.now header.now refusal (option_copied session.entry)) }
 {
     let mut out = AvpWriter::start(alloc);
     if let Some(id) = session {

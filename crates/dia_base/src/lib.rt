@@ -5,6 +5,7 @@
 mod answer;
 pub mod codes;
 mod identity;
+mod origin;
 mod read_fault;
 mod rows;
 mod subscriptions;
@@ -12,6 +13,7 @@ mod writer;
 
 pub use answer::{answer_header, put_origin, put_result, refusal_answer};
 pub use identity::Identity;
+pub use origin::{Origin, read_origin};
 pub use pcrf_values::Refusal;
 pub use read_fault::ReadFault;
 pub use rows::{

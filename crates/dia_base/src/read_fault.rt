@@ -4,13 +4,16 @@ ghost use Rattle.dia_base.specs.declared.read_fault.ReadFault.TheVariants as fau
 
 use pcrf_values::Refusal;
 use std::alloc::{AllocError, AllocFailed};
+use thiserror::Error;
 
 /// Why a request could not be read.
-#[derive(Clone, Copy, Debug, PartialEq, Eq)]
+#[derive(Clone, Copy, Debug, PartialEq, Eq, Error)]
 pub enum ReadFault {
     /// The request is answered by this refusal.
+    #[error("the request is refused with {0}")]
     Refused(Refusal),
     /// Memory ran out; nothing is known of the request.
+    #[error("no memory")]
     NoMemory,
 }
 

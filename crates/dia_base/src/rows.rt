@@ -1,12 +1,12 @@
 //! AVPs of a request, judged row by row. Each reader judges one row of a table and gives what stands there.
-ghost use Rattle.std.specs.Prelude.{◌≡◌, ◌<◌, ◌≤◌, ℕ, List, [], ◌∷◌, length, IfOk, IfErr, Option, Some, None, option_map};
-ghost use Rattle.std.specs.Option.{option_to_list};
+ghost use Rattle.std.specs.Prelude.{◌≡◌, ◌<◌, ◌≤◌, [], ◌∷◌, length, OnOk, OnErr, IfOk, IfErr, Some, find, option_map, option_copied};
 ghost use Rattle.std.specs.Net.Addr.{ipv4_octets};
-ghost use Rattle.dia_codec.specs.Spelling.{avp_views};
-ghost use Rattle.pcrf_values.specs.Texts.{folded};
-ghost use Rattle.dia_base.specs.Rows.{base_key, values_of, value_of, number_at, row_refusal, plain_refusal, Number, NumberWithin, TextWithin, Address, IsRefusal};
+ghost use Rattle.pcrf_values.specs.Limits.{apn_limit};
 ghost use Rattle.pcrf_values.specs.Results.{avp_occurs_too_many_times};
-ghost use Rattle.pcrf_values.specs.declared.refusal.Refusal.{Refusal};
+ghost use Rattle.pcrf_values.specs.Texts.{folded};
+ghost use Rattle.dia_codec.specs.Spelling.{avp_view, avp_views};
+ghost use Rattle.dia_base.specs.Avps.{base_key};
+ghost use Rattle.dia_base.specs.Rows.{has_key, values_of, value_of, value_found, number_at, required, optional, unsigned32, enumerated, text_to, ipv4_address, Accepts, RefusesWith, RefusesAnyKind, FaultsWith};
 
 use crate::codes::results::{
     AVP_OCCURS_TOO_MANY_TIMES, INVALID_AVP_LENGTH, INVALID_AVP_VALUE, MISSING_AVP,
@@ -37,9 +37,10 @@ pub fn count_of(avps: &[Avp], key: AvpKey) -> usize
     count
 }
 
-/// The first AVP with a key.
+/// The first AVP with a key, if there is one.
 pub fn first_with(avps: &[Avp], key: AvpKey) -> Option<&Avp>
-    ensures { option_map (λ avp. avp.now.value.items) result ≡ value_of key (avp_views avps.now) }
+    ensures avp { option_map avp_view (option_copied result) ≡ find (has_key key) (avp_views avps.now) }
+    ensures value { option_map (λ a. a.value.items) (option_copied result) ≡ value_of key (avp_views avps.now) }
 {
     for avp in avps {
         if avp.key() == key {
@@ -51,8 +52,9 @@ pub fn first_with(avps: &[Avp], key: AvpKey) -> Option<&Avp>
 
 /// The AVP with a key, which may stand once at most.
 fn at_most_once(avps: &[Avp], key: AvpKey) -> Result<Option<&Avp>, Refusal>
-    ensures found { IfOk result (λ found. values_of key (avp_views avps.now) ≡ option_to_list (option_map (λ avp. avp.now.value.items) found)) }
-    ensures refused { IfErr result (λ refusal. (refusal ≡ avp_occurs_too_many_times) × (1 < length (values_of key (avp_views avps.now)))) }
+    ensures found { IfOk result (λ avp. values_of key (avp_views avps.now) ≡ value_found (option_copied avp)) }
+    ensures refused { IfErr result (λ refusal. refusal ≡ avp_occurs_too_many_times) }
+    ensures repeated { OnErr result (1 < length (values_of key (avp_views avps.now))) }
 {
     let mut found: Option<&Avp> = None;
     for avp in avps {
@@ -69,8 +71,8 @@ fn at_most_once(avps: &[Avp], key: AvpKey) -> Result<Option<&Avp>, Refusal>
 /// The AVP with a key, which stands exactly once.
 #[tactic(auto, unfolding(crate::specs::Rows::row_refusal))]
 fn exactly_once(avps: &[Avp], key: AvpKey) -> Result<&Avp, Refusal>
-    ensures found { IfOk result (λ avp. values_of key (avp_views avps.now) ≡ avp.now.value.items ∷ []) }
-    ensures refused { IfErr result (λ refusal. (judge : List ℕ → Option Refusal) → row_refusal key 1 1 judge (avp_views avps.now) ≡ Some refusal) }
+    ensures found { IfOk result (λ avp. values_of key (avp_views avps.now) ≡ value_found (Some avp.now)) }
+    ensures refused { IfErr result (RefusesAnyKind key (avp_views avps.now)) }
 {
     let found = at_most_once(avps, key)?;
     let Some(avp) = found else {
@@ -86,8 +88,9 @@ pub fn required_text<const MOST: usize>(
     avps: &[Avp],
     key: AvpKey,
 ) -> Result<BoundedText<MOST>, ReadFault>
-    ensures read { IfOk result (λ text. (row_refusal key 1 1 (plain_refusal (TextWithin 1 MOST)) (avp_views avps.now) ≡ None) × (value_of key (avp_views avps.now) ≡ Some text)) }
-    ensures refused { IfErr result (λ fault. IsRefusal fault (row_refusal key 1 1 (plain_refusal (TextWithin 1 MOST)) (avp_views avps.now))) }
+    ensures accepted { OnOk result (Accepts (required key (text_to MOST)) (avp_views avps.now)) }
+    ensures text { IfOk result (λ text. value_of key (avp_views avps.now) ≡ Some text) }
+    ensures refused { IfErr result (FaultsWith (required key (text_to MOST)) (avp_views avps.now)) }
 {
     let avp = exactly_once(avps, key)?;
     let Some(text) = BoundedText::read(alloc, avp.text())? else {
@@ -99,8 +102,9 @@ pub fn required_text<const MOST: usize>(
 /// Reads a number, which stands exactly once.
 #[tactic(auto, unfolding(crate::specs::Rows::row_refusal))]
 pub fn required_number(avps: &[Avp], key: AvpKey) -> Result<u32, Refusal>
-    ensures read { IfOk result (λ number. (row_refusal key 1 1 (plain_refusal Number) (avp_views avps.now) ≡ None) × (number_at key (avp_views avps.now) ≡ Some number)) }
-    ensures refused { IfErr result (λ refusal. row_refusal key 1 1 (plain_refusal Number) (avp_views avps.now) ≡ Some refusal) }
+    ensures accepted { OnOk result (Accepts (required key unsigned32) (avp_views avps.now)) }
+    ensures number { IfOk result (λ number. number_at key (avp_views avps.now) ≡ Some number) }
+    ensures refused { IfErr result (RefusesWith (required key unsigned32) (avp_views avps.now)) }
 {
     let avp = exactly_once(avps, key)?;
     let Some(number) = avp.number() else {
@@ -117,8 +121,11 @@ pub fn required_number_within(
     least: u32,
     most: u32,
 ) -> Result<u32, Refusal>
-    ensures read { IfOk result (λ number. (row_refusal key 1 1 (plain_refusal (NumberWithin least most)) (avp_views avps.now) ≡ None) × (number_at key (avp_views avps.now) ≡ Some number) × (least ≤ number) × (number ≤ most)) }
-    ensures refused { IfErr result (λ refusal. row_refusal key 1 1 (plain_refusal (NumberWithin least most)) (avp_views avps.now) ≡ Some refusal) }
+    ensures accepted { OnOk result (Accepts (required key (enumerated least most)) (avp_views avps.now)) }
+    ensures number { IfOk result (λ number. number_at key (avp_views avps.now) ≡ Some number) }
+    ensures least { IfOk result (λ number. least ≤ number) }
+    ensures most { IfOk result (λ number. number ≤ most) }
+    ensures refused { IfErr result (RefusesWith (required key (enumerated least most)) (avp_views avps.now)) }
 {
     let avp = exactly_once(avps, key)?;
     let Some(number) = avp.number() else {
@@ -133,8 +140,9 @@ pub fn required_number_within(
 /// Reads an IPv4 address, which may stand once.
 #[tactic(auto, unfolding(crate::specs::Rows::row_refusal))]
 pub fn optional_address(avps: &[Avp], key: AvpKey) -> Result<Option<Ipv4Addr>, Refusal>
-    ensures read { IfOk result (λ address. (row_refusal key 0 1 (plain_refusal Address) (avp_views avps.now) ≡ None) × (option_map ipv4_octets address ≡ value_of key (avp_views avps.now))) }
-    ensures refused { IfErr result (λ refusal. row_refusal key 0 1 (plain_refusal Address) (avp_views avps.now) ≡ Some refusal) }
+    ensures accepted { OnOk result (Accepts (optional key ipv4_address) (avp_views avps.now)) }
+    ensures address { IfOk result (λ a. option_map ipv4_octets a ≡ value_of key (avp_views avps.now)) }
+    ensures refused { IfErr result (RefusesWith (optional key ipv4_address) (avp_views avps.now)) }
 {
     let found = at_most_once(avps, key)?;
     let Some(avp) = found else {
@@ -149,8 +157,9 @@ pub fn optional_address(avps: &[Avp], key: AvpKey) -> Result<Option<Ipv4Addr>, R
 /// Reads an access point name, which may stand once. Its ASCII capitals are folded to small letters.
 #[tactic(auto, unfolding(crate::specs::Rows::row_refusal))]
 pub fn optional_apn(alloc: Global, avps: &[Avp], key: AvpKey) -> Result<Option<Apn>, ReadFault>
-    ensures read { IfOk result (λ apn. (row_refusal key 0 1 (plain_refusal (TextWithin 1 255)) (avp_views avps.now) ≡ None) × (apn ≡ option_map folded (value_of key (avp_views avps.now)))) }
-    ensures refused { IfErr result (λ fault. IsRefusal fault (row_refusal key 0 1 (plain_refusal (TextWithin 1 255)) (avp_views avps.now))) }
+    ensures accepted { OnOk result (Accepts (optional key (text_to apn_limit)) (avp_views avps.now)) }
+    ensures apn { IfOk result (λ apn. apn ≡ option_map folded (value_of key (avp_views avps.now))) }
+    ensures refused { IfErr result (FaultsWith (optional key (text_to apn_limit)) (avp_views avps.now)) }
 {
     let found = at_most_once(avps, key)?;
     let Some(avp) = found else {

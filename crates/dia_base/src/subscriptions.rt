@@ -1,8 +1,8 @@
 //! The subscribers that a request names (Subscription-Id, RFC 8506, 8.46).
-ghost use Rattle.std.specs.Prelude.{◌≡◌, [], map, unwrap_or, IfOk, IfErr, None};
+ghost use Rattle.std.specs.Prelude.{◌≡◌, [], unwrap_or, OnOk, IfOk, IfErr, None};
 ghost use Rattle.dia_codec.specs.Spelling.{avp_views};
-ghost use Rattle.dia_base.specs.Rows.{base_key, values_of, row_refusal, grouped_refusal, plain_refusal, Group, IsRefusal};
-ghost use Rattle.dia_base.specs.Subscriptions.{subscription_rows, subscriber_of, subscribers_of};
+ghost use Rattle.dia_base.specs.Rows.{Accepts, FaultsWith, IsFaultOf};
+ghost use Rattle.dia_base.specs.Subscriptions.{subscription, subscription_row, subscriber_of, named_subscribers, subscribers_of};
 
 use crate::codes::avps::{SUBSCRIPTION_ID, SUBSCRIPTION_ID_DATA, SUBSCRIPTION_ID_TYPE};
 use crate::codes::results::{AVP_OCCURS_TOO_MANY_TIMES, INVALID_AVP_LENGTH};
@@ -18,8 +18,9 @@ const MOST: usize = 16;
 /// Reads the value of a Subscription-Id.
 #[tactic(auto, unfolding(crate::specs::Rows::row_refusal))]
 fn read_subscription(alloc: Global, value: &[u8]) -> Result<Subscriber, ReadFault>
-    ensures read { IfOk result (λ subscriber. (grouped_refusal plain_refusal (Group subscription_rows) value.now ≡ None) × (subscriber ≡ subscriber_of value.now)) }
-    ensures refused { IfErr result (λ fault. IsRefusal fault (grouped_refusal plain_refusal (Group subscription_rows) value.now)) }
+    ensures accepted { OnOk result (subscription value.now ≡ None) }
+    ensures subscriber { IfOk result (λ subscriber. subscriber ≡ subscriber_of value.now) }
+    ensures refused { IfErr result (IsFaultOf (subscription value.now)) }
 {
     let avps = match read_group(alloc, value) {
         Ok(avps) => avps,
@@ -36,8 +37,9 @@ fn read_subscription(alloc: Global, value: &[u8]) -> Result<Subscriber, ReadFaul
 
 /// Reads the subscribers that a request names, at most sixteen times, in the order in which they stand.
 fn read_subscriptions(alloc: Global, avps: &[Avp]) -> Result<Vec<Subscriber>, ReadFault>
-    ensures read { IfOk result (λ subscribers. (row_refusal (base_key 443) 0 16 (grouped_refusal plain_refusal (Group subscription_rows)) (avp_views avps.now) ≡ None) × (subscribers.items ≡ map subscriber_of (values_of (base_key 443) (avp_views avps.now)))) }
-    ensures refused { IfErr result (λ fault. IsRefusal fault (row_refusal (base_key 443) 0 16 (grouped_refusal plain_refusal (Group subscription_rows)) (avp_views avps.now))) }
+    ensures accepted { OnOk result (Accepts subscription_row (avp_views avps.now)) }
+    ensures subscribers { IfOk result (λ named. named.items ≡ named_subscribers (avp_views avps.now)) }
+    ensures refused { IfErr result (FaultsWith subscription_row (avp_views avps.now)) }
 {
     let key = base_key(SUBSCRIPTION_ID);
     if count_of(avps, key) > MOST {
@@ -54,8 +56,9 @@ fn read_subscriptions(alloc: Global, avps: &[Avp]) -> Result<Vec<Subscriber>, Re
 
 /// Reads the subscribers that a request names, each once; None where it names none.
 pub fn read_subscribers(alloc: Global, avps: &[Avp]) -> Result<Option<Subscribers>, ReadFault>
-    ensures read { IfOk result (λ set. (row_refusal (base_key 443) 0 16 (grouped_refusal plain_refusal (Group subscription_rows)) (avp_views avps.now) ≡ None) × (unwrap_or set [] ≡ subscribers_of (avp_views avps.now))) }
-    ensures refused { IfErr result (λ fault. IsRefusal fault (row_refusal (base_key 443) 0 16 (grouped_refusal plain_refusal (Group subscription_rows)) (avp_views avps.now))) }
+    ensures accepted { OnOk result (Accepts subscription_row (avp_views avps.now)) }
+    ensures subscribers { IfOk result (λ set. unwrap_or set [] ≡ subscribers_of (avp_views avps.now)) }
+    ensures refused { IfErr result (FaultsWith subscription_row (avp_views avps.now)) }
 {
     let given = read_subscriptions(alloc, avps)?;
     let set = Subscribers::of(alloc, given)?;

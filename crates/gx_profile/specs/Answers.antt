@@ -1,10 +1,12 @@
 -- Answers to credit control requests as they are written (TS 29.212, 5.6.3).
 use Rattle.std.specs.Prelude.{[], ◌∷◌, ◌++◌, Option, Some, None}
+use Rattle.pcrf_values.specs.Applications.{gx_application}
 use Rattle.pcrf_values.specs.Numbers.{request_kind_number}
 use Rattle.pcrf_values.specs.declared.refusal.Refusal.{Refusal}
 use Rattle.dia_codec.specs.declared.message.Header.{Header}
 use Rattle.dia_codec.specs.Fields.{MessageValue}
 use Rattle.dia_base.specs.declared.identity.Identity.{Identity}
+use Rattle.dia_base.specs.Avps.{session_id, auth_application_id, cc_request_type, cc_request_number}
 use Rattle.dia_base.specs.Answers.{text_avp, number_avp, answer_header, origin_avps, result_avp}
 use Rattle.gx_profile.specs.declared.ccr.Ccr.{Ccr}
 use Rattle.gx_profile.specs.declared.answer.GxReply.{GxReply}
@@ -20,7 +22,7 @@ unfoldable pub cca : Identity → Header → Ccr → GxReply → MessageValue
 cca i h q reply = record {
   header = answer_header h (reply_refusal reply);
   avps =
-      text_avp 263 q.session ∷ number_avp 258 16777238 ∷ []
+      text_avp session_id q.session ∷ number_avp auth_application_id gx_application ∷ []
       ++ origin_avps i
-      ++ result_avp (reply_refusal reply) ∷ number_avp 416 (request_kind_number q.kind) ∷ number_avp 415 q.number ∷ [];
+      ++ result_avp (reply_refusal reply) ∷ number_avp cc_request_type (request_kind_number q.kind) ∷ number_avp cc_request_number q.number ∷ [];
 }

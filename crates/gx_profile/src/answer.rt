@@ -39,7 +39,8 @@ pub fn write_cca(
     ccr: &Ccr,
     reply: &GxReply,
 ) -> Result<Message, AllocError>
-    ensures { IfOk result (λ message. message_view message ≡ cca identity.now header.now ccr.now reply.now) }
+    ensures { IfOk result (λ message. message_view message ≡
+        cca identity.now header.now ccr.now reply.now) }
 {
     let refusal = reply.refusal();
     let mut out = AvpWriter::start(alloc);

@@ -1,31 +1,32 @@
 //! Credit control requests (TS 29.212, 5.6.2).
-ghost use Rattle.std.specs.Prelude.{◌≡◌, OnOk, IfOk, IfErr, None, Some};
+ghost use Rattle.std.specs.Prelude.{◌≡◌, [], OnOk, IfOk, IfErr, option_map, unwrap_or};
+ghost use Rattle.std.specs.Net.Addr.{ipv4_octets};
+ghost use Rattle.pcrf_values.specs.Texts.{folded};
 ghost use Rattle.dia_codec.specs.Spelling.{avp_views};
-ghost use Rattle.dia_base.specs.Rows.{base_key, row_refusal, plain_refusal, NumberWithin, IsRefusal};
-ghost use Rattle.gx_profile.specs.Requests.{ccr_table_refusal, ccr_of, ccr_view, kind_at};
+ghost use Rattle.dia_base.specs.Avps.{called_station_id, framed_ip_address};
+ghost use Rattle.dia_base.specs.Rows.{Accepts, AcceptsAll, RefusesWith, IsFaultOf, rows_refusal, value_of};
+ghost use Rattle.dia_base.specs.Subscriptions.{subscribers_of};
+ghost use Rattle.gx_profile.specs.Requests.{access_rows, ccr_of, ccr_rows, ccr_table_refusal, ccr_view, kind_at, request_type_row};
 
 use dia_base::codes::avps::{
-    CALLED_STATION_ID, CC_REQUEST_NUMBER, CC_REQUEST_TYPE, FRAMED_IP_ADDRESS, ORIGIN_HOST,
-    ORIGIN_REALM, SESSION_ID,
+    CALLED_STATION_ID, CC_REQUEST_NUMBER, CC_REQUEST_TYPE, FRAMED_IP_ADDRESS, SESSION_ID,
 };
 use dia_base::{
-    ReadFault, Refusal, base_key, optional_address, optional_apn, read_subscribers,
-    required_number, required_number_within, required_text,
+    Origin, ReadFault, Refusal, base_key, optional_address, optional_apn, read_origin,
+    read_subscribers, required_number, required_number_within, required_text,
 };
 use dia_codec::{Avp, Message};
-use pcrf_values::{Apn, DiameterIdentity, RequestKind, SessionId, Subscribers};
+use pcrf_values::{Apn, RequestKind, SessionId, Subscribers};
 use std::alloc::Global;
 use std::net::Ipv4Addr;
 
 /// A credit control request as it was read: what this profile asks of it, and nothing else.
-#[derive(Drop)]
+#[derive(Drop, PartialEq, Eq)]
 pub struct Ccr {
     /// Session-Id, which names the gateway's session.
     pub session: SessionId,
-    /// Origin-Host: the gateway.
-    pub host: DiameterIdentity,
-    /// Origin-Realm: the gateway's realm.
-    pub realm: DiameterIdentity,
+    /// Origin-Host and Origin-Realm: the gateway.
+    pub origin: Origin,
     /// CC-Request-Type.
     pub kind: RequestKind,
     /// CC-Request-Number, which orders the requests of one session.
@@ -38,11 +39,19 @@ pub struct Ccr {
     pub subscribers: Option<Subscribers>,
 }
 
+/// Whom a session serves, and where: what calls are bound by (TS 29.213, 5.2).
+#[derive(Drop)]
+struct Access {
+    subscribers: Option<Subscribers>,
+    address: Option<Ipv4Addr>,
+    apn: Option<Apn>,
+}
+
 /// Reads the CC-Request-Type.
 fn read_kind(avps: &[Avp]) -> Result<RequestKind, Refusal>
-    ensures accepted { OnOk result (row_refusal (base_key 416) 1 1 (plain_refusal (NumberWithin 1 3)) (avp_views avps.now) ≡ None) }
+    ensures accepted { OnOk result (Accepts request_type_row (avp_views avps.now)) }
     ensures kind { IfOk result (λ kind. kind ≡ kind_at (avp_views avps.now)) }
-    ensures refused { IfErr result (λ refusal. row_refusal (base_key 416) 1 1 (plain_refusal (NumberWithin 1 3)) (avp_views avps.now) ≡ Some refusal) }
+    ensures refused { IfErr result (RefusesWith request_type_row (avp_views avps.now)) }
 {
     let number = required_number_within(avps, base_key(CC_REQUEST_TYPE), 1, 3)?;
     let Some(kind) = RequestKind::from_number(number) else {
@@ -51,24 +60,47 @@ fn read_kind(avps: &[Avp]) -> Result<RequestKind, Refusal>
     Ok(kind)
 }
 
-/// Reads a credit control request, or gives the first refusal of what breaks its table.
-pub fn read_ccr(alloc: Global, message: &Message) -> Result<Ccr, ReadFault>
-    ensures read { IfOk result (λ ccr. (ccr_table_refusal (avp_views message.now.avps.items) ≡ None) × (ccr_view ccr ≡ ccr_of (avp_views message.now.avps.items))) }
-    ensures refused { IfErr result (λ fault. IsRefusal fault (ccr_table_refusal (avp_views message.now.avps.items))) }
+/// Reads the Subscription-Ids, the Framed-IP-Address and the Called-Station-Id.
+fn read_access(alloc: Global, avps: &[Avp]) -> Result<Access, ReadFault>
+    ensures accepted { OnOk result (AcceptsAll access_rows (avp_views avps.now)) }
+    ensures subscribers { IfOk result (λ access.
+        unwrap_or access.subscribers [] ≡ subscribers_of (avp_views avps.now)) }
+    ensures address { IfOk result (λ access.
+        option_map ipv4_octets access.address ≡ value_of framed_ip_address (avp_views avps.now)) }
+    ensures apn { IfOk result (λ access.
+        access.apn ≡ option_map folded (value_of called_station_id (avp_views avps.now))) }
+    ensures refused { IfErr result (IsFaultOf (rows_refusal access_rows (avp_views avps.now))) }
 {
-    let avps = message.avps.as_slice();
-    let session = required_text(alloc, avps, base_key(SESSION_ID))?;
-    let host = required_text(alloc, avps, base_key(ORIGIN_HOST))?;
-    let realm = required_text(alloc, avps, base_key(ORIGIN_REALM))?;
-    let kind = read_kind(avps)?;
-    let number = required_number(avps, base_key(CC_REQUEST_NUMBER))?;
     let subscribers = read_subscribers(alloc, avps)?;
     let address = optional_address(avps, base_key(FRAMED_IP_ADDRESS))?;
     let apn = optional_apn(alloc, avps, base_key(CALLED_STATION_ID))?;
+    Ok(Access {
+        subscribers,
+        address,
+        apn,
+    })
+}
+
+/// Reads a credit control request, or gives the first refusal of what breaks its table.
+pub fn read_ccr(alloc: Global, message: &Message) -> Result<Ccr, ReadFault>
+    ensures accepted { OnOk result (AcceptsAll ccr_rows (avp_views message.now.avps.items)) }
+    ensures request { IfOk result (λ ccr. ccr_view ccr ≡ ccr_of (avp_views message.now.avps.items)) }
+    ensures refused { IfErr result (IsFaultOf (ccr_table_refusal (avp_views message.now.avps.items))) }
+{
+    let avps = message.avps.as_slice();
+    let session = required_text(alloc, avps, base_key(SESSION_ID))?;
+    let origin = read_origin(alloc, avps)?;
+    let kind = read_kind(avps)?;
+    let number = required_number(avps, base_key(CC_REQUEST_NUMBER))?;
+    let access = read_access(alloc, avps)?;
+    let Access {
+        subscribers,
+        address,
+        apn,
+    } = access;
     Ok(Ccr {
         session,
-        host,
-        realm,
+        origin,
         kind,
         number,
         address,

@@ -1,6 +1,9 @@
 //! Why a request is refused.
 ghost use Rattle.std.specs.Prelude.{◌≡◌, true, false};
 
+use std::error::Error;
+use std::fmt::{self, Display, Formatter, Write};
+
 /// The result of a refused request.
 #[derive(Clone, Copy, Debug, PartialEq, Eq)]
 pub struct Refusal {
@@ -31,3 +34,14 @@ impl Refusal {
         }
     }
 }
+
+impl Display for Refusal {
+    fn fmt<W: Write>(&self, f: &mut Formatter<W>) -> fmt::Result {
+        if self.experimental {
+            return write!(f, "Experimental-Result-Code {}", self.code);
+        }
+        write!(f, "Result-Code {}", self.code)
+    }
+}
+
+impl Error for Refusal {}

@@ -3,6 +3,7 @@ use Rattle.std.specs.Prelude.{ℕ, ◌<◌, not, Bool, ◌&&◌, ◌||◌, ◌==
 use Rattle.std.proofs.Common.{option_and_then}
 use Rattle.pcrf_values.specs.declared.refusal.Refusal.{Refusal}
 use Rattle.pcrf_values.specs.Applications.{base_application, gx_application, rx_application}
+use Rattle.pcrf_values.specs.Limits.{session_id_limit}
 use Rattle.pcrf_values.specs.Results.{application_unsupported, command_unsupported, invalid_avp_length, invalid_hdr_bits, unsupported_version}
 use Rattle.pcrf_values.specs.Texts.{one_to}
 use Rattle.pcrf_model.specs.Requests.{CcrValue}
@@ -12,7 +13,9 @@ use Rattle.dia_codec.specs.declared.message.Header.{Header}
 use Rattle.dia_codec.specs.Fields.{AvpValue, MessageValue, header_of}
 use Rattle.dia_codec.specs.Limits.{command_bound, header_bytes}
 use Rattle.dia_codec.specs.Reading.{avps_of, message_of}
-use Rattle.dia_base.specs.Rows.{base_key, value_of, or_else}
+use Rattle.dia_base.specs.Avps.{session_id}
+use Rattle.dia_base.specs.Commands.{credit_control_command}
+use Rattle.dia_base.specs.Rows.{value_of, or_else}
 use Rattle.gx_profile.specs.Requests.{ccr_view, ccr_table_refusal, ccr_of}
 use Rattle.pcrf_wire.specs.declared.request.Request.TheVariants.{Ccr}
 use Rattle.pcrf_wire.specs.declared.reading.Asked.{Asked}
@@ -39,7 +42,7 @@ HeaderFits Silent = ⊤
 
 -- the first Session-Id, unless it is empty or too long
 abbrev pub session_among : List AvpValue → Option (List ℕ)
-session_among avps = option_and_then (one_to 512) (value_of (base_key 263) avps)
+session_among avps = option_and_then (one_to session_id_limit) (value_of session_id avps)
 
 -- that of AVPs that can be cut
 abbrev pub session_if_cut : Option (List AvpValue) → Option (List ℕ)
@@ -64,7 +67,8 @@ is_known application = application == base_application || application == gx_appl
 abbrev pub header_refusal : Header → Option Refusal
 header_refusal header =
     if not (is_known header.application) then Some application_unsupported else
-    if header.application == gx_application && header.command == 272 then None else Some command_unsupported
+    if header.application == gx_application && header.command == credit_control_command then None else
+    Some command_unsupported
 
 -- by the application, by the command, and then by the command's table
 abbrev pub message_refusal : MessageValue → Option Refusal

@@ -3,7 +3,7 @@ ghost use Rattle.std.specs.Prelude.{◌≡◌, ◌≤◌, ◌<◌, [], length, N
 ghost use Rattle.dia_codec.specs.Limits.{header_bytes, command_bound};
 ghost use Rattle.dia_codec.specs.Reading.{avps_of};
 ghost use Rattle.dia_codec.specs.Spelling.{avp_views, message_view};
-ghost use Rattle.dia_base.specs.Rows.{IsRefusal};
+ghost use Rattle.dia_base.specs.Rows.{IsFaultOf};
 ghost use Rattle.gx_profile.specs.Requests.{ccr_view, ccr_of};
 ghost use Rattle.pcrf_wire.specs.Asking.{HeaderFits, asked_value, fault_refusal, header_refusal, meaning_of_frame, meaning_of_request, message_refusal, session_among, session_if_cut};
 
@@ -84,8 +84,7 @@ fn header_refusal(header: &Header) -> Option<Refusal>
 fn read_body(alloc: Global, message: &Message) -> Result<Ccr, ReadFault>
     ensures served { OnOk result (message_refusal (message_view message.now) ≡ None) }
     ensures read { IfOk result (λ ccr. ccr_view ccr ≡ ccr_of (avp_views message.now.avps.items)) }
-    ensures refused { IfErr result (λ fault.
-        IsRefusal fault (message_refusal (message_view message.now))) }
+    ensures refused { IfErr result (IsFaultOf (message_refusal (message_view message.now))) }
 {
     if let Some(refusal) = header_refusal(&message.header) {
         return Err(ReadFault::Refused(refusal));

@@ -216,7 +216,7 @@ fn initial_fields(ccr: &Ccr) -> Result<Option<GxFields>, AllocError>
         address,
         apn: apn.try_copy()?,
         subscribers: subscribers.try_copy()?,
-        host: ccr.host.try_copy()?,
-        realm: ccr.realm.try_copy()?,
+        host: ccr.origin.host.try_copy()?,
+        realm: ccr.origin.realm.try_copy()?,
     }))
 }

@@ -1,4 +1,5 @@
-use Rattle.std.proofs.Common.{◌≡◌, ◌<◌, true, false, length, get_or, is_some, option_map, ◌∙◌, rules}
+use Rattle.std.proofs.Common.{◌≡◌, ◌<◌, true, false, length, get_or, is_some, ◌∙◌, rules}
+use Rattle.std.specs.Prelude.{option_copied}
 use Rattle.dia_codec.specs.Fields.{key_of}
 use Rattle.dia_codec.specs.Spelling.{avp_view}
 use Rattle.dia_base.specs.Rows.{same_key}
@@ -6,13 +7,13 @@ use Rattle.dia_base.proofs.Values.{values_keyed, values_other, two_values, first
 use Rattle.dia_base.proofs.rows.at_most_once.Goals as goal
 use Rattle.dia_base.proofs.rows.at_most_once.Goals.{then-eq+else-is_some, else-eq}
 
-pub returns-then-is_some-clause-refused : goal.returns-then-is_some-clause-refused
-returns-then-is_some-clause-refused c =
+pub returns-then-is_some-clause-repeated : goal.returns-then-is_some-clause-repeated
+returns-then-is_some-clause-repeated c =
     let lt : c.loop-avp.avp-index < length c.args.avps.now = search rules in
     let is : c.avp-item.result ≡ get_or c.args.avps.now c.loop-avp.avp-index c.avp-item.result = search rules in
     let keyed : same_key (key_of (avp_view c.avp-item.result)) c.args.key ≡ true = search rules in
-    let some : is_some (option_map (λ avp. avp.now.value.items) c.loop-avp.found) ≡ true = search rules in
-    (search rules, two_values c.args.key c.args.avps.now c.loop-avp.avp-index c.avp-item.result lt is keyed _ some c.loop-avp.invariant)
+    let some : is_some (option_copied c.loop-avp.found) ≡ true = search rules in
+    two_values c.args.key c.args.avps.now c.loop-avp.avp-index c.avp-item.result lt is keyed _ some c.loop-avp.invariant
 
 pub loop-avp-preserved : goal.loop-avp-preserved
 loop-avp-preserved c =
@@ -21,9 +22,9 @@ loop-avp-preserved c =
     elim c.if-eq.branch [
       | then-eq+else-is_some w ↦
           let keyed : same_key (key_of (avp_view c.avp-item.result)) c.args.key ≡ true = search rules in
-          let none : is_some (option_map (λ avp. avp.now.value.items) c.loop-avp.found) ≡ false = search rules in
+          let none : is_some (option_copied c.loop-avp.found) ≡ false = search rules in
           let more = values_keyed c.args.key c.args.avps.now c.loop-avp.avp-index c.avp-item.result lt is keyed in
-          let first = first_found _ _ c.avp-item.result.value.items none c.loop-avp.invariant in
+          let first = first_found _ _ c.avp-item.result none c.loop-avp.invariant in
           rw w.found-is (more ∙ first)
       | else-eq w ↦
           let other : same_key (key_of (avp_view c.avp-item.result)) c.args.key ≡ false = search rules in

@@ -1,30 +1,27 @@
-use Rattle.std.proofs.Common.{◌≡◌, ◌<◌, ◌≤◌, ◌++◌, ◌∷◌, [], ℕ, List, Option, true, false, length, take, ap, ◌∙◌, arith, rules}
+use Rattle.std.proofs.Common.{◌≡◌, ◌<◌, ◌≤◌, ◌++◌, ◌∷◌, [], ℕ, List, true, false, length, take, ap, ◌∙◌, arith, rules}
 use Rattle.std.proofs.lemmas.List.{take_all, map-append}
 use Rattle.std.proofs.lemmas.Result.{err_from_is_err_and}
 use Rattle.dia_codec.specs.Fields.{key_of}
 use Rattle.dia_codec.specs.Spelling.{avp_view, avp_views}
-use Rattle.pcrf_values.specs.declared.refusal.Refusal.{Refusal}
-use Rattle.dia_base.specs.Rows.{base_key, same_key, values_of, grouped_refusal, plain_refusal, Group}
-use Rattle.dia_base.specs.Subscriptions.{subscription_rows, subscriber_of}
+use Rattle.dia_base.specs.Avps.{subscription_id}
+use Rattle.dia_base.specs.Rows.{same_key, values_of}
+use Rattle.dia_base.specs.Subscriptions.{subscription, subscription_row, subscriber_of}
 use Rattle.dia_base.proofs.Values.{values_keyed, values_other}
 use Rattle.dia_base.proofs.Refusals.{refusal_among_push, row_refused_at, row_too_often, row_judged}
 use Rattle.dia_base.proofs.subscriptions.read_subscriptions.Goals as goal
 use Rattle.dia_base.proofs.subscriptions.read_subscriptions.Goals.{then-eq+in_ok-read_subscription+in_ok-push, else-eq}
 
-abbrev judge : List ℕ → Option Refusal
-judge = grouped_refusal plain_refusal (Group subscription_rows)
-
 pub returns-then-count_of-gt-MOST-clause-refused : goal.returns-then-count_of-gt-MOST-clause-refused
 returns-then-count_of-gt-MOST-clause-refused c =
-    let above : 16 < length (values_of (base_key 443) (avp_views c.args.avps.now)) = search rules in
-    row_too_often (base_key 443) 0 16 judge (avp_views c.args.avps.now) above ∙ search rules
+    let above : 16 < length (values_of subscription_id (avp_views c.args.avps.now)) = search rules in
+    row_too_often subscription_row (avp_views c.args.avps.now) above ∙ search rules
 
 pub returns-in_err-read_subscription-clause-refused : goal.returns-in_err-read_subscription-clause-refused
 returns-in_err-read_subscription-clause-refused c =
     let p = err_from_is_err_and c.from_residual.result c.from_residual.ensures.1 in
-    let within : length (values_of (base_key 443) (avp_views c.args.avps.now)) ≤ 16 = search rules in
-    let keyed : same_key (key_of (avp_view c.avp-item.result)) (base_key 443) ≡ true = search rules in
-    rw (p.1, p.2) (row_refused_at (base_key 443) 0 16 judge c.args.avps.now c.loop-avp.avp-index c.avp-item.result c.in_err-read_subscription.field-0.0 (omega arith) within c.loop-avp-test.true c.avp-item.is keyed (rw c.base_key-key.ensures at c.loop-avp.invariant.granted) (rw c.text.ensures at c.in_err-read_subscription.ensures.refused))
+    let within : length (values_of subscription_id (avp_views c.args.avps.now)) ≤ 16 = search rules in
+    let keyed : same_key (key_of (avp_view c.avp-item.result)) subscription_id ≡ true = search rules in
+    rw (p.1, p.2) (row_refused_at subscription_row c.args.avps.now c.loop-avp.avp-index c.avp-item.result c.in_err-read_subscription.field-0.0 (omega arith) within c.loop-avp-test.true c.avp-item.is keyed (rw c.base_key-key.ensures at c.loop-avp.invariant.granted) (rw c.text.ensures at c.in_err-read_subscription.ensures.refused))
 
 pub loop-avp-preserved : goal.loop-avp-preserved
 loop-avp-preserved c =
@@ -33,8 +30,8 @@ loop-avp-preserved c =
           let keyed : same_key (key_of (avp_view c.avp-item.result)) c.base_key-key.result ≡ true = search rules in
           let more = values_keyed c.base_key-key.result c.args.avps.now c.loop-avp.avp-index c.avp-item.result c.loop-avp-test.true c.avp-item.is keyed in
           record {
-            granted = rw more (refusal_among_push judge _ c.avp-item.result.value.items c.loop-avp.invariant.granted (search rules));
-            read = rw (w.subscribers-is, w.in_ok-push.ensures.items, w.in_ok-read_subscription.ensures.read.1, w.text.ensures, more, map-append) (ap (λ (front : List (ℕ × List ℕ)). front ++ subscriber_of c.avp-item.result.value.items ∷ []) c.loop-avp.invariant.read);
+            granted = rw more (refusal_among_push subscription _ c.avp-item.result.value.items c.loop-avp.invariant.granted (search rules));
+            read = rw (w.subscribers-is, w.in_ok-push.ensures.items, w.in_ok-read_subscription.ensures.subscriber, w.text.ensures, more, map-append) (ap (λ (front : List (ℕ × List ℕ)). front ++ subscriber_of c.avp-item.result.value.items ∷ []) c.loop-avp.invariant.read);
           }
       | else-eq w ↦
           let other : same_key (key_of (avp_view c.avp-item.result)) c.base_key-key.result ≡ false = search rules in
@@ -42,10 +39,13 @@ loop-avp-preserved c =
           record { granted = rw same c.loop-avp.invariant.granted; read = rw (w.subscribers-is, same) c.loop-avp.invariant.read }
     ]
 
-pub returns-clause-read : goal.returns-clause-read
-returns-clause-read c =
-    let within : length (values_of (base_key 443) (avp_views c.args.avps.now)) ≤ 16 = search rules in
+pub returns-clause-accepted : goal.returns-clause-accepted
+returns-clause-accepted c =
+    let within : length (values_of subscription_id (avp_views c.args.avps.now)) ≤ 16 = search rules in
     let all : take c.loop-avp.avp-index c.args.avps.now ≡ c.args.avps.now = search (rules, take_all) in
-    let granted = rw (c.base_key-key.ensures, all) at c.loop-avp.invariant.granted in
-    let read = rw (c.base_key-key.ensures, all) at c.loop-avp.invariant.read in
-    (row_judged (base_key 443) 0 16 judge (avp_views c.args.avps.now) (omega arith) within ∙ granted, read)
+    row_judged subscription_row (avp_views c.args.avps.now) (omega arith) within ∙ (rw (c.base_key-key.ensures, all) at c.loop-avp.invariant.granted)
+
+pub returns-clause-subscribers : goal.returns-clause-subscribers
+returns-clause-subscribers c =
+    let all : take c.loop-avp.avp-index c.args.avps.now ≡ c.args.avps.now = search (rules, take_all) in
+    rw (c.base_key-key.ensures, all) at c.loop-avp.invariant.read

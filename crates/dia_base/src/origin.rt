@@ -1,0 +1,34 @@
+//! Who sent a request.
+ghost use Rattle.std.specs.Prelude.{◌≡◌, OnOk, IfOk, IfErr, Some};
+ghost use Rattle.dia_codec.specs.Spelling.{avp_views};
+ghost use Rattle.dia_base.specs.Avps.{origin_host, origin_realm};
+ghost use Rattle.dia_base.specs.Origins.{origin_rows};
+ghost use Rattle.dia_base.specs.Rows.{AcceptsAll, rows_refusal, value_of, IsFaultOf};
+
+use crate::codes::avps::{ORIGIN_HOST, ORIGIN_REALM};
+use crate::read_fault::ReadFault;
+use crate::rows::{base_key, required_text};
+use dia_codec::Avp;
+use pcrf_values::DiameterIdentity;
+use std::alloc::Global;
+
+/// The node that sent a request (RFC 6733, 6.3 and 6.4).
+#[derive(Drop, PartialEq, Eq)]
+pub struct Origin {
+    /// Origin-Host.
+    pub host: DiameterIdentity,
+    /// Origin-Realm.
+    pub realm: DiameterIdentity,
+}
+
+/// Reads Origin-Host, and then Origin-Realm.
+pub fn read_origin(alloc: Global, avps: &[Avp]) -> Result<Origin, ReadFault>
+    ensures accepted { OnOk result (AcceptsAll origin_rows (avp_views avps.now)) }
+    ensures host { IfOk result (λ o. value_of origin_host (avp_views avps.now) ≡ Some o.host) }
+    ensures realm { IfOk result (λ o. value_of origin_realm (avp_views avps.now) ≡ Some o.realm) }
+    ensures refused { IfErr result (IsFaultOf (rows_refusal origin_rows (avp_views avps.now))) }
+{
+    let host = required_text(alloc, avps, base_key(ORIGIN_HOST))?;
+    let realm = required_text(alloc, avps, base_key(ORIGIN_REALM))?;
+    Ok(Origin { host, realm })
+}
