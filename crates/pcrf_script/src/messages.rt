@@ -8,7 +8,7 @@ use crate::printing::{put_answer, put_outcome};
 use dia_codec::{Assembler, FrameFault, Header};
 use pcrf_values::{Refusal, SessionId};
 use pcrf_wire::{Asked, Reply, Request, read_request, write_refusal, write_reply};
-use pcrf_world::{Outcome, PlainSite, World, WorldEvent};
+use pcrf_world::{WorldOutcome, PlainSite, World, WorldEvent};
 use std::alloc::{AllocError, Global};
 
 /// The one message that the bytes are.
@@ -96,7 +96,7 @@ fn put_served(
 {
     let event = WorldEvent::Serve(i, request);
     let outcome = world.step(&event);
-    let Ok(Outcome::Replied(reply)) = outcome else {
+    let Ok(WorldOutcome::Replied(reply)) = outcome else {
         return Ok(put_outcome(out, outcome)?);
     };
     let (Some(site), WorldEvent::Serve(_, request)) = (world.site(i), &event) else {

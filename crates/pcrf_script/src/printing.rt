@@ -1,5 +1,5 @@
 //! What a script prints.
-use pcrf_world::{GxSession, Outcome, PlainSite, WorldFault};
+use pcrf_world::{GxSession, WorldOutcome, PlainSite, WorldFault};
 use std::alloc::AllocError;
 use std::fmt::Write as _;
 
@@ -42,12 +42,12 @@ pub(crate) fn put_site(out: &mut String, site: &PlainSite) -> Result<(), AllocEr
 /// What an event gave, but for a reply, which is printed as an answer's bytes.
 pub(crate) fn put_outcome(
     out: &mut String,
-    answer: Result<Outcome, WorldFault>,
+    answer: Result<WorldOutcome, WorldFault>,
 ) -> Result<(), AllocError> {
     match answer {
-        Ok(Outcome::Replied(_)) => Ok(()),
-        Ok(Outcome::Lettered(k)) => writeln!(out, "letter {k}"),
-        Ok(Outcome::Merged) => out.push_str("merged\n"),
+        Ok(WorldOutcome::Replied(_)) => Ok(()),
+        Ok(WorldOutcome::Lettered(k)) => writeln!(out, "letter {k}"),
+        Ok(WorldOutcome::Merged) => out.push_str("merged\n"),
         Err(WorldFault::NoSuchSite) => out.push_str("refused NoSuchSite\n"),
         Err(WorldFault::NoSuchLetter) => out.push_str("refused NoSuchLetter\n"),
         Err(WorldFault::NoMemory { taken: _ }) => Err(AllocError),

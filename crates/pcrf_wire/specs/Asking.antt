@@ -60,13 +60,13 @@ fault_refusal NotWhole = invalid_avp_length
 fault_refusal NoMemory = invalid_avp_length
 
 -- the base protocol, Gx and Rx
-abbrev pub is_known : ℕ → Bool
-is_known application = application == base_application || application == gx_application || application == rx_application
+abbrev pub is_known_application : ℕ → Bool
+is_known_application application = application == base_application || application == gx_application || application == rx_application
 
 -- by the application, and then by the command: credit control under Gx alone is served as yet
 abbrev pub header_refusal : Header → Option Refusal
 header_refusal header =
-    if not (is_known header.application) then Some application_unsupported else
+    if not (is_known_application header.application) then Some application_unsupported else
     if header.application == gx_application && header.command == credit_control_command then None else
     Some command_unsupported
 

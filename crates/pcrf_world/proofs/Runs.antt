@@ -3,21 +3,21 @@ use Rattle.std.proofs.Common.{◌≡◌, ℕ, List, [], ◌∷◌, ◌++◌, len
 use Rattle.std.proofs.Math.ListN.{length-set}
 use Rattle.pcrf_world.specs.declared.world.WorldEvent.{WorldEvent}
 use Rattle.pcrf_world.specs.declared.world.WorldEvent.TheVariants.{Serve, Letter, Merge}
-use Rattle.pcrf_world.specs.declared.world.Outcome.TheVariants.{Replied, Lettered, Merged}
+use Rattle.pcrf_world.specs.declared.world.WorldOutcome.TheVariants.{Replied, Lettered, Merged}
 use Rattle.pcrf_world.specs.declared.world.WorldFault.TheVariants.{NoSuchSite, NoSuchLetter, NoMemory}
 use Rattle.pcrf_world.specs.Sites.{SiteValue, served, with_taken}
 use Rattle.pcrf_world.specs.Worlds.{WorldValue, Agree}
-use Rattle.pcrf_world.specs.Steps.{Answer, MayGive, MayGiveAll, letter_operations, with_site, world_after, world_after_all}
+use Rattle.pcrf_world.specs.Steps.{WorldAnswer, MayGive, MayGiveAll, letter_operations, with_site, world_after, world_after_all}
 use Rattle.pcrf_model.proofs.UnionLaws.{holding_of-Same}
 
 -- one event more with its answer
-pub gives_push : (w : WorldValue) (es : List WorldEvent) (answers : List Answer) (e : WorldEvent) (a : Answer) → MayGiveAll w es answers → MayGive (world_after_all w es answers) e a → MayGiveAll w (es ++ e ∷ []) (answers ++ a ∷ [])
+pub gives_push : (w : WorldValue) (es : List WorldEvent) (answers : List WorldAnswer) (e : WorldEvent) (a : WorldAnswer) → MayGiveAll w es answers → MayGive (world_after_all w es answers) e a → MayGiveAll w (es ++ e ∷ []) (answers ++ a ∷ [])
 gives_push w [] [] e a gives last = (last, tt)
 gives_push w [] (b ∷ answers) e a gives last = absurd gives
 gives_push w (d ∷ es) [] e a gives last = absurd gives
 gives_push w (d ∷ es) (b ∷ answers) e a gives last = (gives.0, gives_push (world_after w d b) es answers e a gives.1 last)
 
-pub stepped_push : (w : WorldValue) (es : List WorldEvent) (answers : List Answer) (e : WorldEvent) (a : Answer) → MayGiveAll w es answers → world_after_all w (es ++ e ∷ []) (answers ++ a ∷ []) ≡ world_after (world_after_all w es answers) e a
+pub stepped_push : (w : WorldValue) (es : List WorldEvent) (answers : List WorldAnswer) (e : WorldEvent) (a : WorldAnswer) → MayGiveAll w es answers → world_after_all w (es ++ e ∷ []) (answers ++ a ∷ []) ≡ world_after (world_after_all w es answers) e a
 stepped_push w [] [] e a gives = refl
 stepped_push w [] (b ∷ answers) e a gives = absurd gives
 stepped_push w (d ∷ es) [] e a gives = absurd gives
@@ -32,7 +32,7 @@ length-with_site : (w : WorldValue) (i : ℕ) (f : SiteValue → SiteValue) (fou
 length-with_site w i f None = refl
 length-with_site w i f (Some s) = length-set w.sites i (f s)
 
-pub length-world_after : (w : WorldValue) (e : WorldEvent) (a : Answer) → length (world_after w e a).sites ≡ length w.sites
+pub length-world_after : (w : WorldValue) (e : WorldEvent) (a : WorldAnswer) → length (world_after w e a).sites ≡ length w.sites
 length-world_after w (Serve i q) (Ok (Replied r)) = length-with_site w i (λ s. served s q r) (slice_get w.sites i)
 length-world_after w (Serve i q) (Ok (Lettered k)) = refl
 length-world_after w (Serve i q) (Ok Merged) = refl

@@ -22,7 +22,7 @@ pub enum WorldEvent {
 
 /// What an event gave.
 #[derive(Clone, Copy, Debug, PartialEq, Eq)]
-pub enum Outcome {
+pub enum WorldOutcome {
     /// The site's reply.
     Replied(Reply),
     /// The number of the new letter.
@@ -105,7 +105,7 @@ impl World {
     }
 
     /// Makes one event happen.
-    pub fn step(&mut self, event: &WorldEvent) -> Result<Outcome, WorldFault>
+    pub fn step(&mut self, event: &WorldEvent) -> Result<WorldOutcome, WorldFault>
         ensures answer { MayGive self.old event.now result }
         ensures after { self.new ≡ world_after self.old event.now result }
         ensures sites { length self.new.sites ≡ length self.old.sites }
@@ -118,7 +118,7 @@ impl World {
     }
 
     /// Has a site reply to a request.
-    fn reply_at(&mut self, i: usize, request: &Request) -> Result<Outcome, WorldFault>
+    fn reply_at(&mut self, i: usize, request: &Request) -> Result<WorldOutcome, WorldFault>
         ensures answer { MayGive self.old (WorldEvent.Serve i request.now) result }
         ensures after { self.new ≡ world_after self.old (WorldEvent.Serve i request.now) result }
     {
@@ -129,11 +129,11 @@ impl World {
         let Ok(reply) = site.serve(request) else {
             return Err(WorldFault::NoMemory { taken: 0 });
         };
-        Ok(Outcome::Replied(reply))
+        Ok(WorldOutcome::Replied(reply))
     }
 
     /// Has the first site make a letter for the second.
-    fn make_letter(&mut self, i: usize, j: usize) -> Result<Outcome, WorldFault>
+    fn make_letter(&mut self, i: usize, j: usize) -> Result<WorldOutcome, WorldFault>
         ensures answer { MayGive self.old (WorldEvent.Letter i j) result }
         ensures after { self.new ≡ world_after self.old (WorldEvent.Letter i j) result }
     {
@@ -145,13 +145,13 @@ impl World {
             return Err(WorldFault::NoMemory { taken: 0 });
         };
         match self.letters.push(Letter { operations }) {
-            Ok(()) => Ok(Outcome::Lettered(k)),
+            Ok(()) => Ok(WorldOutcome::Lettered(k)),
             Err(_) => Err(WorldFault::NoMemory { taken: 0 }),
         }
     }
 
     /// Has a site take a letter.
-    fn take_letter(&mut self, j: usize, k: usize) -> Result<Outcome, WorldFault>
+    fn take_letter(&mut self, j: usize, k: usize) -> Result<WorldOutcome, WorldFault>
         ensures answer { MayGive self.old (WorldEvent.Merge j k) result }
         ensures after { self.new ≡ world_after self.old (WorldEvent.Merge j k) result }
     {
@@ -164,7 +164,7 @@ impl World {
         let letter = &self.letters[k];
         let site = &mut self.sites[j];
         match site.take_all(letter.operations.as_slice()) {
-            Ok(()) => Ok(Outcome::Merged),
+            Ok(()) => Ok(WorldOutcome::Merged),
             Err((taken, _)) => Err(WorldFault::NoMemory { taken }),
         }
     }
@@ -174,7 +174,7 @@ impl World {
         alloc: Global,
         n: u8,
         events: &[WorldEvent],
-    ) -> Result<(World, Vec<Result<Outcome, WorldFault>>), AllocError>
+    ) -> Result<(World, Vec<Result<WorldOutcome, WorldFault>>), AllocError>
         // Each answer is one that the definitions give on what the sites took.
         ensures answers { IfOk result (λ r. MayGiveAll (new_world n) events.now r.1.items) }
         // Each site took what the events and the answers say.
