@@ -1,6 +1,6 @@
 -- What stands at a key, AVP by AVP.
 use Rattle.std.proofs.Common.{◌≡◌, ◌<◌, ◌≤◌, ℕ, ◌+◌, true, false, List, [], ◌∷◌, ◌++◌, length, get_or, take, drop, refl, sym, ap, ◌∙◌, arith, append_assoc, length-append, Option, Some, None, is_some}
-use Rattle.std.specs.Prelude.{find}
+use Rattle.std.specs.Prelude.{find, option_to_list}
 use Rattle.std.proofs.lemmas.List.{take-append-drop, map-append, append-nil, length_push}
 use Rattle.std.proofs.lemmas.List.Elements.{filter_map-append}
 use Rattle.std.proofs.lemmas.List.Folds.{find-append}
@@ -9,7 +9,7 @@ use Rattle.dia_codec.specs.declared.message.AvpKey.{AvpKey}
 use Rattle.dia_codec.specs.Fields.{AvpValue, key_of}
 use Rattle.dia_codec.specs.Spelling.{avp_view, avp_views}
 use Rattle.dia_codec.proofs.Lengths.{views_more}
-use Rattle.dia_base.specs.Rows.{values_of, value_if, value_found, has_key, same_key}
+use Rattle.dia_base.specs.Rows.{values_of, value_if, value_in, IsOnlyAt, has_key, first_at, same_key}
 
 -- an AVP with the key adds its value
 pub values_keyed : (key : AvpKey) (avps : List Avp) (i : ℕ) (a : Avp) → i < length avps → a ≡ get_or avps i a → same_key (key_of (avp_view a)) key ≡ true → values_of key (avp_views (take (i + 1) avps)) ≡ values_of key (avp_views (take i avps)) ++ a.value.items ∷ []
@@ -40,7 +40,7 @@ values_front key avps i =
     omega (arith, lengths)
 
 -- one value more than one is more than one
-pub two_values : (key : AvpKey) (avps : List Avp) (i : ℕ) (a : Avp) → i < length avps → a ≡ get_or avps i a → same_key (key_of (avp_view a)) key ≡ true → (found : Option Avp) → is_some found ≡ true → values_of key (avp_views (take i avps)) ≡ value_found found → 1 < length (values_of key (avp_views avps))
+pub two_values : (key : AvpKey) (avps : List Avp) (i : ℕ) (a : Avp) → i < length avps → a ≡ get_or avps i a → same_key (key_of (avp_view a)) key ≡ true → (found : Option Avp) → is_some found ≡ true → IsOnlyAt key (avp_views (take i avps)) found → 1 < length (values_of key (avp_views avps))
 two_values key avps i a lt is keyed None some so_far = absurd (cc)
 two_values key avps i a lt is keyed (Some first) some so_far =
     let more = ap length (values_keyed key avps i a lt is keyed) ∙ length_push _ a.value.items in
@@ -49,19 +49,19 @@ two_values key avps i a lt is keyed (Some first) some so_far =
     omega (arith, more, front, one)
 
 -- the first value is the one that was found
-pub first_found : (values : List (List ℕ)) (found : Option Avp) (a : Avp) → is_some found ≡ false → values ≡ value_found found → values ++ a.value.items ∷ [] ≡ value_found (Some a)
+pub first_found : (values : List (List ℕ)) (found : Option Avp) (a : Avp) → is_some found ≡ false → values ≡ option_to_list (value_in found) → values ++ a.value.items ∷ [] ≡ option_to_list (value_in (Some a))
 first_found values None a none so_far = ap (λ (front : List (List ℕ)). front ++ a.value.items ∷ []) so_far
 first_found values (Some other) a none so_far = absurd (cc)
 
 -- an AVP with the key, behind others, is the first that has it
-pub find_keyed : (key : AvpKey) (avps : List Avp) (i : ℕ) (a : Avp) → i < length avps → a ≡ get_or avps i a → has_key key (avp_view a) ≡ true → find (has_key key) (avp_views (take i avps)) ≡ None → find (has_key key) (avp_views avps) ≡ Some (avp_view a)
+pub find_keyed : (key : AvpKey) (avps : List Avp) (i : ℕ) (a : Avp) → i < length avps → a ≡ get_or avps i a → has_key key (avp_view a) ≡ true → first_at key (avp_views (take i avps)) ≡ None → first_at key (avp_views avps) ≡ Some (avp_view a)
 find_keyed key avps i a lt is keyed none =
     let behind : List AvpValue = avp_views (drop (i + 1) avps) in
     let parts : avp_views avps ≡ avp_views (take (i + 1) avps) ++ behind = ap avp_views (sym (take-append-drop (i + 1) avps)) ∙ map-append avp_view (take (i + 1) avps) (drop (i + 1) avps) in
-    let front : find (has_key key) (avp_views (take (i + 1) avps)) ≡ Some (avp_view a) = ap (find (has_key key)) (views_more avps i a lt is) ∙ find-append (has_key key) (avp_views (take i avps)) (avp_view a ∷ []) ∙ rw (none, keyed) refl in
+    let front : first_at key (avp_views (take (i + 1) avps)) ≡ Some (avp_view a) = ap (find (has_key key)) (views_more avps i a lt is) ∙ find-append (has_key key) (avp_views (take i avps)) (avp_view a ∷ []) ∙ rw (none, keyed) refl in
     ap (find (has_key key)) parts ∙ find-append (has_key key) (avp_views (take (i + 1) avps)) behind ∙ rw front refl
 
 -- an AVP with another key isn't found
-pub find_other : (key : AvpKey) (avps : List Avp) (i : ℕ) (a : Avp) → i < length avps → a ≡ get_or avps i a → has_key key (avp_view a) ≡ false → find (has_key key) (avp_views (take i avps)) ≡ None → find (has_key key) (avp_views (take (i + 1) avps)) ≡ None
+pub find_other : (key : AvpKey) (avps : List Avp) (i : ℕ) (a : Avp) → i < length avps → a ≡ get_or avps i a → has_key key (avp_view a) ≡ false → first_at key (avp_views (take i avps)) ≡ None → first_at key (avp_views (take (i + 1) avps)) ≡ None
 find_other key avps i a lt is other none =
     ap (find (has_key key)) (views_more avps i a lt is) ∙ find-append (has_key key) (avp_views (take i avps)) (avp_view a ∷ []) ∙ rw (none, other) refl

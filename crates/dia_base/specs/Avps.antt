@@ -1,5 +1,5 @@
 -- AVPs by their names in the standards.
-use Rattle.std.specs.Prelude.{ℕ, None, Some}
+use Rattle.std.specs.Prelude.{ℕ, None}
 use Rattle.dia_codec.specs.declared.message.AvpKey.{AvpKey}
 
 -- 3GPP as a vendor (TS 29.230)
@@ -9,10 +9,6 @@ tgpp_vendor = 10415
 -- an AVP of the IETF, which has no vendor (RFC 6733, 4.1)
 abbrev pub base_key : ℕ → AvpKey
 base_key code = record { code = code; vendor = None }
-
--- an AVP of 3GPP
-abbrev pub tgpp_key : ℕ → AvpKey
-tgpp_key code = record { code = code; vendor = Some tgpp_vendor }
 
 -- ---- of the base protocol (RFC 6733, 4.5)
 

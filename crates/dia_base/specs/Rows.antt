@@ -1,6 +1,6 @@
 -- What a command's grammar asks of a message's AVPs (RFC 6733, 3.2), as rows of a table, and the first refusal of
 -- what breaks it (7.1.5).
-use Rattle.std.specs.Prelude.{◌≡◌, ℕ, Bool, ◌&&◌, ◌==◌, nat_lt, nat_le, if◌then◌else◌, List, [], ◌∷◌, length, Option, Some, None, option_map, ⊤}
+use Rattle.std.specs.Prelude.{◌≡◌, ℕ, Bool, ◌&&◌, ◌==◌, nat_lt, nat_le, if◌then◌else◌, List, [], ◌∷◌, length, find, Option, Some, None, option_map, option_to_list, ⊤}
 use Rattle.std.specs.List.{filter_map}
 use Rattle.std.specs.Option.{option_eq}
 use Rattle.pcrf_values.specs.Results.{invalid_avp_value, missing_avp, avp_occurs_too_many_times, invalid_avp_length}
@@ -39,10 +39,17 @@ value_of key avps = first_of (values_of key avps)
 abbrev pub number_at : AvpKey → List AvpValue → Option ℕ
 number_at key avps = option_map (λ value. word_at value 0) (value_of key avps)
 
--- the value of an AVP that was found, alone
-abbrev pub value_found : Option Avp → List (List ℕ)
-value_found None = []
-value_found (Some avp) = avp.value.items ∷ []
+-- the first AVP with a key
+abbrev pub first_at : AvpKey → List AvpValue → Option AvpValue
+first_at key avps = find (has_key key) avps
+
+-- the value of an AVP, if one was found
+abbrev pub value_in : Option Avp → Option (List ℕ)
+value_in found = option_map (λ (avp : Avp). avp.value.items) found
+
+-- no other AVP than the one that was found, if one was, has the key
+abbrev pub IsOnlyAt : AvpKey → List AvpValue → Option Avp → Type 0
+IsOnlyAt key avps found = values_of key avps ≡ option_to_list (value_in found)
 
 -- ---- refusals
 
@@ -86,8 +93,8 @@ row_refusal row avps =
 abbrev pub rows_refusal : List Row → List AvpValue → Option Refusal
 rows_refusal rows avps = refusal_among (λ row. row_refusal row avps) rows
 
--- ---- Kinds of values. A number that isn't four bytes long, and a group that can't be cut into AVPs, have a bad length;
--- ---- every other value outside the table is a bad value.
+-- ---- Kinds of values. A number that isn't four bytes long, and a group that can't be cut into AVPs, have a bad
+-- ---- length; every other value outside the table is a bad value.
 
 -- four bytes (Unsigned32, 4.2)
 abbrev pub unsigned32 : Kind

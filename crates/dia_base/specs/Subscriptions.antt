@@ -10,16 +10,15 @@ use Rattle.dia_codec.specs.Reading.{avps_of}
 use Rattle.dia_base.specs.Avps.{subscription_id, subscription_id_data, subscription_id_type}
 use Rattle.dia_base.specs.Rows.{Row, Kind, required, enumerated, text_to, grouped, values_of, value_of, number_at}
 
--- the Subscription-Id-Types
-abbrev pub subscription_type : Kind
-subscription_type = enumerated (subscription_number EndUserE164) (subscription_number EndUserPrivate)
+-- Subscription-Id-Type, from END_USER_E164 to END_USER_PRIVATE
+abbrev pub subscription_type_row : Row
+subscription_type_row =
+    required subscription_id_type (enumerated (subscription_number EndUserE164) (subscription_number EndUserPrivate))
 
 -- a Subscription-Id: Subscription-Id-Type, and then Subscription-Id-Data
 abbrev pub subscription : Kind
-subscription = grouped
-    (required subscription_id_type subscription_type
-    ∷ required subscription_id_data (text_to subscription_data_limit)
-    ∷ [])
+subscription =
+    grouped (subscription_type_row ∷ required subscription_id_data (text_to subscription_data_limit) ∷ [])
 
 -- the row of the Subscription-Ids of a request
 abbrev pub subscription_row : Row

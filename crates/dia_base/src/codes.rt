@@ -1,15 +1,15 @@
 //! Numbers that the standards give out.
 
-/// The application of the gateways' requests (TS 29.212, 5.2).
+/// The application of the gateways' requests (TS 29.212, 5.1).
 pub const GX: u32 = 16_777_238;
 
-/// The application of the application functions' requests (TS 29.214, 5.2).
+/// The application of the application functions' requests (TS 29.214, 5.1).
 pub const RX: u32 = 16_777_236;
 
 /// 3GPP as a vendor (TS 29.230).
 pub const TGPP: u32 = 10_415;
 
-/// Commands (RFC 6733, 3.1; RFC 4006, 3; TS 29.214, 5.6).
+/// Commands (RFC 6733, 3.1; RFC 8506, 3; TS 29.214, 5.6).
 pub mod commands {
     /// Credit-Control.
     pub const CREDIT_CONTROL: u32 = 272;
@@ -17,7 +17,7 @@ pub mod commands {
     pub const AUTHORIZATION: u32 = 265;
 }
 
-/// AVP codes (RFC 6733, 4.5; RFC 4006, 8; RFC 2865, 5).
+/// AVP codes (RFC 6733, 4.5; RFC 8506, 8; RFC 2865, 5).
 pub mod avps {
     pub const FRAMED_IP_ADDRESS: u32 = 8;
 

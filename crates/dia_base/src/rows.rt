@@ -1,12 +1,12 @@
 //! AVPs of a request, judged row by row. Each reader judges one row of a table and gives what stands there.
-ghost use Rattle.std.specs.Prelude.{◌≡◌, ◌<◌, ◌≤◌, [], ◌∷◌, length, OnOk, OnErr, IfOk, IfErr, Some, find, option_map, option_copied};
+ghost use Rattle.std.specs.Prelude.{◌≡◌, ◌<◌, ◌≤◌, length, OnOk, OnErr, IfOk, IfErr, Some, option_map, option_copied};
 ghost use Rattle.std.specs.Net.Addr.{ipv4_octets};
 ghost use Rattle.pcrf_values.specs.Limits.{apn_limit};
 ghost use Rattle.pcrf_values.specs.Results.{avp_occurs_too_many_times};
 ghost use Rattle.pcrf_values.specs.Texts.{folded};
 ghost use Rattle.dia_codec.specs.Spelling.{avp_view, avp_views};
 ghost use Rattle.dia_base.specs.Avps.{base_key};
-ghost use Rattle.dia_base.specs.Rows.{has_key, values_of, value_of, value_found, number_at, required, optional, unsigned32, enumerated, text_to, ipv4_address, Accepts, RefusesWith, RefusesAnyKind, FaultsWith};
+ghost use Rattle.dia_base.specs.Rows.{first_at, values_of, value_of, value_in, number_at, IsOnlyAt, required, optional, unsigned32, enumerated, text_to, ipv4_address, Accepts, RefusesWith, RefusesAnyKind, FaultsWith};
 
 use crate::codes::results::{
     AVP_OCCURS_TOO_MANY_TIMES, INVALID_AVP_LENGTH, INVALID_AVP_VALUE, MISSING_AVP,
@@ -39,8 +39,8 @@ pub fn count_of(avps: &[Avp], key: AvpKey) -> usize
 
 /// The first AVP with a key, if there is one.
 pub fn first_with(avps: &[Avp], key: AvpKey) -> Option<&Avp>
-    ensures avp { option_map avp_view (option_copied result) ≡ find (has_key key) (avp_views avps.now) }
-    ensures value { option_map (λ a. a.value.items) (option_copied result) ≡ value_of key (avp_views avps.now) }
+    ensures avp { option_map avp_view (option_copied result) ≡ first_at key (avp_views avps.now) }
+    ensures value { value_in (option_copied result) ≡ value_of key (avp_views avps.now) }
 {
     for avp in avps {
         if avp.key() == key {
@@ -52,7 +52,7 @@ pub fn first_with(avps: &[Avp], key: AvpKey) -> Option<&Avp>
 
 /// The AVP with a key, which may stand once at most.
 fn at_most_once(avps: &[Avp], key: AvpKey) -> Result<Option<&Avp>, Refusal>
-    ensures found { IfOk result (λ avp. values_of key (avp_views avps.now) ≡ value_found (option_copied avp)) }
+    ensures found { IfOk result (λ avp. IsOnlyAt key (avp_views avps.now) (option_copied avp)) }
     ensures refused { IfErr result (λ refusal. refusal ≡ avp_occurs_too_many_times) }
     ensures repeated { OnErr result (1 < length (values_of key (avp_views avps.now))) }
 {
@@ -71,7 +71,7 @@ fn at_most_once(avps: &[Avp], key: AvpKey) -> Result<Option<&Avp>, Refusal>
 /// The AVP with a key, which stands exactly once.
 #[tactic(auto, unfolding(crate::specs::Rows::row_refusal))]
 fn exactly_once(avps: &[Avp], key: AvpKey) -> Result<&Avp, Refusal>
-    ensures found { IfOk result (λ avp. values_of key (avp_views avps.now) ≡ value_found (Some avp.now)) }
+    ensures found { IfOk result (λ avp. IsOnlyAt key (avp_views avps.now) (Some avp.now)) }
     ensures refused { IfErr result (RefusesAnyKind key (avp_views avps.now)) }
 {
     let found = at_most_once(avps, key)?;
@@ -121,11 +121,13 @@ pub fn required_number_within(
     least: u32,
     most: u32,
 ) -> Result<u32, Refusal>
-    ensures accepted { OnOk result (Accepts (required key (enumerated least most)) (avp_views avps.now)) }
+    ensures accepted { OnOk result
+        (Accepts (required key (enumerated least most)) (avp_views avps.now)) }
     ensures number { IfOk result (λ number. number_at key (avp_views avps.now) ≡ Some number) }
     ensures least { IfOk result (λ number. least ≤ number) }
     ensures most { IfOk result (λ number. number ≤ most) }
-    ensures refused { IfErr result (RefusesWith (required key (enumerated least most)) (avp_views avps.now)) }
+    ensures refused { IfErr result
+        (RefusesWith (required key (enumerated least most)) (avp_views avps.now)) }
 {
     let avp = exactly_once(avps, key)?;
     let Some(number) = avp.number() else {
@@ -141,7 +143,8 @@ pub fn required_number_within(
 #[tactic(auto, unfolding(crate::specs::Rows::row_refusal))]
 pub fn optional_address(avps: &[Avp], key: AvpKey) -> Result<Option<Ipv4Addr>, Refusal>
     ensures accepted { OnOk result (Accepts (optional key ipv4_address) (avp_views avps.now)) }
-    ensures address { IfOk result (λ a. option_map ipv4_octets a ≡ value_of key (avp_views avps.now)) }
+    ensures address { IfOk result (λ address.
+        option_map ipv4_octets address ≡ value_of key (avp_views avps.now)) }
     ensures refused { IfErr result (RefusesWith (optional key ipv4_address) (avp_views avps.now)) }
 {
     let found = at_most_once(avps, key)?;
@@ -157,9 +160,11 @@ pub fn optional_address(avps: &[Avp], key: AvpKey) -> Result<Option<Ipv4Addr>, R
 /// Reads an access point name, which may stand once. Its ASCII capitals are folded to small letters.
 #[tactic(auto, unfolding(crate::specs::Rows::row_refusal))]
 pub fn optional_apn(alloc: Global, avps: &[Avp], key: AvpKey) -> Result<Option<Apn>, ReadFault>
-    ensures accepted { OnOk result (Accepts (optional key (text_to apn_limit)) (avp_views avps.now)) }
+    ensures accepted { OnOk result
+        (Accepts (optional key (text_to apn_limit)) (avp_views avps.now)) }
     ensures apn { IfOk result (λ apn. apn ≡ option_map folded (value_of key (avp_views avps.now))) }
-    ensures refused { IfErr result (FaultsWith (optional key (text_to apn_limit)) (avp_views avps.now)) }
+    ensures refused { IfErr result
+        (FaultsWith (optional key (text_to apn_limit)) (avp_views avps.now)) }
 {
     let found = at_most_once(avps, key)?;
     let Some(avp) = found else {

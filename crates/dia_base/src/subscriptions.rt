@@ -1,8 +1,10 @@
 //! The subscribers that a request names (Subscription-Id, RFC 8506, 8.46).
-ghost use Rattle.std.specs.Prelude.{◌≡◌, [], unwrap_or, OnOk, IfOk, IfErr, None};
+ghost use Rattle.std.specs.Prelude.{◌≡◌, [], unwrap_or, OnOk, IfOk, IfErr, None, Some};
 ghost use Rattle.dia_codec.specs.Spelling.{avp_views};
-ghost use Rattle.dia_base.specs.Rows.{Accepts, FaultsWith, IsFaultOf};
-ghost use Rattle.dia_base.specs.Subscriptions.{subscription, subscription_row, subscriber_of, named_subscribers, subscribers_of};
+ghost use Rattle.pcrf_values.specs.Numbers.{subscription_number};
+ghost use Rattle.dia_base.specs.Avps.{subscription_id_type};
+ghost use Rattle.dia_base.specs.Rows.{number_at, Accepts, RefusesWith, FaultsWith, IsFaultOf};
+ghost use Rattle.dia_base.specs.Subscriptions.{subscription, subscription_type_row, subscription_row, subscriber_of, named_subscribers, subscribers_of};
 
 use crate::codes::avps::{SUBSCRIPTION_ID, SUBSCRIPTION_ID_DATA, SUBSCRIPTION_ID_TYPE};
 use crate::codes::results::{AVP_OCCURS_TOO_MANY_TIMES, INVALID_AVP_LENGTH};
@@ -14,6 +16,22 @@ use std::alloc::Global;
 
 /// How many Subscription-Ids a request may have: this project's own limit.
 const MOST: usize = 16;
+
+/// Reads the Subscription-Id-Type.
+fn read_subscription_type(avps: &[Avp]) -> Result<SubscriptionType, Refusal>
+    ensures accepted { OnOk result (Accepts subscription_type_row (avp_views avps.now)) }
+    ensures number { IfOk result (λ kind.
+        number_at subscription_id_type (avp_views avps.now) ≡ Some (subscription_number kind)) }
+    ensures refused { IfErr result (RefusesWith subscription_type_row (avp_views avps.now)) }
+{
+    let first = SubscriptionType::EndUserE164.number();
+    let last = SubscriptionType::EndUserPrivate.number();
+    let number = required_number_within(avps, base_key(SUBSCRIPTION_ID_TYPE), first, last)?;
+    let Some(kind) = SubscriptionType::from_number(number) else {
+        unreachable!()
+    };
+    Ok(kind)
+}
 
 /// Reads the value of a Subscription-Id.
 #[tactic(auto, unfolding(crate::specs::Rows::row_refusal))]
@@ -27,18 +45,16 @@ fn read_subscription(alloc: Global, value: &[u8]) -> Result<Subscriber, ReadFaul
         Err(MsgFault::NoMemory) => return Err(ReadFault::NoMemory),
         Err(_) => return Err(ReadFault::Refused(Refusal::base(INVALID_AVP_LENGTH))),
     };
-    let number = required_number_within(&avps, base_key(SUBSCRIPTION_ID_TYPE), 0, 4)?;
+    let kind = read_subscription_type(&avps)?;
     let data = required_text(alloc, &avps, base_key(SUBSCRIPTION_ID_DATA))?;
-    let Some(kind) = SubscriptionType::from_number(number) else {
-        unreachable!()
-    };
     Ok(Subscriber::of(kind, data))
 }
 
 /// Reads the subscribers that a request names, at most sixteen times, in the order in which they stand.
 fn read_subscriptions(alloc: Global, avps: &[Avp]) -> Result<Vec<Subscriber>, ReadFault>
     ensures accepted { OnOk result (Accepts subscription_row (avp_views avps.now)) }
-    ensures subscribers { IfOk result (λ named. named.items ≡ named_subscribers (avp_views avps.now)) }
+    ensures subscribers { IfOk result (λ subscribers.
+        subscribers.items ≡ named_subscribers (avp_views avps.now)) }
     ensures refused { IfErr result (FaultsWith subscription_row (avp_views avps.now)) }
 {
     let key = base_key(SUBSCRIPTION_ID);
@@ -57,7 +73,8 @@ fn read_subscriptions(alloc: Global, avps: &[Avp]) -> Result<Vec<Subscriber>, Re
 /// Reads the subscribers that a request names, each once; None where it names none.
 pub fn read_subscribers(alloc: Global, avps: &[Avp]) -> Result<Option<Subscribers>, ReadFault>
     ensures accepted { OnOk result (Accepts subscription_row (avp_views avps.now)) }
-    ensures subscribers { IfOk result (λ set. unwrap_or set [] ≡ subscribers_of (avp_views avps.now)) }
+    ensures subscribers { IfOk result (λ subscribers.
+        unwrap_or subscribers [] ≡ subscribers_of (avp_views avps.now)) }
     ensures refused { IfErr result (FaultsWith subscription_row (avp_views avps.now)) }
 {
     let given = read_subscriptions(alloc, avps)?;

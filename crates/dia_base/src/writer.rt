@@ -39,7 +39,8 @@ impl AvpWriter {
 
     /// Adds an AVP whose value is these bytes.
     pub fn text(&mut self, code: u32, bytes: &[u8]) -> Result<(), AllocError>
-        ensures added { OnOk result (self.new ≡ self.old ++ text_avp (base_key code) bytes.now ∷ []) }
+        ensures added { OnOk result
+            (self.new ≡ self.old ++ text_avp (base_key code) bytes.now ∷ []) }
         ensures refused { OnErr result (self.new ≡ self.old) }
     {
         let value = Vec::from_slice(self.alloc, bytes)?;
@@ -49,7 +50,8 @@ impl AvpWriter {
     /// Adds an AVP whose value is a number, big-endian (Unsigned32 or Enumerated).
     #[tactic(auto, unfolding(dia_codec::specs::Written::word_bytes))]
     pub fn number(&mut self, code: u32, number: u32) -> Result<(), AllocError>
-        ensures added { OnOk result (self.new ≡ self.old ++ number_avp (base_key code) number ∷ []) }
+        ensures added { OnOk result
+            (self.new ≡ self.old ++ number_avp (base_key code) number ∷ []) }
         ensures refused { OnErr result (self.new ≡ self.old) }
     {
         self.text(code, &number.to_be_bytes())
@@ -57,7 +59,8 @@ impl AvpWriter {
 
     /// Adds an AVP that owns its value.
     pub fn put(&mut self, code: u32, value: Vec<u8>) -> Result<(), AllocError>
-        ensures added { OnOk result (self.new ≡ self.old ++ text_avp (base_key code) value.items ∷ []) }
+        ensures added { OnOk result
+            (self.new ≡ self.old ++ text_avp (base_key code) value.items ∷ []) }
         ensures refused { OnErr result (self.new ≡ self.old) }
     {
         self.avps.push(Avp {

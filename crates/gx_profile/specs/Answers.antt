@@ -24,5 +24,8 @@ cca i h q reply = record {
   avps =
       text_avp session_id q.session ∷ number_avp auth_application_id gx_application ∷ []
       ++ origin_avps i
-      ++ result_avp (reply_refusal reply) ∷ number_avp cc_request_type (request_kind_number q.kind) ∷ number_avp cc_request_number q.number ∷ [];
+      ++ result_avp (reply_refusal reply)
+      ∷ number_avp cc_request_type (request_kind_number q.kind)
+      ∷ number_avp cc_request_number q.number
+      ∷ [];
 }

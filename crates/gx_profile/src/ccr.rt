@@ -53,7 +53,9 @@ fn read_kind(avps: &[Avp]) -> Result<RequestKind, Refusal>
     ensures kind { IfOk result (λ kind. kind ≡ kind_at (avp_views avps.now)) }
     ensures refused { IfErr result (RefusesWith request_type_row (avp_views avps.now)) }
 {
-    let number = required_number_within(avps, base_key(CC_REQUEST_TYPE), 1, 3)?;
+    let first = RequestKind::Initial.number();
+    let last = RequestKind::Termination.number();
+    let number = required_number_within(avps, base_key(CC_REQUEST_TYPE), first, last)?;
     let Some(kind) = RequestKind::from_number(number) else {
         unreachable!()
     };
@@ -84,8 +86,10 @@ fn read_access(alloc: Global, avps: &[Avp]) -> Result<Access, ReadFault>
 /// Reads a credit control request, or gives the first refusal of what breaks its table.
 pub fn read_ccr(alloc: Global, message: &Message) -> Result<Ccr, ReadFault>
     ensures accepted { OnOk result (AcceptsAll ccr_rows (avp_views message.now.avps.items)) }
-    ensures request { IfOk result (λ ccr. ccr_view ccr ≡ ccr_of (avp_views message.now.avps.items)) }
-    ensures refused { IfErr result (IsFaultOf (ccr_table_refusal (avp_views message.now.avps.items))) }
+    ensures request { IfOk result (λ ccr.
+        ccr_view ccr ≡ ccr_of (avp_views message.now.avps.items)) }
+    ensures refused { IfErr result
+        (IsFaultOf (ccr_table_refusal (avp_views message.now.avps.items))) }
 {
     let avps = message.avps.as_slice();
     let session = required_text(alloc, avps, base_key(SESSION_ID))?;
