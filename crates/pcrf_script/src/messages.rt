@@ -8,7 +8,7 @@ use crate::printing::{put_answer, put_outcome};
 use dia_codec::{Assembler, FrameFault, Header};
 use pcrf_values::{Refusal, SessionId};
 use pcrf_wire::{Asked, Reply, Request, read_request, write_refusal, write_reply};
-use pcrf_world::{WorldOutcome, PlainSite, World, WorldEvent};
+use pcrf_world::{PlainSite, World, WorldEvent, WorldOutcome};
 use std::alloc::{AllocError, Global};
 
 /// The one message that the bytes are.

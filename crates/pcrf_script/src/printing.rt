@@ -1,5 +1,5 @@
 //! What a script prints.
-use pcrf_world::{GxSession, WorldOutcome, PlainSite, WorldFault};
+use pcrf_world::{GxSession, PlainSite, WorldFault, WorldOutcome};
 use std::alloc::AllocError;
 use std::fmt::Write as _;
 

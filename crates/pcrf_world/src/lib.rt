@@ -10,4 +10,4 @@ mod world;
 pub use operation::{GxFields, GxOperation};
 pub use shown::GxSession;
 pub use site::PlainSite;
-pub use world::{WorldOutcome, World, WorldEvent, WorldFault};
+pub use world::{World, WorldEvent, WorldFault, WorldOutcome};

@@ -42,9 +42,9 @@ impl Model for PlainSite {
     ghost Value = { SiteValue };
 
     ghost view = { λ s. record {
-        number = s.number;
-        taken = map operation_of s.taken.items;
-        log = map operation_of s.log.items;
+      number = s.number;
+      taken = map operation_of s.taken.items;
+      log = map operation_of s.log.items;
     } };
 
     ghost invariant = { λ s. s.identity ≡ identity_of s.number };
