@@ -1,4 +1,4 @@
-//! Messages byte for byte, as they stand in the standards' forms.
+//! Messages and groups, byte for byte.
 
 /// A CCR of type INITIAL_REQUEST for the APN `IMS`, with one subscriber (3GPP TS 29.212, section 5.6.2).
 pub const INITIAL_GX_REQUEST: [u8; 164] =
