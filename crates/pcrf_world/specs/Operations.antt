@@ -1,5 +1,5 @@
 -- Operations as the definitions have them.
-use Rattle.std.specs.Prelude.{◌≡◌, ℕ, List, Option, Some, None, true, false}
+use Rattle.std.specs.Prelude.{◌≡◌, ℕ, ◌^◌, List, Option, Some, None, true, false}
 use Rattle.std.specs.Net.Addr.{ipv4_octets}
 use Rattle.ranked.specs.declared.tag.Tag.{Tag}
 use Rattle.ranked.specs.Ascending.{ascending}
@@ -12,14 +12,18 @@ use Rattle.pcrf_model.specs.Refusals.{lacks_parameters}
 use Rattle.pcrf_model.specs.Operations.{Operation}
 use Rattle.pcrf_world.specs.declared.operation.GxFields.{GxFields}
 
+-- counters are below it: this project's own limit
+abbrev pub counter_bound : ℕ
+counter_bound = 2 ^ 63
+
 -- a stamp, the gateway's session and its fields
-pub record OperationValue : Type 0 where
+pub record GxOperationValue : Type 0 where
   pub tag : Tag
   pub session : List ℕ
   pub fields : GxFields
 
 -- the initial request that sets the fields
-abbrev pub initial_request : OperationValue → CcrValue
+abbrev pub initial_request : GxOperationValue → CcrValue
 initial_request o = record {
   session = o.session;
   host = o.fields.host;
@@ -32,7 +36,7 @@ initial_request o = record {
 }
 
 -- the operation of an accepted initial request, in the definitions' words
-abbrev pub operation_of : OperationValue → Operation
+abbrev pub operation_of : GxOperationValue → Operation
 operation_of o = record {
   counter = o.tag.counter;
   site = o.tag.site;
