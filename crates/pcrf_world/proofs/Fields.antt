@@ -6,7 +6,6 @@ use Rattle.pcrf_model.specs.Sessions.{Session}
 use Rattle.pcrf_model.specs.Paths.{Path, whole}
 use Rattle.pcrf_model.specs.Facts.{Fact, Gone, Field, fact_cmp}
 use Rattle.pcrf_model.specs.Holdings.{is_gone}
-use Rattle.pcrf_model.specs.Values.{Subscriber}
 use Rattle.pcrf_model.specs.Operations.{Operation, holding_of}
 use Rattle.pcrf_model.specs.Views.{view}
 use Rattle.pcrf_model.specs.Making.{ccr_fields}
@@ -49,10 +48,7 @@ none_gone (Field q t v ∷ fs) p h = none_gone fs p h.1
 
 -- the facts of an initial request are fields
 pub fields_of_request : (o : GxOperationValue) → AreFieldFacts (ccr_fields (initial_request o) o.tag)
-fields_of_request o = elim o.fields.subscribers as (λ (given : List Subscriber). AreFieldFacts (ccr_fields (record (initial_request o) { subscribers = given }) o.tag)) [
-  | [] ↦ (tt, (tt, (tt, (tt, (tt, tt)))))
-  | x ∷ xs ↦ (tt, (tt, (tt, (tt, (tt, (tt, tt))))))
-]
+fields_of_request o = (tt, (tt, (tt, (tt, (tt, (tt, tt))))))
 
 -- the facts of an operation are fields
 fields_of_one : (o : GxOperationValue) → AreFieldFacts (operation_of o).facts

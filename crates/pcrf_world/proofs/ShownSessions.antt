@@ -15,7 +15,7 @@ use Rattle.ranked.specs.declared.tag.Tag.{Tag}
 use Rattle.ranked.specs.Sets.{Same, greatest}
 use Rattle.pcrf_model.specs.Sessions.{Session, gx, session_cmp}
 use Rattle.pcrf_model.specs.Paths.{Path, address, apn, last}
-use Rattle.pcrf_model.specs.Values.{Value, Number, Text, Address, Subscriber, Entry, value_cmp, entry_cmp}
+use Rattle.pcrf_model.specs.Values.{Value, Number, Text, Address, Entry, value_cmp, entry_cmp}
 use Rattle.pcrf_model.specs.Facts.{Fact, fact_cmp, session_of}
 use Rattle.pcrf_model.specs.Holdings.{entry_at, value_at, shown}
 use Rattle.pcrf_model.specs.Operations.{holding_of}
@@ -72,50 +72,23 @@ said what id o = said_if (text_cmp id o.session) (o.tag, what o)
 
 address_said : (id : List ℕ) (o : GxOperationValue) (rest : List Fact) → filter_map (entry_at (address (gx id))) (given_by o ++ rest) ≡ cons_option (said (λ q. Address (ipv4_octets q.fields.address)) id o) (filter_map (entry_at (address (gx id))) rest)
 address_said id o rest = elim (text_cmp id o.session) as (λ c. text_cmp id o.session ≡ c → filter_map (entry_at (address (gx id))) (given_by o ++ rest) ≡ cons_option (said_if c (o.tag, Address (ipv4_octets o.fields.address))) (filter_map (entry_at (address (gx id))) rest)) [
-  | Less ↦ λ e. elim o.fields.subscribers as (λ (s : List Subscriber). filter_map (entry_at (address (gx id))) (ccr_fields (record (initial_request o) { subscribers = s }) o.tag ++ rest) ≡ filter_map (entry_at (address (gx id))) rest) [
-    | [] ↦ rw e refl
-    | x ∷ xs ↦ rw e refl
-  ]
-  | Equal ↦ λ e. elim o.fields.subscribers as (λ (s : List Subscriber). filter_map (entry_at (address (gx id))) (ccr_fields (record (initial_request o) { subscribers = s }) o.tag ++ rest) ≡ (o.tag, Address (ipv4_octets o.fields.address)) ∷ filter_map (entry_at (address (gx id))) rest) [
-    | [] ↦ rw e refl
-    | x ∷ xs ↦ rw e refl
-  ]
-  | Greater ↦ λ e. elim o.fields.subscribers as (λ (s : List Subscriber). filter_map (entry_at (address (gx id))) (ccr_fields (record (initial_request o) { subscribers = s }) o.tag ++ rest) ≡ filter_map (entry_at (address (gx id))) rest) [
-    | [] ↦ rw e refl
-    | x ∷ xs ↦ rw e refl
-  ]
+  | Less ↦ λ e. rw e refl
+  | Equal ↦ λ e. rw e refl
+  | Greater ↦ λ e. rw e refl
 ] refl
 
 apn_said : (id : List ℕ) (o : GxOperationValue) (rest : List Fact) → filter_map (entry_at (apn (gx id))) (given_by o ++ rest) ≡ cons_option (said (λ q. Text q.fields.apn) id o) (filter_map (entry_at (apn (gx id))) rest)
 apn_said id o rest = elim (text_cmp id o.session) as (λ c. text_cmp id o.session ≡ c → filter_map (entry_at (apn (gx id))) (given_by o ++ rest) ≡ cons_option (said_if c (o.tag, Text o.fields.apn)) (filter_map (entry_at (apn (gx id))) rest)) [
-  | Less ↦ λ e. elim o.fields.subscribers as (λ (s : List Subscriber). filter_map (entry_at (apn (gx id))) (ccr_fields (record (initial_request o) { subscribers = s }) o.tag ++ rest) ≡ filter_map (entry_at (apn (gx id))) rest) [
-    | [] ↦ rw e refl
-    | x ∷ xs ↦ rw e refl
-  ]
-  | Equal ↦ λ e. elim o.fields.subscribers as (λ (s : List Subscriber). filter_map (entry_at (apn (gx id))) (ccr_fields (record (initial_request o) { subscribers = s }) o.tag ++ rest) ≡ (o.tag, Text o.fields.apn) ∷ filter_map (entry_at (apn (gx id))) rest) [
-    | [] ↦ rw e refl
-    | x ∷ xs ↦ rw e refl
-  ]
-  | Greater ↦ λ e. elim o.fields.subscribers as (λ (s : List Subscriber). filter_map (entry_at (apn (gx id))) (ccr_fields (record (initial_request o) { subscribers = s }) o.tag ++ rest) ≡ filter_map (entry_at (apn (gx id))) rest) [
-    | [] ↦ rw e refl
-    | x ∷ xs ↦ rw e refl
-  ]
+  | Less ↦ λ e. rw e refl
+  | Equal ↦ λ e. rw e refl
+  | Greater ↦ λ e. rw e refl
 ] refl
 
 last_said : (id : List ℕ) (o : GxOperationValue) (rest : List Fact) → filter_map (entry_at (last (gx id))) (given_by o ++ rest) ≡ cons_option (said (λ q. Number 1) id o) (filter_map (entry_at (last (gx id))) rest)
 last_said id o rest = elim (text_cmp id o.session) as (λ c. text_cmp id o.session ≡ c → filter_map (entry_at (last (gx id))) (given_by o ++ rest) ≡ cons_option (said_if c (o.tag, Number 1)) (filter_map (entry_at (last (gx id))) rest)) [
-  | Less ↦ λ e. elim o.fields.subscribers as (λ (s : List Subscriber). filter_map (entry_at (last (gx id))) (ccr_fields (record (initial_request o) { subscribers = s }) o.tag ++ rest) ≡ filter_map (entry_at (last (gx id))) rest) [
-    | [] ↦ rw e refl
-    | x ∷ xs ↦ rw e refl
-  ]
-  | Equal ↦ λ e. elim o.fields.subscribers as (λ (s : List Subscriber). filter_map (entry_at (last (gx id))) (ccr_fields (record (initial_request o) { subscribers = s }) o.tag ++ rest) ≡ (o.tag, Number 1) ∷ filter_map (entry_at (last (gx id))) rest) [
-    | [] ↦ rw e refl
-    | x ∷ xs ↦ rw e refl
-  ]
-  | Greater ↦ λ e. elim o.fields.subscribers as (λ (s : List Subscriber). filter_map (entry_at (last (gx id))) (ccr_fields (record (initial_request o) { subscribers = s }) o.tag ++ rest) ≡ filter_map (entry_at (last (gx id))) rest) [
-    | [] ↦ rw e refl
-    | x ∷ xs ↦ rw e refl
-  ]
+  | Less ↦ λ e. rw e refl
+  | Equal ↦ λ e. rw e refl
+  | Greater ↦ λ e. rw e refl
 ] refl
 
 module _ (p : Path) (id : List ℕ) (what : GxOperationValue → Value) (one : (o : GxOperationValue) (rest : List Fact) → filter_map (entry_at p) (given_by o ++ rest) ≡ cons_option (said what id o) (filter_map (entry_at p) rest)) where
@@ -262,22 +235,15 @@ once x xs ys s z = (elim [ inl q ↦ inl q | inr i ↦ inr ((s z).0 i) ], elim [
 again : (x : Session) (xs ys : List Session) → Same xs (x ∷ ys) → Same (x ∷ xs) (x ∷ ys)
 again x xs ys s z = (elim [ inl q ↦ inl q | inr i ↦ (s z).0 i ], λ j. inr ((s z).1 j))
 
--- five times the same
-five_times : (x : Session) (xs ys : List Session) → Same xs ys → Same (x ∷ x ∷ x ∷ x ∷ x ∷ xs) (x ∷ ys)
-five_times x xs ys s = again x (x ∷ x ∷ x ∷ x ∷ xs) ys (again x (x ∷ x ∷ x ∷ xs) ys (again x (x ∷ x ∷ xs) ys (again x (x ∷ xs) ys (once x xs ys s))))
+-- six times the same
+six_times : (x : Session) (xs ys : List Session) → Same xs ys → Same (x ∷ x ∷ x ∷ x ∷ x ∷ x ∷ xs) (x ∷ ys)
+six_times x xs ys s =
+    again x (x ∷ x ∷ x ∷ x ∷ x ∷ xs) ys (again x (x ∷ x ∷ x ∷ x ∷ xs) ys (again x (x ∷ x ∷ x ∷ xs) ys (again x (x ∷ x ∷ xs) ys (again x (x ∷ xs) ys (once x xs ys s)))))
 
 -- the sessions of the facts are those of the operations
 sessions_Same : (os : List GxOperationValue) → Same (map session_of (facts_of os)) (map (λ (o : GxOperationValue). gx o.session) os)
 sessions_Same [] = Same-itself {A = Session} []
-sessions_Same (o ∷ os) =
-    let x : Session = gx o.session in
-    let xs : List Session = map session_of (facts_of os) in
-    let ys : List Session = map (λ (q : GxOperationValue). gx q.session) os in
-    let five = five_times x xs ys (sessions_Same os) in
-    elim o.fields.subscribers as (λ (s : List Subscriber). Same (map session_of (ccr_fields (record (initial_request o) { subscribers = s }) o.tag ++ facts_of os)) (x ∷ ys)) [
-      | [] ↦ five
-      | y ∷ rest ↦ again x (x ∷ x ∷ x ∷ x ∷ x ∷ xs) ys five
-    ]
+sessions_Same (o ∷ os) = six_times (gx o.session) (map session_of (facts_of os)) (map (λ (q : GxOperationValue). gx q.session) os) (sessions_Same os)
 
 -- Session-Ids in order are their sessions in order
 place_gx : (id : List ℕ) (ids : List (List ℕ)) → place session_cmp (gx id) (map gx ids) ≡ map gx (place text_cmp id ids)

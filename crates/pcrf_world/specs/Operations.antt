@@ -32,7 +32,7 @@ initial_request o = record {
   number = o.tag.number;
   address = Some (ipv4_octets o.fields.address);
   apn = Some o.fields.apn;
-  subscribers = o.fields.subscribers;
+  subscribers = Some o.fields.subscribers;
 }
 
 -- the operation of an accepted initial request, in the definitions' words
@@ -50,4 +50,4 @@ abbrev pub AreFields : CcrValue → Option GxFields → Type 0
 AreFields q None = lacks_parameters q ≡ true
 AreFields q (Some f) =
     (lacks_parameters q ≡ false) × (q.host ≡ f.host) × (q.realm ≡ f.realm) × (q.address ≡ Some (ipv4_octets f.address))
-    × (q.apn ≡ Some f.apn) × (q.subscribers ≡ f.subscribers)
+    × (q.apn ≡ Some f.apn) × (q.subscribers ≡ Some f.subscribers)
