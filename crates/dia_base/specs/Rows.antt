@@ -51,7 +51,7 @@ first_at key avps = find (has_key key) avps
 abbrev pub value_in : Option Avp → Option (List ℕ)
 value_in found = option_map (λ (avp : Avp). avp.value.items) found
 
--- no other AVP than the one that was found, if one was, has the key
+-- what was found, if anything was, is all that has the key
 abbrev pub IsOnlyAt : AvpKey → List AvpValue → Option Avp → Type 0
 IsOnlyAt key avps found = values_of key avps ≡ option_to_list (value_in found)
 

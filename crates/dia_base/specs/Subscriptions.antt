@@ -1,6 +1,7 @@
 -- The subscribers that a request names (Subscription-Id, RFC 8506, 8.46 to 8.48).
 use Rattle.std.specs.Prelude.{ℕ, List, [], ◌∷◌, Option, Some, None, unwrap_or, map}
 use Rattle.ranked.specs.Ascending.{ascending}
+use Rattle.ranked.specs.Sets.{if_any}
 use Rattle.pcrf_values.specs.Limits.{subscribers_limit, subscription_data_limit}
 use Rattle.pcrf_values.specs.Numbers.{subscription_number}
 use Rattle.pcrf_values.specs.Subscribers.{subscriber_cmp}
@@ -37,6 +38,6 @@ subscriber_of value = subscriber_in (avps_of value)
 abbrev pub named_subscribers : List AvpValue → List (ℕ × List ℕ)
 named_subscribers avps = map subscriber_of (values_of subscription_id avps)
 
--- the subscribers of a request, ascending, each once
-abbrev pub subscribers_of : List AvpValue → List (ℕ × List ℕ)
-subscribers_of avps = ascending subscriber_cmp (named_subscribers avps)
+-- the subscribers of a request, ascending, each once, if it names any
+abbrev pub subscribers_of : List AvpValue → Option (List (ℕ × List ℕ))
+subscribers_of avps = if_any (ascending subscriber_cmp (named_subscribers avps))

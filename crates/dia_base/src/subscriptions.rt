@@ -1,5 +1,5 @@
 //! The subscribers that a request names (Subscription-Id, RFC 8506, 8.46).
-ghost use Rattle.std.specs.Prelude.{◌≡◌, [], unwrap_or, OnOk, IfOk, IfErr, None, Some};
+ghost use Rattle.std.specs.Prelude.{◌≡◌, OnOk, IfOk, IfErr, None, Some};
 ghost use Rattle.dia_codec.specs.Spelling.{avp_views};
 ghost use Rattle.pcrf_values.specs.Numbers.{subscription_number};
 ghost use Rattle.dia_base.specs.Avps.{subscription_id_type};
@@ -74,7 +74,7 @@ fn read_subscriptions(alloc: Global, avps: &[Avp]) -> Result<Vec<Subscriber>, Re
 pub fn read_subscribers(alloc: Global, avps: &[Avp]) -> Result<Option<Subscribers>, ReadFault>
     ensures accepted { OnOk result (Accepts subscription_row (avp_views avps.now)) }
     ensures subscribers { IfOk result (λ subscribers.
-        unwrap_or subscribers [] ≡ subscribers_of (avp_views avps.now)) }
+        subscribers ≡ subscribers_of (avp_views avps.now)) }
     ensures refused { IfErr result (FaultsWith subscription_row (avp_views avps.now)) }
 {
     let given = read_subscriptions(alloc, avps)?;

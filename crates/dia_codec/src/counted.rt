@@ -1,32 +1,36 @@
-//! Readers and writers that remember whether a call has failed.
+//! Readers and writers that remember whether a call has failed, and whether the last read found the end.
 
 ghost use Rattle.std.specs.Prelude.{◌≡◌, ◌+◌, ◌<◌, min, true, false, length, IfOk, OnOk, OnErr};
 ghost use Rattle.std.specs.Io.{ReadsAtMost, WritesAtMost};
 ghost use Rattle.std.specs.Io.KnownBytes.{Appends, Keeps, ReadConsumes, WriteAppends};
-ghost use Rattle.dia_codec.specs.Counted.{most_calls};
+ghost use Rattle.dia_codec.specs.Counted.{most_calls, is_end};
 
 use std::io;
 use std::io::{ErrorKind, Read, Write};
 
-/// A reader or a writer, with a flag that a failed call sets, and the number of its reads.
+/// A reader or a writer, with a flag that a failed call sets, the number of its reads, and whether the last of them
+/// found the end.
 ///
-/// The flag is never cleared. An interrupted call counts as failed, as does a write that takes no byte.
+/// The flag of failed calls is never cleared. An interrupted call counts as failed, as does a write that takes no byte.
+/// A read finds the end where it gives no byte though it has room for one.
 #[derive(Debug, Drop)]
 pub struct Counted<D> {
     inner: D,
     failed: bool,
     calls: u64,
+    ended: bool,
 }
 
 impl<D> Counted<D> {
     /// Wraps a reader or a writer before its first call.
     pub fn start(inner: D) -> Counted<D>
-        ensures { result ≡ record { inner = inner; failed = false; calls = 0 } }
+        ensures { result ≡ record { inner = inner; failed = false; calls = 0; ended = false } }
     {
         Counted {
             inner,
             failed: false,
             calls: 0,
+            ended: false,
         }
     }
 
@@ -44,6 +48,13 @@ impl<D> Counted<D> {
         self.calls
     }
 
+    /// Whether the last read found the end.
+    pub fn ended(&self) -> bool
+        ensures { result ≡ self.now.ended }
+    {
+        self.ended
+    }
+
     /// Remembers a call that has failed.
     fn noted<T>(&mut self, given: io::Result<T>) -> io::Result<T>
         ensures same { result ≡ given }
@@ -51,6 +62,7 @@ impl<D> Counted<D> {
         ensures kept { OnOk given (self.new.failed ≡ self.old.failed) }
         ensures inner { self.new.inner ≡ self.old.inner }
         ensures calls { self.new.calls ≡ self.old.calls }
+        ensures ended { self.new.ended ≡ self.old.ended }
     {
         if given.is_err() {
             self.failed = true;
@@ -69,9 +81,15 @@ impl<R: Read> Read for Counted<R> {
         ensures failed { OnErr result (self.new.failed ≡ true) }
         ensures kept { OnOk result (self.new.failed ≡ self.old.failed) }
         ensures calls { self.new.calls ≡ min (self.old.calls + 1) most_calls }
+        ensures ended { IfOk result (λ n. self.new.ended ≡ is_end n (length buf.new)) }
+        ensures goes_on { OnErr result (self.new.ended ≡ false) }
     {
         self.calls = self.calls.saturating_add(1);
         let result = self.inner.read(buf);
+        self.ended = match &result {
+            Ok(count) => *count == 0 && !buf.is_empty(),
+            Err(_) => false,
+        };
         self.noted(result)
     }
 }
@@ -89,6 +107,7 @@ impl<W: Write> Write for Counted<W> {
         ensures failed { OnErr result (self.new.failed ≡ true) }
         ensures kept { OnOk result (self.new.failed ≡ self.old.failed) }
         ensures calls { self.new.calls ≡ self.old.calls }
+        ensures ended { self.new.ended ≡ self.old.ended }
     {
         let result = match self.inner.write(buf) {
             Ok(0) if !buf.is_empty() => Err(io::Error::from(ErrorKind::WriteZero)),
@@ -102,6 +121,7 @@ impl<W: Write> Write for Counted<W> {
         ensures failed { OnErr result (self.new.failed ≡ true) }
         ensures kept { OnOk result (self.new.failed ≡ self.old.failed) }
         ensures calls { self.new.calls ≡ self.old.calls }
+        ensures ended { self.new.ended ≡ self.old.ended }
     {
         let result = self.inner.flush();
         self.noted(result)
@@ -115,6 +135,7 @@ impl<W: Write> Write for Counted<W> {
         ensures failed { OnErr result (self.new.failed ≡ true) }
         ensures kept { OnOk result (self.new.failed ≡ self.old.failed) }
         ensures calls { self.new.calls ≡ self.old.calls }
+        ensures ended { self.new.ended ≡ self.old.ended }
     {
         let mut taken = 0;
         while taken < buf.len() {
@@ -136,6 +157,7 @@ impl<W: Write> Counted<W> {
         ensures failed { OnErr result (self.new.failed ≡ true) }
         ensures kept { OnOk result (self.new.failed ≡ self.old.failed) }
         ensures calls { self.new.calls ≡ self.old.calls }
+        ensures ended { self.new.ended ≡ self.old.ended }
     {
         self.write_all(bytes)
     }

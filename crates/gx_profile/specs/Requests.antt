@@ -1,18 +1,18 @@
 -- Credit control requests as they are read (TS 29.212, 5.6.2).
 use Rattle.std.specs.Prelude.{ℕ, List, [], ◌∷◌, ◌++◌, Option, unwrap_or, option_map}
 use Rattle.std.specs.Net.Addr.{ipv4_octets}
-use Rattle.pcrf_values.specs.Limits.{session_id_limit, apn_limit}
+use Rattle.pcrf_values.specs.Limits.{apn_limit}
 use Rattle.pcrf_values.specs.Numbers.{request_kind_number, request_kind_of}
 use Rattle.pcrf_values.specs.Texts.{folded}
 use Rattle.pcrf_values.specs.declared.refusal.Refusal.{Refusal}
 use Rattle.pcrf_values.specs.declared.request_kind.RequestKind.{RequestKind}
 use Rattle.pcrf_values.specs.declared.request_kind.RequestKind.TheVariants.{Initial, Termination}
-use Rattle.dia_codec.specs.declared.message.AvpKey.{AvpKey}
 use Rattle.dia_codec.specs.Fields.{AvpValue}
 use Rattle.pcrf_model.specs.Requests.{CcrValue}
 use Rattle.dia_base.specs.Avps.{session_id, origin_host, origin_realm, framed_ip_address, called_station_id, cc_request_number, cc_request_type}
 use Rattle.dia_base.specs.Origins.{origin_rows}
-use Rattle.dia_base.specs.Rows.{Row, required, optional, unsigned32, enumerated, text_to, ipv4_address, value_of, number_at, rows_refusal}
+use Rattle.dia_base.specs.Rows.{Row, required, optional, unsigned32, enumerated, text_to, ipv4_address, value_of, number_at, text_at, rows_refusal}
+use Rattle.dia_base.specs.Sessions.{session_row}
 use Rattle.dia_base.specs.Subscriptions.{subscription_row, subscribers_of}
 use Rattle.gx_profile.specs.declared.ccr.Ccr.{Ccr}
 
@@ -26,7 +26,7 @@ ccr_view q = record {
   number = q.number;
   address = option_map ipv4_octets q.address;
   apn = q.apn;
-  subscribers = unwrap_or q.subscribers [];
+  subscribers = q.subscribers;
 }
 
 -- ---- the table
@@ -34,10 +34,6 @@ ccr_view q = record {
 -- CC-Request-Type, from INITIAL_REQUEST to TERMINATION_REQUEST
 abbrev pub request_type_row : Row
 request_type_row = required cc_request_type (enumerated (request_kind_number Initial) (request_kind_number Termination))
-
--- Session-Id
-abbrev pub session_row : Row
-session_row = required session_id (text_to session_id_limit)
 
 -- CC-Request-Type and CC-Request-Number
 abbrev pub request_rows : List Row
@@ -60,9 +56,6 @@ abbrev pub ccr_table_refusal : List AvpValue → Option Refusal
 ccr_table_refusal avps = rows_refusal ccr_rows avps
 
 -- ---- what is read
-
-abbrev pub text_at : AvpKey → List AvpValue → List ℕ
-text_at key avps = unwrap_or (value_of key avps) []
 
 -- CC-Request-Type
 abbrev pub kind_at : List AvpValue → RequestKind

@@ -1,5 +1,5 @@
 //! Credit control requests (TS 29.212, 5.6.2).
-ghost use Rattle.std.specs.Prelude.{◌≡◌, [], OnOk, IfOk, IfErr, option_map, unwrap_or};
+ghost use Rattle.std.specs.Prelude.{◌≡◌, OnOk, IfOk, IfErr, option_map};
 ghost use Rattle.std.specs.Net.Addr.{ipv4_octets};
 ghost use Rattle.pcrf_values.specs.Texts.{folded};
 ghost use Rattle.dia_codec.specs.Spelling.{avp_views};
@@ -66,7 +66,7 @@ fn read_kind(avps: &[Avp]) -> Result<RequestKind, Refusal>
 fn read_access(alloc: Global, avps: &[Avp]) -> Result<Access, ReadFault>
     ensures accepted { OnOk result (AcceptsAll access_rows (avp_views avps.now)) }
     ensures subscribers { IfOk result (λ access.
-        unwrap_or access.subscribers [] ≡ subscribers_of (avp_views avps.now)) }
+        access.subscribers ≡ subscribers_of (avp_views avps.now)) }
     ensures address { IfOk result (λ access.
         option_map ipv4_octets access.address ≡ value_of framed_ip_address (avp_views avps.now)) }
     ensures apn { IfOk result (λ access.

@@ -20,7 +20,7 @@ use Rattle.pcrf_model.specs.Operations.{Operation}
 use Rattle.pcrf_model.specs.Views.{view}
 use Rattle.pcrf_model.specs.Tables.{Tables}
 use Rattle.pcrf_model.specs.Requests.{CcrValue, FlowValue, ComponentValue, AarValue, StrValue, RequestValue, Ccr, Aar, Str, Base}
-use Rattle.pcrf_model.specs.Making.{given, given_list, ccr_fields, told_facts, end_facts, is_removed, flow_facts, component_facts, aar_facts, next_tag, next_operation}
+use Rattle.pcrf_model.specs.Making.{given, ccr_fields, told_facts, end_facts, is_removed, flow_facts, component_facts, aar_facts, next_tag, next_operation}
 use Rattle.pcrf_model.specs.Refusals.{ccr_refusal, aar_refusal, str_refusal}
 use Rattle.pcrf_model.specs.Replies.{ReplyValue, OnGx, Rejected, Refused, Done, Outcome}
 use Rattle.pcrf_model.specs.Serving.{delta_of, provisioned, accepted_ccr, refused_or, serve, serve_ccr, serve_aar, serve_str}
@@ -97,11 +97,6 @@ all_given : {A : Type 0} {p : Path} → IsFieldPath p → (t : Tag) (as_value : 
 all_given w t as_value None = none
 all_given w t as_value (Some y) = more (field_formed w t (as_value y)) none
 
--- a list that may be given
-all_listed : {A : Type 0} {p : Path} → IsFieldPath p → (t : Tag) (as_value : List A → Value) (xs : List A) → AllFormed t.counter (given_list p t as_value xs)
-all_listed w t as_value [] = none
-all_listed w t as_value (x ∷ xs) = more (field_formed w t (as_value (x ∷ xs))) none
-
 -- false is not true
 not_so : {P : Type 0} → false ≡ true → P
 not_so h = clash false h refl
@@ -124,7 +119,7 @@ at_flow s c n f h k = record { kind = λ h. omega (arith, h); fits = (h, (k, tt)
 ccr_formed : (q : CcrValue) (t : Tag) → AllFormed t.counter (ccr_fields q t)
 ccr_formed q t =
     let s : Session = gx q.session in
-    all_given (at_session s _) t Address q.address and all_given (at_session s _) t Text q.apn and all_listed (at_session s _) t Subscribers q.subscribers
+    all_given (at_session s _) t Address q.address and all_given (at_session s _) t Text q.apn and all_given (at_session s _) t Subscribers q.subscribers
     and more (field_formed (at_session s _) t (Text q.host)) (more (field_formed (at_session s _) t (Text q.realm)) (more (field_formed (at_session s _) t (Number (request_kind_number q.kind))) none))
 
 -- what is told, under number 0
@@ -144,7 +139,7 @@ end_formed c s = more (formed_gone c (whole s) (λ h. omega (arith, h)) tt) none
 flow_formed : (s : Session) (c : ℕ) (t : Tag) (f : FlowValue) → c < 2 ^ 32 → f.number < 2 ^ 32 → AllFormed t.counter (flow_facts s c t f)
 flow_formed s c t f h k = either (is_removed f.status)
     (more (formed_gone t.counter (flow s c f.number) (λ h. omega (arith, h)) (h, (k, tt))) none)
-    (all_listed (at_flow s c f.number _ h k) t Filters f.filters and all_given (at_flow s c f.number _ h k) t Number f.usage
+    (all_given (at_flow s c f.number _ h k) t Filters f.filters and all_given (at_flow s c f.number _ h k) t Number f.usage
     and all_given (at_flow s c f.number _ h k) t Number f.status and all_given (at_flow s c f.number _ h k) t Number f.rate_up
     and all_given (at_flow s c f.number _ h k) t Number f.rate_down)
 
@@ -160,7 +155,7 @@ component_formed s t c h k = either (is_removed c.status)
 aar_formed : (q : AarValue) (t : Tag) → RequestFits (Aar q) → AllFormed t.counter (aar_facts q t)
 aar_formed q t fit =
     let s : Session = af q.session in
-    all_given (at_session s _) t Address q.address and all_given (at_session s _) t Text q.apn and all_listed (at_session s _) t Subscribers q.subscribers
+    all_given (at_session s _) t Address q.address and all_given (at_session s _) t Text q.apn and all_given (at_session s _) t Subscribers q.subscribers
     and more (field_formed (at_session s _) t (Text q.host)) (more (field_formed (at_session s _) t (Text q.realm)) (more (field_formed (at_session s _) t (Number 0)) none))
     and all_of (component_facts s t) q.components (λ c i. component_formed s t c (fit c i).0 (fit c i).1)
 

@@ -23,7 +23,7 @@ use Rattle.pcrf_model.specs.Tables.{Tables}
 use Rattle.pcrf_model.specs.Rules.{rules}
 use Rattle.pcrf_model.specs.Differences.{told, rule_name_of, difference}
 use Rattle.pcrf_model.specs.Requests.{CcrValue}
-use Rattle.pcrf_model.specs.Making.{given, given_list, ccr_fields, told_facts, next_tag, next_operation}
+use Rattle.pcrf_model.specs.Making.{given, ccr_fields, told_facts, next_tag, next_operation}
 use Rattle.pcrf_model.specs.Serving.{delta_of, provisioned, with_added}
 use Rattle.pcrf_model.specs.Limits.{delta_limit}
 use Rattle.pcrf_model.specs.Pushing.{is_due, due, push}
@@ -114,24 +114,18 @@ given_field s n t as_value None f i = absurd i
 given_field s n t as_value (Some y) f (inl e) = record { name = n; tag = t; value = as_value y; is = e }
 given_field s n t as_value (Some y) f (inr i) = absurd i
 
--- a list that may be given
-given_list_field : {A : Type 0} (s : Session) (n : FieldName) (t : Tag) (as_value : List A → Value) (x : List A) (f : Fact) → In f (given_list (part n s) t as_value x) → IsFieldOf s f
-given_list_field s n t as_value [] f i = absurd i
-given_list_field s n t as_value (y ∷ ys) f (inl e) = record { name = n; tag = t; value = as_value (y ∷ ys); is = e }
-given_list_field s n t as_value (y ∷ ys) f (inr i) = absurd i
-
 -- every fact that a request's fields make is one
 of_request : (q : CcrValue) (t : Tag) (f : Fact) → In f (ccr_fields q t) → IsFieldOf (gx q.session) f
 of_request q t f i =
     let s : Session = gx q.session in
     let a : List Fact = given (address s) t Address q.address in
     let b : List Fact = given (apn s) t Text q.apn in
-    let c : List Fact = given_list (subscribers s) t Subscribers q.subscribers in
+    let c : List Fact = given (subscribers s) t Subscribers q.subscribers in
     let d : List Fact = Field (host s) t (Text q.host) ∷ Field (realm s) t (Text q.realm) ∷ Field (last s) t (Number (request_kind_number q.kind)) ∷ [] in
     elim (In-cases f (a ++ b ++ c) d i) [
       | inl j ↦ elim (In-cases f (a ++ b) c j) [
         | inl k ↦ elim (In-cases f a b k) [ inl l ↦ given_field s _ t Address q.address f l | inr l ↦ given_field s _ t Text q.apn f l ]
-        | inr k ↦ given_list_field s _ t Subscribers q.subscribers f k
+        | inr k ↦ given_field s _ t Subscribers q.subscribers f k
       ]
       | inr j ↦ always j
     ]
@@ -217,7 +211,7 @@ provisioning-tells t i h q rows stamped alive =
     let open_ : is_gone (h.facts ++ fs) (whole s) ≡ false = gone_with h s fs fields (sym (ended_is h.facts s) ∙ alive) in
     let own : Fact = Field (host s) (next_tag i h q.number) (Text q.host) in
     let there : In own (h.facts ++ fs) = In-right own h.facts fs (In-right own
-    (given (address s) (next_tag i h q.number) Address q.address ++ given (apn s) (next_tag i h q.number) Text q.apn ++ given_list (subscribers s) (next_tag i h q.number) Subscribers q.subscribers)
+    (given (address s) (next_tag i h q.number) Address q.address ++ given (apn s) (next_tag i h q.number) Text q.apn ++ given (subscribers s) (next_tag i h q.number) Subscribers q.subscribers)
     (own ∷ Field (realm s) (next_tag i h q.number) (Text q.realm) ∷ Field (last s) (next_tag i h q.number) (Number (request_kind_number q.kind)) ∷ []) (inl refl)) in
     let new : List Fact = told_facts s g (delta_of t (view (h.facts ++ fs)) s) in
     let told_so : TellsTheFirst t (view (h.facts ++ fs)) (view (h.facts ++ fs ++ new)) s =

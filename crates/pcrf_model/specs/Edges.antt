@@ -18,11 +18,11 @@ use Rattle.pcrf_model.specs.Scenes.{serves, taking, one, with_call, call_pushed,
 
 -- an initial request of the second session by another gateway
 abbrev pub from_other_gateway : RequestValue
-from_other_gateway = Ccr (record { session = second_session.id; host = codes "gw2"; realm = codes "r"; kind = Initial; number = 0; address = Some (host_address 2); apn = Some (codes "ims"); subscribers = e164 ∷ imsi ∷ [] })
+from_other_gateway = Ccr (record { session = second_session.id; host = codes "gw2"; realm = codes "r"; kind = Initial; number = 0; address = Some (host_address 2); apn = Some (codes "ims"); subscribers = Some (e164 ∷ imsi ∷ []) })
 
 -- a call of another application session from the address of that session
 abbrev pub other_call : RequestValue
-other_call = Aar (record { session = codes "af;2"; host = codes "af"; realm = codes "r"; address = Some (host_address 2); apn = None; subscribers = []; components = audio ∷ [] })
+other_call = Aar (record { session = codes "af;2"; host = codes "af"; realm = codes "r"; address = Some (host_address 2); apn = None; subscribers = None; components = audio ∷ [] })
 
 -- both sessions, and both calls
 abbrev pub two_due : SiteState
@@ -52,7 +52,7 @@ flow_status s = record {
   status = None;
   rate_up = None;
   rate_down = None;
-  flows = record { number = 1; filters = []; usage = None; status = Some s; rate_up = None; rate_down = None } ∷ [];
+  flows = record { number = 1; filters = None; usage = None; status = Some s; rate_up = None; rate_down = None } ∷ [];
 }
 
 -- its flow is removed
@@ -67,7 +67,7 @@ flow_described_again = serves 0 flow_removed (call None (audio ∷ []))
 
 -- an update of the first session under that number, to that access point
 abbrev pub update_to : ℕ → List ℕ → RequestValue
-update_to n name = Ccr (record { session = first_session.id; host = codes "gw"; realm = codes "r"; kind = Update; number = n; address = None; apn = Some name; subscribers = [] })
+update_to n name = Ccr (record { session = first_session.id; host = codes "gw"; realm = codes "r"; kind = Update; number = n; address = None; apn = Some name; subscribers = None })
 
 -- the session moved to an access point without a default
 abbrev pub moved_access_point : SiteState

@@ -17,11 +17,6 @@ use Rattle.pcrf_model.specs.Requests.{CcrValue, FlowValue, ComponentValue, AarVa
 abbrev pub given : {A : Type 0} → Path → Tag → (A → Value) → Option A → List Fact
 given p t as_value x = option_to_list (option_map (λ y. Field p t (as_value y)) x)
 
--- a list that was given, if it was: none is given by the empty list
-abbrev pub given_list : {A : Type 0} → Path → Tag → (List A → Value) → List A → List Fact
-given_list p t as_value [] = []
-given_list p t as_value (x ∷ xs) = Field p t (as_value (x ∷ xs)) ∷ []
-
 -- ---- Gx (TS 29.212, 4.5.1)
 
 -- the fields of an initial request or an update
@@ -30,7 +25,7 @@ ccr_fields q t =
     let s : Session = gx q.session in
     given (address s) t Address q.address
     ++ given (apn s) t Text q.apn
-    ++ given_list (subscribers s) t Subscribers q.subscribers
+    ++ given (subscribers s) t Subscribers q.subscribers
     ++ (Field (host s) t (Text q.host) ∷ Field (realm s) t (Text q.realm) ∷ Field (last s) t (Number (request_kind_number q.kind)) ∷ [])
 
 -- what the gateway is told by a difference: each removed name, and each installed rule
@@ -53,7 +48,7 @@ is_removed s = unwrap_or (option_map (λ n. n == 4) s) false
 abbrev pub flow_facts : Session → ℕ → Tag → FlowValue → List Fact
 flow_facts s c t f = cond (is_removed f.status)
     (Gone (flow s c f.number) ∷ [])
-    (given_list (flow_part s c f.number FlowDescriptions) t Filters f.filters
+    (given (flow_part s c f.number FlowDescriptions) t Filters f.filters
     ++ given (flow_part s c f.number FlowUsage) t Number f.usage
     ++ given (flow_part s c f.number FlowStatus) t Number f.status
     ++ given (flow_part s c f.number MaxRateUp) t Number f.rate_up
@@ -75,7 +70,7 @@ aar_facts q t =
     let s : Session = af q.session in
     given (address s) t Address q.address
     ++ given (apn s) t Text q.apn
-    ++ given_list (subscribers s) t Subscribers q.subscribers
+    ++ given (subscribers s) t Subscribers q.subscribers
     ++ (Field (host s) t (Text q.host) ∷ Field (realm s) t (Text q.realm) ∷ Field (last s) t (Number 0) ∷ [])
     ++ flat_map (component_facts s t) q.components
 

@@ -1,5 +1,5 @@
 -- The refusals by what a site holds, in order: the first that applies counts.
-use Rattle.std.specs.Prelude.{ℕ, ◌==◌, Bool, true, false, cond, not, ◌&&◌, ◌||◌, List, [], ◌∷◌, ◌++◌, Option, Some, None, is_none}
+use Rattle.std.specs.Prelude.{ℕ, ◌==◌, Bool, false, cond, not, ◌&&◌, ◌||◌, List, [], ◌∷◌, ◌++◌, Option, Some, None, is_none}
 use Rattle.std.proofs.Common.{option_map, unwrap_or}
 use Rattle.std.specs.List.{list_any}
 use Rattle.pcrf_values.specs.Applications.{gx_application, rx_application, relay_application}
@@ -36,11 +36,7 @@ names_no_row t apn = unwrap_or (option_map (has_no_row t) apn) false
 
 -- an initial request has to give all three (TS 29.212, 4.5.1)
 abbrev pub lacks_parameters : CcrValue → Bool
-lacks_parameters q = is_none q.address || is_none q.apn || is_empty q.subscribers
-  where
-    is_empty : {A : Type 0} → List A → Bool
-    is_empty [] = true
-    is_empty (x ∷ xs) = false
+lacks_parameters q = is_none q.address || is_none q.apn || is_none q.subscribers
 
 -- of a credit control request, by its type
 abbrev pub ccr_causes : Tables → Holding → View → CcrValue → RequestKind → List (Bool × Refusal)

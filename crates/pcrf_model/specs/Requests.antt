@@ -4,7 +4,7 @@ use Rattle.pcrf_values.specs.declared.request_kind.RequestKind.{RequestKind}
 use Rattle.pcrf_model.specs.Values.{Subscriber}
 
 -- A credit control request (TS 29.212, 5.6.2): Session-Id, Origin-Host, Origin-Realm, CC-Request-Type, CC-Request-Number, Framed-IP-Address
--- as four octets, Called-Station-Id in small letters, and the Subscription-Ids, ascending, without repeats, empty where none was given.
+-- as four octets, Called-Station-Id in small letters, and the Subscription-Ids, ascending, without repeats.
 pub record CcrValue : Type 0 where
   pub session : List ℕ
   pub host : List ℕ
@@ -13,13 +13,13 @@ pub record CcrValue : Type 0 where
   pub number : ℕ
   pub address : Option (List ℕ)
   pub apn : Option (List ℕ)
-  pub subscribers : List Subscriber
+  pub subscribers : Option (List Subscriber)
 
--- A flow (Media-Sub-Component, TS 29.214, 5.3.18): Flow-Number, Flow-Descriptions as bytes (none, one or two), Flow-Usage and Flow-Status
+-- A flow (Media-Sub-Component, TS 29.214, 5.3.18): Flow-Number, Flow-Descriptions as bytes (one or two, in the order of the request), Flow-Usage and Flow-Status
 -- as AVP values, Max-Requested-Bandwidth-UL and -DL in bit/s.
 pub record FlowValue : Type 0 where
   pub number : ℕ
-  pub filters : List (List ℕ)
+  pub filters : Option (List (List ℕ))
   pub usage : Option ℕ
   pub status : Option ℕ
   pub rate_up : Option ℕ
@@ -42,7 +42,7 @@ pub record AarValue : Type 0 where
   pub realm : List ℕ
   pub address : Option (List ℕ)
   pub apn : Option (List ℕ)
-  pub subscribers : List Subscriber
+  pub subscribers : Option (List Subscriber)
   pub components : List ComponentValue
 
 -- A session termination request of Rx (TS 29.214, 5.6.5).

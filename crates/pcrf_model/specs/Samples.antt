@@ -75,39 +75,39 @@ call_session = af (codes "af;1")
 
 -- an initial request with all that it needs, under number 0
 abbrev pub initial : Session → List ℕ → RequestValue
-initial s a = Ccr (record { session = s.id; host = codes "gw"; realm = codes "r"; kind = Initial; number = 0; address = Some a; apn = Some (codes "ims"); subscribers = e164 ∷ imsi ∷ [] })
+initial s a = Ccr (record { session = s.id; host = codes "gw"; realm = codes "r"; kind = Initial; number = 0; address = Some a; apn = Some (codes "ims"); subscribers = Some (e164 ∷ imsi ∷ []) })
 
 -- an initial request by its address, access point and subscribers, each if it gives them
-abbrev pub initial_with : Option (List ℕ) → Option (List ℕ) → List Subscriber → RequestValue
+abbrev pub initial_with : Option (List ℕ) → Option (List ℕ) → Option (List Subscriber) → RequestValue
 initial_with a n ids = Ccr (record { session = first_session.id; host = codes "gw"; realm = codes "r"; kind = Initial; number = 0; address = a; apn = n; subscribers = ids })
 
 -- an initial request of one subscriber for that access point
 abbrev pub initial_to : List ℕ → RequestValue
-initial_to n = initial_with (Some (host_address 1)) (Some n) (imsi ∷ [])
+initial_to n = initial_with (Some (host_address 1)) (Some n) (Some (imsi ∷ []))
 
 -- one without an access point, without an address, and without a subscriber
 abbrev pub without_access_point : RequestValue
-without_access_point = initial_with (Some (host_address 1)) None (e164 ∷ imsi ∷ [])
+without_access_point = initial_with (Some (host_address 1)) None (Some (e164 ∷ imsi ∷ []))
 
 abbrev pub without_address : RequestValue
-without_address = initial_with None (Some (codes "none")) (e164 ∷ imsi ∷ [])
+without_address = initial_with None (Some (codes "none")) (Some (e164 ∷ imsi ∷ []))
 
 abbrev pub without_subscriber : RequestValue
-without_subscriber = initial_with (Some (host_address 1)) (Some (codes "ims")) []
+without_subscriber = initial_with (Some (host_address 1)) (Some (codes "ims")) None
 
 -- an update of the first session, with an address or without
 abbrev pub update : ℕ → Option (List ℕ) → RequestValue
-update n a = Ccr (record { session = first_session.id; host = codes "gw"; realm = codes "r"; kind = Update; number = n; address = a; apn = None; subscribers = [] })
+update n a = Ccr (record { session = first_session.id; host = codes "gw"; realm = codes "r"; kind = Update; number = n; address = a; apn = None; subscribers = None })
 
 -- the end of a session
 abbrev pub termination : Session → ℕ → RequestValue
-termination s n = Ccr (record { session = s.id; host = codes "gw"; realm = codes "r"; kind = Termination; number = n; address = None; apn = None; subscribers = [] })
+termination s n = Ccr (record { session = s.id; host = codes "gw"; realm = codes "r"; kind = Termination; number = n; address = None; apn = None; subscribers = None })
 
 -- ---- requests of the application function
 
 -- an AA request with an address or without, and components
 abbrev pub call : Option (List ℕ) → List ComponentValue → RequestValue
-call a cs = Aar (record { session = call_session.id; host = codes "af"; realm = codes "r"; address = a; apn = None; subscribers = []; components = cs })
+call a cs = Aar (record { session = call_session.id; host = codes "af"; realm = codes "r"; address = a; apn = None; subscribers = None; components = cs })
 
 -- a component of another media type, with that Flow-Status
 abbrev pub other_media : ℕ → ComponentValue
@@ -118,7 +118,7 @@ abbrev pub capabilities : List ℕ → RequestValue
 capabilities applications = Base (record { kind = CapabilitiesExchange applications; host = codes "gw"; realm = codes "r" })
 
 -- a call from 10.0.0.1 that asks for an access point and subscribers
-abbrev pub call_asking : Option (List ℕ) → List Subscriber → RequestValue
+abbrev pub call_asking : Option (List ℕ) → Option (List Subscriber) → RequestValue
 call_asking n ids = Aar (record { session = call_session.id; host = codes "af"; realm = codes "r"; address = Some (host_address 1); apn = n; subscribers = ids; components = [] })
 
 -- the end of the call
@@ -138,8 +138,8 @@ audio = record {
   rate_up = Some 41000;
   rate_down = Some 80000;
   flows =
-      record { number = 1; filters = uplink ∷ any_to_any ∷ []; usage = None; status = None; rate_up = None; rate_down = None }
-      ∷ record { number = 2; filters = uplink ∷ []; usage = Some 1; status = Some 2; rate_up = None; rate_down = None } ∷ [];
+      record { number = 1; filters = Some (uplink ∷ any_to_any ∷ []); usage = None; status = None; rate_up = None; rate_down = None }
+      ∷ record { number = 2; filters = Some (uplink ∷ []); usage = Some 1; status = Some 2; rate_up = None; rate_down = None } ∷ [];
 }
 
 -- a component without a Media-Type: a flow of no class, and a signalling flow with a rate of its own
@@ -151,8 +151,8 @@ no_media = record {
   rate_up = None;
   rate_down = Some 90000;
   flows =
-      record { number = 1; filters = uplink ∷ []; usage = None; status = None; rate_up = None; rate_down = None }
-      ∷ record { number = 2; filters = uplink ∷ []; usage = Some 2; status = None; rate_up = Some 1000; rate_down = None } ∷ [];
+      record { number = 1; filters = Some (uplink ∷ []); usage = None; status = None; rate_up = None; rate_down = None }
+      ∷ record { number = 2; filters = Some (uplink ∷ []); usage = Some 2; status = None; rate_up = Some 1000; rate_down = None } ∷ [];
 }
 
 -- the component again, with its Flow-Status and nothing else
@@ -162,7 +162,7 @@ status_only s = record { number = 1; media = None; status = Some s; rate_up = No
 -- flows 1 to n, each with one filter, the last first
 abbrev pub numbered_flows : ℕ → List FlowValue
 numbered_flows zero = []
-numbered_flows (suc n) = record { number = suc n; filters = uplink ∷ []; usage = None; status = None; rate_up = None; rate_down = None } ∷ numbered_flows n
+numbered_flows (suc n) = record { number = suc n; filters = Some (uplink ∷ []); usage = None; status = None; rate_up = None; rate_down = None } ∷ numbered_flows n
 
 -- an audio component of n flows
 abbrev pub many_flows : ℕ → ComponentValue

@@ -236,13 +236,13 @@ pub fn letters_of_whole_logs_lead_to_the_same()
 
 /// A call is bound to a session of its address, its access point and one of its subscribers, as far as it names them.
 pub fn calls_bind_by_access_point_and_subscriber()
-    ensures same { answers 0 one (call_asking (Some (codes "ims")) (imsi ∷ [])) ≡ Done }
-    ensures one_of_them { answers 0 one (call_asking None ((0, codes "4711") ∷ e164 ∷ [])) ≡ Done }
-    ensures other_access_point { answers 0 one (call_asking (Some (codes "net")) [])
+    ensures same { answers 0 one (call_asking (Some (codes "ims")) (Some (imsi ∷ []))) ≡ Done }
+    ensures one_of_them { answers 0 one (call_asking None (Some ((0, codes "4711") ∷ e164 ∷ []))) ≡ Done }
+    ensures other_access_point { answers 0 one (call_asking (Some (codes "net")) None)
         ≡ Refused session_not_available }
-    ensures other_subscriber { answers 0 one (call_asking None ((0, codes "4711") ∷ []))
+    ensures other_subscriber { answers 0 one (call_asking None (Some ((0, codes "4711") ∷ [])))
         ≡ Refused session_not_available }
-    ensures other_type { answers 0 one (call_asking None ((1, codes "15550001") ∷ []))
+    ensures other_type { answers 0 one (call_asking None (Some ((1, codes "15550001") ∷ [])))
         ≡ Refused session_not_available }
 {}
 

@@ -2,7 +2,7 @@
 use clap::error::ErrorKind;
 use clap::{Command, Error};
 use dia_codec::Counted;
-use pcrf_world::{ScriptEnd, run_script};
+use pcrf_script::{ScriptEnd, run_script};
 use std::alloc::Global;
 use std::env;
 use std::io::{self, Read, Write};

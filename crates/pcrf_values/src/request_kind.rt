@@ -17,7 +17,8 @@ impl RequestKind {
     /// The kind that has a number.
     pub fn from_number(number: u32) -> Option<RequestKind>
         ensures kind { result ≡ request_kind_of number }
-        ensures unknown { IfNone result (1 ≤ number → 3 < number) }
+        ensures unknown { IfNone result (request_kind_number RequestKind.Initial ≤ number →
+            request_kind_number RequestKind.Termination < number) }
     {
         match number {
             1 => Some(RequestKind::Initial),

@@ -6,12 +6,11 @@ use Rattle.pcrf_model.specs.Sessions.{Session}
 use Rattle.pcrf_model.specs.Paths.{Path, whole}
 use Rattle.pcrf_model.specs.Facts.{Fact, Gone, Field, fact_cmp}
 use Rattle.pcrf_model.specs.Holdings.{is_gone}
-use Rattle.pcrf_model.specs.Values.{Subscriber}
 use Rattle.pcrf_model.specs.Operations.{Operation, holding_of}
 use Rattle.pcrf_model.specs.Views.{view}
 use Rattle.pcrf_model.specs.Making.{ccr_fields}
 use Rattle.pcrf_world.specs.Sites.{SiteValue, site_holding}
-use Rattle.pcrf_world.specs.Operations.{OperationValue, operation_of, initial_request}
+use Rattle.pcrf_world.specs.Operations.{GxOperationValue, operation_of, initial_request}
 
 -- the fact is a field's
 abbrev IsField : Fact → Type 0
@@ -48,18 +47,15 @@ none_gone (Gone q ∷ fs) p h = absurd h.0
 none_gone (Field q t v ∷ fs) p h = none_gone fs p h.1
 
 -- the facts of an initial request are fields
-pub fields_of_request : (o : OperationValue) → AreFieldFacts (ccr_fields (initial_request o) o.tag)
-fields_of_request o = elim o.fields.subscribers as (λ (given : List Subscriber). AreFieldFacts (ccr_fields (record (initial_request o) { subscribers = given }) o.tag)) [
-  | [] ↦ (tt, (tt, (tt, (tt, (tt, tt)))))
-  | x ∷ xs ↦ (tt, (tt, (tt, (tt, (tt, (tt, tt))))))
-]
+pub fields_of_request : (o : GxOperationValue) → AreFieldFacts (ccr_fields (initial_request o) o.tag)
+fields_of_request o = (tt, (tt, (tt, (tt, (tt, (tt, tt))))))
 
 -- the facts of an operation are fields
-fields_of_one : (o : OperationValue) → AreFieldFacts (operation_of o).facts
+fields_of_one : (o : GxOperationValue) → AreFieldFacts (operation_of o).facts
 fields_of_one o = AreFieldFacts-ascending fact_cmp (ccr_fields (initial_request o) o.tag) (fields_of_request o)
 
 -- what operations hold are fields
-pub held_fields : (os : List OperationValue) → AreFieldFacts (holding_of (map operation_of os)).facts
+pub held_fields : (os : List GxOperationValue) → AreFieldFacts (holding_of (map operation_of os)).facts
 held_fields [] = tt
 held_fields (o ∷ os) =
     let held = (holding_of (map operation_of os)).facts in
@@ -67,10 +63,10 @@ held_fields (o ∷ os) =
     AreFieldFacts-ascending fact_cmp (held ++ one) (AreFieldFacts-append held one (held_fields os) (fields_of_one o))
 
 -- no session is ended
-pub never_ended : (os : List OperationValue) (s : Session) → (view (holding_of (map operation_of os)).facts).ended s ≡ false
+pub never_ended : (os : List GxOperationValue) (s : Session) → (view (holding_of (map operation_of os)).facts).ended s ≡ false
 unfolding view
 never_ended os s = none_gone (holding_of (map operation_of os)).facts (whole s) (held_fields os)
 
 -- no session is ended at a site that took such operations
-pub never_ended_in : (site : SiteValue) (os : List OperationValue) → site.taken ≡ map operation_of os → (s : Session) → (view (site_holding site).facts).ended s ≡ false
+pub never_ended_in : (site : SiteValue) (os : List GxOperationValue) → site.taken ≡ map operation_of os → (s : Session) → (view (site_holding site).facts).ended s ≡ false
 never_ended_in site os is s = ap (λ (taken : List Operation). (view (holding_of taken).facts).ended s) is ∙ never_ended os s

@@ -1,4 +1,5 @@
 pub mod Fields
+pub mod Hosts
 pub mod Lists
 pub mod Replies
 pub mod Runs

@@ -15,7 +15,7 @@ use Rattle.ranked.specs.declared.tag.Tag.{Tag}
 use Rattle.ranked.specs.Sets.{Same, greatest}
 use Rattle.pcrf_model.specs.Sessions.{Session, gx, session_cmp}
 use Rattle.pcrf_model.specs.Paths.{Path, address, apn, last}
-use Rattle.pcrf_model.specs.Values.{Value, Number, Text, Address, Subscriber, Entry, value_cmp, entry_cmp}
+use Rattle.pcrf_model.specs.Values.{Value, Number, Text, Address, Entry, value_cmp, entry_cmp}
 use Rattle.pcrf_model.specs.Facts.{Fact, fact_cmp, session_of}
 use Rattle.pcrf_model.specs.Holdings.{entry_at, value_at, shown}
 use Rattle.pcrf_model.specs.Operations.{holding_of}
@@ -29,20 +29,20 @@ use Rattle.pcrf_world.proofs.Fields.{AreFieldFacts, AreFieldFacts-append, fields
 use Rattle.lattice_core.proofs.Registers.{by_tag, greatest-push, joined_none}
 use Rattle.ranked.proofs.Greatest.{greatest-map}
 use Rattle.pcrf_world.specs.declared.shown.GxSession.{GxSession}
-use Rattle.pcrf_world.specs.Operations.{OperationValue, operation_of, initial_request}
-use Rattle.pcrf_world.specs.Shown.{GxShown, shown_gx, shown_sessions}
-use Rattle.pcrf_world.specs.GxSessions.{gx_value, address_cmp, with_told}
+use Rattle.pcrf_world.specs.Operations.{GxOperationValue, operation_of, initial_request}
+use Rattle.pcrf_world.specs.Shown.{GxSessionValue, shown_session, shown_sessions}
+use Rattle.pcrf_world.specs.GxSessions.{gx_session_value, address_cmp, with_told}
 
 -- ---- the facts of operations, one after another
-abbrev given_by : OperationValue → List Fact
+abbrev given_by : GxOperationValue → List Fact
 given_by o = ccr_fields (initial_request o) o.tag
 
-abbrev facts_of : List OperationValue → List Fact
+abbrev facts_of : List GxOperationValue → List Fact
 facts_of [] = []
 facts_of (o ∷ os) = given_by o ++ facts_of os
 
 -- what operations hold are these
-held_Same : (os : List OperationValue) → Same (holding_of (map operation_of os)).facts (facts_of os)
+held_Same : (os : List GxOperationValue) → Same (holding_of (map operation_of os)).facts (facts_of os)
 held_Same [] = Same-itself []
 held_Same (o ∷ os) =
     let held : List Fact = (holding_of (map operation_of os)).facts in
@@ -54,11 +54,11 @@ held_Same (o ∷ os) =
     (Same-turn (facts_of os) (given_by o)))
 
 -- so they are seen alike
-view_held : (os : List OperationValue) → view (holding_of (map operation_of os)).facts ≡ view (facts_of os)
+view_held : (os : List GxOperationValue) → view (holding_of (map operation_of os)).facts ≡ view (facts_of os)
 view_held os = view-Same (holding_of (map operation_of os)).facts (facts_of os) (held_Same os)
 
 -- they are fields
-all_fields : (os : List OperationValue) → AreFieldFacts (facts_of os)
+all_fields : (os : List GxOperationValue) → AreFieldFacts (facts_of os)
 all_fields [] = tt
 all_fields (o ∷ os) = AreFieldFacts-append (given_by o) (facts_of os) (fields_of_request o) (all_fields os)
 
@@ -67,70 +67,43 @@ abbrev said_if : {A : Type 0} → Ordering → A → Option A
 said_if c x = cond (is_eq c) (Some x) None
 
 -- what an operation says, where it speaks of the session
-abbrev pub said : {T : Type 0} → (OperationValue → T) → List ℕ → OperationValue → Option (Tag × T)
+abbrev pub said : {T : Type 0} → (GxOperationValue → T) → List ℕ → GxOperationValue → Option (Tag × T)
 said what id o = said_if (text_cmp id o.session) (o.tag, what o)
 
-address_said : (id : List ℕ) (o : OperationValue) (rest : List Fact) → filter_map (entry_at (address (gx id))) (given_by o ++ rest) ≡ cons_option (said (λ q. Address (ipv4_octets q.fields.address)) id o) (filter_map (entry_at (address (gx id))) rest)
+address_said : (id : List ℕ) (o : GxOperationValue) (rest : List Fact) → filter_map (entry_at (address (gx id))) (given_by o ++ rest) ≡ cons_option (said (λ q. Address (ipv4_octets q.fields.address)) id o) (filter_map (entry_at (address (gx id))) rest)
 address_said id o rest = elim (text_cmp id o.session) as (λ c. text_cmp id o.session ≡ c → filter_map (entry_at (address (gx id))) (given_by o ++ rest) ≡ cons_option (said_if c (o.tag, Address (ipv4_octets o.fields.address))) (filter_map (entry_at (address (gx id))) rest)) [
-  | Less ↦ λ e. elim o.fields.subscribers as (λ (s : List Subscriber). filter_map (entry_at (address (gx id))) (ccr_fields (record (initial_request o) { subscribers = s }) o.tag ++ rest) ≡ filter_map (entry_at (address (gx id))) rest) [
-    | [] ↦ rw e refl
-    | x ∷ xs ↦ rw e refl
-  ]
-  | Equal ↦ λ e. elim o.fields.subscribers as (λ (s : List Subscriber). filter_map (entry_at (address (gx id))) (ccr_fields (record (initial_request o) { subscribers = s }) o.tag ++ rest) ≡ (o.tag, Address (ipv4_octets o.fields.address)) ∷ filter_map (entry_at (address (gx id))) rest) [
-    | [] ↦ rw e refl
-    | x ∷ xs ↦ rw e refl
-  ]
-  | Greater ↦ λ e. elim o.fields.subscribers as (λ (s : List Subscriber). filter_map (entry_at (address (gx id))) (ccr_fields (record (initial_request o) { subscribers = s }) o.tag ++ rest) ≡ filter_map (entry_at (address (gx id))) rest) [
-    | [] ↦ rw e refl
-    | x ∷ xs ↦ rw e refl
-  ]
+  | Less ↦ λ e. rw e refl
+  | Equal ↦ λ e. rw e refl
+  | Greater ↦ λ e. rw e refl
 ] refl
 
-apn_said : (id : List ℕ) (o : OperationValue) (rest : List Fact) → filter_map (entry_at (apn (gx id))) (given_by o ++ rest) ≡ cons_option (said (λ q. Text q.fields.apn) id o) (filter_map (entry_at (apn (gx id))) rest)
+apn_said : (id : List ℕ) (o : GxOperationValue) (rest : List Fact) → filter_map (entry_at (apn (gx id))) (given_by o ++ rest) ≡ cons_option (said (λ q. Text q.fields.apn) id o) (filter_map (entry_at (apn (gx id))) rest)
 apn_said id o rest = elim (text_cmp id o.session) as (λ c. text_cmp id o.session ≡ c → filter_map (entry_at (apn (gx id))) (given_by o ++ rest) ≡ cons_option (said_if c (o.tag, Text o.fields.apn)) (filter_map (entry_at (apn (gx id))) rest)) [
-  | Less ↦ λ e. elim o.fields.subscribers as (λ (s : List Subscriber). filter_map (entry_at (apn (gx id))) (ccr_fields (record (initial_request o) { subscribers = s }) o.tag ++ rest) ≡ filter_map (entry_at (apn (gx id))) rest) [
-    | [] ↦ rw e refl
-    | x ∷ xs ↦ rw e refl
-  ]
-  | Equal ↦ λ e. elim o.fields.subscribers as (λ (s : List Subscriber). filter_map (entry_at (apn (gx id))) (ccr_fields (record (initial_request o) { subscribers = s }) o.tag ++ rest) ≡ (o.tag, Text o.fields.apn) ∷ filter_map (entry_at (apn (gx id))) rest) [
-    | [] ↦ rw e refl
-    | x ∷ xs ↦ rw e refl
-  ]
-  | Greater ↦ λ e. elim o.fields.subscribers as (λ (s : List Subscriber). filter_map (entry_at (apn (gx id))) (ccr_fields (record (initial_request o) { subscribers = s }) o.tag ++ rest) ≡ filter_map (entry_at (apn (gx id))) rest) [
-    | [] ↦ rw e refl
-    | x ∷ xs ↦ rw e refl
-  ]
+  | Less ↦ λ e. rw e refl
+  | Equal ↦ λ e. rw e refl
+  | Greater ↦ λ e. rw e refl
 ] refl
 
-last_said : (id : List ℕ) (o : OperationValue) (rest : List Fact) → filter_map (entry_at (last (gx id))) (given_by o ++ rest) ≡ cons_option (said (λ q. Number 1) id o) (filter_map (entry_at (last (gx id))) rest)
+last_said : (id : List ℕ) (o : GxOperationValue) (rest : List Fact) → filter_map (entry_at (last (gx id))) (given_by o ++ rest) ≡ cons_option (said (λ q. Number 1) id o) (filter_map (entry_at (last (gx id))) rest)
 last_said id o rest = elim (text_cmp id o.session) as (λ c. text_cmp id o.session ≡ c → filter_map (entry_at (last (gx id))) (given_by o ++ rest) ≡ cons_option (said_if c (o.tag, Number 1)) (filter_map (entry_at (last (gx id))) rest)) [
-  | Less ↦ λ e. elim o.fields.subscribers as (λ (s : List Subscriber). filter_map (entry_at (last (gx id))) (ccr_fields (record (initial_request o) { subscribers = s }) o.tag ++ rest) ≡ filter_map (entry_at (last (gx id))) rest) [
-    | [] ↦ rw e refl
-    | x ∷ xs ↦ rw e refl
-  ]
-  | Equal ↦ λ e. elim o.fields.subscribers as (λ (s : List Subscriber). filter_map (entry_at (last (gx id))) (ccr_fields (record (initial_request o) { subscribers = s }) o.tag ++ rest) ≡ (o.tag, Number 1) ∷ filter_map (entry_at (last (gx id))) rest) [
-    | [] ↦ rw e refl
-    | x ∷ xs ↦ rw e refl
-  ]
-  | Greater ↦ λ e. elim o.fields.subscribers as (λ (s : List Subscriber). filter_map (entry_at (last (gx id))) (ccr_fields (record (initial_request o) { subscribers = s }) o.tag ++ rest) ≡ filter_map (entry_at (last (gx id))) rest) [
-    | [] ↦ rw e refl
-    | x ∷ xs ↦ rw e refl
-  ]
+  | Less ↦ λ e. rw e refl
+  | Equal ↦ λ e. rw e refl
+  | Greater ↦ λ e. rw e refl
 ] refl
 
-module _ (p : Path) (id : List ℕ) (what : OperationValue → Value) (one : (o : OperationValue) (rest : List Fact) → filter_map (entry_at p) (given_by o ++ rest) ≡ cons_option (said what id o) (filter_map (entry_at p) rest)) where
+module _ (p : Path) (id : List ℕ) (what : GxOperationValue → Value) (one : (o : GxOperationValue) (rest : List Fact) → filter_map (entry_at p) (given_by o ++ rest) ≡ cons_option (said what id o) (filter_map (entry_at p) rest)) where
   -- what all say
-  entries : (os : List OperationValue) → filter_map (entry_at p) (facts_of os) ≡ filter_map (said what id) os
+  entries : (os : List GxOperationValue) → filter_map (entry_at p) (facts_of os) ≡ filter_map (said what id) os
   entries [] = refl
   entries (o ∷ os) = one o (facts_of os) ∙ ap (cons_option (said what id o)) (entries os)
 
 -- ---- what a register holds of what was said
-abbrev pub told : {T : Type 0} → (T → T → Ordering) → (OperationValue → T) → List ℕ → List OperationValue → Option (Tag × T)
+abbrev pub told : {T : Type 0} → (T → T → Ordering) → (GxOperationValue → T) → List ℕ → List GxOperationValue → Option (Tag × T)
 told R what id os = greatest (by_tag R) (filter_map (said what id) os)
 
-module _ {T : Type 0} (R : T → T → Ordering) (what : OperationValue → T) (id : List ℕ) where
+module _ {T : Type 0} (R : T → T → Ordering) (what : GxOperationValue → T) (id : List ℕ) where
   -- one operation more
-  told-push : (os : List OperationValue) (o : OperationValue) → told R what id (os ++ o ∷ []) ≡ reg_joined R (told R what id os) (said what id o)
+  told-push : (os : List GxOperationValue) (o : GxOperationValue) → told R what id (os ++ o ∷ []) ≡ reg_joined R (told R what id os) (said what id o)
   told-push os o = ap (greatest (by_tag R)) (filter_map-append (said what id) os (o ∷ [])) ∙ more (said what id o)
     where
       more : (s : Option (Tag × T)) → greatest (by_tag R) (filter_map (said what id) os ++ cons_option s []) ≡ reg_joined R (told R what id os) s
@@ -142,7 +115,7 @@ module _ {T : Type 0} (R : T → T → Ordering) (what : OperationValue → T) (
     abbrev as_entry : Tag × T → Entry
     as_entry e = (e.0, g e.1)
 
-    said_entries : (os : List OperationValue) → filter_map (said (λ q. g (what q)) id) os ≡ map as_entry (filter_map (said what id) os)
+    said_entries : (os : List GxOperationValue) → filter_map (said (λ q. g (what q)) id) os ≡ map as_entry (filter_map (said what id) os)
     said_entries [] = refl
     said_entries (o ∷ os) =
         let rest = said_entries os in
@@ -153,42 +126,42 @@ module _ {T : Type 0} (R : T → T → Ordering) (what : OperationValue → T) (
         ]
 
     -- the greatest of what was said is what the register holds
-    greatest_told : (os : List OperationValue) → greatest entry_cmp (filter_map (said (λ q. g (what q)) id) os) ≡ option_map as_entry (told R what id os)
+    greatest_told : (os : List GxOperationValue) → greatest entry_cmp (filter_map (said (λ q. g (what q)) id) os) ≡ option_map as_entry (told R what id os)
     greatest_told os =
         ap (greatest entry_cmp) (said_entries os)
         ∙ greatest-map (by_tag R) entry_cmp as_entry (λ x y. ap (ordering_then (tag_cmp x.0 y.0)) (keeps x.1 y.1)) (filter_map (said what id) os)
 
 -- ---- what is shown
 -- nothing is gone
-not_gone : (os : List OperationValue) (p : Path) → shown (facts_of os) p ≡ value_at (facts_of os) p
+not_gone : (os : List GxOperationValue) (p : Path) → shown (facts_of os) p ≡ value_at (facts_of os) p
 not_gone os p = ap (λ (b : Bool). cond b None (value_at (facts_of os) p)) (none_gone (facts_of os) p (all_fields os))
 
-abbrev address_told : List ℕ → List OperationValue → Option (Tag × Ipv4Addr)
+abbrev address_told : List ℕ → List GxOperationValue → Option (Tag × Ipv4Addr)
 address_told = told address_cmp (λ o. o.fields.address)
 
-abbrev apn_told : List ℕ → List OperationValue → Option (Tag × List ℕ)
+abbrev apn_told : List ℕ → List GxOperationValue → Option (Tag × List ℕ)
 apn_told = told text_cmp (λ o. o.fields.apn)
 
-abbrev last_told : List ℕ → List OperationValue → Option (Tag × ℕ)
+abbrev last_told : List ℕ → List GxOperationValue → Option (Tag × ℕ)
 last_told = told nat_cmp (λ o. 1)
 
 -- a session as operations tell of it
-abbrev pub told_of : List ℕ → List OperationValue → GxSession
+abbrev pub told_of : List ℕ → List GxOperationValue → GxSession
 told_of id os = record { session = id; address = address_told id os; apn = apn_told id os; last = last_told id os }
 
-address_shown : (id : List ℕ) (os : List OperationValue) → shown (facts_of os) (address (gx id)) ≡ option_map (λ (e : Tag × Ipv4Addr). (e.0, Address (ipv4_octets e.1))) (address_told id os)
+address_shown : (id : List ℕ) (os : List GxOperationValue) → shown (facts_of os) (address (gx id)) ≡ option_map (λ (e : Tag × Ipv4Addr). (e.0, Address (ipv4_octets e.1))) (address_told id os)
 address_shown id os =
     not_gone os (address (gx id))
     ∙ ap (greatest entry_cmp) (entries (address (gx id)) id (λ o. Address (ipv4_octets o.fields.address)) (address_said id) os)
     ∙ greatest_told address_cmp (λ o. o.fields.address) id (λ a. Address (ipv4_octets a)) (λ x y. refl) os
 
-apn_shown : (id : List ℕ) (os : List OperationValue) → shown (facts_of os) (apn (gx id)) ≡ option_map (λ (e : Tag × List ℕ). (e.0, Text e.1)) (apn_told id os)
+apn_shown : (id : List ℕ) (os : List GxOperationValue) → shown (facts_of os) (apn (gx id)) ≡ option_map (λ (e : Tag × List ℕ). (e.0, Text e.1)) (apn_told id os)
 apn_shown id os =
     not_gone os (apn (gx id))
     ∙ ap (greatest entry_cmp) (entries (apn (gx id)) id (λ o. Text o.fields.apn) (apn_said id) os)
     ∙ greatest_told text_cmp (λ o. o.fields.apn) id Text (λ x y. refl) os
 
-last_shown : (id : List ℕ) (os : List OperationValue) → shown (facts_of os) (last (gx id)) ≡ option_map (λ (e : Tag × ℕ). (e.0, Number e.1)) (last_told id os)
+last_shown : (id : List ℕ) (os : List GxOperationValue) → shown (facts_of os) (last (gx id)) ≡ option_map (λ (e : Tag × ℕ). (e.0, Number e.1)) (last_told id os)
 last_shown id os =
     not_gone os (last (gx id))
     ∙ ap (greatest entry_cmp) (entries (last (gx id)) id (λ o. Number 1) (last_said id) os)
@@ -208,7 +181,7 @@ home_read None = refl
 home_read (Some e) = refl
 
 -- what the registers hold is what the facts show
-told_shown : (id : List ℕ) (os : List OperationValue) → gx_value (told_of id os) ≡ shown_gx (view (facts_of os)) (gx id)
+told_shown : (id : List ℕ) (os : List GxOperationValue) → gx_session_value (told_of id os) ≡ shown_session (view (facts_of os)) (gx id)
 unfolding view
 told_shown id os =
     let a = address_read (address_told id os) ∙ ap (λ (x : Option Entry). option_and_then as_address (option_map (λ (e : Entry). e.1) x)) (sym (address_shown id os)) in
@@ -216,14 +189,14 @@ told_shown id os =
     let h = home_read (last_told id os) ∙ ap (λ (x : Option Entry). option_map (λ (e : Entry). e.0.site) x) (sym (last_shown id os)) in
     λ i. record { session = id; address = a i; apn = n i; home = h i }
 
-pub told_held : (id : List ℕ) (os : List OperationValue) → gx_value (told_of id os) ≡ shown_gx (view (holding_of (map operation_of os)).facts) (gx id)
-told_held id os = told_shown id os ∙ ap (λ (v : View). shown_gx v (gx id)) (sym (view_held os))
+pub told_held : (id : List ℕ) (os : List GxOperationValue) → gx_session_value (told_of id os) ≡ shown_session (view (holding_of (map operation_of os)).facts) (gx id)
+told_held id os = told_shown id os ∙ ap (λ (v : View). shown_session v (gx id)) (sym (view_held os))
 
 -- one operation more
-abbrev with_said : Ordering → GxSession → OperationValue → GxSession
+abbrev with_said : Ordering → GxSession → GxOperationValue → GxSession
 with_said c s o = cond (is_eq c) (with_told s o.tag o.fields) s
 
-pub told_of-push : (id : List ℕ) (os : List OperationValue) (o : OperationValue) → told_of id (os ++ o ∷ []) ≡ with_said (text_cmp id o.session) (told_of id os) o
+pub told_of-push : (id : List ℕ) (os : List GxOperationValue) (o : GxOperationValue) → told_of id (os ++ o ∷ []) ≡ with_said (text_cmp id o.session) (told_of id os) o
 told_of-push id os o =
     let a = told-push address_cmp (λ q. q.fields.address) id os o in
     let n = told-push text_cmp (λ q. q.fields.apn) id os o in
@@ -251,8 +224,8 @@ told_of-push id os o =
     }
 
 -- ---- which sessions are shown
-abbrev pub named : List OperationValue → List (List ℕ)
-named os = map (λ (o : OperationValue). o.session) os
+abbrev pub named : List GxOperationValue → List (List ℕ)
+named os = map (λ (o : GxOperationValue). o.session) os
 
 -- a member more on both sides
 once : (x : Session) (xs ys : List Session) → Same xs ys → Same (x ∷ xs) (x ∷ ys)
@@ -262,22 +235,15 @@ once x xs ys s z = (elim [ inl q ↦ inl q | inr i ↦ inr ((s z).0 i) ], elim [
 again : (x : Session) (xs ys : List Session) → Same xs (x ∷ ys) → Same (x ∷ xs) (x ∷ ys)
 again x xs ys s z = (elim [ inl q ↦ inl q | inr i ↦ (s z).0 i ], λ j. inr ((s z).1 j))
 
--- five times the same
-five_times : (x : Session) (xs ys : List Session) → Same xs ys → Same (x ∷ x ∷ x ∷ x ∷ x ∷ xs) (x ∷ ys)
-five_times x xs ys s = again x (x ∷ x ∷ x ∷ x ∷ xs) ys (again x (x ∷ x ∷ x ∷ xs) ys (again x (x ∷ x ∷ xs) ys (again x (x ∷ xs) ys (once x xs ys s))))
+-- six times the same
+six_times : (x : Session) (xs ys : List Session) → Same xs ys → Same (x ∷ x ∷ x ∷ x ∷ x ∷ x ∷ xs) (x ∷ ys)
+six_times x xs ys s =
+    again x (x ∷ x ∷ x ∷ x ∷ x ∷ xs) ys (again x (x ∷ x ∷ x ∷ x ∷ xs) ys (again x (x ∷ x ∷ x ∷ xs) ys (again x (x ∷ x ∷ xs) ys (again x (x ∷ xs) ys (once x xs ys s)))))
 
 -- the sessions of the facts are those of the operations
-sessions_Same : (os : List OperationValue) → Same (map session_of (facts_of os)) (map (λ (o : OperationValue). gx o.session) os)
+sessions_Same : (os : List GxOperationValue) → Same (map session_of (facts_of os)) (map (λ (o : GxOperationValue). gx o.session) os)
 sessions_Same [] = Same-itself {A = Session} []
-sessions_Same (o ∷ os) =
-    let x : Session = gx o.session in
-    let xs : List Session = map session_of (facts_of os) in
-    let ys : List Session = map (λ (q : OperationValue). gx q.session) os in
-    let five = five_times x xs ys (sessions_Same os) in
-    elim o.fields.subscribers as (λ (s : List Subscriber). Same (map session_of (ccr_fields (record (initial_request o) { subscribers = s }) o.tag ++ facts_of os)) (x ∷ ys)) [
-      | [] ↦ five
-      | y ∷ rest ↦ again x (x ∷ x ∷ x ∷ x ∷ x ∷ xs) ys five
-    ]
+sessions_Same (o ∷ os) = six_times (gx o.session) (map session_of (facts_of os)) (map (λ (q : GxOperationValue). gx q.session) os) (sessions_Same os)
 
 -- Session-Ids in order are their sessions in order
 place_gx : (id : List ℕ) (ids : List (List ℕ)) → place session_cmp (gx id) (map gx ids) ≡ map gx (place text_cmp id ids)
@@ -290,22 +256,22 @@ place_gx id (y ∷ ys) =
       | Greater ↦ ap (λ (l : List Session). gx y ∷ l) rest
     ]
 
-ascending_gx : (os : List OperationValue) → ascending session_cmp (map (λ (o : OperationValue). gx o.session) os) ≡ map gx (ascending text_cmp (named os))
+ascending_gx : (os : List GxOperationValue) → ascending session_cmp (map (λ (o : GxOperationValue). gx o.session) os) ≡ map gx (ascending text_cmp (named os))
 ascending_gx [] = refl
 ascending_gx (o ∷ os) = ap (place session_cmp (gx o.session)) (ascending_gx os) ∙ place_gx o.session (ascending text_cmp (named os))
 
-sessions_named : (os : List OperationValue) → (view (facts_of os)).sessions ≡ map gx (ascending text_cmp (named os))
+view_sessions : (os : List GxOperationValue) → (view (facts_of os)).sessions ≡ map gx (ascending text_cmp (named os))
 unfolding view
-sessions_named os = ascending-Same session_cmp session_ranked (map session_of (facts_of os)) (map (λ (o : OperationValue). gx o.session) os) (sessions_Same os) ∙ ascending_gx os
+view_sessions os = ascending-Same session_cmp session_ranked (map session_of (facts_of os)) (map (λ (o : GxOperationValue). gx o.session) os) (sessions_Same os) ∙ ascending_gx os
 
 -- map after map
-map_gx : (v : View) (ids : List (List ℕ)) → map (λ (id : List ℕ). shown_gx v (gx id)) ids ≡ map (shown_gx v) (map gx ids)
+map_gx : (v : View) (ids : List (List ℕ)) → map (λ (id : List ℕ). shown_session v (gx id)) ids ≡ map (shown_session v) (map gx ids)
 map_gx v [] = refl
-map_gx v (x ∷ xs) = ap (λ (l : List GxShown). shown_gx v (gx x) ∷ l) (map_gx v xs)
+map_gx v (x ∷ xs) = ap (λ (l : List GxSessionValue). shown_session v (gx x) ∷ l) (map_gx v xs)
 
 -- all that operations show
-pub all_shown : (os : List OperationValue) → map (λ (id : List ℕ). shown_gx (view (holding_of (map operation_of os)).facts) (gx id)) (ascending text_cmp (named os)) ≡ shown_sessions (holding_of (map operation_of os))
+pub all_shown : (os : List GxOperationValue) → map (λ (id : List ℕ). shown_session (view (holding_of (map operation_of os)).facts) (gx id)) (ascending text_cmp (named os)) ≡ shown_sessions (holding_of (map operation_of os))
 all_shown os =
     let v : View = view (holding_of (map operation_of os)).facts in
-    let ids : v.sessions ≡ map gx (ascending text_cmp (named os)) = ap (λ (w : View). w.sessions) (view_held os) ∙ sessions_named os in
-    map_gx v (ascending text_cmp (named os)) ∙ ap (map (shown_gx v)) (sym ids)
+    let ids : v.sessions ≡ map gx (ascending text_cmp (named os)) = ap (λ (w : View). w.sessions) (view_held os) ∙ view_sessions os in
+    map_gx v (ascending text_cmp (named os)) ∙ ap (map (shown_session v)) (sym ids)

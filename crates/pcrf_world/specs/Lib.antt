@@ -1,4 +1,4 @@
-pub mod Asking
+pub mod Identities
 pub mod Operations
 pub mod Shown
 pub mod GxSessions

@@ -8,15 +8,15 @@ use Rattle.pcrf_model.specs.Live.{home}
 use Rattle.pcrf_model.specs.Holdings.{Holding}
 
 -- a gateway's session: its address, its access point name and its home, where it shows them
-pub record GxShown : Type 0 where
+pub record GxSessionValue : Type 0 where
   pub session : List ℕ
   pub address : Option (List ℕ)
   pub apn : Option (List ℕ)
   pub home : Option ℕ
 
-abbrev pub shown_gx : View → Session → GxShown
-shown_gx v s = record { session = s.id; address = option_and_then as_address (value v (address s)); apn = text v (apn s); home = home v s }
+abbrev pub shown_session : View → Session → GxSessionValue
+shown_session v s = record { session = s.id; address = option_and_then as_address (value v (address s)); apn = text v (apn s); home = home v s }
 
 -- every session that a holding knows, ascending; all are gateways' as yet
-abbrev pub shown_sessions : Holding → List GxShown
-shown_sessions h = map (shown_gx (view h.facts)) (view h.facts).sessions
+abbrev pub shown_sessions : Holding → List GxSessionValue
+shown_sessions h = map (shown_session (view h.facts)) (view h.facts).sessions

@@ -14,10 +14,10 @@ use Rattle.pcrf_model.specs.Making.{ccr_fields, next_tag, next_operation}
 use Rattle.gx_profile.specs.declared.answer.GxReply.{GxReply}
 use Rattle.gx_profile.specs.declared.answer.GxReply.TheVariants.{Granted, Refused}
 use Rattle.gx_profile.specs.Requests.{ccr_view}
-use Rattle.pcrf_world.specs.declared.request.Request.{Request}
-use Rattle.pcrf_world.specs.declared.request.Request.TheVariants.{Ccr}
-use Rattle.pcrf_world.specs.declared.request.Reply.{Reply}
-use Rattle.pcrf_world.specs.declared.request.Reply.TheVariants.{Gx}
+use Rattle.pcrf_wire.specs.declared.request.Request.{Request}
+use Rattle.pcrf_wire.specs.declared.request.Request.TheVariants.{Ccr}
+use Rattle.pcrf_wire.specs.declared.request.Reply.{Reply}
+use Rattle.pcrf_wire.specs.declared.request.Reply.TheVariants.{Gx}
 
 -- ---- what is replied
 
@@ -28,13 +28,13 @@ granted_unless (Some r) = Refused r
 
 -- The refusal of a request: an initial one by what the site holds, where every access point has a row; updates and
 -- terminations are not served yet.
-abbrev pub first_refusal : Holding → CcrValue → RequestKind → Option Refusal
-first_refusal h q Initial = ccr_refusal open_tables h q
-first_refusal h q Update = Some unable_to_comply
-first_refusal h q Termination = Some unable_to_comply
+abbrev pub refusal_by_kind : Holding → CcrValue → RequestKind → Option Refusal
+refusal_by_kind h q Initial = ccr_refusal open_tables h q
+refusal_by_kind h q Update = Some unable_to_comply
+refusal_by_kind h q Termination = Some unable_to_comply
 
 abbrev pub ccr_reply : Holding → CcrValue → GxReply
-ccr_reply h q = granted_unless (first_refusal h q q.kind)
+ccr_reply h q = granted_unless (refusal_by_kind h q q.kind)
 
 -- what a single site that holds this replies
 abbrev pub reply_of : Holding → Request → Reply
@@ -46,13 +46,10 @@ reply_of h (Ccr q) = Gx (ccr_reply h (ccr_view q))
 abbrev pub made_by : ℕ → Holding → CcrValue → Operation
 made_by i h q = next_operation i h q.number (gx q.session) (ccr_fields q (next_tag i h q.number))
 
+-- the operations that a reply adds at site i, which holds this: one where the request is granted, and else none
 abbrev pub made_if : ℕ → Holding → CcrValue → GxReply → List Operation
 made_if i h q Granted = made_by i h q ∷ []
 made_if i h q (Refused r) = []
-
--- the operations that a reply adds at site i, which holds this: one where the request is granted, and else none
-abbrev pub added : ℕ → Holding → Request → Reply → List Operation
-added i h (Ccr q) (Gx reply) = made_if i h (ccr_view q) reply
 
 -- ---- a site
 
@@ -63,21 +60,24 @@ pub record SiteValue : Type 0 where
   pub log : List Operation
 
 -- a site that took nothing
-abbrev pub fresh : ℕ → SiteValue
-fresh number = record { number = number; taken = []; log = [] }
+abbrev pub new_site : ℕ → SiteValue
+new_site number = record { number = number; taken = []; log = [] }
 
 -- what a site holds
 abbrev pub site_holding : SiteValue → Holding
 site_holding s = holding_of s.taken
 
 -- with operations of its own
-abbrev pub makes : List Operation → SiteValue → SiteValue
-makes os s = record s { taken = s.taken ++ os; log = s.log ++ os }
+abbrev pub with_made : List Operation → SiteValue → SiteValue
+with_made os s = record s { taken = s.taken ++ os; log = s.log ++ os }
 
 -- the site after its reply
+abbrev pub ccr_served : SiteValue → CcrValue → GxReply → SiteValue
+ccr_served s q reply = with_made (made_if s.number (site_holding s) q reply) s
+
 abbrev pub served : SiteValue → Request → Reply → SiteValue
-served s q reply = makes (added s.number (site_holding s) q reply) s
+served s (Ccr q) (Gx reply) = ccr_served s (ccr_view q) reply
 
 -- with operations of a letter
-abbrev pub takes : List Operation → SiteValue → SiteValue
-takes os s = record s { taken = s.taken ++ os }
+abbrev pub with_taken : List Operation → SiteValue → SiteValue
+with_taken os s = record s { taken = s.taken ++ os }

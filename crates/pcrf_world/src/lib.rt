@@ -1,20 +1,13 @@
-//! A world of sites that serve, make letters and take them, and the scripts that run it.
+//! A world of sites that serve, make letters and take them.
 #![tactic(auto)]
 
-mod asking;
-mod lines;
+mod identity;
 mod operation;
-mod printing;
-mod request;
-mod script;
 mod shown;
 mod site;
 mod world;
 
-pub use asking::{Asked, read_request, write_refusal, write_reply};
-pub use operation::{GxFields, Operation};
-pub use request::{Reply, Request};
-pub use script::{ScriptEnd, run_script};
+pub use operation::{GxFields, GxOperation};
 pub use shown::GxSession;
 pub use site::PlainSite;
-pub use world::{Outcome, World, WorldEvent, WorldFault};
+pub use world::{World, WorldEvent, WorldFault, WorldOutcome};

@@ -1,5 +1,6 @@
-//! What accepted requests make, and what letters carry.
-ghost use Rattle.std.specs.Prelude.{◌≡◌, ◌<◌, ◌^◌, IfOk};
+//! What accepted initial requests make, and what letters carry.
+ghost use Rattle.std.specs.Prelude.{◌≡◌, ◌<◌, IfOk};
+ghost use Rattle.pcrf_world.specs.Operations.{counter_bound};
 
 use pcrf_values::{Apn, DiameterIdentity, SessionId, Subscribers};
 use ranked::{Ranked, Tag};
@@ -37,35 +38,35 @@ impl GxFields {
     }
 }
 
-/// What one accepted request adds to what its site knows: the counter and the site that it is stamped with, the
+/// What one accepted initial request adds to what its site knows: the counter and the site that it is stamped with, the
 /// CC-Request-Number under which its fields count, a gateway's session, and the fields.
 #[derive(Drop)]
-pub struct Operation {
+pub struct GxOperation {
     tag: Tag,
     session: SessionId,
     fields: GxFields,
 }
 
-impl Model for Operation {
-    ghost use Rattle.std.specs.Prelude.{◌<◌, ◌^◌};
-    ghost use Rattle.pcrf_world.specs.Operations.{OperationValue};
+impl Model for GxOperation {
+    ghost use Rattle.std.specs.Prelude.{◌<◌};
+    ghost use Rattle.pcrf_world.specs.Operations.{GxOperationValue, counter_bound};
 
-    ghost Value = { OperationValue };
+    ghost Value = { GxOperationValue };
 
     ghost view = { λ o. record { tag = o.tag; session = o.session; fields = o.fields } };
 
-    ghost invariant = { λ o. o.tag.counter < 2 ^ 63 };
+    ghost invariant = { λ o. o.tag.counter < counter_bound };
 }
 
-impl Operation {
-    ghost use Rattle.pcrf_world.specs.Operations.{OperationValue};
+impl GxOperation {
+    ghost use Rattle.pcrf_world.specs.Operations.{GxOperationValue};
 
     /// The operation of these parts.
-    pub fn of(tag: Tag, session: SessionId, fields: GxFields) -> Operation
-        requires { tag.counter < 2 ^ 63 }
+    pub fn of(tag: Tag, session: SessionId, fields: GxFields) -> GxOperation
+        requires { tag.counter < counter_bound }
         ensures { result ≡ record { tag = tag; session = session; fields = fields } }
     {
-        Operation {
+        GxOperation {
             tag,
             session,
             fields,
@@ -75,7 +76,7 @@ impl Operation {
     /// The stamp, with the CC-Request-Number.
     pub fn tag(&self) -> Tag
         ensures value { result ≡ self.now.tag }
-        ensures bounded { result.counter < 2 ^ 63 }
+        ensures bounded { result.counter < counter_bound }
     {
         self.tag
     }
@@ -95,12 +96,12 @@ impl Operation {
     }
 
     /// An equal value.
-    pub fn try_copy(&self) -> Result<Operation, AllocError>
+    pub fn try_copy(&self) -> Result<GxOperation, AllocError>
         ensures { IfOk result (λ copy. copy ≡ self.now) }
     {
         let session = self.session.try_copy()?;
         let fields = self.fields.try_copy()?;
-        Ok(Operation {
+        Ok(GxOperation {
             tag: self.tag,
             session,
             fields,
@@ -111,8 +112,8 @@ impl Operation {
 /// Equal operations, in order.
 pub(crate) fn copy_all(
     alloc: Global,
-    operations: &[Operation],
-) -> Result<Vec<Operation>, AllocError>
+    operations: &[GxOperation],
+) -> Result<Vec<GxOperation>, AllocError>
     ensures { IfOk result (λ copies. copies.items ≡ operations.now) }
 {
     let mut copies = Vec::new(alloc);

@@ -1,21 +1,13 @@
 //! The gateways' sessions as a site shows them.
-ghost use Rattle.std.specs.Prelude.{◌≡◌, ℕ, List, map, IfOk, OnOk};
+ghost use Rattle.std.specs.Prelude.{◌≡◌, map, IfOk, OnOk};
 ghost use Rattle.std.proofs.Common.{option_map};
 ghost use Rattle.std.specs.Option.{option_copied};
 ghost use Rattle.std.specs.Net.Addr.{ipv4_octets};
-ghost use Rattle.ranked.specs.Ascending.{ascending};
-ghost use Rattle.ranked.specs.Orders.{text_cmp};
-ghost use Rattle.pcrf_model.specs.Sessions.{gx};
-ghost use Rattle.pcrf_model.specs.Operations.{holding_of};
-ghost use Rattle.pcrf_model.specs.Views.{view};
-ghost use Rattle.pcrf_world.specs.GxSessions.{gx_value, untold, with_told};
-ghost use Rattle.pcrf_world.specs.Operations.{OperationValue, operation_of};
-ghost use Rattle.pcrf_world.specs.Shown.{shown_gx};
+ghost use Rattle.pcrf_world.specs.GxSessions.{gx_session_value, untold, with_told, sessions_named, shown_by};
 
-use crate::operation::{GxFields, Operation};
-use gx_profile::RequestKind;
+use crate::operation::{GxFields, GxOperation};
 use lattice_core::Reg;
-use pcrf_values::{Apn, SessionId};
+use pcrf_values::{Apn, RequestKind, SessionId};
 use ranked::{Ranked, Tag, ascending_of};
 use std::alloc::{AllocError, Global};
 use std::net::Ipv4Addr;
@@ -32,28 +24,28 @@ pub struct GxSession {
 impl GxSession {
     /// The session.
     pub fn session(&self) -> &SessionId
-        ensures { result.now ≡ (gx_value self.now).session }
+        ensures { result.now ≡ (gx_session_value self.now).session }
     {
         &self.session
     }
 
     /// The address that it shows.
     pub fn address(&self) -> Option<Ipv4Addr>
-        ensures { option_map ipv4_octets result ≡ (gx_value self.now).address }
+        ensures { option_map ipv4_octets result ≡ (gx_session_value self.now).address }
     {
         Some(self.address.get()?.1)
     }
 
     /// The access point name that it shows.
     pub fn apn(&self) -> Option<&Apn>
-        ensures { option_copied result ≡ (gx_value self.now).apn }
+        ensures { option_copied result ≡ (gx_session_value self.now).apn }
     {
         Some(&self.apn.get()?.1)
     }
 
     /// The site that served its last request.
     pub fn home(&self) -> Option<u8>
-        ensures { result ≡ (gx_value self.now).home }
+        ensures { result ≡ (gx_session_value self.now).home }
     {
         Some(self.last.get()?.0.site)
     }
@@ -85,9 +77,9 @@ impl GxSession {
 /// The Session-Ids of operations, ascending.
 pub(crate) fn named_in(
     alloc: Global,
-    operations: &[Operation],
+    operations: &[GxOperation],
 ) -> Result<Vec<SessionId>, AllocError>
-    ensures { IfOk result (λ named. named.items ≡ ascending text_cmp (map (λ (o : OperationValue). o.session) operations.now)) }
+    ensures { IfOk result (λ named. named.items ≡ sessions_named operations.now) }
 {
     let mut named = Vec::new(alloc);
     for operation in operations {
@@ -100,10 +92,10 @@ pub(crate) fn named_in(
 pub(crate) fn sessions_of(
     alloc: Global,
     named: &[SessionId],
-    operations: &[Operation],
+    operations: &[GxOperation],
 ) -> Result<Vec<GxSession>, AllocError>
-    ensures { IfOk result (λ sessions. map gx_value sessions.items
-        ≡ map (λ (id : List ℕ). shown_gx (view (holding_of (map operation_of operations.now)).facts) (gx id)) named.now) }
+    ensures { IfOk result (λ sessions.
+        map gx_session_value sessions.items ≡ map (shown_by operations.now) named.now) }
 {
     let mut sessions = Vec::new(alloc);
     for session in named {
@@ -113,8 +105,8 @@ pub(crate) fn sessions_of(
 }
 
 /// The session with this Session-Id, as operations show it.
-fn session_of(session: SessionId, operations: &[Operation]) -> Result<GxSession, AllocError>
-    ensures { IfOk result (λ shown. gx_value shown ≡ shown_gx (view (holding_of (map operation_of operations.now)).facts) (gx session)) }
+fn session_of(session: SessionId, operations: &[GxOperation]) -> Result<GxSession, AllocError>
+    ensures { IfOk result (λ shown. gx_session_value shown ≡ shown_by operations.now session) }
 {
     let mut shown = GxSession::start(session);
     for operation in operations {

@@ -1,12 +1,13 @@
 //! A world of sites, which serve requests, make letters and take them.
-ghost use Rattle.std.specs.Prelude.{◌≡◌, slice_get, IfOk};
+ghost use Rattle.std.specs.Prelude.{◌≡◌, length, slice_get, IfOk};
 ghost use Rattle.std.specs.Option.{option_copied};
 
-use crate::operation::Operation;
-use crate::request::{Reply, Request};
+use crate::operation::GxOperation;
 use crate::site::PlainSite;
+use pcrf_wire::{Reply, Request};
 use std::alloc::{AllocError, Global};
 use std::marker::Model;
+use thiserror::Error;
 
 /// What may happen next. Sites are named by their numbers, and letters by theirs, both from 0.
 #[derive(Drop)]
@@ -21,7 +22,7 @@ pub enum WorldEvent {
 
 /// What an event gave.
 #[derive(Clone, Copy, Debug, PartialEq, Eq)]
-pub enum Outcome {
+pub enum WorldOutcome {
     /// The site's reply.
     Replied(Reply),
     /// The number of the new letter.
@@ -31,13 +32,14 @@ pub enum Outcome {
 }
 
 /// Why an event gave nothing.
-#[derive(Clone, Copy, Debug, PartialEq, Eq)]
+#[derive(Clone, Copy, Debug, PartialEq, Eq, Error)]
 pub enum WorldFault {
-    /// There is no site of that number.
+    #[error("there is no site of that number")]
     NoSuchSite,
-    /// There is no letter of that number.
+    #[error("there is no letter of that number")]
     NoSuchLetter,
     /// Memory ran out; of the letter's operations so many stand taken.
+    #[error("no memory, with {taken} operations of the letter taken")]
     NoMemory {
         /// How many operations stand taken.
         taken: usize,
@@ -47,15 +49,15 @@ pub enum WorldFault {
 /// What a site wrote for a peer.
 #[derive(Drop)]
 struct Letter {
-    operations: Vec<Operation>,
+    operations: Vec<GxOperation>,
 }
 
 impl Model for Letter {
     ghost use Rattle.std.specs.Prelude.{List, map};
-    ghost use Rattle.pcrf_model.specs.Operations.{Operation as Made};
+    ghost use Rattle.pcrf_model.specs.Operations.{Operation};
     ghost use Rattle.pcrf_world.specs.Operations.{operation_of};
 
-    ghost Value = { List Made };
+    ghost Value = { List Operation };
 
     ghost view = { λ l. map operation_of l.operations.items };
 }
@@ -77,16 +79,16 @@ impl Model for World {
 }
 
 impl World {
-    ghost use Rattle.pcrf_world.specs.Worlds.{start, Agree};
-    ghost use Rattle.pcrf_world.specs.Steps.{Gives, GivesAll, stepped, stepped_all};
+    ghost use Rattle.pcrf_world.specs.Worlds.{new_world, Agree};
+    ghost use Rattle.pcrf_world.specs.Steps.{MayGive, MayGiveAll, world_after, world_after_all};
 
     /// Sites 0 to n - 1, each of which took nothing, and no letter.
     pub fn start(alloc: Global, n: u8) -> Result<World, AllocError>
-        ensures { IfOk result (λ world. world ≡ start n) }
+        ensures { IfOk result (λ world. world ≡ new_world n) }
     {
         let mut sites = Vec::new(alloc);
         for number in 0..n {
-            sites.push(PlainSite::start(alloc, number))?;
+            sites.push(PlainSite::start(alloc, number)?)?;
         }
         Ok(World {
             alloc,
@@ -103,20 +105,22 @@ impl World {
     }
 
     /// Makes one event happen.
-    pub fn step(&mut self, event: &WorldEvent) -> Result<Outcome, WorldFault>
-        ensures answer { Gives self.old event.now result }
-        ensures after { self.new ≡ stepped self.old event.now result }
+    pub fn step(&mut self, event: &WorldEvent) -> Result<WorldOutcome, WorldFault>
+        ensures answer { MayGive self.old event.now result }
+        ensures after { self.new ≡ world_after self.old event.now result }
+        ensures sites { length self.new.sites ≡ length self.old.sites }
     {
         match event {
-            WorldEvent::Serve(i, request) => self.serve(*i, request),
-            WorldEvent::Letter(i, j) => self.letter(*i, *j),
-            WorldEvent::Merge(j, k) => self.merge(*j, *k),
+            WorldEvent::Serve(i, request) => self.reply_at(*i, request),
+            WorldEvent::Letter(i, j) => self.make_letter(*i, *j),
+            WorldEvent::Merge(j, k) => self.take_letter(*j, *k),
         }
     }
 
-    fn serve(&mut self, i: usize, request: &Request) -> Result<Outcome, WorldFault>
-        ensures answer { Gives self.old (WorldEvent.Serve i request.now) result }
-        ensures after { self.new ≡ stepped self.old (WorldEvent.Serve i request.now) result }
+    /// Has a site reply to a request.
+    fn reply_at(&mut self, i: usize, request: &Request) -> Result<WorldOutcome, WorldFault>
+        ensures answer { MayGive self.old (WorldEvent.Serve i request.now) result }
+        ensures after { self.new ≡ world_after self.old (WorldEvent.Serve i request.now) result }
     {
         if i >= self.sites.len() {
             return Err(WorldFault::NoSuchSite);
@@ -125,29 +129,31 @@ impl World {
         let Ok(reply) = site.serve(request) else {
             return Err(WorldFault::NoMemory { taken: 0 });
         };
-        Ok(Outcome::Replied(reply))
+        Ok(WorldOutcome::Replied(reply))
     }
 
-    fn letter(&mut self, i: usize, j: usize) -> Result<Outcome, WorldFault>
-        ensures answer { Gives self.old (WorldEvent.Letter i j) result }
-        ensures after { self.new ≡ stepped self.old (WorldEvent.Letter i j) result }
+    /// Has the first site make a letter for the second.
+    fn make_letter(&mut self, i: usize, j: usize) -> Result<WorldOutcome, WorldFault>
+        ensures answer { MayGive self.old (WorldEvent.Letter i j) result }
+        ensures after { self.new ≡ world_after self.old (WorldEvent.Letter i j) result }
     {
         if i >= self.sites.len() || j >= self.sites.len() {
             return Err(WorldFault::NoSuchSite);
         }
         let k = self.letters.len();
-        let Ok(operations) = self.sites[i].own() else {
+        let Ok(operations) = self.sites[i].copy_of_log() else {
             return Err(WorldFault::NoMemory { taken: 0 });
         };
         match self.letters.push(Letter { operations }) {
-            Ok(()) => Ok(Outcome::Lettered(k)),
+            Ok(()) => Ok(WorldOutcome::Lettered(k)),
             Err(_) => Err(WorldFault::NoMemory { taken: 0 }),
         }
     }
 
-    fn merge(&mut self, j: usize, k: usize) -> Result<Outcome, WorldFault>
-        ensures answer { Gives self.old (WorldEvent.Merge j k) result }
-        ensures after { self.new ≡ stepped self.old (WorldEvent.Merge j k) result }
+    /// Has a site take a letter.
+    fn take_letter(&mut self, j: usize, k: usize) -> Result<WorldOutcome, WorldFault>
+        ensures answer { MayGive self.old (WorldEvent.Merge j k) result }
+        ensures after { self.new ≡ world_after self.old (WorldEvent.Merge j k) result }
     {
         if j >= self.sites.len() {
             return Err(WorldFault::NoSuchSite);
@@ -158,7 +164,7 @@ impl World {
         let letter = &self.letters[k];
         let site = &mut self.sites[j];
         match site.take_all(letter.operations.as_slice()) {
-            Ok(()) => Ok(Outcome::Merged),
+            Ok(()) => Ok(WorldOutcome::Merged),
             Err((taken, _)) => Err(WorldFault::NoMemory { taken }),
         }
     }
@@ -168,11 +174,12 @@ impl World {
         alloc: Global,
         n: u8,
         events: &[WorldEvent],
-    ) -> Result<(World, Vec<Result<Outcome, WorldFault>>), AllocError>
+    ) -> Result<(World, Vec<Result<WorldOutcome, WorldFault>>), AllocError>
         // Each answer is one that the definitions give on what the sites took.
-        ensures answers { IfOk result (λ r. GivesAll (start n) events.now r.1.items) }
+        ensures answers { IfOk result (λ r. MayGiveAll (new_world n) events.now r.1.items) }
         // Each site took what the events and the answers say.
-        ensures taken { IfOk result (λ r. r.0 ≡ stepped_all (start n) events.now r.1.items) }
+        ensures taken { IfOk result (λ r.
+            r.0 ≡ world_after_all (new_world n) events.now r.1.items) }
         // Any two sites that took the same operations hold the same.
         ensures same { IfOk result (λ r. Agree r.0) }
     {

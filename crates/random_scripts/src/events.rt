@@ -2,6 +2,7 @@
 use crate::messages::request_bytes;
 use std::alloc::{AllocError, Global};
 use std::fmt::Write as _;
+use test_messages::put_hexadecimal;
 
 /// The CC-Request-Type of a request.
 #[derive(Clone, Copy, PartialEq, Eq)]
@@ -81,12 +82,4 @@ fn put_line(alloc: Global, text: &mut String, event: &Event) -> Result<(), Alloc
         Event::Merge(j, k) => writeln!(text, "merge {j} {k}"),
         Event::Show(i) => writeln!(text, "show {i}"),
     }
-}
-
-/// Writes two small digits for each byte.
-pub fn put_hexadecimal(text: &mut String, bytes: &[u8]) -> Result<(), AllocError> {
-    for byte in bytes {
-        write!(text, "{byte:02x}")?;
-    }
-    Ok(())
 }

@@ -1,9 +1,10 @@
 //! What a script has to print, by the model, and a count of what happened.
-use crate::events::{Event, Request, Script, put_hexadecimal};
+use crate::events::{Event, Request, Script};
 use crate::messages::answer_bytes;
 use crate::model::{Missing, Reply, Site, Tag, World};
 use std::alloc::{AllocError, Global};
 use std::fmt::Write as _;
+use test_messages::put_hexadecimal;
 
 /// How often things happened in scripts.
 #[derive(Clone, Copy, Debug, PartialEq, Eq, Default)]

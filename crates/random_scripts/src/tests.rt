@@ -2,7 +2,7 @@
 use crate::expected::{Counts, expected};
 use crate::generator::{Plan, script};
 use dia_codec::Counted;
-use pcrf_world::{ScriptEnd, run_script};
+use pcrf_script::{ScriptEnd, run_script};
 use std::alloc::{AllocError, Global};
 use std::process::Abort;
 use std::test::Fail;

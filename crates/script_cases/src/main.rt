@@ -1,11 +1,14 @@
 //! Runs the script of its standard input, on which the answers of a site are tested, message by message. The bytes of
-//! `stdout` come from a small encoder written apart from the program, from the tables of the profile.
+//! `stdout` come from an encoder written apart from the program, from the tables of the profile: `test_messages` gives
+//! the same for each form of answer.
 #![tactic(auto)]
 
 use dia_codec::Counted;
-use pcrf_world::{ScriptEnd, run_script};
+use pcrf_script::{ScriptEnd, run_script};
 use std::process::ExitCode;
 
+#[cfg(test)]
+mod stored;
 #[cfg(test)]
 mod tests;
 

@@ -1,6 +1,6 @@
 //! Scripts that end otherwise than by their end.
 use dia_codec::Counted;
-use pcrf_world::{ScriptEnd, run_script};
+use pcrf_script::{ScriptEnd, run_script};
 use std::alloc::{AllocError, Global};
 use std::test::Fail;
 

@@ -1,10 +1,11 @@
 use Rattle.std.proofs.Common.{◌≤◌, length, arith, ◌∙◌, ap}
 use Rattle.std.proofs.lemmas.List.{length-map}
 use Rattle.ranked.specs.Ascending.{ascending}
+use Rattle.ranked.specs.Sets.{if_any}
 use Rattle.ranked.proofs.Lengths.{length-ascending}
 use Rattle.pcrf_values.specs.Limits.{subscribers_limit}
 use Rattle.pcrf_values.specs.Subscribers.{subscriber_cmp}
-use Rattle.pcrf_values.proofs.Ranges.{unwrap_or-one_to}
+use Rattle.pcrf_values.proofs.Ranges.{one_to-if_any}
 use Rattle.dia_codec.specs.Spelling.{avp_views}
 use Rattle.dia_base.specs.Avps.{subscription_id}
 use Rattle.dia_base.specs.Rows.{values_of}
@@ -18,4 +19,4 @@ returns-clause-subscribers c =
     let within = granted_within subscription_row (avp_views c.args.avps.now) c.in_ok-given.ensures.accepted in
     let short : length (ascending subscriber_cmp c.in_ok-given.given.items) ≤ subscribers_limit =
     omega (arith, within, length-ascending subscriber_cmp c.in_ok-given.given.items, ap length named, length-map (values_of subscription_id (avp_views c.args.avps.now)) subscriber_of) in
-    rw (c.in_ok-set.ensures) (unwrap_or-one_to subscribers_limit (ascending subscriber_cmp c.in_ok-given.given.items) short ∙ ap (ascending subscriber_cmp) named)
+    c.in_ok-set.ensures ∙ one_to-if_any subscribers_limit (ascending subscriber_cmp c.in_ok-given.given.items) short ∙ ap (λ l. if_any (ascending subscriber_cmp l)) named

@@ -6,7 +6,7 @@ use Rattle.std.proofs.lemmas.List.{take_more, take_all}
 use Rattle.std.proofs.lemmas.Map.Text.{is_eq-slice_cmp}
 use Rattle.ranked.specs.Orders.{text_cmp}
 use Rattle.pcrf_world.specs.declared.shown.GxSession.{GxSession}
-use Rattle.pcrf_world.specs.GxSessions.{gx_value, with_told}
+use Rattle.pcrf_world.specs.GxSessions.{gx_session_value, with_told}
 use Rattle.pcrf_world.proofs.ShownSessions.{told_of, told_of-push, told_held}
 use Rattle.pcrf_world.proofs.shown.session_of.Goals as goal
 use Rattle.pcrf_world.proofs.shown.session_of.Goals.{then-eq+in_ok-tell, else-eq}
@@ -34,4 +34,4 @@ loop-operation-preserved c =
 pub returns : goal.returns
 returns c =
     let all : take c.loop-operation.operation-index c.args.operations.now ≡ c.args.operations.now = search (rules, take_all) in
-    ap gx_value c.loop-operation.invariant ∙ rw all (told_held c.args.session c.args.operations.now)
+    ap gx_session_value c.loop-operation.invariant ∙ rw all (told_held c.args.session c.args.operations.now)

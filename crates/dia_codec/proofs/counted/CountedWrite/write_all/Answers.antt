@@ -8,4 +8,5 @@ loop-taken-preserved g c = record {
   so_far = Appends-part _ _ _ _ _ _ c.loop-taken.invariant.so_far c.in_ok-taken.ensures.bytes;
   kept = search rules;
   calls = search rules;
+  ended = search rules;
 }

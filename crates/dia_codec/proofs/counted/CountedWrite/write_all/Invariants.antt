@@ -8,6 +8,7 @@ invariant-loop-taken g l = record {
   so_far : Appends (g.W.Write.contents l.initial.self.inner) (g.W.Write.contents l.self.inner) (take l.taken l.buf);
   kept : l.self.failed ≡ l.initial.self.failed;
   calls : l.self.calls ≡ l.initial.self.calls;
+  ended : l.self.ended ≡ l.initial.self.ended;
 }
 
 abbrev pub decreases-loop-taken : goal.decreases-loop-taken

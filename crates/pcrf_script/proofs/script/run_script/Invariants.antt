@@ -1,0 +1,17 @@
+use Rattle.std.proofs.Common.{◌≡◌, ◌≤◌, ◌+◌}
+use Rattle.pcrf_script.proofs.script.run_script.Given as goal
+
+-- no call has failed since the script began, and each turn has read once
+abbrev pub invariant-loop-byte : goal.invariant-loop-byte
+invariant-loop-byte g l = record {
+  calls : l._turn + 1 ≤ l.reader.calls;
+  read : l.reader.failed ≡ l.fn.reader.failed;
+  written : l.writer.failed ≡ l.fn.writer.failed;
+}
+
+abbrev pub invariant-loop-turn : goal.invariant-loop-turn
+invariant-loop-turn g l = record {
+  calls : l._turn ≤ l.reader.calls;
+  read : l.reader.failed ≡ l.fn.reader.failed;
+  written : l.writer.failed ≡ l.fn.writer.failed;
+}

@@ -1,0 +1,106 @@
+//! A message that a script gives to a site, and the site's answer.
+ghost use Rattle.std.specs.Prelude.{◌≡◌, ◌≤◌, ◌<◌, length, IfOk};
+ghost use Rattle.dia_codec.specs.Limits.{command_bound, header_bytes};
+ghost use Rattle.dia_codec.specs.Spelling.{IsFrame};
+
+use crate::lines::LineFault;
+use crate::printing::{put_answer, put_outcome};
+use dia_codec::{Assembler, FrameFault, Header};
+use pcrf_values::{Refusal, SessionId};
+use pcrf_wire::{Asked, Reply, Request, read_request, write_refusal, write_reply};
+use pcrf_world::{PlainSite, World, WorldEvent, WorldOutcome};
+use std::alloc::{AllocError, Global};
+
+/// The one message that the bytes are.
+pub(crate) fn one_frame(alloc: Global, bytes: &[u8]) -> Result<Vec<u8>, LineFault>
+    ensures same { IfOk result (λ frame. frame.items ≡ bytes.now) }
+    ensures frame { IfOk result (λ frame. IsFrame frame.items) }
+{
+    let mut assembler = Assembler::start(alloc);
+    match assembler.feed(bytes) {
+        Ok(()) => {}
+        Err(FrameFault::NoMemory) => return Err(LineFault::NoMemory),
+        Err(_) => return Err(LineFault::Bad),
+    }
+    match assembler.next() {
+        Ok(Some(frame)) if frame.len() == bytes.len() => Ok(frame),
+        Ok(_) => Err(LineFault::Bad),
+        Err(FrameFault::NoMemory) => Err(LineFault::NoMemory),
+        Err(_) => Err(LineFault::Bad),
+    }
+}
+
+/// Gives a message to a site, and prints its answer.
+pub(crate) fn put_message(
+    alloc: Global,
+    world: &mut World,
+    i: usize,
+    frame: &[u8],
+    out: &mut String,
+) -> Result<(), LineFault>
+    requires { header_bytes ≤ length frame.now }
+{
+    let Some(site) = world.site(i) else {
+        return Ok(out.push_str("refused NoSuchSite\n")?);
+    };
+    match read_request(alloc, frame)? {
+        Asked::Silent => Ok(out.push_str("no answer\n")?),
+        Asked::Refused(header, session, refusal) => {
+            Ok(put_refusal(alloc, site, &header, session.as_ref(), refusal, out)?)
+        }
+        Asked::Request(header, request) => { put_served(alloc, world, i, &header, request, out) }
+    }
+}
+
+/// Prints the answer to a request that could not be read.
+fn put_refusal(
+    alloc: Global,
+    site: &PlainSite,
+    header: &Header,
+    session: Option<&SessionId>,
+    refusal: Refusal,
+    out: &mut String,
+) -> Result<(), AllocError>
+    requires { header.now.command < command_bound }
+{
+    let bytes = write_refusal(alloc, site.identity(), header, session, refusal)?;
+    put_answer(out, bytes.as_slice())
+}
+
+/// Prints the answer to a request that was served.
+fn put_reply(
+    alloc: Global,
+    site: &PlainSite,
+    header: &Header,
+    request: &Request,
+    reply: &Reply,
+    out: &mut String,
+) -> Result<(), AllocError>
+    requires { header.now.command < command_bound }
+{
+    let bytes = write_reply(alloc, site.identity(), header, request, reply)?;
+    put_answer(out, bytes.as_slice())
+}
+
+/// Has a site serve a request, and prints its answer.
+fn put_served(
+    alloc: Global,
+    world: &mut World,
+    i: usize,
+    header: &Header,
+    request: Request,
+    out: &mut String,
+) -> Result<(), LineFault>
+    requires command { header.now.command < command_bound }
+    requires site { i < length world.old.sites }
+{
+    let event = WorldEvent::Serve(i, request);
+    let outcome = world.step(&event);
+    let Ok(WorldOutcome::Replied(reply)) = outcome else {
+        return Ok(put_outcome(out, outcome)?);
+    };
+    let (Some(site), WorldEvent::Serve(_, request)) = (world.site(i), &event) else {
+        unreachable!()
+    };
+    Ok(put_reply(alloc, site, header, request, &reply, out)?)
+}

@@ -1,0 +1,135 @@
+//! From the bytes of a message to the request that it asks to serve.
+ghost use Rattle.std.specs.Prelude.{◌≡◌, ◌≤◌, ◌<◌, [], length, None, IfOk, OnOk, IfErr, Ok};
+ghost use Rattle.dia_codec.specs.Limits.{header_bytes, command_bound};
+ghost use Rattle.dia_codec.specs.Reading.{avps_of};
+ghost use Rattle.dia_codec.specs.Spelling.{avp_views, message_view};
+ghost use Rattle.dia_base.specs.Rows.{IsFaultOf};
+ghost use Rattle.gx_profile.specs.Requests.{ccr_view, ccr_of};
+ghost use Rattle.pcrf_wire.specs.Asking.{HeaderFits, asked_value, fault_refusal, header_refusal, meaning_of_frame, meaning_of_request, message_refusal, session_among, session_if_cut};
+
+use crate::request::Request;
+use dia_base::codes::results::{
+    APPLICATION_UNSUPPORTED, COMMAND_UNSUPPORTED, INVALID_AVP_LENGTH, INVALID_HDR_BITS,
+    UNSUPPORTED_VERSION,
+};
+use dia_base::codes::{GX, RX, avps, commands};
+use dia_base::{ReadFault, base_key, first_with};
+use dia_codec::{
+    Avp, HEADER_BYTES, Header, Message, MsgFault, read_group, read_header, read_message_with,
+};
+use gx_profile::{Ccr, read_ccr};
+use pcrf_values::{Refusal, SessionId};
+use std::alloc::{AllocError, Global};
+
+/// What a frame asks for.
+#[derive(Drop)]
+pub enum Asked {
+    /// To serve a request that was read.
+    Request(Header, Request),
+    /// To be refused, with the Session-Id where one is known.
+    Refused(Header, Option<SessionId>, Refusal),
+    /// Nothing: an answer of the peer's.
+    Silent,
+}
+
+/// The first Session-Id among AVPs, unless it is empty or too long.
+fn session_among(alloc: Global, avps: &[Avp]) -> Result<Option<SessionId>, AllocError>
+    ensures { IfOk result (λ session. session ≡ session_among (avp_views avps.now)) }
+{
+    let Some(avp) = first_with(avps, base_key(avps::SESSION_ID)) else {
+        return Ok(None);
+    };
+    SessionId::read(alloc, avp.text())
+}
+
+/// The first Session-Id of a frame, if its AVPs can be cut, whatever its header says.
+fn session_if_cut(alloc: Global, bytes: &[u8]) -> Result<Option<SessionId>, AllocError>
+    ensures { IfOk result (λ session. session ≡ session_if_cut (avps_of bytes.now)) }
+{
+    match read_group(alloc, bytes) {
+        Ok(avps) => session_among(alloc, avps.as_slice()),
+        Err(MsgFault::NoMemory) => Err(AllocError),
+        Err(_) => Ok(None),
+    }
+}
+
+/// The refusal of a frame that is no message of this version, flags and AVP lengths (RFC 6733, 7.1.3 and 7.1.5).
+fn fault_refusal(fault: MsgFault) -> Refusal
+    ensures { result ≡ fault_refusal fault }
+{
+    match fault {
+        MsgFault::BadVersion => Refusal::base(UNSUPPORTED_VERSION),
+        MsgFault::BadFlags => Refusal::base(INVALID_HDR_BITS),
+        MsgFault::BadAvpLength | MsgFault::NotWhole | MsgFault::NoMemory => {
+            Refusal::base(INVALID_AVP_LENGTH)
+        }
+    }
+}
+
+/// The refusal of a message's application or command, None where it is served.
+fn header_refusal(header: &Header) -> Option<Refusal>
+    ensures { result ≡ header_refusal header.now }
+{
+    let application = header.application;
+    if application != 0 && application != GX && application != RX {
+        return Some(Refusal::base(APPLICATION_UNSUPPORTED));
+    }
+    if application == GX && header.command == commands::CREDIT_CONTROL {
+        return None;
+    }
+    Some(Refusal::base(COMMAND_UNSUPPORTED))
+}
+
+/// The request that a message asks to serve.
+fn read_body(alloc: Global, message: &Message) -> Result<Ccr, ReadFault>
+    ensures served { OnOk result (message_refusal (message_view message.now) ≡ None) }
+    ensures read { IfOk result (λ ccr. ccr_view ccr ≡ ccr_of (avp_views message.now.avps.items)) }
+    ensures refused { IfErr result (IsFaultOf (message_refusal (message_view message.now))) }
+{
+    if let Some(refusal) = header_refusal(&message.header) {
+        return Err(ReadFault::Refused(refusal));
+    }
+    read_ccr(alloc, message)
+}
+
+/// What a message asks for.
+fn asked_by(alloc: Global, message: &Message) -> Result<Asked, AllocError>
+    requires { message.now.header.command < command_bound }
+    ensures asked { IfOk result (λ asked.
+        asked_value asked ≡ meaning_of_request [] (Ok (message_view message.now))) }
+    ensures command { IfOk result HeaderFits }
+{
+    match read_body(alloc, message) {
+        Ok(ccr) => Ok(Asked::Request(message.header, Request::Ccr(ccr))),
+        Err(ReadFault::NoMemory) => Err(AllocError),
+        Err(ReadFault::Refused(refusal)) => {
+            let session = session_among(alloc, message.avps.as_slice())?;
+            Ok(Asked::Refused(message.header, session, refusal))
+        }
+    }
+}
+
+/// What a frame asks for: an answer of the peer's is passed over, whatever else is wrong with it; then the first of
+/// these refuses: the version, the flags, the lengths of the AVPs, the application, the command, the command's table.
+#[tactic(auto, unfolding(crate::specs::Asking::meaning_of_frame))]
+pub fn read_request(alloc: Global, frame: &[u8]) -> Result<Asked, AllocError>
+    requires { header_bytes ≤ length frame.now }
+    ensures asked { IfOk result (λ asked. asked_value asked ≡ meaning_of_frame frame.now) }
+    ensures command { IfOk result HeaderFits }
+{
+    let Some((first, rest)) = frame.split_first_chunk::<HEADER_BYTES>() else {
+        unreachable!()
+    };
+    let header = read_header(first);
+    if !header.flags.request {
+        return Ok(Asked::Silent);
+    }
+    match read_message_with(alloc, header, frame) {
+        Ok(message) => asked_by(alloc, &message),
+        Err(MsgFault::NoMemory) => Err(AllocError),
+        Err(fault) => {
+            let session = session_if_cut(alloc, rest)?;
+            Ok(Asked::Refused(header, session, fault_refusal(fault)))
+        }
+    }
+}

@@ -1,0 +1,14 @@
+//! An encoder of Diameter messages for tests (RFC 6733, sections 3 and 4), and of the answers of a site (TS 29.212,
+//! 5.6.3). It is written from the standards' tables and shares no code with the product, so that its bytes are a check
+//! on those that the product writes.
+//!
+//! A message is made from the inside: fill `Avps`, nest them by `Avps::group`, and put a `Head` before them by
+//! `message`. `put_hexadecimal` writes bytes as a script has them. `SiteAnswer` writes what a site has to answer, as the
+//! `answer` lines of a script's output give it: `script_cases` and `random_scripts` compare with it.
+#![tactic(auto)]
+
+mod answers;
+mod encoder;
+
+pub use answers::{Code, ServedRequest, SiteAnswer};
+pub use encoder::{Avps, GX, Head, TGPP, flag, message, put_hexadecimal};
