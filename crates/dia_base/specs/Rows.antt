@@ -160,6 +160,10 @@ abbrev pub IsFaultOf : Option Refusal → ReadFault → Type 0
 IsFaultOf refusal NoMemory = ⊤
 IsFaultOf expected (Refused refusal) = expected ≡ Some refusal
 
+-- a fault of what can't be cut into AVPs, whatever table would judge them
+abbrev pub IsFaultOfAnyGroup : List ℕ → ReadFault → Type 0
+IsFaultOfAnyGroup value fault = (rows : List Row) → IsFaultOf (grouped rows value) fault
+
 -- a row refuses AVPs with what the fault says, unless memory ran out
 abbrev pub FaultsWith : Row → List AvpValue → ReadFault → Type 0
 FaultsWith row avps fault = IsFaultOf (row_refusal row avps) fault

@@ -17,7 +17,7 @@ pub use identity::Identity;
 pub use origin::{Origin, read_origin};
 pub use pcrf_values::Refusal;
 pub use read_fault::ReadFault;
-pub use repeated::{FromValue, read_each};
+pub use repeated::{FromValue, read_avps, read_each};
 pub use rows::{
     base_key, count_of, first_with, optional_address, optional_apn, optional_number,
     optional_number_within, required_number, required_number_within, required_text, tgpp_key,

@@ -1,14 +1,27 @@
-//! AVPs that may stand several times in a request, each read by itself.
-ghost use Rattle.std.specs.Prelude.{◌≡◌, ℕ, List, None, map, OnOk, IfOk, IfErr};
+//! Groups of AVPs, and AVPs that may stand several times in a request, each read by itself.
+ghost use Rattle.std.specs.Prelude.{◌≡◌, ℕ, List, None, Some, map, OnOk, IfOk, IfErr};
+ghost use Rattle.dia_codec.specs.Reading.{avps_of};
 ghost use Rattle.dia_codec.specs.Spelling.{avp_views};
-ghost use Rattle.dia_base.specs.Rows.{Kind, values_of, repeated, Accepts, FaultsWith, IsFaultOf};
+ghost use Rattle.dia_base.specs.Rows.{Kind, values_of, repeated, Accepts, FaultsWith, IsFaultOf, IsFaultOfAnyGroup};
 
-use crate::codes::results::AVP_OCCURS_TOO_MANY_TIMES;
+use crate::codes::results::{AVP_OCCURS_TOO_MANY_TIMES, INVALID_AVP_LENGTH};
 use crate::read_fault::ReadFault;
 use crate::rows::count_of;
-use dia_codec::{Avp, AvpKey};
+use dia_codec::{Avp, AvpKey, MsgFault, read_group};
 use pcrf_values::Refusal;
 use std::alloc::Global;
+
+/// Reads the AVPs of a group (Grouped, RFC 6733, 4.4).
+pub fn read_avps(alloc: Global, value: &[u8]) -> Result<Vec<Avp>, ReadFault>
+    ensures avps { IfOk result (λ avps. avps_of value.now ≡ Some (avp_views avps.items)) }
+    ensures refused { IfErr result (IsFaultOfAnyGroup value.now) }
+{
+    match read_group(alloc, value) {
+        Ok(avps) => Ok(avps),
+        Err(MsgFault::NoMemory) => Err(ReadFault::NoMemory),
+        Err(_) => Err(ReadFault::Refused(Refusal::base(INVALID_AVP_LENGTH))),
+    }
+}
 
 /// What the value of an AVP is read as.
 pub trait FromValue: Sized + Drop {

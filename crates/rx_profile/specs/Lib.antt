@@ -1,2 +1,7 @@
 pub mod Answers
+pub mod Avps
+pub mod Limits
+pub mod Media
+pub mod Numbers
 pub mod Terminations
+pub mod Values

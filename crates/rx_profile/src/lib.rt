@@ -3,7 +3,10 @@
 #![tactic(auto)]
 
 mod answer;
+mod codes;
+mod media;
 mod termination;
 
 pub use answer::{write_aaa, write_sta};
+pub use media::{ComponentParts, FlowParts, FlowUsage, MediaStatus, Rates};
 pub use termination::{Str, read_str};

@@ -1,0 +1,170 @@
+//! What a media component and a flow say besides their flows and filters (TS 29.214, 5.3).
+ghost use Rattle.std.specs.Prelude.{◌≡◌, ◌<◌, ◌≤◌, OnOk, IfOk, IfErr, IfSome, IfNone, Some, option_map};
+ghost use Rattle.dia_codec.specs.Spelling.{avp_views};
+ghost use Rattle.dia_base.specs.Rows.{Accepts, AcceptsAll, RefusesWith, number_at, rows_refusal};
+ghost use Rattle.rx_profile.specs.Avps.{flow_status, flow_usage, max_requested_bandwidth_dl, max_requested_bandwidth_ul};
+ghost use Rattle.rx_profile.specs.Numbers.{flow_usage_number, media_status_number, rate_rows, status_row, usage_row};
+
+use crate::codes::avps::{
+    FLOW_STATUS, FLOW_USAGE, MAX_REQUESTED_BANDWIDTH_DL, MAX_REQUESTED_BANDWIDTH_UL,
+};
+use dia_base::{Refusal, optional_number, optional_number_within, tgpp_key};
+use dia_codec::Avp;
+use pcrf_values::FlowStatus;
+
+/// What a flow is used for (Flow-Usage, TS 29.214, 5.3.12).
+#[derive(Clone, Copy, Debug, PartialEq, Eq)]
+pub enum FlowUsage {
+    /// Nothing is said.
+    NoInformation,
+    /// The control of a stream of media (RTCP).
+    Rtcp,
+    /// Signalling between the subscriber and the application function.
+    AfSignalling,
+}
+
+impl FlowUsage {
+    /// The usage that has a number.
+    pub fn from_number(number: u32) -> Option<FlowUsage>
+        ensures known { IfSome result (λ usage. flow_usage_number usage ≡ number) }
+        ensures unknown { IfNone result (2 < number) }
+    {
+        match number {
+            0 => Some(FlowUsage::NoInformation),
+            1 => Some(FlowUsage::Rtcp),
+            2 => Some(FlowUsage::AfSignalling),
+            _ => None,
+        }
+    }
+
+    /// The number of the usage.
+    pub fn number(self) -> u32
+        ensures { result ≡ flow_usage_number self }
+    {
+        match self {
+            FlowUsage::NoInformation => 0,
+            FlowUsage::Rtcp => 1,
+            FlowUsage::AfSignalling => 2,
+        }
+    }
+}
+
+/// What an application function says of the directions of media or of a flow (Flow-Status, TS 29.214, 5.3.11).
+#[derive(Clone, Copy, Debug, PartialEq, Eq)]
+pub enum MediaStatus {
+    /// Which of them are open.
+    Open(FlowStatus),
+    /// The media or the flow is gone.
+    Removed,
+}
+
+impl MediaStatus {
+    /// The status that has a number.
+    pub fn from_number(number: u32) -> Option<MediaStatus>
+        ensures known { IfSome result (λ status. media_status_number status ≡ number) }
+        ensures unknown { IfNone result (4 < number) }
+    {
+        if number == MediaStatus::Removed.number() {
+            return Some(MediaStatus::Removed);
+        }
+        let Some(status) = FlowStatus::from_number(number) else {
+            return None;
+        };
+        Some(MediaStatus::Open(status))
+    }
+
+    /// The number of the status.
+    pub fn number(self) -> u32
+        ensures { result ≡ media_status_number self }
+    {
+        match self {
+            MediaStatus::Open(status) => status.number(),
+            MediaStatus::Removed => 4,
+        }
+    }
+}
+
+/// The greatest bit rates that an application function asks for, in bit/s (Max-Requested-Bandwidth-UL and -DL, TS 29.214,
+/// 5.3.15 and 5.3.14).
+#[derive(Clone, Copy, Debug, PartialEq, Eq)]
+pub struct Rates {
+    pub up: Option<u32>,
+    pub down: Option<u32>,
+}
+
+/// A flow but for its filters (Media-Sub-Component, TS 29.214, 5.3.18).
+#[derive(Clone, Copy, Debug, PartialEq, Eq)]
+pub struct FlowParts {
+    /// Flow-Number.
+    pub number: u32,
+    /// Flow-Usage.
+    pub usage: Option<FlowUsage>,
+    /// Flow-Status.
+    pub status: Option<MediaStatus>,
+    pub rates: Rates,
+}
+
+/// A media component but for its flows (Media-Component-Description, TS 29.214, 5.3.16).
+#[derive(Clone, Copy, Debug, PartialEq, Eq)]
+pub struct ComponentParts {
+    /// Media-Component-Number.
+    pub number: u32,
+    /// Media-Type.
+    pub media_type: Option<u32>,
+    /// Flow-Status.
+    pub status: Option<MediaStatus>,
+    pub rates: Rates,
+}
+
+/// Reads the Flow-Status.
+pub fn read_status(avps: &[Avp]) -> Result<Option<MediaStatus>, Refusal>
+    ensures accepted { OnOk result (Accepts status_row (avp_views avps.now)) }
+    ensures status { IfOk result (λ status.
+        option_map media_status_number status ≡ number_at flow_status (avp_views avps.now)) }
+    ensures refused { IfErr result (RefusesWith status_row (avp_views avps.now)) }
+{
+    let first = FlowStatus::EnabledUplink.number();
+    let last = MediaStatus::Removed.number();
+    let given = optional_number_within(avps, tgpp_key(FLOW_STATUS), first, last)?;
+    let Some(number) = given else {
+        return Ok(None);
+    };
+    let Some(status) = MediaStatus::from_number(number) else {
+        unreachable!()
+    };
+    Ok(Some(status))
+}
+
+/// Reads the Flow-Usage.
+pub fn read_usage(avps: &[Avp]) -> Result<Option<FlowUsage>, Refusal>
+    ensures accepted { OnOk result (Accepts usage_row (avp_views avps.now)) }
+    ensures usage { IfOk result (λ usage.
+        option_map flow_usage_number usage ≡ number_at flow_usage (avp_views avps.now)) }
+    ensures refused { IfErr result (RefusesWith usage_row (avp_views avps.now)) }
+{
+    let first = FlowUsage::NoInformation.number();
+    let last = FlowUsage::AfSignalling.number();
+    let given = optional_number_within(avps, tgpp_key(FLOW_USAGE), first, last)?;
+    let Some(number) = given else {
+        return Ok(None);
+    };
+    let Some(usage) = FlowUsage::from_number(number) else {
+        unreachable!()
+    };
+    Ok(Some(usage))
+}
+
+/// Reads the bit rates, the one up first.
+pub fn read_rates(avps: &[Avp]) -> Result<Rates, Refusal>
+    ensures accepted { OnOk result (AcceptsAll rate_rows (avp_views avps.now)) }
+    ensures up { IfOk result (λ rates.
+        rates.up ≡ number_at max_requested_bandwidth_ul (avp_views avps.now)) }
+    ensures down { IfOk result (λ rates.
+        rates.down ≡ number_at max_requested_bandwidth_dl (avp_views avps.now)) }
+    ensures refused { IfErr result (λ refusal.
+        rows_refusal rate_rows (avp_views avps.now) ≡ Some refusal) }
+{
+    let up = optional_number(avps, tgpp_key(MAX_REQUESTED_BANDWIDTH_UL))?;
+    let down = optional_number(avps, tgpp_key(MAX_REQUESTED_BANDWIDTH_DL))?;
+    Ok(Rates { up, down })
+}
