@@ -9,6 +9,7 @@ use crate::read_fault::ReadFault;
 use crate::rows::count_of;
 use dia_codec::{Avp, AvpKey, MsgFault, read_group};
 use pcrf_values::Refusal;
+use ranked::{Listed, Text};
 use std::alloc::Global;
 
 /// Reads the AVPs of a group (Grouped, RFC 6733, 4.4).
@@ -59,4 +60,16 @@ pub fn read_each<V: FromValue>(
         }
     }
     Ok(each)
+}
+
+impl FromValue for Text {
+    ghost use Rattle.dia_base.specs.Rows.{octet_string};
+
+    ghost kind = { octet_string };
+
+    ghost of_value = { λ value. value };
+
+    fn from_value(alloc: Global, value: &[u8]) -> Result<Text, ReadFault> {
+        Ok(Listed::of(Vec::from_slice(alloc, value)?))
+    }
 }

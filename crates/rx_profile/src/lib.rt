@@ -5,6 +5,7 @@
 mod answer;
 mod codes;
 mod media;
+mod raw;
 mod termination;
 
 pub use answer::{write_aaa, write_sta};
