@@ -48,7 +48,7 @@ begins_as_filter text =
 
 -- what this project's profile takes as a filter
 abbrev pub is_filter : List ℕ → Bool
-is_filter text = begins_as_filter text && list_all is_printable text && nat_le (length text) filter_limit
+is_filter text = nat_le (length text) filter_limit && begins_as_filter text && list_all is_printable text
 
 abbrev pub filter_refusal : List ℕ → Option Refusal
 filter_refusal text = if is_filter text then None else Some filter_restrictions

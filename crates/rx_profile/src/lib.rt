@@ -4,10 +4,14 @@
 
 mod answer;
 mod codes;
+mod filter;
+mod judging;
 mod media;
+mod numbers;
 mod raw;
 mod termination;
 
 pub use answer::{write_aaa, write_sta};
+pub use filter::{PermitFilter, PermitFilters};
 pub use media::{ComponentParts, FlowParts, FlowUsage, MediaStatus, Rates};
 pub use termination::{Str, read_str};

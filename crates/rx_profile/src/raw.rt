@@ -10,6 +10,7 @@ use crate::codes::avps::{
     FLOW_DESCRIPTION, FLOW_NUMBER, MEDIA_COMPONENT_NUMBER, MEDIA_SUB_COMPONENT, MEDIA_TYPE,
 };
 use crate::media::{ComponentParts, FlowParts, read_rates, read_status, read_usage};
+use crate::numbers::Numbered;
 use dia_base::{
     FromValue, ReadFault, Refusal, optional_number, read_avps, read_each, required_number, tgpp_key,
 };
@@ -63,6 +64,22 @@ impl Model for RawComponent {
     ghost view = { λ c. component_value c.parts c.flows.items };
 
     ghost invariant = { λ c. length c.flows.items ≤ flows_limit };
+}
+
+impl Numbered for RawFlow {
+    ghost number_of = { λ f. f.number };
+
+    fn number(&self) -> u32 {
+        self.parts.number
+    }
+}
+
+impl Numbered for RawComponent {
+    ghost number_of = { λ c. c.number };
+
+    fn number(&self) -> u32 {
+        self.parts.number
+    }
 }
 
 /// Reads the AVPs of a flow.
