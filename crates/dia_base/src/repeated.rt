@@ -1,5 +1,5 @@
 //! Groups of AVPs, and AVPs that may stand several times in a request, each read by itself.
-ghost use Rattle.std.specs.Prelude.{◌≡◌, ℕ, List, None, Some, map, OnOk, IfOk, IfErr};
+ghost use Rattle.std.specs.Prelude.{◌≡◌, ℕ, List, None, Some, ◌≤◌, length, map, OnOk, IfOk, IfErr};
 ghost use Rattle.dia_codec.specs.Reading.{avps_of};
 ghost use Rattle.dia_codec.specs.Spelling.{avp_views};
 ghost use Rattle.dia_base.specs.Rows.{Kind, values_of, repeated, Accepts, FaultsWith, IsFaultOf, IsFaultOfAnyGroup};
@@ -48,6 +48,7 @@ pub fn read_each<V: FromValue>(
     ensures accepted { OnOk result (Accepts (repeated key most V.kind) (avp_views avps.now)) }
     ensures read { IfOk result (λ each.
         each.items ≡ map V.of_value (values_of key (avp_views avps.now))) }
+    ensures within { IfOk result (λ each. length each.items ≤ most) }
     ensures refused { IfErr result (FaultsWith (repeated key most V.kind) (avp_views avps.now)) }
 {
     if count_of(avps, key) > most {

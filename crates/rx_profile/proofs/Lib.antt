@@ -1,1 +1,3 @@
-mod Filters
+pub mod FilterLengths
+pub mod RefusedBehind
+pub mod ServiceFaults

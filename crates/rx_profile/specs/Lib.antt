@@ -3,6 +3,7 @@ pub mod Avps
 pub mod Limits
 pub mod Media
 pub mod Numbers
+pub mod Requests
 pub mod Services
 pub mod Terminations
 pub mod Values

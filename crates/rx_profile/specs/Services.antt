@@ -1,5 +1,5 @@
 -- What the components of a request have to keep among themselves (TS 29.214, 5.5), besides their rows.
-use Rattle.std.specs.Prelude.{ℕ, Bool, true, false, ◌&&◌, ◌||◌, ◌==◌, nat_le, nat_eq, if◌then◌else◌, codes, List, [], ◌∷◌, length, map, Option, Some, None, unwrap_or}
+use Rattle.std.specs.Prelude.{ℕ, Bool, false, ◌&&◌, ◌||◌, ◌==◌, nat_le, nat_eq, if◌then◌else◌, codes, List, [], ◌∷◌, length, map, Option, Some, None, unwrap_or}
 use Rattle.std.specs.List.{list_any, list_all, starts_with}
 use Rattle.pcrf_values.specs.Results.{invalid_service_information, filter_restrictions}
 use Rattle.pcrf_values.specs.declared.refusal.Refusal.{Refusal}

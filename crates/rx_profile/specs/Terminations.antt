@@ -1,5 +1,5 @@
 -- Session termination requests as they are read (TS 29.214, 5.6.4).
-use Rattle.std.specs.Prelude.{ℕ, List, [], ◌∷◌, ◌++◌}
+use Rattle.std.specs.Prelude.{List, ◌∷◌}
 use Rattle.dia_codec.specs.Fields.{AvpValue}
 use Rattle.pcrf_model.specs.Requests.{StrValue}
 use Rattle.dia_base.specs.Avps.{session_id, origin_host, origin_realm}

@@ -91,9 +91,7 @@ impl FromRaw<Text> for PermitFilter {
 
     fn from_raw(_alloc: Global, raw: Text) -> Result<PermitFilter, ReadFault> {
         if !is_filter(raw.as_slice()) {
-            return Err(ReadFault::Refused(Refusal::experimental(
-                FILTER_RESTRICTIONS,
-            )));
+            return Err(ReadFault::Refused(Refusal::experimental(FILTER_RESTRICTIONS)));
         }
         let Some(text) = FilterText::of(raw.into_vec()) else {
             unreachable!()

@@ -4,14 +4,18 @@
 
 mod answer;
 mod codes;
+mod component;
 mod filter;
 mod judging;
 mod media;
 mod numbers;
 mod raw;
+mod request;
 mod termination;
 
 pub use answer::{write_aaa, write_sta};
+pub use component::{Component, Components, Flow};
 pub use filter::{PermitFilter, PermitFilters};
 pub use media::{ComponentParts, FlowParts, FlowUsage, MediaStatus, Rates};
+pub use request::{Aar, read_aar};
 pub use termination::{Str, read_str};

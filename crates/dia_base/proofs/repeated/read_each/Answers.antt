@@ -1,5 +1,5 @@
-use Rattle.std.proofs.Common.{◌≡◌, ◌<◌, ◌≤◌, ◌++◌, ◌∷◌, [], ℕ, List, true, false, length, take, ap, ◌∙◌, arith, rules}
-use Rattle.std.proofs.lemmas.List.{take_all, map-append}
+use Rattle.std.proofs.Common.{◌≡◌, ◌<◌, ◌≤◌, ◌++◌, ◌∷◌, [], true, false, length, take, ap, ◌∙◌, arith, rules}
+use Rattle.std.proofs.lemmas.List.{take_all, map-append, length-map}
 use Rattle.std.proofs.lemmas.Result.{err_from_is_err_and}
 use Rattle.dia_codec.specs.Fields.{key_of}
 use Rattle.dia_codec.specs.Spelling.{avp_view, avp_views}
@@ -47,3 +47,10 @@ pub returns-clause-read : goal.returns-clause-read
 returns-clause-read g c =
     let all : take c.loop-avp.avp-index c.args.avps.now ≡ c.args.avps.now = search (rules, take_all) in
     rw all at c.loop-avp.invariant.read
+
+pub returns-clause-within : goal.returns-clause-within
+returns-clause-within g c =
+    let within : length (values_of c.args.key (avp_views c.args.avps.now)) ≤ c.args.most = search rules in
+    let all : take c.loop-avp.avp-index c.args.avps.now ≡ c.args.avps.now = search (rules, take_all) in
+    let values = values_of c.args.key (avp_views c.args.avps.now) in
+    omega (arith, within, ap length (rw all at c.loop-avp.invariant.read), length-map values g.V.FromValue.of_value)

@@ -1,4 +1,4 @@
-use Rattle.std.proofs.Common.{◌≡◌, ℕ, ◌==◌, map, take, false}
+use Rattle.std.proofs.Common.{◌≡◌, ◌==◌, map, take, false}
 use Rattle.std.specs.List.{list_any}
 use Rattle.rx_profile.proofs.numbers.has_number.Given as goal
 

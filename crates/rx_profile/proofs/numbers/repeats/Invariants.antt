@@ -1,4 +1,4 @@
-use Rattle.std.proofs.Common.{◌≡◌, ℕ, map, length}
+use Rattle.std.proofs.Common.{◌≡◌, map, length}
 use Rattle.rx_profile.specs.Services.{repeats}
 use Rattle.rx_profile.proofs.numbers.repeats.Given as goal
 

@@ -1,6 +1,6 @@
 use Rattle.std.proofs.Common.{◌≡◌, true, None, Some, rules, ◌∙◌, sym}
 use Rattle.rx_profile.specs.Services.{is_filter}
-use Rattle.rx_profile.proofs.Filters.{filter_fits}
+use Rattle.rx_profile.proofs.FilterLengths.{filter_fits}
 use Rattle.rx_profile.proofs.filter.PermitFilterFromRawText.from_raw.Goals as goal
 
 pub unreachable-requires : goal.unreachable-requires

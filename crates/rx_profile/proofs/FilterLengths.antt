@@ -1,5 +1,5 @@
 -- Filters as texts of a bounded length.
-use Rattle.std.proofs.Common.{◌≡◌, ℕ, Bool, true, false, nat_le, List, [], ◌∷◌, length, refl, Option, Some, arith}
+use Rattle.std.proofs.Common.{◌≡◌, ℕ, Bool, true, false, nat_le, List, [], ◌∷◌, length, refl, Some, arith}
 use Rattle.std.proofs.lemmas.Bool.Decides.{nat_tests}
 use Rattle.pcrf_values.specs.Texts.{one_to}
 use Rattle.rx_profile.specs.Limits.{filter_limit}

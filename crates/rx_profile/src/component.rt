@@ -1,0 +1,204 @@
+//! Media components and flows as a request describes them (TS 29.214, 5.3.16 and 5.3.18).
+ghost use Rattle.std.specs.Prelude.{◌≡◌, ◌≤◌, false, length, None, OnOk, IfOk, IfErr, option_copied};
+ghost use Rattle.dia_base.specs.Rows.{IsFaultOf};
+ghost use Rattle.rx_profile.specs.Limits.{components_limit, flows_limit};
+ghost use Rattle.rx_profile.specs.Services.{component_numbers, flow_numbers, repeats, services_refusal};
+ghost use Rattle.rx_profile.specs.Values.{component_value, flow_value};
+
+use crate::filter::{PermitFilter, PermitFilters};
+use crate::judging::{FromRaw, each_from};
+use crate::media::{ComponentParts, FlowParts};
+use crate::numbers::repeats;
+use crate::raw::{RawComponent, RawFlow};
+use dia_base::codes::results::INVALID_SERVICE_INFORMATION;
+use dia_base::{ReadFault, Refusal};
+use ranked::Text;
+use std::alloc::Global;
+use std::marker::Model;
+
+/// A flow (Media-Sub-Component, TS 29.214, 5.3.18), which contracts see as a `FlowValue`.
+#[derive(Drop)]
+pub struct Flow {
+    parts: FlowParts,
+    filters: Option<PermitFilters>,
+}
+
+impl Model for Flow {
+    ghost use Rattle.pcrf_model.specs.Requests.{FlowValue};
+    ghost use Rattle.rx_profile.specs.Values.{flow_value};
+
+    ghost Value = { FlowValue };
+
+    ghost view = { λ f. flow_value f.parts f.filters };
+}
+
+impl Flow {
+    /// The flow but for its filters.
+    pub fn parts(&self) -> FlowParts
+        ensures { flow_value result self.now.filters ≡ self.now }
+    {
+        self.parts
+    }
+
+    /// The filters, where any were given.
+    pub fn filters(&self) -> Option<&PermitFilters>
+        ensures { option_copied result ≡ self.now.filters }
+    {
+        self.filters.as_ref()
+    }
+}
+
+impl FromRaw<RawFlow> for Flow {
+    ghost use Rattle.rx_profile.specs.Services.{flow_filters_refusal};
+
+    ghost refusal_of = { flow_filters_refusal };
+
+    ghost of_raw = { λ flow. flow };
+
+    fn from_raw(alloc: Global, raw: RawFlow) -> Result<Flow, ReadFault> {
+        let RawFlow { parts, filters } = raw;
+        let filters = each_from::<Text, PermitFilter>(alloc, filters)?;
+        Ok(Flow {
+            parts,
+            filters: PermitFilters::of(filters),
+        })
+    }
+}
+
+/// A component whose flows have numbers that differ.
+#[derive(Drop)]
+struct NumberedComponent {
+    parts: ComponentParts,
+    flows: Vec<RawFlow>,
+}
+
+impl Model for NumberedComponent {
+    ghost use Rattle.std.specs.Prelude.{◌≡◌, ◌≤◌, false, length};
+    ghost use Rattle.pcrf_model.specs.Requests.{ComponentValue};
+    ghost use Rattle.rx_profile.specs.Limits.{flows_limit};
+    ghost use Rattle.rx_profile.specs.Services.{flow_numbers, repeats};
+    ghost use Rattle.rx_profile.specs.Values.{component_value};
+
+    ghost Value = { ComponentValue };
+
+    ghost view = { λ c. component_value c.parts c.flows.items };
+
+    ghost invariant = { λ c.
+        (repeats (flow_numbers c.flows.items) ≡ false) × (length c.flows.items ≤ flows_limit) };
+}
+
+impl FromRaw<RawComponent> for NumberedComponent {
+    ghost use Rattle.rx_profile.specs.Services.{flow_numbers_refusal};
+
+    ghost refusal_of = { flow_numbers_refusal };
+
+    ghost of_raw = { λ component. component };
+
+    fn from_raw(_alloc: Global, raw: RawComponent) -> Result<NumberedComponent, ReadFault> {
+        let RawComponent { parts, flows } = raw;
+        if repeats(&flows) {
+            return Err(ReadFault::Refused(Refusal::experimental(INVALID_SERVICE_INFORMATION)));
+        }
+        Ok(NumberedComponent { parts, flows })
+    }
+}
+
+/// A media component (Media-Component-Description, TS 29.214, 5.3.16), which contracts see as a `ComponentValue`.
+#[derive(Drop)]
+pub struct Component {
+    parts: ComponentParts,
+    flows: Vec<Flow>,
+}
+
+impl Model for Component {
+    ghost use Rattle.std.specs.Prelude.{◌≡◌, ◌≤◌, false, length};
+    ghost use Rattle.pcrf_model.specs.Requests.{ComponentValue};
+    ghost use Rattle.rx_profile.specs.Limits.{flows_limit};
+    ghost use Rattle.rx_profile.specs.Services.{flow_numbers, repeats};
+    ghost use Rattle.rx_profile.specs.Values.{component_value};
+
+    ghost Value = { ComponentValue };
+
+    ghost view = { λ c. component_value c.parts c.flows.items };
+
+    ghost invariant = { λ c.
+        (repeats (flow_numbers c.flows.items) ≡ false) × (length c.flows.items ≤ flows_limit) };
+}
+
+impl Component {
+    /// The component but for its flows.
+    pub fn parts(&self) -> ComponentParts
+        ensures { component_value result self.now.flows ≡ self.now }
+    {
+        self.parts
+    }
+
+    /// The flows, in the order of the request.
+    pub fn flows(&self) -> &[Flow]
+        ensures flows { result.now ≡ self.now.flows }
+        ensures apart { repeats (flow_numbers self.now.flows) ≡ false }
+        ensures within { length self.now.flows ≤ flows_limit }
+    {
+        self.flows.as_slice()
+    }
+}
+
+impl FromRaw<NumberedComponent> for Component {
+    ghost use Rattle.rx_profile.specs.Services.{filters_refusal};
+
+    ghost refusal_of = { filters_refusal };
+
+    ghost of_raw = { λ component. component };
+
+    fn from_raw(alloc: Global, raw: NumberedComponent) -> Result<Component, ReadFault> {
+        let NumberedComponent { parts, flows } = raw;
+        let flows = each_from::<RawFlow, Flow>(alloc, flows)?;
+        Ok(Component { parts, flows })
+    }
+}
+
+/// The components of a request, whose numbers differ, which contracts see as their list.
+#[derive(Drop)]
+pub struct Components {
+    list: Vec<Component>,
+}
+
+impl Model for Components {
+    ghost use Rattle.std.specs.Prelude.{◌≡◌, ◌≤◌, List, false, length};
+    ghost use Rattle.pcrf_model.specs.Requests.{ComponentValue};
+    ghost use Rattle.rx_profile.specs.Limits.{components_limit};
+    ghost use Rattle.rx_profile.specs.Services.{component_numbers, repeats};
+
+    ghost Value = { List ComponentValue };
+
+    ghost view = { λ c. c.list.items };
+
+    ghost invariant = { λ c. (repeats (component_numbers c.list.items) ≡ false)
+        × (length c.list.items ≤ components_limit) };
+}
+
+impl Components {
+    /// The components, in the order of the request.
+    pub fn as_slice(&self) -> &[Component]
+        ensures components { result.now ≡ self.now }
+        ensures apart { repeats (component_numbers self.now) ≡ false }
+        ensures within { length self.now ≤ components_limit }
+    {
+        self.list.as_slice()
+    }
+
+    /// The components that were read, judged among themselves: all numbers first, and then all filters.
+    pub fn judged(alloc: Global, raw: Vec<RawComponent>) -> Result<Components, ReadFault>
+        requires { length raw.items ≤ components_limit }
+        ensures accepted { OnOk result (services_refusal raw.items ≡ None) }
+        ensures components { IfOk result (λ components. components ≡ raw.items) }
+        ensures refused { IfErr result (IsFaultOf (services_refusal raw.items)) }
+    {
+        if repeats(&raw) {
+            return Err(ReadFault::Refused(Refusal::experimental(INVALID_SERVICE_INFORMATION)));
+        }
+        let numbered = each_from::<RawComponent, NumberedComponent>(alloc, raw)?;
+        let list = each_from::<NumberedComponent, Component>(alloc, numbered)?;
+        Ok(Components { list })
+    }
+}
