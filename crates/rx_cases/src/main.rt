@@ -1,0 +1,89 @@
+//! Reads the requests of its standard input and writes the answers that it asks for: the cases on which `rx_profile` is
+//! tested, line by line. What `stdout` has comes from the tables of the profile, not from the program.
+//!
+//! Lines that begin with `#` are written again. `aar WORDS` and `str WORDS` read a request of these AVPs (`notation`) and
+//! tell what was read or the refusal. `aaa CODE` and `sta CODE` write the answer with that Result-Code, `aaa tgpp CODE`
+//! that with an Experimental-Result-Code of 3GPP, in hexadecimal digits.
+#![tactic(auto)]
+
+mod answers;
+mod notation;
+mod told;
+
+use crate::answers::put_answer;
+use crate::notation::avps_of;
+use crate::told::{put_aar, put_fault, put_str};
+use dia_codec::{Message, read_message};
+use rx_profile::{read_aar, read_str};
+use std::alloc::{AllocError, Global};
+use std::io;
+use std::process::ExitCode;
+use test_messages::{Head, message};
+
+/// A request of Rx with a command, and the AVPs that the words say.
+fn request(alloc: Global, command: u32, words: &str) -> Result<Option<Message>, AllocError> {
+    let avps = avps_of(alloc, words)?;
+    let head = Head {
+        flags: 0xc0,
+        command,
+        application: 16_777_236,
+        hop_id: 5,
+        end_id: 6,
+    };
+    let bytes = message(alloc, &head, &avps)?;
+    Ok(read_message(alloc, bytes.as_slice()).ok())
+}
+
+/// What an AA request is read as.
+fn put_read_aar(alloc: Global, words: &str, out: &mut String) -> Result<(), AllocError> {
+    let Some(request) = request(alloc, 265, words)? else {
+        return out.push_str("no message");
+    };
+    match read_aar(alloc, &request) {
+        Ok(aar) => put_aar(out, &aar),
+        Err(fault) => put_fault(out, fault),
+    }
+}
+
+/// What a session termination request is read as.
+fn put_read_str(alloc: Global, words: &str, out: &mut String) -> Result<(), AllocError> {
+    let Some(request) = request(alloc, 275, words)? else {
+        return out.push_str("no message");
+    };
+    match read_str(alloc, &request) {
+        Ok(termination) => put_str(out, &termination),
+        Err(fault) => put_fault(out, fault),
+    }
+}
+
+/// What a line makes.
+fn line_of(alloc: Global, line: &str) -> Result<String, AllocError> {
+    let mut out = String::new(alloc);
+    if let Some(words) = line.strip_prefix("aar ") {
+        put_read_aar(alloc, words, &mut out)?;
+    } else if let Some(words) = line.strip_prefix("str ") {
+        put_read_str(alloc, words, &mut out)?;
+    } else if line.starts_with("aaa ") || line.starts_with("sta ") {
+        put_answer(alloc, line, &mut out)?;
+    } else {
+        out.push_str(line)?;
+    }
+    Ok(out)
+}
+
+/// Reads the lines, and writes what each makes.
+fn run(rt: &HostRuntime) -> io::Result<()> {
+    for line in rt.lines(rt.alloc()) {
+        let line = line?;
+        let out = line_of(rt.alloc(), line.as_str())?;
+        println!(rt; "{out}")?;
+    }
+    Ok(())
+}
+
+fn main(rt: HostRuntime) -> ExitCode {
+    match run(&rt) {
+        Ok(()) => ExitCode::SUCCESS,
+        Err(_) => ExitCode::FAILURE,
+    }
+}

@@ -1,0 +1,108 @@
+//! AVPs by words: `CODE=TEXT` with `_` for a space, `CODE:NUMBER`, `CODE*COUNT` for a filter of so many bytes,
+//! `CODE^BYTE` for a filter that ends with this byte, and `CODE(` and `)` round the AVPs of a group. Codes from 500 to 599
+//! are those of 3GPP.
+use std::alloc::{AllocError, Global};
+use test_messages::{Avps, TGPP};
+
+/// What a filter begins with.
+const FILTER: &[u8] = b"permit in ";
+
+/// A group that isn't ended yet, or the message itself.
+#[derive(Drop)]
+struct Level {
+    code: u32,
+    avps: Avps,
+}
+
+/// Puts an AVP, with the vendor of its code.
+fn put(avps: &mut Avps, code: u32, value: &[u8]) -> Result<(), AllocError> {
+    if code >= 500 && code < 600 {
+        return avps.vendor_text(code, TGPP, value);
+    }
+    avps.text(code, value)
+}
+
+/// A number.
+fn number(digits: &str) -> u32 {
+    digits.parse::<u32>().unwrap_or(0)
+}
+
+/// The bytes of a text, with spaces for `_`.
+fn spaced(alloc: Global, text: &str) -> Result<Vec<u8>, AllocError> {
+    let mut bytes = Vec::new(alloc);
+    for &byte in text.as_bytes() {
+        bytes.push(if byte == b'_' { b' ' } else { byte })?;
+    }
+    Ok(bytes)
+}
+
+/// A filter of so many bytes.
+fn long_filter(alloc: Global, count: u32) -> Result<Vec<u8>, AllocError> {
+    let mut bytes = Vec::from_slice(alloc, FILTER)?;
+    for _ in 10..count {
+        bytes.push(b'x')?;
+    }
+    Ok(bytes)
+}
+
+/// A filter that ends with a byte.
+fn ended_filter(alloc: Global, byte: u32) -> Result<Vec<u8>, AllocError> {
+    let mut bytes = Vec::from_slice(alloc, FILTER)?;
+    let [_, _, _, last] = byte.to_be_bytes();
+    bytes.push(last)?;
+    Ok(bytes)
+}
+
+/// Puts the AVP that a word says.
+fn put_word(alloc: Global, avps: &mut Avps, word: &str) -> Result<(), AllocError> {
+    if let Some((code, text)) = word.split_once('=') {
+        let value = spaced(alloc, text)?;
+        return put(avps, number(code), value.as_slice());
+    }
+    if let Some((code, count)) = word.split_once('*') {
+        let value = long_filter(alloc, number(count))?;
+        return put(avps, number(code), value.as_slice());
+    }
+    if let Some((code, byte)) = word.split_once('^') {
+        let value = ended_filter(alloc, number(byte))?;
+        return put(avps, number(code), value.as_slice());
+    }
+    let (code, digits) = word.split_once(':').unwrap_or((word, ""));
+    put(avps, number(code), &number(digits).to_be_bytes())
+}
+
+/// Ends the innermost group.
+fn end_group(levels: &mut Vec<Level>) -> Result<(), AllocError> {
+    let Some(inner) = levels.pop() else {
+        return Ok(());
+    };
+    if let Some(outer) = levels.last_mut() {
+        put(&mut outer.avps, inner.code, inner.avps.as_slice())?;
+    }
+    Ok(())
+}
+
+/// The AVPs that the words say.
+pub fn avps_of(alloc: Global, words: &str) -> Result<Avps, AllocError> {
+    let mut levels = Vec::new(alloc);
+    levels.push(Level {
+        code: 0,
+        avps: Avps::start(alloc),
+    })?;
+    for word in words.split(' ') {
+        if let Some(code) = word.strip_suffix("(") {
+            levels.push(Level {
+                code: number(code),
+                avps: Avps::start(alloc),
+            })?;
+        } else if word == ")" {
+            end_group(&mut levels)?;
+        } else if let Some(level) = levels.last_mut() {
+            put_word(alloc, &mut level.avps, word)?;
+        }
+    }
+    match levels.pop() {
+        Some(level) => Ok(level.avps),
+        None => Ok(Avps::start(alloc)),
+    }
+}
