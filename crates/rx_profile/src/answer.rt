@@ -1,6 +1,8 @@
 //! Answers to AA requests and session termination requests (TS 29.214, 5.6.2 and 5.6.5).
-ghost use Rattle.std.specs.Prelude.{◌≡◌, IfOk};
-ghost use Rattle.dia_codec.specs.Spelling.{message_view};
+ghost use Rattle.std.specs.Prelude.{◌≡◌, ◌∷◌, ◌++◌, [], IfOk};
+ghost use Rattle.dia_codec.specs.Spelling.{avp_views, message_view};
+ghost use Rattle.dia_base.specs.Answers.{answer_header, origin_avps, result_avp, text_avp};
+ghost use Rattle.dia_base.specs.Avps.{session_id};
 ghost use Rattle.rx_profile.specs.Answers.{aaa, sta};
 
 use dia_base::codes::{RX, avps};
@@ -8,6 +10,35 @@ use dia_base::{AvpWriter, Identity, Refusal, answer_header, put_origin, put_resu
 use dia_codec::{Header, Message};
 use pcrf_values::SessionId;
 use std::alloc::{AllocError, Global};
+
+/// An answer's AVPs, begun with the Session-Id (RFC 6733, 8.8).
+fn begun(alloc: Global, session: &SessionId) -> Result<AvpWriter, AllocError>
+    ensures { IfOk result (λ out. out ≡ text_avp session_id session.now ∷ []) }
+{
+    let mut out = AvpWriter::start(alloc);
+    out.text(avps::SESSION_ID, session.as_slice())?;
+    Ok(out)
+}
+
+/// The answer whose AVPs end with the origin and the result.
+fn ended(
+    alloc: Global,
+    identity: &Identity,
+    header: &Header,
+    refusal: Option<Refusal>,
+    mut out: AvpWriter,
+) -> Result<Message, AllocError>
+    ensures header { IfOk result (λ message. message.header ≡ answer_header header.now refusal) }
+    ensures avps { IfOk result (λ message. avp_views message.avps.items
+        ≡ out ++ origin_avps identity.now ++ result_avp refusal ∷ []) }
+{
+    put_origin(&mut out, identity)?;
+    put_result(alloc, &mut out, refusal)?;
+    Ok(Message {
+        header: answer_header(header, refusal),
+        avps: out.into_avps(),
+    })
+}
 
 /// The answer to an AA request that was read, of a session: what it is refused with, or success.
 #[tactic(auto, unfolding(crate::specs::Answers::aaa))]
@@ -21,15 +52,9 @@ pub fn write_aaa(
     ensures { IfOk result (λ message. message_view message ≡
         aaa identity.now header.now session.now refusal) }
 {
-    let mut out = AvpWriter::start(alloc);
-    out.text(avps::SESSION_ID, session.as_slice())?;
+    let mut out = begun(alloc, session)?;
     out.number(avps::AUTH_APPLICATION_ID, RX)?;
-    put_origin(&mut out, identity)?;
-    put_result(alloc, &mut out, refusal)?;
-    Ok(Message {
-        header: answer_header(header, refusal),
-        avps: out.into_avps(),
-    })
+    ended(alloc, identity, header, refusal, out)
 }
 
 /// The answer to a session termination request that was read, of a session: what it is refused with, or success.
@@ -44,12 +69,6 @@ pub fn write_sta(
     ensures { IfOk result (λ message. message_view message ≡
         sta identity.now header.now session.now refusal) }
 {
-    let mut out = AvpWriter::start(alloc);
-    out.text(avps::SESSION_ID, session.as_slice())?;
-    put_origin(&mut out, identity)?;
-    put_result(alloc, &mut out, refusal)?;
-    Ok(Message {
-        header: answer_header(header, refusal),
-        avps: out.into_avps(),
-    })
+    let out = begun(alloc, session)?;
+    ended(alloc, identity, header, refusal, out)
 }
