@@ -4,6 +4,8 @@ ghost use Rattle.dia_codec.specs.Spelling.{avp_views};
 ghost use Rattle.dia_base.specs.Rows.{Accepts, AcceptsAll, RefusesWith, number_at, rows_refusal};
 ghost use Rattle.rx_profile.specs.Avps.{flow_status, flow_usage, max_requested_bandwidth_dl, max_requested_bandwidth_ul};
 ghost use Rattle.rx_profile.specs.Numbers.{flow_usage_number, media_status_number, rate_rows, status_row, usage_row};
+ghost use Rattle.rx_profile.specs.declared.media.FlowUsage.TheVariants as usage;
+ghost use Rattle.rx_profile.specs.declared.media.MediaStatus.TheVariants as status;
 
 use crate::codes::avps::{
     FLOW_STATUS, FLOW_USAGE, MAX_REQUESTED_BANDWIDTH_DL, MAX_REQUESTED_BANDWIDTH_UL,
@@ -27,7 +29,7 @@ impl FlowUsage {
     /// The usage that has a number.
     pub fn from_number(number: u32) -> Option<FlowUsage>
         ensures known { IfSome result (λ usage. flow_usage_number usage ≡ number) }
-        ensures unknown { IfNone result (2 < number) }
+        ensures unknown { IfNone result (flow_usage_number usage.AfSignalling < number) }
     {
         match number {
             0 => Some(FlowUsage::NoInformation),
@@ -62,7 +64,7 @@ impl MediaStatus {
     /// The status that has a number.
     pub fn from_number(number: u32) -> Option<MediaStatus>
         ensures known { IfSome result (λ status. media_status_number status ≡ number) }
-        ensures unknown { IfNone result (4 < number) }
+        ensures unknown { IfNone result (media_status_number status.Removed < number) }
     {
         if number == MediaStatus::Removed.number() {
             return Some(MediaStatus::Removed);
