@@ -48,7 +48,7 @@ pub(crate) fn put_message(
         Asked::Refused(header, session, refusal) => {
             Ok(put_refusal(alloc, site, &header, session.as_ref(), refusal, out)?)
         }
-        Asked::Request(header, request) => { put_served(alloc, world, i, &header, request, out) }
+        Asked::Request(header, request) => put_served(alloc, world, i, &header, request, out),
     }
 }
 
