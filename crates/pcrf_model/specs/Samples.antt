@@ -51,6 +51,10 @@ imsi = (1, codes "001010000000001")
 abbrev pub e164 : Subscriber
 e164 = (0, codes "15550001")
 
+-- the same number, said to be of another type
+abbrev pub number_as_imsi : Subscriber
+number_as_imsi = (1, codes "15550001")
+
 -- 10.0.0.n
 abbrev pub host_address : ℕ → List ℕ
 host_address n = 10 ∷ 0 ∷ 0 ∷ n ∷ []
