@@ -35,10 +35,10 @@ operator = record {
   edition = 7;
   rtcp_bps = 5000;
   signalling = signalling_class;
-  media = record { media = 0; class = audio_class } ∷ [];
+  media = (0, audio_class) ∷ [];
   apns = Listed (
-      record { name = codes "ims"; default = Some ims_quality; rules = record { name = codes "sip"; class = sip_class; status = 2; filters = any_to_any ∷ [] } ∷ [] }
-      ∷ record { name = codes "net"; default = None; rules = [] } ∷ []);
+      (codes "ims", record { default = Some ims_quality; rules = record { name = codes "sip"; class = sip_class; status = 2; filters = any_to_any ∷ [] } ∷ [] })
+      ∷ (codes "net", record { default = None; rules = [] }) ∷ []);
 }
 
 -- ---- subscribers, addresses and sessions
