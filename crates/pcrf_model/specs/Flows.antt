@@ -9,7 +9,7 @@ use Rattle.pcrf_values.specs.RuleValues.{RuleValue}
 use Rattle.pcrf_model.specs.Sessions.{Session, session_cmp}
 use Rattle.pcrf_model.specs.Paths.{Step, Component, Flow, Part, FieldName, MediaType, FlowDescriptions, FlowUsage, FlowStatus, MaxRateUp, MaxRateDown, component_part, flow_part}
 use Rattle.pcrf_model.specs.Views.{View, Shown, value, number, as_filters}
-use Rattle.pcrf_model.specs.Tables.{Class, MediaRow, Tables, media_row}
+use Rattle.pcrf_model.specs.Tables.{Class, Tables, media_class}
 
 -- an AF session, a Media-Component-Number and a Flow-Number
 pub record FlowId : Type 0 where
@@ -65,7 +65,7 @@ media_type v i = unwrap_or (of_component v i MediaType) 0xFFFFFFFF
 
 -- the class of its service: that of signalling, or that of its media, if it has one
 abbrev pub class_of : Tables → View → FlowId → Option Class
-class_of t v i = cond (is_signalling v i) (Some t.signalling) (option_map (λ (r : MediaRow). r.class) (media_row t (media_type v i)))
+class_of t v i = cond (is_signalling v i) (Some t.signalling) (media_class t (media_type v i))
 
 -- the rate that requests gave it, by the field of its direction: its own, else, unless it is RTCP, its component's
 abbrev pub given_rate : View → FlowId → FieldName → Option ℕ

@@ -13,7 +13,7 @@ use Rattle.pcrf_model.specs.Holdings.{Holding}
 use Rattle.pcrf_model.specs.Views.{View, view}
 use Rattle.pcrf_model.specs.Live.{is_live}
 use Rattle.pcrf_model.specs.Bindings.{bind}
-use Rattle.pcrf_model.specs.Tables.{Tables, media_row, apn_row}
+use Rattle.pcrf_model.specs.Tables.{Tables, media_class, apn_row}
 use Rattle.pcrf_model.specs.Requests.{CcrValue, ComponentValue, AarValue, StrValue, BaseKind, CapabilitiesExchange, DeviceWatchdog, DisconnectPeer}
 use Rattle.pcrf_model.specs.Making.{is_removed, aar_facts, next_tag}
 
@@ -59,7 +59,7 @@ ccr_refusal t h q = first_cause (ccr_causes t h (view h.facts) q q.kind)
 
 -- a component that is not removed has a Media-Type without a row
 abbrev pub has_no_class : Tables → ComponentValue → Bool
-has_no_class t c = not (is_removed c.status) && unwrap_or (option_map (λ m. is_none (media_row t m)) c.media) false
+has_no_class t c = not (is_removed c.status) && unwrap_or (option_map (λ m. is_none (media_class t m)) c.media) false
 
 -- with the facts of the request added, its session is bound to none (TS 29.213, 5.2)
 abbrev pub binds_to_none : ℕ → Holding → AarValue → Bool

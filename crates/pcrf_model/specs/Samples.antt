@@ -35,10 +35,10 @@ operator = record {
   edition = 7;
   rtcp_bps = 5000;
   signalling = signalling_class;
-  media = record { media = 0; class = audio_class } ∷ [];
+  media = (0, audio_class) ∷ [];
   apns = Listed (
-      record { name = codes "ims"; default = Some ims_quality; rules = record { name = codes "sip"; class = sip_class; status = 2; filters = any_to_any ∷ [] } ∷ [] }
-      ∷ record { name = codes "net"; default = None; rules = [] } ∷ []);
+      (codes "ims", record { default = Some ims_quality; rules = record { name = codes "sip"; class = sip_class; status = 2; filters = any_to_any ∷ [] } ∷ [] })
+      ∷ (codes "net", record { default = None; rules = [] }) ∷ []);
 }
 
 -- ---- subscribers, addresses and sessions
@@ -50,6 +50,10 @@ imsi = (1, codes "001010000000001")
 -- the same subscriber by telephone number
 abbrev pub e164 : Subscriber
 e164 = (0, codes "15550001")
+
+-- the same number, said to be of another type
+abbrev pub number_as_imsi : Subscriber
+number_as_imsi = (1, codes "15550001")
 
 -- 10.0.0.n
 abbrev pub host_address : ℕ → List ℕ

@@ -1,5 +1,6 @@
 -- The operator tables (this project's profile): which class of service each kind of media has, and what each access point has.
 use Rattle.std.specs.Prelude.{ℕ, List, [], Option, Some, None, ◌==◌, find}
+use Rattle.std.proofs.Common.{option_map}
 use Rattle.std.specs.Ordering.{is_eq}
 use Rattle.ranked.specs.Orders.{text_cmp}
 
@@ -13,11 +14,6 @@ pub record Class : Type 0 where
   pub max_ul : ℕ
   pub max_dl : ℕ
   pub precedence : ℕ
-
--- the class of a Media-Type (TS 29.214, 5.3.19)
-pub record MediaRow : Type 0 where
-  pub media : ℕ
-  pub class : Class
 
 -- The default bearer's QCI and ARP, and the rates of the whole access point (Default-EPS-Bearer-QoS and APN-Aggregate-Max-Bitrate,
 -- TS 29.212, 5.3.48, 5.3.39 and 5.3.40), in bit/s.
@@ -36,23 +32,23 @@ pub record OperatorRule : Type 0 where
   pub status : ℕ
   pub filters : List (List ℕ)
 
--- an access point, by its name in small letters
+-- what an access point has
 pub record ApnRow : Type 0 where
-  pub name : List ℕ
   pub default : Option Quality
   pub rules : List OperatorRule
 
--- the access points: every name one with a name alone, or those that are listed
+-- the access points: every name one with a name alone, or those that are listed, by name in small letters
 pub data Apns : Type 0 where
   Every : Apns
-  Listed : List ApnRow → Apns
+  Listed : List (List ℕ × ApnRow) → Apns
 
--- the rate of an RTCP flow is in bit/s
+-- The rate of an RTCP flow is in bit/s. The classes of Media-Types (TS 29.214, 5.3.19) and the access points stand in key order, each
+-- key once; an access point's rules stand as its operator wrote them.
 pub record Tables : Type 0 where
   pub edition : ℕ
   pub rtcp_bps : ℕ
   pub signalling : Class
-  pub media : List MediaRow
+  pub media : List (ℕ × Class)
   pub apns : Apns
 
 -- a class that gives nothing
@@ -63,14 +59,14 @@ no_class = record { qci = 9; priority = 15; capability = 1; vulnerability = 0; m
 abbrev pub open_tables : Tables
 open_tables = record { edition = 0; rtcp_bps = 0; signalling = no_class; media = []; apns = Every }
 
--- the row of a Media-Type
-abbrev pub media_row : Tables → ℕ → Option MediaRow
-media_row t m = find (λ (r : MediaRow). r.media == m) t.media
+-- the class of a Media-Type
+abbrev pub media_class : Tables → ℕ → Option Class
+media_class t m = option_map (λ (r : ℕ × Class). r.1) (find (λ (r : ℕ × Class). r.0 == m) t.media)
 
 -- the row of that name
 abbrev pub row_among : Apns → List ℕ → Option ApnRow
-row_among Every name = Some (record { name = name; default = None; rules = [] })
-row_among (Listed rows) name = find (λ (r : ApnRow). is_eq (text_cmp r.name name)) rows
+row_among Every name = Some (record { default = None; rules = [] })
+row_among (Listed rows) name = option_map (λ (r : List ℕ × ApnRow). r.1) (find (λ (r : List ℕ × ApnRow). is_eq (text_cmp r.0 name)) rows)
 
 -- the row of an access point
 abbrev pub apn_row : Tables → List ℕ → Option ApnRow

@@ -19,7 +19,7 @@ ghost use Rattle.pcrf_model.specs.Tables.{open_tables};
 ghost use Rattle.pcrf_model.specs.Letters.{Range, Snapshot, Acknowledgement};
 ghost use Rattle.pcrf_model.specs.Worlds.{by_cursors, whole_log};
 ghost use Rattle.pcrf_model.specs.Letterbox.{letter, newer_epoch, range_at, cursor_after, cursor, exchanged, body_of, held_at, count_taken, restarted};
-ghost use Rattle.pcrf_model.specs.Samples.{operator, imsi, e164, first_session, second_session, call_session, host_address, initial, initial_to, without_access_point, without_address, without_subscriber, nobodys_address, other_media, capabilities, many_flows, update, termination, call, hang_up, call_asking, no_media, signalling_rule, audio, status_only, sip_rule, audio_rule, rtcp_rule, delta};
+ghost use Rattle.pcrf_model.specs.Samples.{operator, imsi, e164, number_as_imsi, first_session, second_session, call_session, host_address, initial, initial_to, without_access_point, without_address, without_subscriber, nobodys_address, other_media, capabilities, many_flows, update, termination, call, hang_up, call_asking, no_media, signalling_rule, audio, status_only, sip_rule, audio_rule, rtcp_rule, delta};
 ghost use Rattle.pcrf_model.specs.Scenes.{live_first, call_fields, empty_site, taking, first_counter, ended_under_call, answers, serves, pushes, pushed, seen, granted, rejected, push_of, no_push, count_installed, one, repeated, with_call, with_signalling, call_pushed, disabled, component_removed, described_again, two_sessions, bound_to_second, second_ended, equal_stamps, updated, updated_late, overshadowed, other, other_updated, ended_there, ended_and_told, moved, hung_up, first_after_hang_up, other_after_hang_up, call_elsewhere, call_alone, call_and_session, older_first, newer_first, at_the_end, many_rules, first_forty, all_fifty};
 
 /// An initial request is granted: it installs the operator's rule, with the default quality of service, and the session is live there.
@@ -237,12 +237,13 @@ pub fn letters_of_whole_logs_lead_to_the_same()
 /// A call is bound to a session of its address, its access point and one of its subscribers, as far as it names them.
 pub fn calls_bind_by_access_point_and_subscriber()
     ensures same { answers 0 one (call_asking (Some (codes "ims")) (Some (imsi ∷ []))) ≡ Done }
-    ensures one_of_them { answers 0 one (call_asking None (Some ((0, codes "4711") ∷ e164 ∷ []))) ≡ Done }
+    ensures one_of_them { answers 0 one (call_asking None (Some ((0, codes "4711") ∷ e164 ∷ [])))
+        ≡ Done }
     ensures other_access_point { answers 0 one (call_asking (Some (codes "net")) None)
         ≡ Refused session_not_available }
     ensures other_subscriber { answers 0 one (call_asking None (Some ((0, codes "4711") ∷ [])))
         ≡ Refused session_not_available }
-    ensures other_type { answers 0 one (call_asking None (Some ((1, codes "15550001") ∷ [])))
+    ensures other_type { answers 0 one (call_asking None (Some (number_as_imsi ∷ [])))
         ≡ Refused session_not_available }
 {}
 

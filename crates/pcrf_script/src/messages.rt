@@ -5,33 +5,45 @@ ghost use Rattle.dia_codec.specs.Spelling.{IsFrame};
 
 use crate::lines::LineFault;
 use crate::printing::{put_answer, put_outcome};
-use dia_codec::{Assembler, FrameFault, Header};
+use dia_codec::{FrameFault, Header, StreamEnd, frames_of};
 use pcrf_values::{Refusal, SessionId};
 use pcrf_wire::{Asked, Reply, Request, read_request, write_refusal, write_reply};
 use pcrf_world::{PlainSite, World, WorldEvent, WorldOutcome};
 use std::alloc::{AllocError, Global};
 
-/// The one message that the bytes are.
-pub(crate) fn one_frame(alloc: Global, bytes: &[u8]) -> Result<Vec<u8>, LineFault>
-    ensures same { IfOk result (λ frame. frame.items ≡ bytes.now) }
-    ensures frame { IfOk result (λ frame. IsFrame frame.items) }
-{
-    let mut assembler = Assembler::start(alloc);
-    match assembler.feed(bytes) {
-        Ok(()) => {}
-        Err(FrameFault::NoMemory) => return Err(LineFault::NoMemory),
-        Err(_) => return Err(LineFault::Bad),
+/// Gives a site the bytes of a stream: prints a line for each message, and one for what is left of the stream. An
+/// unknown site is told once, whatever the bytes.
+pub(crate) fn put_stream(
+    alloc: Global,
+    world: &mut World,
+    i: usize,
+    bytes: &[u8],
+    out: &mut String,
+) -> Result<(), LineFault> {
+    if world.site(i).is_none() {
+        return Ok(out.push_str("refused NoSuchSite\n")?);
     }
-    match assembler.next() {
-        Ok(Some(frame)) if frame.len() == bytes.len() => Ok(frame),
-        Ok(_) => Err(LineFault::Bad),
-        Err(FrameFault::NoMemory) => Err(LineFault::NoMemory),
-        Err(_) => Err(LineFault::Bad),
+    let stream = frames_of(alloc, &[bytes])?;
+    for frame in &stream.frames {
+        put_message(alloc, world, i, frame.as_slice(), out)?;
+    }
+    Ok(put_end(stream.end, out)?)
+}
+
+/// Prints what is left of a stream, if anything.
+fn put_end(end: StreamEnd, out: &mut String) -> Result<(), AllocError> {
+    match end {
+        StreamEnd::Whole => Ok(()),
+        StreamEnd::Cut => out.push_str("frame Cut\n"),
+        StreamEnd::Bad(FrameFault::ShortLength) => out.push_str("frame ShortLength\n"),
+        StreamEnd::Bad(FrameFault::OddLength) => out.push_str("frame OddLength\n"),
+        StreamEnd::Bad(FrameFault::TooLong) => out.push_str("frame TooLong\n"),
+        StreamEnd::Bad(FrameFault::NoMemory) => Err(AllocError),
     }
 }
 
 /// Gives a message to a site, and prints its answer.
-pub(crate) fn put_message(
+fn put_message(
     alloc: Global,
     world: &mut World,
     i: usize,
@@ -48,7 +60,7 @@ pub(crate) fn put_message(
         Asked::Refused(header, session, refusal) => {
             Ok(put_refusal(alloc, site, &header, session.as_ref(), refusal, out)?)
         }
-        Asked::Request(header, request) => { put_served(alloc, world, i, &header, request, out) }
+        Asked::Request(header, request) => put_served(alloc, world, i, &header, request, out),
     }
 }
 

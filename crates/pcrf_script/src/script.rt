@@ -3,7 +3,7 @@ ghost use Rattle.std.specs.Prelude.{◌≡◌, ◌≢◌, ◌≤◌, ◌⊎◌, 
 ghost use Rattle.pcrf_script.specs.Limits.{read_limit};
 
 use crate::lines::{Line, LineFault, read_line};
-use crate::messages::{one_frame, put_message};
+use crate::messages::put_stream;
 use crate::printing::{put_outcome, put_site};
 use dia_codec::Counted;
 use pcrf_world::{World, WorldEvent};
@@ -74,13 +74,12 @@ impl Script {
         Ok(writeln!(self.out, "sites {n}")?)
     }
 
-    /// Gives a message to a site.
+    /// Gives a site the bytes of a stream.
     fn give(&mut self, i: usize, bytes: &[u8]) -> Result<(), LineFault> {
         let Some(world) = &mut self.world else {
             return Err(LineFault::Bad);
         };
-        let frame = one_frame(self.alloc, bytes)?;
-        put_message(self.alloc, world, i, frame.as_slice(), &mut self.out)
+        put_stream(self.alloc, world, i, bytes, &mut self.out)
     }
 
     /// Has a letter made or taken.

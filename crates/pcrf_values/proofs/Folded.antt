@@ -3,6 +3,7 @@ use Rattle.std.proofs.Common.{◌≡◌, ℕ, ◌<◌, ◌≤◌, List, [], ◌�
 use Rattle.std.proofs.lemmas.Bool.Decides.{nat_tests}
 use Rattle.std.proofs.lemmas.List.{length-map}
 use Rattle.std.specs.Char.{to_ascii_lowercase}
+use Rattle.pcrf_values.specs.Limits.{apn_limit}
 use Rattle.pcrf_values.specs.Texts.{folded}
 
 -- a small letter stays
@@ -18,7 +19,7 @@ folded_twice (b ∷ bytes) =
     λ i. first i ∷ rest i
 
 -- folded bytes are an access point name where the bytes have its length
-pub folded_keeps : (bytes letters : List ℕ) → letters ≡ folded bytes → 0 < length bytes → length bytes ≤ 255 → (0 < length letters) × (length letters ≤ 255) × (folded letters ≡ letters)
+pub folded_keeps : (bytes letters : List ℕ) → letters ≡ folded bytes → 0 < length bytes → length bytes ≤ apn_limit → (0 < length letters) × (length letters ≤ apn_limit) × (folded letters ≡ letters)
 folded_keeps bytes letters is least most =
     let many = length-map bytes to_ascii_lowercase in
-    subst (λ l. (0 < length l) × (length l ≤ 255) × (folded l ≡ l)) (sym is) (subst (λ n. 0 < n) (sym many) least, subst (λ n. n ≤ 255) (sym many) most, folded_twice bytes)
+    subst (λ l. (0 < length l) × (length l ≤ apn_limit) × (folded l ≡ l)) (sym is) (subst (λ n. 0 < n) (sym many) least, subst (λ n. n ≤ apn_limit) (sym many) most, folded_twice bytes)

@@ -9,7 +9,7 @@ use Rattle.pcrf_values.specs.declared.rule.FlowStatus.TheVariants as flow
 use Rattle.pcrf_values.specs.declared.rule.Preemption.{Preemption}
 use Rattle.pcrf_values.specs.declared.rule.Preemption.TheVariants as preemption
 
--- Subscription-Id-Type (RFC 4006, 8.47)
+-- Subscription-Id-Type (RFC 8506, 8.47)
 abbrev pub subscription_number : SubscriptionType → ℕ
 subscription_number subscription.EndUserE164 = 0
 subscription_number subscription.EndUserImsi = 1

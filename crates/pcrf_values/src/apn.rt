@@ -1,10 +1,14 @@
 //! Access point names.
 ghost use Rattle.std.specs.Prelude.{◌≡◌, ◌<◌, ◌≤◌, length, IfOk};
+ghost use Rattle.pcrf_values.specs.Limits.{apn_limit};
 ghost use Rattle.pcrf_values.specs.Texts.{one_to, folded};
 
 use ranked::{Listed, Ranked, Text};
 use std::alloc::{AllocError, Global};
 use std::marker::Model;
+
+/// The most bytes of an access point name (TS 23.003, 9.1).
+const APN_LIMIT: usize = 255;
 
 /// An access point name in small letters, of 1 to 255 bytes (Called-Station-Id, TS 29.212; TS 23.003, 9.1).
 ///
@@ -16,6 +20,7 @@ pub struct Apn {
 
 impl Model for Apn {
     ghost use Rattle.std.specs.Prelude.{◌≡◌, ℕ, List, ◌<◌, ◌≤◌, length};
+    ghost use Rattle.pcrf_values.specs.Limits.{apn_limit};
     ghost use Rattle.pcrf_values.specs.Texts.{folded};
 
     ghost Value = { List ℕ };
@@ -24,15 +29,15 @@ impl Model for Apn {
 
     ghost inverse = { λ bytes. record { text = bytes } };
 
-    ghost invariant = { λ a. (0 < length a.text) × (length a.text ≤ 255) × (folded a.text ≡ a.text) };
+    ghost invariant = { λ a. (0 < length a.text) × (length a.text ≤ apn_limit) × (folded a.text ≡ a.text) };
 }
 
 impl Apn {
     /// The name of these bytes; `None` where there are none or more than 255 of them.
     pub fn folded(alloc: Global, bytes: &[u8]) -> Result<Option<Apn>, AllocError>
-        ensures { IfOk result (λ apn. apn ≡ one_to 255 (folded bytes.now)) }
+        ensures { IfOk result (λ apn. apn ≡ one_to apn_limit (folded bytes.now)) }
     {
-        if bytes.is_empty() || bytes.len() > 255 {
+        if bytes.is_empty() || bytes.len() > APN_LIMIT {
             return Ok(None);
         }
         let mut letters = Vec::with_capacity(alloc, bytes.len())?;
@@ -48,7 +53,7 @@ impl Apn {
     pub fn as_slice(&self) -> &[u8]
         ensures bytes { result.now ≡ self.now }
         ensures not_empty { 0 < length self.now }
-        ensures within { length self.now ≤ 255 }
+        ensures within { length self.now ≤ apn_limit }
         ensures small { folded self.now ≡ self.now }
     {
         self.text.as_slice()

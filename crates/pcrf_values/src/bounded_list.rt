@@ -21,7 +21,7 @@ pub type SessionId = BoundedText<512>;
 /// The name of a Diameter host or realm (RFC 6733, 4.3.1).
 pub type DiameterIdentity = BoundedText<255>;
 
-/// The number or name of a subscriber, as Subscription-Id-Data gives it (RFC 4006, 8.48).
+/// The number or name of a subscriber, as Subscription-Id-Data gives it (RFC 8506, 8.48).
 pub type SubscriptionData = BoundedText<255>;
 
 /// An IPFilterRule as it was given (RFC 6733, 4.3.1).

@@ -174,7 +174,8 @@ impl Rule {
         ensures class { result.class ≡ self.now.qci }
         ensures level { result.priority.level ≡ self.now.priority }
         ensures capability { preemption_number result.priority.capability ≡ self.now.capability }
-        ensures vulnerability { preemption_number result.priority.vulnerability ≡ self.now.vulnerability }
+        ensures vulnerability { preemption_number result.priority.vulnerability
+            ≡ self.now.vulnerability }
         ensures uplink { result.max_uplink ≡ self.now.max_ul }
         ensures downlink { result.max_downlink ≡ self.now.max_dl }
     {

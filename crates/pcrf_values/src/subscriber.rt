@@ -9,7 +9,7 @@ use std::alloc::AllocError;
 use std::cmp::Ordering;
 use std::marker::Model;
 
-/// What a subscriber is named by (Subscription-Id-Type, RFC 4006, 8.47).
+/// What a subscriber is named by (Subscription-Id-Type, RFC 8506, 8.47).
 #[derive(Clone, Copy, Debug, PartialEq, Eq, PartialOrd, Ord)]
 pub enum SubscriptionType {
     /// A telephone number (E.164).

@@ -1,6 +1,7 @@
 //! The subscribers of a session.
 ghost use Rattle.std.specs.Prelude.{◌≡◌, ◌<◌, ◌≤◌, length, IfOk};
 ghost use Rattle.ranked.specs.Ascending.{ascending};
+ghost use Rattle.pcrf_values.specs.Limits.{subscribers_limit};
 ghost use Rattle.pcrf_values.specs.Subscribers.{subscriber_cmp};
 ghost use Rattle.pcrf_values.specs.Texts.{one_to};
 
@@ -8,6 +9,9 @@ use crate::subscriber::Subscriber;
 use ranked::{Listed, Ranked, ascending_of};
 use std::alloc::{AllocError, Global};
 use std::marker::Model;
+
+/// How many subscribers a session may have; this project's own.
+const SUBSCRIBERS_LIMIT: usize = 16;
 
 /// A set of 1 to 16 subscribers, which contracts see as its one ascending list. Ordered as these lists, member by member, a prefix first.
 #[derive(Drop, PartialEq, Eq, PartialOrd, Ord)]
@@ -18,6 +22,7 @@ pub struct Subscribers {
 impl Model for Subscribers {
     ghost use Rattle.std.specs.Prelude.{◌≡◌, ℕ, List, ◌<◌, ◌≤◌, length};
     ghost use Rattle.ranked.specs.Ascending.{ascending};
+    ghost use Rattle.pcrf_values.specs.Limits.{subscribers_limit};
     ghost use Rattle.pcrf_values.specs.Subscribers.{subscriber_cmp};
 
     ghost Value = { List (ℕ × List ℕ) };
@@ -26,16 +31,16 @@ impl Model for Subscribers {
 
     ghost inverse = { λ list. record { list = list } };
 
-    ghost invariant = { λ s. (0 < length s.list) × (length s.list ≤ 16) × (ascending subscriber_cmp s.list ≡ s.list) };
+    ghost invariant = { λ s. (0 < length s.list) × (length s.list ≤ subscribers_limit) × (ascending subscriber_cmp s.list ≡ s.list) };
 }
 
 impl Subscribers {
     /// The set of these subscribers; `None` where there are none or more than 16 different ones.
     pub fn of(alloc: Global, given: Vec<Subscriber>) -> Result<Option<Subscribers>, AllocError>
-        ensures { IfOk result (λ set. set ≡ one_to 16 (ascending subscriber_cmp given.items)) }
+        ensures { IfOk result (λ set. set ≡ one_to subscribers_limit (ascending subscriber_cmp given.items)) }
     {
         let members = ascending_of(alloc, given)?;
-        if members.is_empty() || members.len() > 16 {
+        if members.is_empty() || members.len() > SUBSCRIBERS_LIMIT {
             return Ok(None);
         }
         Ok(Some(Subscribers {
@@ -47,7 +52,7 @@ impl Subscribers {
     pub fn as_slice(&self) -> &[Subscriber]
         ensures members { result.now ≡ self.now }
         ensures not_empty { 0 < length self.now }
-        ensures within { length self.now ≤ 16 }
+        ensures within { length self.now ≤ subscribers_limit }
         ensures ascending { ascending subscriber_cmp self.now ≡ self.now }
     {
         self.list.as_slice()

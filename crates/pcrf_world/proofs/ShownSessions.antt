@@ -31,7 +31,7 @@ use Rattle.ranked.proofs.Greatest.{greatest-map}
 use Rattle.pcrf_world.specs.declared.shown.GxSession.{GxSession}
 use Rattle.pcrf_world.specs.Operations.{GxOperationValue, operation_of, initial_request}
 use Rattle.pcrf_world.specs.Shown.{GxSessionValue, shown_session, shown_sessions}
-use Rattle.pcrf_world.specs.GxSessions.{gx_session_value, address_cmp, with_told}
+use Rattle.pcrf_world.specs.GxSessions.{gx_session_value, address_cmp, with_given}
 
 -- ---- the facts of operations, one after another
 abbrev given_by : GxOperationValue → List Fact
@@ -98,16 +98,16 @@ module _ (p : Path) (id : List ℕ) (what : GxOperationValue → Value) (one : (
   entries (o ∷ os) = one o (facts_of os) ∙ ap (cons_option (said what id o)) (entries os)
 
 -- ---- what a register holds of what was said
-abbrev pub told : {T : Type 0} → (T → T → Ordering) → (GxOperationValue → T) → List ℕ → List GxOperationValue → Option (Tag × T)
-told R what id os = greatest (by_tag R) (filter_map (said what id) os)
+abbrev pub said_at : {T : Type 0} → (T → T → Ordering) → (GxOperationValue → T) → List ℕ → List GxOperationValue → Option (Tag × T)
+said_at R what id os = greatest (by_tag R) (filter_map (said what id) os)
 
 module _ {T : Type 0} (R : T → T → Ordering) (what : GxOperationValue → T) (id : List ℕ) where
   -- one operation more
-  told-push : (os : List GxOperationValue) (o : GxOperationValue) → told R what id (os ++ o ∷ []) ≡ reg_joined R (told R what id os) (said what id o)
-  told-push os o = ap (greatest (by_tag R)) (filter_map-append (said what id) os (o ∷ [])) ∙ more (said what id o)
+  said_at-push : (os : List GxOperationValue) (o : GxOperationValue) → said_at R what id (os ++ o ∷ []) ≡ reg_joined R (said_at R what id os) (said what id o)
+  said_at-push os o = ap (greatest (by_tag R)) (filter_map-append (said what id) os (o ∷ [])) ∙ more (said what id o)
     where
-      more : (s : Option (Tag × T)) → greatest (by_tag R) (filter_map (said what id) os ++ cons_option s []) ≡ reg_joined R (told R what id os) s
-      more None = ap (greatest (by_tag R)) (append-nil (filter_map (said what id) os)) ∙ sym (joined_none R (told R what id os))
+      more : (s : Option (Tag × T)) → greatest (by_tag R) (filter_map (said what id) os ++ cons_option s []) ≡ reg_joined R (said_at R what id os) s
+      more None = ap (greatest (by_tag R)) (append-nil (filter_map (said what id) os)) ∙ sym (joined_none R (said_at R what id os))
       more (Some e) = greatest-push R (filter_map (said what id) os) e
 
   module _ (g : T → Value) (keeps : (x y : T) → value_cmp (g x) (g y) ≡ R x y) where
@@ -126,8 +126,8 @@ module _ {T : Type 0} (R : T → T → Ordering) (what : GxOperationValue → T)
         ]
 
     -- the greatest of what was said is what the register holds
-    greatest_told : (os : List GxOperationValue) → greatest entry_cmp (filter_map (said (λ q. g (what q)) id) os) ≡ option_map as_entry (told R what id os)
-    greatest_told os =
+    greatest_said : (os : List GxOperationValue) → greatest entry_cmp (filter_map (said (λ q. g (what q)) id) os) ≡ option_map as_entry (said_at R what id os)
+    greatest_said os =
         ap (greatest entry_cmp) (said_entries os)
         ∙ greatest-map (by_tag R) entry_cmp as_entry (λ x y. ap (ordering_then (tag_cmp x.0 y.0)) (keeps x.1 y.1)) (filter_map (said what id) os)
 
@@ -136,36 +136,36 @@ module _ {T : Type 0} (R : T → T → Ordering) (what : GxOperationValue → T)
 not_gone : (os : List GxOperationValue) (p : Path) → shown (facts_of os) p ≡ value_at (facts_of os) p
 not_gone os p = ap (λ (b : Bool). cond b None (value_at (facts_of os) p)) (none_gone (facts_of os) p (all_fields os))
 
-abbrev address_told : List ℕ → List GxOperationValue → Option (Tag × Ipv4Addr)
-address_told = told address_cmp (λ o. o.fields.address)
+abbrev address_said_at : List ℕ → List GxOperationValue → Option (Tag × Ipv4Addr)
+address_said_at = said_at address_cmp (λ o. o.fields.address)
 
-abbrev apn_told : List ℕ → List GxOperationValue → Option (Tag × List ℕ)
-apn_told = told text_cmp (λ o. o.fields.apn)
+abbrev apn_said_at : List ℕ → List GxOperationValue → Option (Tag × List ℕ)
+apn_said_at = said_at text_cmp (λ o. o.fields.apn)
 
-abbrev last_told : List ℕ → List GxOperationValue → Option (Tag × ℕ)
-last_told = told nat_cmp (λ o. 1)
+abbrev last_said_at : List ℕ → List GxOperationValue → Option (Tag × ℕ)
+last_said_at = said_at nat_cmp (λ o. 1)
 
 -- a session as operations tell of it
-abbrev pub told_of : List ℕ → List GxOperationValue → GxSession
-told_of id os = record { session = id; address = address_told id os; apn = apn_told id os; last = last_told id os }
+abbrev pub registers_of : List ℕ → List GxOperationValue → GxSession
+registers_of id os = record { session = id; address = address_said_at id os; apn = apn_said_at id os; last = last_said_at id os }
 
-address_shown : (id : List ℕ) (os : List GxOperationValue) → shown (facts_of os) (address (gx id)) ≡ option_map (λ (e : Tag × Ipv4Addr). (e.0, Address (ipv4_octets e.1))) (address_told id os)
+address_shown : (id : List ℕ) (os : List GxOperationValue) → shown (facts_of os) (address (gx id)) ≡ option_map (λ (e : Tag × Ipv4Addr). (e.0, Address (ipv4_octets e.1))) (address_said_at id os)
 address_shown id os =
     not_gone os (address (gx id))
     ∙ ap (greatest entry_cmp) (entries (address (gx id)) id (λ o. Address (ipv4_octets o.fields.address)) (address_said id) os)
-    ∙ greatest_told address_cmp (λ o. o.fields.address) id (λ a. Address (ipv4_octets a)) (λ x y. refl) os
+    ∙ greatest_said address_cmp (λ o. o.fields.address) id (λ a. Address (ipv4_octets a)) (λ x y. refl) os
 
-apn_shown : (id : List ℕ) (os : List GxOperationValue) → shown (facts_of os) (apn (gx id)) ≡ option_map (λ (e : Tag × List ℕ). (e.0, Text e.1)) (apn_told id os)
+apn_shown : (id : List ℕ) (os : List GxOperationValue) → shown (facts_of os) (apn (gx id)) ≡ option_map (λ (e : Tag × List ℕ). (e.0, Text e.1)) (apn_said_at id os)
 apn_shown id os =
     not_gone os (apn (gx id))
     ∙ ap (greatest entry_cmp) (entries (apn (gx id)) id (λ o. Text o.fields.apn) (apn_said id) os)
-    ∙ greatest_told text_cmp (λ o. o.fields.apn) id Text (λ x y. refl) os
+    ∙ greatest_said text_cmp (λ o. o.fields.apn) id Text (λ x y. refl) os
 
-last_shown : (id : List ℕ) (os : List GxOperationValue) → shown (facts_of os) (last (gx id)) ≡ option_map (λ (e : Tag × ℕ). (e.0, Number e.1)) (last_told id os)
+last_shown : (id : List ℕ) (os : List GxOperationValue) → shown (facts_of os) (last (gx id)) ≡ option_map (λ (e : Tag × ℕ). (e.0, Number e.1)) (last_said_at id os)
 last_shown id os =
     not_gone os (last (gx id))
     ∙ ap (greatest entry_cmp) (entries (last (gx id)) id (λ o. Number 1) (last_said id) os)
-    ∙ greatest_told nat_cmp (λ o. 1) id Number (λ x y. refl) os
+    ∙ greatest_said nat_cmp (λ o. 1) id Number (λ x y. refl) os
 
 -- read as an address, as a text, and by its tag
 address_read : (t : Option (Tag × Ipv4Addr)) → option_map (λ (e : Tag × Ipv4Addr). ipv4_octets e.1) t ≡ option_and_then as_address (option_map (λ (e : Entry). e.1) (option_map (λ (e : Tag × Ipv4Addr). (e.0, Address (ipv4_octets e.1))) t))
@@ -181,27 +181,27 @@ home_read None = refl
 home_read (Some e) = refl
 
 -- what the registers hold is what the facts show
-told_shown : (id : List ℕ) (os : List GxOperationValue) → gx_session_value (told_of id os) ≡ shown_session (view (facts_of os)) (gx id)
+registers_shown : (id : List ℕ) (os : List GxOperationValue) → gx_session_value (registers_of id os) ≡ shown_session (view (facts_of os)) (gx id)
 unfolding view
-told_shown id os =
-    let a = address_read (address_told id os) ∙ ap (λ (x : Option Entry). option_and_then as_address (option_map (λ (e : Entry). e.1) x)) (sym (address_shown id os)) in
-    let n = apn_read (apn_told id os) ∙ ap (λ (x : Option Entry). option_and_then as_text (option_map (λ (e : Entry). e.1) x)) (sym (apn_shown id os)) in
-    let h = home_read (last_told id os) ∙ ap (λ (x : Option Entry). option_map (λ (e : Entry). e.0.site) x) (sym (last_shown id os)) in
+registers_shown id os =
+    let a = address_read (address_said_at id os) ∙ ap (λ (x : Option Entry). option_and_then as_address (option_map (λ (e : Entry). e.1) x)) (sym (address_shown id os)) in
+    let n = apn_read (apn_said_at id os) ∙ ap (λ (x : Option Entry). option_and_then as_text (option_map (λ (e : Entry). e.1) x)) (sym (apn_shown id os)) in
+    let h = home_read (last_said_at id os) ∙ ap (λ (x : Option Entry). option_map (λ (e : Entry). e.0.site) x) (sym (last_shown id os)) in
     λ i. record { session = id; address = a i; apn = n i; home = h i }
 
-pub told_held : (id : List ℕ) (os : List GxOperationValue) → gx_session_value (told_of id os) ≡ shown_session (view (holding_of (map operation_of os)).facts) (gx id)
-told_held id os = told_shown id os ∙ ap (λ (v : View). shown_session v (gx id)) (sym (view_held os))
+pub registers_held : (id : List ℕ) (os : List GxOperationValue) → gx_session_value (registers_of id os) ≡ shown_session (view (holding_of (map operation_of os)).facts) (gx id)
+registers_held id os = registers_shown id os ∙ ap (λ (v : View). shown_session v (gx id)) (sym (view_held os))
 
 -- one operation more
 abbrev with_said : Ordering → GxSession → GxOperationValue → GxSession
-with_said c s o = cond (is_eq c) (with_told s o.tag o.fields) s
+with_said c s o = cond (is_eq c) (with_given s o.tag o.fields) s
 
-pub told_of-push : (id : List ℕ) (os : List GxOperationValue) (o : GxOperationValue) → told_of id (os ++ o ∷ []) ≡ with_said (text_cmp id o.session) (told_of id os) o
-told_of-push id os o =
-    let a = told-push address_cmp (λ q. q.fields.address) id os o in
-    let n = told-push text_cmp (λ q. q.fields.apn) id os o in
-    let l = told-push nat_cmp (λ q. 1) id os o in
-    (λ i. record { session = id; address = a i; apn = n i; last = l i }) ∙ elim (text_cmp id o.session) as (λ c. joined c ≡ with_said c (told_of id os) o) [
+pub registers_of-push : (id : List ℕ) (os : List GxOperationValue) (o : GxOperationValue) → registers_of id (os ++ o ∷ []) ≡ with_said (text_cmp id o.session) (registers_of id os) o
+registers_of-push id os o =
+    let a = said_at-push address_cmp (λ q. q.fields.address) id os o in
+    let n = said_at-push text_cmp (λ q. q.fields.apn) id os o in
+    let l = said_at-push nat_cmp (λ q. 1) id os o in
+    (λ i. record { session = id; address = a i; apn = n i; last = l i }) ∙ elim (text_cmp id o.session) as (λ c. joined c ≡ with_said c (registers_of id os) o) [
       | Less ↦ nothing
       | Equal ↦ refl
       | Greater ↦ nothing
@@ -210,17 +210,17 @@ told_of-push id os o =
     joined : Ordering → GxSession
     joined c = record {
       session = id;
-      address = reg_joined address_cmp (address_told id os) (said_if c (o.tag, o.fields.address));
-      apn = reg_joined text_cmp (apn_told id os) (said_if c (o.tag, o.fields.apn));
-      last = reg_joined nat_cmp (last_told id os) (said_if c (o.tag, 1));
+      address = reg_joined address_cmp (address_said_at id os) (said_if c (o.tag, o.fields.address));
+      apn = reg_joined text_cmp (apn_said_at id os) (said_if c (o.tag, o.fields.apn));
+      last = reg_joined nat_cmp (last_said_at id os) (said_if c (o.tag, 1));
     }
 
-    nothing : joined Less ≡ told_of id os
+    nothing : joined Less ≡ registers_of id os
     nothing = λ i. record {
       session = id;
-      address = joined_none address_cmp (address_told id os) i;
-      apn = joined_none text_cmp (apn_told id os) i;
-      last = joined_none nat_cmp (last_told id os) i;
+      address = joined_none address_cmp (address_said_at id os) i;
+      apn = joined_none text_cmp (apn_said_at id os) i;
+      last = joined_none nat_cmp (last_said_at id os) i;
     }
 
 -- ---- which sessions are shown

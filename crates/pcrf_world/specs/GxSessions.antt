@@ -28,7 +28,7 @@ gx_session_value s = record {
   home = option_map (λ (e : Tag × ℕ). e.0.site) s.last;
 }
 
--- a session of which nothing was told
+-- a session of which nothing is known
 abbrev pub untold : List ℕ → GxSession
 untold id = record { session = id; address = None; apn = None; last = None }
 
@@ -36,9 +36,9 @@ untold id = record { session = id; address = None; apn = None; last = None }
 abbrev pub address_cmp : Ipv4Addr → Ipv4Addr → Ordering
 address_cmp a b = slice_cmp nat_cmp (ipv4_octets a) (ipv4_octets b)
 
--- with what an initial request told of it
-abbrev pub with_told : GxSession → Tag → GxFields → GxSession
-with_told s t f = record s {
+-- with what an initial request says of it
+abbrev pub with_given : GxSession → Tag → GxFields → GxSession
+with_given s t f = record s {
   address = reg_joined address_cmp s.address (Some (t, f.address));
   apn = reg_joined text_cmp s.apn (Some (t, f.apn));
   last = reg_joined nat_cmp s.last (Some (t, request_kind_number Initial));

@@ -3,7 +3,7 @@ ghost use Rattle.std.specs.Prelude.{◌≡◌, map, IfOk, OnOk};
 ghost use Rattle.std.proofs.Common.{option_map};
 ghost use Rattle.std.specs.Option.{option_copied};
 ghost use Rattle.std.specs.Net.Addr.{ipv4_octets};
-ghost use Rattle.pcrf_world.specs.GxSessions.{gx_session_value, untold, with_told, sessions_named, shown_by};
+ghost use Rattle.pcrf_world.specs.GxSessions.{gx_session_value, untold, with_given, sessions_named, shown_by};
 
 use crate::operation::{GxFields, GxOperation};
 use lattice_core::Reg;
@@ -50,7 +50,7 @@ impl GxSession {
         Some(self.last.get()?.0.site)
     }
 
-    /// A session of which nothing was told.
+    /// A session of which nothing is known.
     fn start(session: SessionId) -> GxSession
         ensures { result ≡ untold session }
     {
@@ -62,9 +62,9 @@ impl GxSession {
         }
     }
 
-    /// Takes what an initial request told of the session.
+    /// Takes what an initial request says of the session.
     fn tell(&mut self, tag: Tag, fields: &GxFields) -> Result<(), AllocError>
-        ensures { OnOk result (self.new ≡ with_told self.old tag fields.now) }
+        ensures { OnOk result (self.new ≡ with_given self.old tag fields.now) }
     {
         let apn = fields.apn.try_copy()?;
         self.address.put(tag, fields.address);

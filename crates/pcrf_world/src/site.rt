@@ -33,9 +33,8 @@ pub struct PlainSite {
 }
 
 impl Model for PlainSite {
-    ghost use Rattle.std.specs.Prelude.{map};
+    ghost use Rattle.std.specs.Prelude.{◌≡◌, map};
     ghost use Rattle.pcrf_world.specs.Operations.{operation_of};
-    ghost use Rattle.std.specs.Prelude.{◌≡◌};
     ghost use Rattle.pcrf_world.specs.Identities.{identity_of};
     ghost use Rattle.pcrf_world.specs.Sites.{SiteValue};
 

@@ -15,4 +15,6 @@ mod messages;
 #[cfg(test)]
 mod model;
 #[cfg(test)]
+mod runs;
+#[cfg(test)]
 mod tests;

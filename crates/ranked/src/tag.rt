@@ -5,7 +5,7 @@ use std::alloc::AllocError;
 /// What ranks the values of one field: a number, then the counter of the operation, then the site that made it.
 #[derive(Clone, Copy, Debug, PartialEq, Eq, PartialOrd, Ord)]
 pub struct Tag {
-    /// The CC-Request-Number of the request that gave the value (RFC 4006, 8.2), 0 where it has none.
+    /// The CC-Request-Number of the request that gave the value (RFC 8506, 8.2), 0 where it has none.
     pub number: u32,
     /// The counter of the operation at its site.
     pub counter: u64,

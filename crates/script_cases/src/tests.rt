@@ -17,7 +17,7 @@ fn run(alloc: Global, script: &[u8]) -> Result<(ScriptEnd, Vec<u8>), AllocError>
 
 #[test]
 fn a_bad_line_stops_the_script(rt: HostRuntime) -> Result<(), Fail> {
-    let cases: [(&str, u64, &str); 26] = [
+    let cases: [(&str, u64, &str); 25] = [
         ("show 0\n", 1, ""),
         ("bogus\nsites 1\n", 1, ""),
         ("sites 0\n", 1, ""),
@@ -44,7 +44,6 @@ fn a_bad_line_stops_the_script(rt: HostRuntime) -> Result<(), Fail> {
         ("sites 1\nmsg 0 \n", 2, "sites 1\n"),
         ("sites 1\nmsg 0 0\n", 2, "sites 1\n"),
         ("sites 1\nmsg 0 0g\n", 2, "sites 1\n"),
-        ("sites 1\nmsg 0 01000016\n", 2, "sites 1\n"),
         ("sites 1\npush 0\n", 2, "sites 1\n"),
         ("sites 1\nrestart 0\n", 2, "sites 1\n"),
         ("sites 1\nack 0 0", 2, "sites 1\n"),
@@ -92,16 +91,5 @@ fn lines_have_at_most_so_many_bytes(rt: HostRuntime) -> Result<(), Fail> {
         run(rt.alloc(), longer.as_slice())?.0,
         ScriptEnd::BadLine(1)
     );
-    Ok(())
-}
-
-/// A message without its last byte is no message.
-#[test]
-fn a_message_is_exactly_one_frame(rt: HostRuntime) -> Result<(), Fail> {
-    let script =
-        b"sites 1\nmsg 0 0100001440000110010000160000000100000002\nmsg 0 01000014400001100100001600000001000000\n";
-    let (end, out) = run(rt.alloc(), script)?;
-    assert_eq!(rt; end, ScriptEnd::BadLine(3));
-    assert_eq!(rt; out.as_slice(), b"sites 1\nno answer\n".as_slice());
     Ok(())
 }
