@@ -9,7 +9,7 @@ use Rattle.pcrf_values.specs.declared.subscriber.SubscriptionType.TheVariants.{E
 use Rattle.dia_codec.specs.Fields.{AvpValue}
 use Rattle.dia_codec.specs.Reading.{avps_of}
 use Rattle.dia_base.specs.Avps.{subscription_id, subscription_id_data, subscription_id_type}
-use Rattle.dia_base.specs.Rows.{Row, Kind, required, enumerated, text_to, grouped, values_of, value_of, number_at}
+use Rattle.dia_base.specs.Rows.{Row, Kind, required, repeated, enumerated, text_to, grouped, values_of, value_of, number_at}
 
 -- Subscription-Id-Type, from END_USER_E164 to END_USER_PRIVATE
 abbrev pub subscription_type_row : Row
@@ -23,7 +23,7 @@ subscription =
 
 -- the row of the Subscription-Ids of a request
 abbrev pub subscription_row : Row
-subscription_row = record { key = subscription_id; least = 0; most = subscribers_limit; kind = subscription }
+subscription_row = repeated subscription_id subscribers_limit subscription
 
 -- the type and the data in a group
 abbrev pub subscriber_in : Option (List AvpValue) → ℕ × List ℕ

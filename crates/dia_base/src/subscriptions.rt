@@ -4,13 +4,13 @@ ghost use Rattle.dia_codec.specs.Spelling.{avp_views};
 ghost use Rattle.pcrf_values.specs.Numbers.{subscription_number};
 ghost use Rattle.dia_base.specs.Avps.{subscription_id_type};
 ghost use Rattle.dia_base.specs.Rows.{number_at, Accepts, RefusesWith, FaultsWith, IsFaultOf};
-ghost use Rattle.dia_base.specs.Subscriptions.{subscription, subscription_type_row, subscription_row, subscriber_of, named_subscribers, subscribers_of};
+ghost use Rattle.dia_base.specs.Subscriptions.{subscription, subscription_type_row, subscription_row, subscriber_of, subscribers_of};
 
 use crate::codes::avps::{SUBSCRIPTION_ID, SUBSCRIPTION_ID_DATA, SUBSCRIPTION_ID_TYPE};
-use crate::codes::results::{AVP_OCCURS_TOO_MANY_TIMES, INVALID_AVP_LENGTH};
 use crate::read_fault::ReadFault;
-use crate::rows::{base_key, count_of, required_number_within, required_text};
-use dia_codec::{Avp, MsgFault, read_group};
+use crate::repeated::{FromValue, read_avps, read_each};
+use crate::rows::{base_key, required_number_within, required_text};
+use dia_codec::Avp;
 use pcrf_values::{Refusal, Subscriber, Subscribers, SubscriptionType};
 use std::alloc::Global;
 
@@ -40,34 +40,20 @@ fn read_subscription(alloc: Global, value: &[u8]) -> Result<Subscriber, ReadFaul
     ensures subscriber { IfOk result (λ subscriber. subscriber ≡ subscriber_of value.now) }
     ensures refused { IfErr result (IsFaultOf (subscription value.now)) }
 {
-    let avps = match read_group(alloc, value) {
-        Ok(avps) => avps,
-        Err(MsgFault::NoMemory) => return Err(ReadFault::NoMemory),
-        Err(_) => return Err(ReadFault::Refused(Refusal::base(INVALID_AVP_LENGTH))),
-    };
+    let avps = read_avps(alloc, value)?;
     let kind = read_subscription_type(&avps)?;
     let data = required_text(alloc, &avps, base_key(SUBSCRIPTION_ID_DATA))?;
     Ok(Subscriber::of(kind, data))
 }
 
-/// Reads the subscribers that a request names, at most sixteen times, in the order in which they stand.
-fn read_subscriptions(alloc: Global, avps: &[Avp]) -> Result<Vec<Subscriber>, ReadFault>
-    ensures accepted { OnOk result (Accepts subscription_row (avp_views avps.now)) }
-    ensures subscribers { IfOk result (λ subscribers.
-        subscribers.items ≡ named_subscribers (avp_views avps.now)) }
-    ensures refused { IfErr result (FaultsWith subscription_row (avp_views avps.now)) }
-{
-    let key = base_key(SUBSCRIPTION_ID);
-    if count_of(avps, key) > MOST {
-        return Err(ReadFault::Refused(Refusal::base(AVP_OCCURS_TOO_MANY_TIMES)));
+impl FromValue for Subscriber {
+    ghost kind = { subscription };
+
+    ghost of_value = { subscriber_of };
+
+    fn from_value(alloc: Global, value: &[u8]) -> Result<Subscriber, ReadFault> {
+        read_subscription(alloc, value)
     }
-    let mut subscribers = Vec::new(alloc);
-    for avp in avps {
-        if avp.key() == key {
-            subscribers.push(read_subscription(alloc, avp.text())?)?;
-        }
-    }
-    Ok(subscribers)
 }
 
 /// Reads the subscribers that a request names, each once; None where it names none.
@@ -77,7 +63,8 @@ pub fn read_subscribers(alloc: Global, avps: &[Avp]) -> Result<Option<Subscriber
         subscribers ≡ subscribers_of (avp_views avps.now)) }
     ensures refused { IfErr result (FaultsWith subscription_row (avp_views avps.now)) }
 {
-    let given = read_subscriptions(alloc, avps)?;
+    let key = base_key(SUBSCRIPTION_ID);
+    let given = read_each::<Subscriber>(alloc, avps, key, MOST)?;
     let set = Subscribers::of(alloc, given)?;
     Ok(set)
 }

@@ -1,5 +1,4 @@
-use Rattle.std.proofs.Common.{◌≤◌, length, arith, ◌∙◌, ap}
-use Rattle.std.proofs.lemmas.List.{length-map}
+use Rattle.std.proofs.Common.{◌≡◌, ◌≤◌, length, arith, ◌∙◌, ap}
 use Rattle.ranked.specs.Ascending.{ascending}
 use Rattle.ranked.specs.Sets.{if_any}
 use Rattle.ranked.proofs.Lengths.{length-ascending}
@@ -7,16 +6,12 @@ use Rattle.pcrf_values.specs.Limits.{subscribers_limit}
 use Rattle.pcrf_values.specs.Subscribers.{subscriber_cmp}
 use Rattle.pcrf_values.proofs.Ranges.{one_to-if_any}
 use Rattle.dia_codec.specs.Spelling.{avp_views}
-use Rattle.dia_base.specs.Avps.{subscription_id}
-use Rattle.dia_base.specs.Rows.{values_of}
-use Rattle.dia_base.specs.Subscriptions.{subscription_row, subscriber_of}
-use Rattle.dia_base.proofs.Refusals.{granted_within}
+use Rattle.dia_base.specs.Subscriptions.{named_subscribers}
 use Rattle.dia_base.proofs.subscriptions.read_subscribers.Goals as goal
 
 pub returns-clause-subscribers : goal.returns-clause-subscribers
 returns-clause-subscribers c =
-    let named = c.in_ok-given.ensures.subscribers in
-    let within = granted_within subscription_row (avp_views c.args.avps.now) c.in_ok-given.ensures.accepted in
+    let named : c.in_ok-given.given.items ≡ named_subscribers (avp_views c.args.avps.now) = rw c.base_key-key.ensures at c.in_ok-given.ensures.read in
     let short : length (ascending subscriber_cmp c.in_ok-given.given.items) ≤ subscribers_limit =
-    omega (arith, within, length-ascending subscriber_cmp c.in_ok-given.given.items, ap length named, length-map (values_of subscription_id (avp_views c.args.avps.now)) subscriber_of) in
+    omega (arith, c.in_ok-given.ensures.within, length-ascending subscriber_cmp c.in_ok-given.given.items) in
     c.in_ok-set.ensures ∙ one_to-if_any subscribers_limit (ascending subscriber_cmp c.in_ok-given.given.items) short ∙ ap (λ l. if_any (ascending subscriber_cmp l)) named
