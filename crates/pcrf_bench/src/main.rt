@@ -5,6 +5,7 @@
 
 mod map;
 mod report;
+mod rx;
 
 use std::alloc::AllocGlobal;
 use std::env;
@@ -15,6 +16,8 @@ use std::time::Clock;
 fn measure(rt: &(impl AllocGlobal + Clock + Print), name: &str, size: u32) -> anyhow::Result<()> {
     match name {
         "map" => map::measure(rt, size),
+        "rx" => rx::measure(rt, size),
+        "rx_kept" => rx::keep(rt, size),
         _ => anyhow::bail!("there is no measure {name}"),
     }
 }
