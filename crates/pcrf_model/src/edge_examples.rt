@@ -55,7 +55,8 @@ pub fn late_update_gets_the_quality_of_the_shown_access_point()
         ≡ OnGx (Granted (delta (codes "op/sip" ∷ []) []) None) }
     ensures late { answers 0 moved_access_point (update_to 3 (codes "ims"))
         ≡ OnGx (Granted (delta [] []) None) }
-    ensures shown { value (seen moved_access_point) (apn first_session) ≡ Some (Text (codes "net")) }
+    ensures shown { value (seen moved_access_point) (apn first_session)
+        ≡ Some (Text (codes "net")) }
 {}
 
 /// An update to an access point without a row is refused, and changes nothing.

@@ -37,7 +37,8 @@ impl Model for Subscribers {
 impl Subscribers {
     /// The set of these subscribers; `None` where there are none or more than 16 different ones.
     pub fn of(alloc: Global, given: Vec<Subscriber>) -> Result<Option<Subscribers>, AllocError>
-        ensures { IfOk result (λ set. set ≡ one_to subscribers_limit (ascending subscriber_cmp given.items)) }
+        ensures { IfOk result (λ set.
+            set ≡ one_to subscribers_limit (ascending subscriber_cmp given.items)) }
     {
         let members = ascending_of(alloc, given)?;
         if members.is_empty() || members.len() > SUBSCRIBERS_LIMIT {
