@@ -5,7 +5,7 @@ use rx_profile::{Aar, read_aar};
 use std::alloc::{AllocError, AllocGlobal, Global};
 use std::io::Print;
 use std::time::{Clock, Instant};
-use test_messages::{Avps, Head, TGPP, message};
+use test_messages::{Avps, Head, RX, TGPP, message};
 
 /// How often a request is read.
 const ROUNDS: u32 = 100;
@@ -15,9 +15,6 @@ const MOST_FLOWS: u32 = 64;
 
 /// Bytes of a component of 64 in the longest message, less those of what is not its flows, by the bytes of a flow.
 const FLOWS_OF_MANY: u32 = 35;
-
-/// The application of Rx (TS 29.214, 5.1).
-const RX: u32 = 16_777_236;
 
 /// A component with its number and so many flows.
 fn component(alloc: Global, place: u32, flows: u32) -> Result<Avps, AllocError> {

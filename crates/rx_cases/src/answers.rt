@@ -1,11 +1,11 @@
 //! Answers as bytes.
-use dia_base::{Identity, Refusal};
+use dia_base::{Identity, Refusal, base_key, refusal_answer};
 use dia_codec::{Flags, Header, Message, write_message};
 use pcrf_values::{DiameterIdentity, SessionId};
 use rx_profile::{write_aaa, write_sta};
 use std::alloc::{AllocError, Global};
 use std::net::Ipv4Addr;
-use test_messages::put_hexadecimal;
+use test_messages::{Code, Head, RX, SiteAnswer, put_hexadecimal};
 
 /// The refusal that words name.
 fn refusal(words: &str) -> Refusal {
@@ -49,7 +49,7 @@ fn header(command: u32) -> Header {
             retransmitted: false,
         },
         command,
-        application: 16_777_236,
+        application: RX,
         hop_id: 5,
         end_id: 6,
     }
@@ -72,17 +72,69 @@ fn answer(alloc: Global, line: &str) -> Result<Option<Message>, AllocError> {
     Ok(Some(message))
 }
 
+/// The bytes of an answer; none where it is no answer.
+fn bytes_of(alloc: Global, message: &Message) -> Vec<u8> {
+    let header = message.header;
+    if header.flags.request || header.command >= 1 << 24 {
+        return Vec::new(alloc);
+    }
+    write_message(alloc, message)
+        .ok()
+        .unwrap_or(Vec::new(alloc))
+}
+
 /// Writes the answer that a line asks for.
 pub fn put_answer(alloc: Global, line: &str, out: &mut String) -> Result<(), AllocError> {
     let Some(message) = answer(alloc, line)? else {
         return out.push_str("no answer");
     };
-    let header = message.header;
-    if header.flags.request || header.command >= 1 << 24 {
-        return out.push_str("no answer");
+    put_hexadecimal(out, bytes_of(alloc, &message).as_slice())
+}
+
+/// The Session-Id that an answer repeats.
+fn session_of(request: &Message) -> Option<&[u8]> {
+    for avp in &request.avps {
+        if avp.key() == base_key(263) {
+            let id = avp.text();
+            return if id.is_empty() || id.len() > 512 {
+                None
+            } else {
+                Some(id)
+            };
+        }
     }
-    let bytes = write_message(alloc, &message)
-        .ok()
-        .unwrap_or(Vec::new(alloc));
-    put_hexadecimal(out, bytes.as_slice())
+    None
+}
+
+/// The bytes of the answer that refuses a request.
+fn refused(alloc: Global, request: &Message, refusal: Refusal) -> Result<Vec<u8>, AllocError> {
+    let Some(identity) = identity(alloc)? else {
+        return Ok(Vec::new(alloc));
+    };
+    let session = session_of(request);
+    let answer = refusal_answer(alloc, &identity, &request.header, refusal, session)?;
+    Ok(bytes_of(alloc, &answer))
+}
+
+/// Whether the answer that refuses a request has the bytes that the encoder of `test_messages` gives.
+pub fn is_answered(
+    alloc: Global,
+    head: Head,
+    request: &Message,
+    refusal: Refusal,
+) -> Result<bool, AllocError> {
+    let wanted = SiteAnswer {
+        site: 0,
+        request: head,
+        session: session_of(request),
+        code: if refusal.experimental {
+            Code::Tgpp(refusal.code)
+        } else {
+            Code::Base(refusal.code)
+        },
+        served: None,
+    };
+    let wanted = wanted.bytes(alloc)?;
+    let written = refused(alloc, request, refusal)?;
+    Ok(written == wanted)
 }

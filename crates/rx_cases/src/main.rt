@@ -2,7 +2,7 @@
 //! tested, line by line. What `stdout` has comes from the tables of the profile, not from the program.
 //!
 //! Lines that begin with `#` are written again. `aar WORDS` and `str WORDS` read a request of these AVPs (`notation`) and
-//! tell what was read or the refusal. `aaa CODE` and `sta CODE` write the answer with that Result-Code, `aaa tgpp CODE`
+//! tell what was read or the refusal; the bytes of the answer that refuses it are compared with those of another encoder. `aaa CODE` and `sta CODE` write the answer with that Result-Code, `aaa tgpp CODE`
 //! that with an Experimental-Result-Code of 3GPP, in hexadecimal digits.
 #![tactic(auto)]
 
@@ -10,49 +10,78 @@ mod answers;
 mod notation;
 mod told;
 
-use crate::answers::put_answer;
+use crate::answers::{is_answered, put_answer};
 use crate::notation::avps_of;
 use crate::told::{put_aar, put_fault, put_str};
+use dia_base::ReadFault;
 use dia_codec::{Message, read_message};
 use rx_profile::{read_aar, read_str};
 use std::alloc::{AllocError, Global};
 use std::io;
 use std::process::ExitCode;
-use test_messages::{Head, message};
+use test_messages::{Head, RX, message};
+
+/// The command code of an AA request (TS 29.214, 5.6.1).
+const AUTHORIZATION: u32 = 265;
+
+/// The command code of a session termination request (TS 29.214, 5.6.4).
+const TERMINATION: u32 = 275;
+
+/// The header of a request of Rx.
+fn head(command: u32) -> Head {
+    Head {
+        flags: 0xc0,
+        command,
+        application: RX,
+        hop_id: 5,
+        end_id: 6,
+    }
+}
 
 /// A request of Rx with a command, and the AVPs that the words say.
 fn request(alloc: Global, command: u32, words: &str) -> Result<Option<Message>, AllocError> {
     let avps = avps_of(alloc, words)?;
-    let head = Head {
-        flags: 0xc0,
-        command,
-        application: 16_777_236,
-        hop_id: 5,
-        end_id: 6,
-    };
-    let bytes = message(alloc, &head, &avps)?;
+    let bytes = message(alloc, &head(command), &avps)?;
     Ok(read_message(alloc, bytes.as_slice()).ok())
+}
+
+/// The fault, and whether the bytes of its answer are others than they have to be.
+fn put_refused(
+    alloc: Global,
+    request: &Message,
+    command: u32,
+    fault: ReadFault,
+    out: &mut String,
+) -> Result<(), AllocError> {
+    put_fault(out, fault)?;
+    let ReadFault::Refused(refusal) = fault else {
+        return Ok(());
+    };
+    if is_answered(alloc, head(command), request, refusal)? {
+        return Ok(());
+    }
+    out.push_str(", by an answer of other bytes")
 }
 
 /// What an AA request is read as.
 fn put_read_aar(alloc: Global, words: &str, out: &mut String) -> Result<(), AllocError> {
-    let Some(request) = request(alloc, 265, words)? else {
+    let Some(request) = request(alloc, AUTHORIZATION, words)? else {
         return out.push_str("no message");
     };
     match read_aar(alloc, &request) {
         Ok(aar) => put_aar(out, &aar),
-        Err(fault) => put_fault(out, fault),
+        Err(fault) => put_refused(alloc, &request, AUTHORIZATION, fault, out),
     }
 }
 
 /// What a session termination request is read as.
 fn put_read_str(alloc: Global, words: &str, out: &mut String) -> Result<(), AllocError> {
-    let Some(request) = request(alloc, 275, words)? else {
+    let Some(request) = request(alloc, TERMINATION, words)? else {
         return out.push_str("no message");
     };
     match read_str(alloc, &request) {
         Ok(termination) => put_str(out, &termination),
-        Err(fault) => put_fault(out, fault),
+        Err(fault) => put_refused(alloc, &request, TERMINATION, fault, out),
     }
 }
 

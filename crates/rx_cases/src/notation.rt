@@ -1,6 +1,6 @@
 //! AVPs by words: `CODE=TEXT` with `_` for a space, `CODE:NUMBER`, `CODE*COUNT` for a filter of so many bytes,
 //! `CODE^BYTE` for a filter that ends with this byte, and `CODE(` and `)` round the AVPs of a group. Codes from 500 to 599
-//! are those of 3GPP.
+//! are those of 3GPP; a `VENDOR/` before a code gives it another vendor.
 use std::alloc::{AllocError, Global};
 use test_messages::{Avps, TGPP};
 
@@ -20,6 +20,14 @@ fn put(avps: &mut Avps, code: u32, value: &[u8]) -> Result<(), AllocError> {
         return avps.vendor_text(code, TGPP, value);
     }
     avps.text(code, value)
+}
+
+/// Puts an AVP under the code that a word gives, with the vendor before the stroke, or else with that of its code.
+fn put_named(avps: &mut Avps, name: &str, value: &[u8]) -> Result<(), AllocError> {
+    match name.split_once('/') {
+        Some((vendor, code)) => avps.vendor_text(number(code), number(vendor), value),
+        None => put(avps, number(name), value),
+    }
 }
 
 /// A number.
@@ -57,18 +65,18 @@ fn ended_filter(alloc: Global, byte: u32) -> Result<Vec<u8>, AllocError> {
 fn put_word(alloc: Global, avps: &mut Avps, word: &str) -> Result<(), AllocError> {
     if let Some((code, text)) = word.split_once('=') {
         let value = spaced(alloc, text)?;
-        return put(avps, number(code), value.as_slice());
+        return put_named(avps, code, value.as_slice());
     }
     if let Some((code, count)) = word.split_once('*') {
         let value = long_filter(alloc, number(count))?;
-        return put(avps, number(code), value.as_slice());
+        return put_named(avps, code, value.as_slice());
     }
     if let Some((code, byte)) = word.split_once('^') {
         let value = ended_filter(alloc, number(byte))?;
-        return put(avps, number(code), value.as_slice());
+        return put_named(avps, code, value.as_slice());
     }
     let (code, digits) = word.split_once(':').unwrap_or((word, ""));
-    put(avps, number(code), &number(digits).to_be_bytes())
+    put_named(avps, code, &number(digits).to_be_bytes())
 }
 
 /// Ends the innermost group.

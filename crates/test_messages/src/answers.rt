@@ -1,9 +1,12 @@
 //! What a site has to answer, by the profile's tables.
-use crate::encoder::{Avps, GX, Head, TGPP, flag, message};
+use crate::encoder::{Avps, GX, Head, RX, TGPP, flag, message};
 use std::alloc::{AllocError, Global};
 
 /// The command of a credit control request (RFC 8506, 3).
 const CREDIT_CONTROL: u32 = 272;
+
+/// The command of an AA request (TS 29.214, 5.6.1).
+const AUTHORIZATION: u32 = 265;
 
 /// A result as an answer has it.
 #[derive(Clone, Copy)]
@@ -60,10 +63,11 @@ impl SiteAnswer<'_> {
     }
 
     /// Whether the answer has an Auth-Application-Id: that to a request that was read, and that to a credit control
-    /// request of Gx that fails for good.
+    /// request of Gx or an AA request of Rx that fails for good.
     fn names_application(&self) -> bool {
         let gx = self.request.command == CREDIT_CONTROL && self.request.application == GX;
-        self.served.is_some() || gx && self.is_of(5)
+        let rx = self.request.command == AUTHORIZATION && self.request.application == RX;
+        self.served.is_some() || (gx || rx) && self.is_of(5)
     }
 
     /// The header: E where it tells of a protocol error.

@@ -5,6 +5,9 @@ use std::fmt::Write as _;
 /// The application of Gx (TS 29.212, 5.1).
 pub const GX: u32 = 16_777_238;
 
+/// The application of Rx (TS 29.214, 5.1).
+pub const RX: u32 = 16_777_236;
+
 /// The vendor 3GPP (TS 29.230).
 pub const TGPP: u32 = 10_415;
 

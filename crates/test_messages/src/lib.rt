@@ -11,4 +11,4 @@ mod answers;
 mod encoder;
 
 pub use answers::{Code, ServedRequest, SiteAnswer};
-pub use encoder::{Avps, GX, Head, TGPP, flag, message, put_hexadecimal};
+pub use encoder::{Avps, GX, Head, RX, TGPP, flag, message, put_hexadecimal};
