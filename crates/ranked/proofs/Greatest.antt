@@ -1,7 +1,9 @@
 -- The greatest of a list, as it grows and as it is mapped.
-use Rattle.std.proofs.Common.{◌≡◌, Bool, true, false, cond, List, [], ◌∷◌, ◌++◌, map, Some, refl, ap, ◌∙◌, option_map, Ordering, if◌then◌else◌}
+use Rattle.std.proofs.Common.{◌≡◌, Bool, true, false, cond, List, [], ◌∷◌, ◌++◌, map, Some, refl, ap, ◌∙◌, subst, option_map, Ordering, if◌then◌else◌}
 use Rattle.std.specs.Ordering.{is_lt}
-use Rattle.ranked.specs.Sets.{best, greatest}
+use Rattle.ranked.specs.Sets.{In, best, greatest}
+use Rattle.ranked.proofs.OrderLaws.{IsRanked}
+use Rattle.ranked.proofs.SetLaws.{best-in, best-top, less_irr, less_trans}
 
 -- either way of choosing
 pub chosen : {A : Type 0} (b : Bool) (x y : A) → Some (cond b y x) ≡ (if b then Some y else Some x)
@@ -31,3 +33,18 @@ module _ {A B : Type 0} (below : A → A → Bool) (under : B → B → Bool) (f
 pub greatest-map : {A B : Type 0} (R : A → A → Ordering) (S : B → B → Ordering) (f : A → B) → ((x y : A) → S (f x) (f y) ≡ R x y) → (xs : List A) → greatest S (map f xs) ≡ option_map f (greatest R xs)
 greatest-map R S f keeps [] = refl
 greatest-map R S f keeps (x ∷ xs) = ap Some (best-map (λ a b. is_lt (R a b)) (λ a b. is_lt (S a b)) f (λ a b. ap is_lt (keeps a b)) x xs)
+
+module _ {A : Type 0} (cmp : A → A → Ordering) (o : IsRanked cmp) where
+  -- the greatest is a member, and below none
+  pub greatest_is : (xs : List A) (c : A) → greatest cmp xs ≡ Some c → In c xs × ((y : A) → In y xs → is_lt (cmp c y) ≡ false)
+  greatest_is [] c e = absurd (cc)
+  greatest_is (x ∷ xs) c e =
+      let same : best (λ a b. is_lt (cmp a b)) x xs ≡ c = cc in (
+        subst (λ (z : A). In z (x ∷ xs)) same (best-in (λ a b. is_lt (cmp a b)) (less_irr cmp o.total o.same) (less_trans cmp o.total o.same) x xs),
+        λ y i. subst (λ (z : A). is_lt (cmp z y) ≡ false) same (best-top (λ a b. is_lt (cmp a b)) (less_irr cmp o.total o.same) (less_trans cmp o.total o.same) x xs y i),
+      )
+
+  -- a list with a member has a greatest
+  pub greatest_some : (xs : List A) (x : A) → In x xs → (c : A) × (greatest cmp xs ≡ Some c)
+  greatest_some [] x i = absurd i
+  greatest_some (y ∷ ys) x i = (best (λ a b. is_lt (cmp a b)) y ys, refl)

@@ -1,11 +1,12 @@
 -- The orders are total, and their equals are the same value.
-use Rattle.std.proofs.Common.{◌≡◌, ◌⊎◌, inl, inr, refl, sym, ap, ◌∙◌, Ordering, Less, Equal}
-use Rattle.std.specs.Ordering.{ordering_reverse, nat_cmp, on}
-use Rattle.std.specs.Cmp.{IsTotalOrder}
+use Rattle.std.proofs.Common.{◌≡◌, true, Option, ◌⊎◌, inl, inr, refl, sym, ap, ◌∙◌, Ordering, Less, Equal}
+use Rattle.std.specs.Ordering.{is_eq, ordering_reverse, nat_cmp, on}
+use Rattle.std.specs.Cmp.{IsTotalOrder, Equal-is, tied_itself}
+use Rattle.std.specs.Option.{option_cmp}
 use Rattle.std.proofs.lemmas.Cmp.{on_total, then_total, nat_cmp_total, lists_total}
-use Rattle.std.specs.Cmp.Lexicographic.{slice_cmp}
+use Rattle.std.specs.Cmp.Lexicographic.{slice_cmp, options_total}
 use Rattle.ranked.specs.Exact.{IsExact}
-use Rattle.ranked.specs.laws.Exact.{nat_same, list_same, pair_same}
+use Rattle.ranked.specs.laws.Exact.{nat_same, list_same, pair_same, option_same}
 use Rattle.ranked.specs.Orders.{pair_cmp, either_cmp, text_cmp}
 
 -- a total order that calls only the same value equal
@@ -76,3 +77,15 @@ module _ {A B : Type 0} {R : A → A → Ordering} {S : B → B → Ordering} (o
   -- so are alternatives
   pub either_ranked : IsRanked (either_cmp R S)
   either_ranked = record { total = record { antisymm = antisymm; trans = trans; congr = congr }; same = same }
+
+-- options of ranked values are ranked
+pub option_ranked : {A : Type 0} {R : A → A → Ordering} → IsRanked R → IsRanked (option_cmp R)
+option_ranked o = record { total = options_total o.total; same = option_same o.same }
+
+-- what passes the test of a ranked order is the same
+pub eq_is : {A : Type 0} {R : A → A → Ordering} → IsRanked R → (x y : A) → is_eq (R x y) ≡ true → x ≡ y
+eq_is {R = R} o x y e = o.same x y ((Equal-is (R x y)).0 e)
+
+-- and what is the same passes
+pub eq_itself : {A : Type 0} {R : A → A → Ordering} → IsRanked R → (x : A) → is_eq (R x x) ≡ true
+eq_itself o x = ap is_eq (tied_itself o.total x)

@@ -1,0 +1,4 @@
+pub mod FactLaws
+pub mod JoinedLaws
+pub mod KeyLaws
+pub mod ShownLaws

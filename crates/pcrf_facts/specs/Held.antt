@@ -1,0 +1,65 @@
+-- What a set of facts on one session holds, and what it shows.
+use Rattle.std.specs.Prelude.{Bool, true, false, cond, List, ◌++◌, Option, Some, None}
+use Rattle.std.specs.Ordering.{is_eq}
+use Rattle.std.specs.List.{list_any, filter_map}
+use Rattle.ranked.specs.Ascending.{ascending}
+use Rattle.ranked.specs.Sets.{greatest, maximal}
+use Rattle.pcrf_facts.specs.Places.{Place, Removable, place_cmp, covers}
+use Rattle.pcrf_facts.specs.Values.{Entry, entry_cmp}
+use Rattle.pcrf_facts.specs.Facts.{Fact, End, Removed, Field, fact_cmp, is_shaded_by}
+
+-- the facts that none overshadows
+abbrev pub kept : List Fact → List Fact
+kept = maximal is_shaded_by
+
+-- what is kept, as its one ascending list
+abbrev pub held : List Fact → List Fact
+held facts = ascending fact_cmp (kept facts)
+
+-- what is kept of the facts of both
+abbrev pub joined : List Fact → List Fact → List Fact
+joined xs ys = held (xs ++ ys)
+
+-- the fact is the end
+abbrev pub ends : Fact → Bool
+ends End = true
+ends (Removed r) = false
+ends (Field p t v) = false
+
+-- the session is ended
+abbrev pub is_ended : List Fact → Bool
+is_ended = list_any ends
+
+-- nothing shows at the place where there is this fact
+abbrev pub blocks : Place → Fact → Bool
+blocks p End = true
+blocks p (Removed r) = covers r p
+blocks p (Field q t v) = false
+
+-- the session is ended, or what the place is in was removed
+abbrev pub is_gone : List Fact → Place → Bool
+is_gone facts p = list_any (blocks p) facts
+
+-- the tag and value of the fact, if it stands at the place
+abbrev pub entry_at : Place → Fact → Option Entry
+entry_at p End = None
+entry_at p (Removed r) = None
+entry_at p (Field q t v) = cond (is_eq (place_cmp p q)) (Some (t, v)) None
+
+-- the greatest tag and value at the place, none where there is no fact
+abbrev pub value_at : List Fact → Place → Option Entry
+value_at facts p = greatest entry_cmp (filter_map (entry_at p) facts)
+
+-- what the place shows, with its tag
+abbrev pub shown : List Fact → Place → Option Entry
+shown facts p = cond (is_gone facts p) None (value_at facts p)
+
+-- what the fact says is removed
+abbrev pub removal : Fact → Option Removable
+removal End = None
+removal (Removed r) = Some r
+removal (Field p t v) = None
+
+-- the components and flows that are removed, as far as that is kept, components first
+abbrev pub removed : List Fact → List Removable
+removed facts = filter_map removal (held facts)

@@ -1,0 +1,44 @@
+-- What holds of the facts of one session.
+use Rattle.std.specs.Prelude.{◌≡◌, false, List, Some}
+use Rattle.std.specs.Ordering.{is_lt}
+use Rattle.ranked.specs.declared.tag.Tag.{Tag}
+use Rattle.ranked.specs.Sets.{In, Same}
+use Rattle.pcrf_facts.specs.Places.{Place}
+use Rattle.pcrf_facts.specs.Values.{Value, Entry, entry_cmp}
+use Rattle.pcrf_facts.specs.Facts.{Fact, Field}
+use Rattle.pcrf_facts.specs.Held.{held, joined, is_ended, value_at, shown, removed}
+
+-- What is kept of a union: in either order, of three either way, of a union with itself, and of parts that were kept before.
+pub record JoinsHeld : Type 0 where
+  pub commutative : (xs ys : List Fact) → joined xs ys ≡ joined ys xs
+  pub associative : (xs ys zs : List Fact) → joined (joined xs ys) zs ≡ joined xs (joined ys zs)
+  pub idempotent : (xs : List Fact) → held xs ≡ xs → joined xs xs ≡ xs
+  pub held_first : (xs ys : List Fact) → joined (held xs) ys ≡ joined xs ys
+  pub held_once : (xs : List Fact) → held (held xs) ≡ held xs
+
+-- two lists of facts show the same, are both ended or neither, and have the same removed
+pub record ShowTheSame (xs ys : List Fact) : Type 0 where
+  pub shows : (p : Place) → shown xs p ≡ shown ys p
+  pub ended : is_ended xs ≡ is_ended ys
+  pub removals : removed xs ≡ removed ys
+
+-- so what is kept
+abbrev pub HeldShowsTheSame : Type 0
+HeldShowsTheSame = (facts : List Fact) → ShowTheSame (held facts) facts
+
+-- and so lists with the same members
+abbrev pub MembersShowTheSame : Type 0
+MembersShowTheSame = (xs ys : List Fact) → Same xs ys → ShowTheSame xs ys
+
+-- the value at a place is that of a fact there, and no fact there is above it
+pub record IsGreatestAt (facts : List Fact) (p : Place) (e : Entry) : Type 0 where
+  pub there : In (Field p e.0 e.1) facts
+  pub none_above : (t : Tag) (x : Value) → In (Field p t x) facts → is_lt (entry_cmp e (t, x)) ≡ false
+
+-- so it is
+abbrev pub ValueIsTheGreatest : Type 0
+ValueIsTheGreatest = (facts : List Fact) (p : Place) (e : Entry) → value_at facts p ≡ Some e → IsGreatestAt facts p e
+
+-- there is one where there is a fact
+abbrev pub FactGivesAValue : Type 0
+FactGivesAValue = (facts : List Fact) (p : Place) (t : Tag) (x : Value) → In (Field p t x) facts → (e : Entry) × (value_at facts p ≡ Some e)

@@ -1,0 +1,5 @@
+pub mod Facts
+pub mod Held
+pub mod Laws
+pub mod Places
+pub mod Values

@@ -1,0 +1,20 @@
+//! The laws of the facts of one session, each the contract of a function without a body.
+
+ghost use Rattle.pcrf_facts.specs.Laws.{JoinsHeld, HeldShowsTheSame, MembersShowTheSame, ValueIsTheGreatest, FactGivesAValue};
+
+/// What is kept of a union is commutative, associative and idempotent, whether or not its parts were kept before.
+pub fn kept_facts_join()
+    ensures { JoinsHeld }
+{}
+
+/// Kept facts show what all facts show, and only the set of facts counts.
+pub fn kept_facts_show_the_same()
+    ensures held { HeldShowsTheSame }
+    ensures members { MembersShowTheSame }
+{}
+
+/// The value at a place is the greatest of the facts there, and there is one where there is a fact.
+pub fn value_is_the_greatest_fact()
+    ensures greatest { ValueIsTheGreatest }
+    ensures some { FactGivesAValue }
+{}
