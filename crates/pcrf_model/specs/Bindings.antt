@@ -7,8 +7,8 @@ use Rattle.ranked.specs.Orders.{pair_cmp, text_cmp}
 use Rattle.pcrf_values.specs.Subscribers.{subscriber_cmp}
 use Rattle.ranked.specs.Sets.{greatest}
 use Rattle.pcrf_model.specs.Sessions.{Session, session_cmp, gx, is_gx}
-use Rattle.pcrf_model.specs.Paths.{address, apn, subscribers}
-use Rattle.pcrf_model.specs.Values.{Subscriber, Value, Subscribers, value_cmp, Entry}
+use Rattle.pcrf_facts.specs.Places.{address, apn, subscribers}
+use Rattle.pcrf_facts.specs.Values.{Subscriber, Value, Subscribers, value_cmp, Entry}
 use Rattle.pcrf_model.specs.Views.{View, value}
 use Rattle.pcrf_model.specs.Live.{is_live}
 
@@ -33,9 +33,9 @@ meets (Some x) y = false
 abbrev pub matches : View → Session → Session → Bool
 matches v a s =
     not (is_gx a.kind) && is_gx s.kind && is_live v a && is_live v s
-    && agrees (value v (address a)) (value v (address s))
-    && meets (value v (subscribers a)) (value v (subscribers s))
-    && agrees (value v (apn a)) (value v (apn s))
+    && agrees (value v a address) (value v s address)
+    && meets (value v a subscribers) (value v s subscribers)
+    && agrees (value v a apn) (value v s apn)
 
 -- what decides among the sessions that match (this project's profile): counter and site of the address's tag, and then the Session-Id
 abbrev pub Candidate : Type 0
@@ -47,7 +47,7 @@ candidate_cmp = pair_cmp nat_cmp (pair_cmp nat_cmp text_cmp)
 
 -- how a session stands beside others: what its address's tag says, and its Session-Id
 abbrev pub standing : View → Session → Option Candidate
-standing v s = option_map (λ (e : Entry). (e.0.counter, (e.0.site, s.id))) (v.shows (address s))
+standing v s = option_map (λ (e : Entry). (e.0.counter, (e.0.site, s.id))) (v.shows s address)
 
 -- how s stands as a match of a, if it is one
 abbrev pub candidate : View → Session → Session → Option Candidate

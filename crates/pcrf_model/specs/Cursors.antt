@@ -1,7 +1,8 @@
 -- Cursors: what a site took of each maker's operations, and what it knows that its peers took of its own (this project's profile).
 use Rattle.std.specs.Prelude.{ℕ, ◌+◌, max, ◌==◌, Bool, true, false, cond, ◌&&◌, List, replicate, length, nat_lt, nat_le, slice_index_or, slice_set, Option, Some, None}
+use Rattle.std.proofs.Common.{option_and_then}
 use Rattle.pcrf_model.specs.Limits.{site_limit}
-use Rattle.pcrf_model.specs.Letters.{AckValue, LetterBody, Range, Snapshot, Acknowledgement, LetterValue, letter_from}
+use Rattle.pcrf_model.specs.Letters.{AckValue, LetterBody, Range, Snapshot, Acknowledgement, LetterValue, body_from, is_carried}
 use Rattle.pcrf_model.specs.Replies.{ReplyValue}
 use Rattle.pcrf_model.specs.Steps.{SiteEvent, AskOwn, AskWhole}
 
@@ -44,9 +45,13 @@ asked_past (Some c) = cond (c.cursor == 0) AskWhole (AskOwn c.cursor)
 abbrev pub ask : CursorsValue → ℕ → SiteEvent
 ask c peer = asked_past (peer_entry c peer)
 
--- the letter that the site's reply makes, where operations were asked for from that position on
+-- a letter of the site that says this
+abbrev pub letter_saying : CursorsValue → ℕ → LetterBody → LetterValue
+letter_saying c edition body = record { edition = edition; site = c.site; epoch = c.epoch; body = body }
+
+-- the letter that the site's reply makes, where operations were asked for from that position on, if a letter carries it
 abbrev pub letter_of : CursorsValue → ℕ → ℕ → ReplyValue → Option LetterValue
-letter_of c edition from reply = letter_from edition c.site c.epoch from reply
+letter_of c edition from reply = option_and_then (λ b. cond (is_carried b) (Some (letter_saying c edition b)) None) (body_from from reply)
 
 -- ---- having taken a letter whole
 

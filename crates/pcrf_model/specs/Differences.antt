@@ -1,6 +1,6 @@
 -- What a gateway was told, and how that differs from the rules that hold (TS 29.212, 4.5.2: Charging-Rule-Remove and -Install).
 use Rattle.std.specs.Prelude.{◌≡◌, ℕ, ◌+◌, ◌-◌, ◌==◌, Bool, cond, not, ◌&&◌, List, [], ◌∷◌, ◌++◌, map, take, drop, length, Option, Some, None}
-use Rattle.std.proofs.Common.{Ordering, option_map}
+use Rattle.std.proofs.Common.{Ordering}
 use Rattle.std.specs.Ordering.{is_eq}
 use Rattle.std.specs.List.{list_any, filter, filter_map}
 use Rattle.ranked.specs.Orders.{pair_cmp, text_cmp}
@@ -8,8 +8,8 @@ use Rattle.ranked.specs.Ascending.{ascending}
 use Rattle.pcrf_values.specs.RuleValues.{RuleValue, DeltaValue, rule_cmp}
 use Rattle.ranked.specs.Sets.{Distinct}
 use Rattle.pcrf_model.specs.Sessions.{Session, session_cmp}
-use Rattle.pcrf_model.specs.Paths.{Step, RuleName}
-use Rattle.pcrf_model.specs.Values.{Value, Told, Entry}
+use Rattle.pcrf_facts.specs.Places.{Place, OfRuleName}
+use Rattle.pcrf_facts.specs.Values.{Value, Told}
 use Rattle.pcrf_model.specs.Views.{View, Shown}
 
 -- a name, and the rule that was told under it
@@ -20,23 +20,14 @@ ToldRule = List ℕ × RuleValue
 abbrev pub told_cmp : ToldRule → ToldRule → Ordering
 told_cmp = pair_cmp text_cmp rule_cmp
 
--- the name and the rule that a path and its value tell of, if they do
-abbrev pub told_entry : List Step → Value → Option ToldRule
-told_entry (RuleName n ∷ []) (Told r) = Some (n, r)
-told_entry steps x = None
+-- the name and the rule that a place and its value tell of, if they do
+abbrev pub told_entry : Place → Value → Option ToldRule
+told_entry (OfRuleName n) (Told r) = Some (n, r)
+told_entry p x = None
 
 -- the names that show a rule, ascending, each with its rule
 unfoldable pub told : View → Session → List ToldRule
-told v s = filter_map (λ (x : Shown). cond (is_eq (session_cmp x.0.session s)) (told_entry x.0.steps x.1.1) None) v.all
-
--- the rule name at which a path stands, if it does
-abbrev pub name_of : List Step → Option (List ℕ)
-name_of (RuleName n ∷ []) = Some n
-name_of steps = None
-
--- the names that show a rule, or that none is told any more, ascending, each with its tag and value
-abbrev pub told_marks : View → Session → List (List ℕ × Entry)
-told_marks v s = filter_map (λ (x : Shown). cond (is_eq (session_cmp x.0.session s)) (option_map (λ n. (n, x.1)) (name_of x.0.steps)) None) v.all
+told v s = filter_map (λ (x : Shown). cond (is_eq (session_cmp x.session s)) (told_entry x.place x.value) None) v.all
 
 -- the name of a told entry
 abbrev pub told_name_of : ToldRule → List ℕ

@@ -2,15 +2,19 @@
 use Rattle.std.specs.Prelude.{ℕ, List, [], ◌∷◌, Option, Some, None, Ok, Err, codes, replicate}
 use Rattle.std.proofs.Common.{option_map}
 use Rattle.pcrf_values.specs.declared.request_kind.RequestKind.TheVariants.{Initial, Update}
-use Rattle.pcrf_model.specs.Paths.{told_name}
-use Rattle.pcrf_model.specs.Values.{Value}
-use Rattle.pcrf_model.specs.Facts.{Fact, Field}
+use Rattle.pcrf_facts.specs.Places.{OfRuleName}
+use Rattle.pcrf_facts.specs.Values.{Value}
+use Rattle.pcrf_facts.specs.Facts.{Field}
+use Rattle.pcrf_model.specs.Limits.{delta_limit}
+use Rattle.pcrf_model.specs.Holdings.{SessionFact}
 use Rattle.pcrf_model.specs.Requests.{ComponentValue, RequestValue, Ccr, Aar}
 use Rattle.pcrf_model.specs.Replies.{ReplyValue, Own, Pushed, Done}
 use Rattle.pcrf_model.specs.Pushing.{push}
 use Rattle.pcrf_model.specs.Steps.{SiteState}
-use Rattle.pcrf_model.specs.Letters.{LetterValue, letter_from}
+use Rattle.pcrf_model.specs.Letters.{LetterValue}
+use Rattle.pcrf_model.specs.Cursors.{start_cursors, letter_of}
 use Rattle.pcrf_model.specs.Worlds.{WorldEvent, ServeAt, Letter, Merge, Restart, Replied, Lettered, Merged, Restarted, NoMemory, WorldAnswer, WorldTook, start, whole_log, after_all}
+use Rattle.pcrf_model.specs.Letterbox.{writing}
 use Rattle.pcrf_model.specs.Samples.{operator, imsi, e164, first_session, second_session, host_address, initial, update, call, hang_up, audio, sip_rule}
 use Rattle.pcrf_model.specs.Scenes.{serves, taking, one, with_call, call_pushed, last_operation}
 
@@ -30,7 +34,7 @@ two_due = serves 0 (serves 0 with_call from_other_gateway) other_call
 
 -- the session to whose gateway site 0 pushes, by host
 abbrev pub pushed_session : Option (List ℕ) → Option (List ℕ)
-pushed_session name = session_in (push operator 0 two_due.holding name).reply
+pushed_session name = session_in (push delta_limit operator 0 two_due.holding name).reply
   where
     session_in : ReplyValue → Option (List ℕ)
     session_in (Pushed p) = option_map (λ x. x.session) p
@@ -82,8 +86,8 @@ call_ended = serves 0 with_call hang_up
 -- ---- equal tags
 
 -- what was told of a rule's name under the one tag
-abbrev pub told_as : Value → Fact
-told_as v = Field (told_name first_session sip_rule.name) (record { number = 0; counter = 1; site = 0 }) v
+abbrev pub told_as : Value → SessionFact
+told_as v = (first_session, Field (OfRuleName sip_rule.name) (record { number = 0; counter = 1; site = 0 }) v)
 
 -- ---- letters
 
@@ -93,7 +97,7 @@ own_of n = Own (replicate n last_operation) n
 
 -- a letter of so many operations, from the first one on
 abbrev pub letter_of_many : ℕ → Option LetterValue
-letter_of_many n = letter_from 7 0 1 0 (own_of n)
+letter_of_many n = letter_of (start_cursors 0 1) operator.edition 0 (own_of n)
 
 -- site 0 serves twice, makes a letter, starts again, serves another request and makes another letter; site 1 takes both
 abbrev pub two_epochs : List WorldEvent
@@ -104,7 +108,7 @@ two_epochs =
 -- with these answers to the last two
 abbrev pub two_epochs_answered : WorldAnswer → WorldAnswer → WorldTook
 two_epochs_answered older newer =
-    after_all whole_log operator (start 2) two_epochs
+    after_all (writing whole_log) (start 2) two_epochs
     (Ok (Replied Done) ∷ Ok (Replied Done) ∷ Ok (Lettered 0) ∷ Ok (Restarted 2) ∷ Ok (Replied Done) ∷ Ok (Lettered 1) ∷ older ∷ newer ∷ [])
 
 -- both letters whole

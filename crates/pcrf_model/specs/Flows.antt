@@ -7,7 +7,7 @@ use Rattle.ranked.specs.Orders.{pair_cmp}
 use Rattle.ranked.specs.Ascending.{ascending}
 use Rattle.pcrf_values.specs.RuleValues.{RuleValue}
 use Rattle.pcrf_model.specs.Sessions.{Session, session_cmp}
-use Rattle.pcrf_model.specs.Paths.{Step, Component, Flow, Part, FieldName, MediaType, FlowDescriptions, FlowUsage, FlowStatus, MaxRateUp, MaxRateDown, component_part, flow_part}
+use Rattle.pcrf_facts.specs.Places.{ComponentField, MediaType, ComponentStatus, ComponentRateUp, ComponentRateDown, FlowField, FlowDescriptions, FlowUsage, FlowStatus, FlowRateUp, FlowRateDown, Place, OfComponent, OfFlow}
 use Rattle.pcrf_model.specs.Views.{View, Shown, value, number, as_filters}
 use Rattle.pcrf_model.specs.Tables.{Class, Tables, media_class}
 
@@ -17,14 +17,14 @@ pub record FlowId : Type 0 where
   pub component : ℕ
   pub flow : ℕ
 
--- the component and the flow in which a path stands
-abbrev pub flow_of : List Step → Option (ℕ × ℕ)
-flow_of (Component c ∷ Flow n ∷ Part f ∷ []) = Some (c, n)
-flow_of steps = None
+-- the component and the flow of which the place is a field
+abbrev pub flow_of : Place → Option (ℕ × ℕ)
+flow_of (OfFlow c n f) = Some (c, n)
+flow_of p = None
 
 -- the flows of which a field shows, each once, ascending by component and flow
 abbrev pub flows : View → Session → List (ℕ × ℕ)
-flows v a = ascending (pair_cmp nat_cmp nat_cmp) (filter_map (λ (x : Shown). cond (is_eq (session_cmp x.0.session a)) (flow_of x.0.steps) None) v.all)
+flows v a = ascending (pair_cmp nat_cmp nat_cmp) (filter_map (λ (x : Shown). cond (is_eq (session_cmp x.session a)) (flow_of x.place) None) v.all)
 
 -- the first, where it is there, else the second
 abbrev pub or_else : {A : Type 0} → Option A → Option A → Option A
@@ -32,16 +32,16 @@ or_else None y = y
 or_else (Some x) y = Some x
 
 -- what the flow's own field shows, as a number
-abbrev pub of_flow : View → FlowId → FieldName → Option ℕ
-of_flow v i f = number v (flow_part i.session i.component i.flow f)
+abbrev pub of_flow : View → FlowId → FlowField → Option ℕ
+of_flow v i f = number v i.session (OfFlow i.component i.flow f)
 
 -- what its component's field shows
-abbrev pub of_component : View → FlowId → FieldName → Option ℕ
-of_component v i f = number v (component_part i.session i.component f)
+abbrev pub of_component : View → FlowId → ComponentField → Option ℕ
+of_component v i f = number v i.session (OfComponent i.component f)
 
 -- the filters that the flow shows
 abbrev pub filters : View → FlowId → Option (List (List ℕ))
-filters v i = option_and_then as_filters (value v (flow_part i.session i.component i.flow FlowDescriptions))
+filters v i = option_and_then as_filters (value v i.session (OfFlow i.component i.flow FlowDescriptions))
 
 -- the flow shows that Flow-Usage
 abbrev pub has_usage : View → FlowId → ℕ → Bool
@@ -57,7 +57,7 @@ is_signalling v i = has_usage v i 2
 
 -- the flow's, else the component's, else ENABLED
 abbrev pub flow_status : View → FlowId → ℕ
-flow_status v i = unwrap_or (or_else (of_flow v i FlowStatus) (of_component v i FlowStatus)) 2
+flow_status v i = unwrap_or (or_else (of_flow v i FlowStatus) (of_component v i ComponentStatus)) 2
 
 -- the Media-Type of its component, where none shows the greatest
 abbrev pub media_type : View → FlowId → ℕ
@@ -67,17 +67,31 @@ media_type v i = unwrap_or (of_component v i MediaType) 0xFFFFFFFF
 abbrev pub class_of : Tables → View → FlowId → Option Class
 class_of t v i = cond (is_signalling v i) (Some t.signalling) (media_class t (media_type v i))
 
--- the rate that requests gave it, by the field of its direction: its own, else, unless it is RTCP, its component's
-abbrev pub given_rate : View → FlowId → FieldName → Option ℕ
-given_rate v i f = or_else (of_flow v i f) (cond (is_rtcp v i) None (of_component v i f))
+-- towards the network, or from it
+pub data Direction : Type 0 where
+  Uplink Downlink : Direction
+
+-- the field of a flow that gives its rate in that direction
+abbrev pub flow_rate_field : Direction → FlowField
+flow_rate_field Uplink = FlowRateUp
+flow_rate_field Downlink = FlowRateDown
+
+-- and that of a component
+abbrev pub component_rate_field : Direction → ComponentField
+component_rate_field Uplink = ComponentRateUp
+component_rate_field Downlink = ComponentRateDown
+
+-- the rate that requests gave it: its own, else, unless it is RTCP, its component's
+abbrev pub given_rate : View → FlowId → Direction → Option ℕ
+given_rate v i d = or_else (of_flow v i (flow_rate_field d)) (cond (is_rtcp v i) None (of_component v i (component_rate_field d)))
 
 -- the rate that is asked: the one given, else for RTCP the operator's, else the cap
-abbrev pub asked_rate : Tables → View → FlowId → FieldName → ℕ → ℕ
-asked_rate t v i f cap = unwrap_or (given_rate v i f) (cond (is_rtcp v i) t.rtcp_bps cap)
+abbrev pub asked_rate : Tables → View → FlowId → Direction → ℕ → ℕ
+asked_rate t v i d cap = unwrap_or (given_rate v i d) (cond (is_rtcp v i) t.rtcp_bps cap)
 
 -- the lesser of the rate asked and the cap
-abbrev pub flow_rate : Tables → View → FlowId → FieldName → ℕ → ℕ
-flow_rate t v i f cap = min (asked_rate t v i f cap) cap
+abbrev pub flow_rate : Tables → View → FlowId → Direction → ℕ → ℕ
+flow_rate t v i d cap = min (asked_rate t v i d cap) cap
 
 -- `af/` Session-Id `/` component `/` flow (this project's profile)
 abbrev pub flow_rule_name : FlowId → List ℕ
@@ -93,7 +107,7 @@ flow_rule t v i f c = record {
   priority = c.priority;
   capability = c.capability;
   vulnerability = c.vulnerability;
-  max_ul = flow_rate t v i MaxRateUp c.max_ul;
-  max_dl = flow_rate t v i MaxRateDown c.max_dl;
+  max_ul = flow_rate t v i Uplink c.max_ul;
+  max_dl = flow_rate t v i Downlink c.max_dl;
   precedence = c.precedence;
 }

@@ -1,56 +1,45 @@
--- What a set of facts shows, and holdings: the facts that a site holds, with its clock.
-use Rattle.std.specs.Prelude.{ℕ, max, Bool, false, cond, List, [], ◌∷◌, ◌++◌, Option, Some, None}
+-- Holdings: the facts that a site holds, each with its session, and its clock.
+use Rattle.std.specs.Prelude.{ℕ, max, Bool, not, ◌&&◌, cond, List, [], ◌++◌, map, Option, Some, None}
+use Rattle.std.proofs.Common.{Ordering}
 use Rattle.std.specs.Ordering.{is_eq}
-use Rattle.std.specs.List.{list_any, filter_map}
+use Rattle.std.specs.List.{filter, filter_map}
+use Rattle.ranked.specs.Orders.{pair_cmp}
 use Rattle.ranked.specs.Ascending.{ascending}
-use Rattle.ranked.specs.Sets.{greatest, maximal}
+use Rattle.ranked.specs.Sets.{maximal}
+use Rattle.pcrf_facts.specs.Facts.{Fact, fact_cmp, is_shaded_by}
 use Rattle.pcrf_model.specs.Sessions.{Session, session_cmp}
-use Rattle.pcrf_model.specs.Paths.{Step, Path, path_cmp, is_at_or_above}
-use Rattle.pcrf_model.specs.Values.{Entry, entry_cmp}
-use Rattle.pcrf_model.specs.Facts.{Fact, Gone, Field, fact_cmp, is_shaded_by}
+
+-- a fact with the session on which it is
+abbrev pub SessionFact : Type 0
+SessionFact = Session × Fact
+
+-- by session, and then by fact: the order in which letters carry them
+abbrev pub session_fact_cmp : SessionFact → SessionFact → Ordering
+session_fact_cmp = pair_cmp session_cmp fact_cmp
+
+-- on one session the second overshadows the first
+abbrev pub is_shaded_there_by : SessionFact → SessionFact → Bool
+is_shaded_there_by x y = is_eq (session_cmp x.0 y.0) && is_shaded_by x.1 y.1
 
 -- the facts that none overshadows
-abbrev pub kept : List Fact → List Fact
-kept = maximal is_shaded_by
+abbrev pub kept_facts : List SessionFact → List SessionFact
+kept_facts = maximal is_shaded_there_by
 
--- the fact says that the path or one above it is gone
-abbrev pub blocks : Path → Fact → Bool
-blocks p (Gone q) = is_at_or_above q p
-blocks p (Field q t v) = false
+-- facts on that session
+abbrev pub under : Session → List Fact → List SessionFact
+under s = map (λ f. (s, f))
 
--- the path or one above it is gone
-abbrev pub is_gone : List Fact → Path → Bool
-is_gone facts p = list_any (blocks p) facts
+-- the fact, if it is on the session
+abbrev pub on_session : Session → SessionFact → Option Fact
+on_session s x = cond (is_eq (session_cmp s x.0)) (Some x.1) None
 
--- the tag and value of the fact, if it is a field at that path
-abbrev pub entry_at : Path → Fact → Option Entry
-entry_at p (Gone q) = None
-entry_at p (Field q t v) = cond (is_eq (path_cmp p q)) (Some (t, v)) None
-
--- the greatest tag and value among the facts on the path, none where there is no fact
-abbrev pub value_at : List Fact → Path → Option Entry
-value_at facts p = greatest entry_cmp (filter_map (entry_at p) facts)
-
--- what the path shows, with its tag: its value, where neither it nor a path above it is gone
-abbrev pub shown : List Fact → Path → Option Entry
-shown facts p = cond (is_gone facts p) None (value_at facts p)
-
--- the path beneath the session that the fact says is gone
-abbrev pub gone_beneath : Session → Fact → Option (List Step)
-gone_beneath s (Gone p) = cond (is_eq (session_cmp p.session s)) (beneath p.steps) None
-  where
-    beneath : List Step → Option (List Step)
-    beneath [] = None
-    beneath (x ∷ xs) = Some (x ∷ xs)
-gone_beneath s (Field p t v) = None
-
--- the components and flows of the session that are removed, as far as that is kept, ascending, components first
-abbrev pub removed_paths : List Fact → Session → List (List Step)
-removed_paths facts s = filter_map (gone_beneath s) (ascending fact_cmp (kept facts))
+-- the facts of one session
+abbrev pub facts_on : List SessionFact → Session → List Fact
+facts_on facts s = filter_map (on_session s) facts
 
 -- The facts, ascending, and the clock: the greatest counter of the operations that were taken, 0 at first.
 pub record Holding : Type 0 where
-  pub facts : List Fact
+  pub facts : List SessionFact
   pub clock : ℕ
 
 -- no fact, and the clock at its beginning
@@ -59,8 +48,15 @@ nothing_held = record { facts = []; clock = 0 }
 
 -- the facts of both, and the greater clock
 abbrev pub union : Holding → Holding → Holding
-union h k = record { facts = ascending fact_cmp (h.facts ++ k.facts); clock = max h.clock k.clock }
+union h k = record { facts = ascending session_fact_cmp (h.facts ++ k.facts); clock = max h.clock k.clock }
 
 -- without the overshadowed facts, under the same clock
 abbrev pub kept_of : Holding → Holding
-kept_of h = record { facts = ascending fact_cmp (kept h.facts); clock = h.clock }
+kept_of h = record { facts = ascending session_fact_cmp (kept_facts h.facts); clock = h.clock }
+
+-- these facts in place of those that the session had, under that clock
+abbrev pub replaced : Holding → Session → List Fact → ℕ → Holding
+replaced h s facts clock = record {
+  facts = ascending session_fact_cmp (filter (λ x. not (is_eq (session_cmp s x.0))) h.facts ++ under s facts);
+  clock = clock;
+}

@@ -1,11 +1,12 @@
 -- Letters and worlds of the worked examples.
 use Rattle.std.specs.Prelude.{ℕ, List, [], ◌∷◌, Option, None, Ok, length, slice_get}
 use Rattle.std.proofs.Common.{option_map}
+use Rattle.pcrf_model.specs.Limits.{delta_limit}
 use Rattle.pcrf_model.specs.Holdings.{Holding, nothing_held}
 use Rattle.pcrf_model.specs.Replies.{Done}
 use Rattle.pcrf_model.specs.Letters.{LetterBody, Range, Snapshot, LetterValue}
 use Rattle.pcrf_model.specs.Cursors.{Cursor, CursorsValue, start_cursors, maker_entry, took}
-use Rattle.pcrf_model.specs.Worlds.{WorldEvent, ServeAt, Letter, Merge, Ack, Restart, Replied, Lettered, Merged, Restarted, WorldAnswer, SiteTook, SentLetter, WorldTook, start, LetterRule, by_cursors, held, after_all}
+use Rattle.pcrf_model.specs.Worlds.{WorldEvent, ServeAt, Letter, Merge, Ack, Restart, Replied, Lettered, Merged, Restarted, WorldAnswer, SiteView, SiteTook, SentLetter, WorldTook, start, Setting, by_cursors, taken_holding, after_all}
 use Rattle.pcrf_model.specs.Samples.{operator, first_session, host_address, initial, update}
 use Rattle.pcrf_model.specs.Scenes.{one}
 
@@ -50,9 +51,13 @@ exchange_answers =
     Ok (Replied Done) ∷ Ok (Lettered 0) ∷ Ok Merged ∷ Ok (Lettered 1) ∷ Ok Merged
     ∷ Ok (Replied Done) ∷ Ok (Lettered 2) ∷ Ok Merged ∷ []
 
--- the world after the exchange, by that way to make letters
-abbrev pub exchanged : LetterRule → WorldTook
-exchanged make = after_all make operator (start 2) exchange exchange_answers
+-- a world of that operator, by that way to write letters
+abbrev pub writing : (SiteView → ℕ → LetterBody) → Setting
+writing w = record { tables = operator; most = delta_limit; writes = w }
+
+-- the world after the exchange
+abbrev pub exchanged : (SiteView → ℕ → LetterBody) → WorldTook
+exchanged w = after_all (writing w) (start 2) exchange exchange_answers
 
 -- what letter k says
 abbrev pub body_of : WorldTook → ℕ → Option LetterBody
@@ -60,12 +65,12 @@ body_of w k = option_map (λ (l : SentLetter). l.letter.body) (slice_get w.lette
 
 -- what site i holds
 abbrev pub held_at : WorldTook → ℕ → Option Holding
-held_at w i = option_map held (slice_get w.sites i)
+held_at w i = option_map taken_holding (slice_get w.sites i)
 
 -- how many operations site i took
 abbrev pub count_taken : WorldTook → ℕ → Option ℕ
 count_taken w i = option_map (λ (s : SiteTook). length s.taken) (slice_get w.sites i)
 
 -- site 0 starts again after the exchange
-abbrev pub restarted : WorldTook
-restarted = after_all by_cursors operator (exchanged by_cursors) (Restart 0 ∷ []) (Ok (Restarted 2) ∷ [])
+abbrev pub started_again : WorldTook
+started_again = after_all (writing by_cursors) (exchanged by_cursors) (Restart 0 ∷ []) (Ok (Restarted 2) ∷ [])

@@ -1,5 +1,5 @@
 -- Letters between sites, and what each means (this project's profile).
-use Rattle.std.specs.Prelude.{ℕ, ◌+◌, cond, ◌&&◌, List, [], length, nat_le, Option, Some, None}
+use Rattle.std.specs.Prelude.{ℕ, ◌+◌, Bool, ◌&&◌, List, [], length, nat_le, Option, Some, None}
 use Rattle.pcrf_model.specs.Holdings.{Holding}
 use Rattle.pcrf_model.specs.Operations.{Operation}
 use Rattle.pcrf_model.specs.Replies.{ReplyValue, Own, Copy}
@@ -34,12 +34,14 @@ meaning taken (Range from os) = os
 meaning taken (Snapshot h n) = taken
 meaning taken (Acknowledgement m e c) = []
 
--- the letter of a reply to one who asked for operations from that position on, or for the whole; none for any other reply, or where a letter can't carry it
-abbrev pub letter_from : ℕ → ℕ → ℕ → ℕ → ReplyValue → Option LetterValue
-letter_from edition site epoch from (Own os n) =
-    cond (nat_le (length os) range_limit && nat_le (from + length os) last_counter)
-    (Some (record { edition = edition; site = site; epoch = epoch; body = Range from os })) None
-letter_from edition site epoch from (Copy h n) =
-    cond (nat_le h.clock last_counter && nat_le n last_counter)
-    (Some (record { edition = edition; site = site; epoch = epoch; body = Snapshot h n })) None
-letter_from edition site epoch from r = None
+-- what a letter says of a reply to one who asked for operations from that position on, or for the whole; nothing of any other reply
+abbrev pub body_from : ℕ → ReplyValue → Option LetterBody
+body_from from (Own os n) = Some (Range from os)
+body_from from (Copy h n) = Some (Snapshot h n)
+body_from from r = None
+
+-- a letter carries operations as many as are answered at once, and positions, clocks and lengths of logs up to the last counter
+abbrev pub is_carried : LetterBody → Bool
+is_carried (Range from os) = nat_le (length os) range_limit && nat_le (from + length os) last_counter
+is_carried (Snapshot h n) = nat_le h.clock last_counter && nat_le n last_counter
+is_carried (Acknowledgement m e c) = nat_le c last_counter

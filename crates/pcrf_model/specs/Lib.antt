@@ -2,8 +2,8 @@ pub mod Bindings
 pub mod Cursors
 pub mod Differences
 pub mod Edges
-pub mod Facts
 pub mod Flows
+pub mod Forms
 pub mod Holdings
 pub mod Laws
 pub mod Letterbox
@@ -13,7 +13,6 @@ pub mod Live
 pub mod Making
 pub mod Operations
 pub mod OperatorValues
-pub mod Paths
 pub mod Pushing
 pub mod Refusals
 pub mod Replies
@@ -25,6 +24,5 @@ pub mod Serving
 pub mod Sessions
 pub mod Steps
 pub mod Tables
-pub mod Values
 pub mod Views
 pub mod Worlds

@@ -5,74 +5,68 @@ use Rattle.ranked.specs.Ascending.{ascending}
 use Rattle.ranked.specs.declared.tag.Tag.{Tag}
 use Rattle.pcrf_values.specs.RuleValues.{RuleValue, DeltaValue}
 use Rattle.pcrf_values.specs.Numbers.{request_kind_number}
-use Rattle.pcrf_model.specs.Sessions.{Session, gx, af}
-use Rattle.pcrf_model.specs.Paths.{MediaType, FlowDescriptions, FlowUsage, FlowStatus, MaxRateUp, MaxRateDown, Path, whole, address, apn, subscribers, host, realm, last, component, component_part, flow, flow_part, told_name}
-use Rattle.pcrf_model.specs.Values.{Value, Number, Text, Address, Subscribers, Filters, Untold, Told}
-use Rattle.pcrf_model.specs.Facts.{Fact, Gone, Field, fact_cmp}
+use Rattle.pcrf_facts.specs.Places.{MediaType, ComponentStatus, ComponentRateUp, ComponentRateDown, FlowDescriptions, FlowUsage, FlowStatus, FlowRateUp, FlowRateDown, Place, OfComponent, OfFlow, OfRuleName, Component, Flow, address, apn, subscribers, host, realm, last}
+use Rattle.pcrf_facts.specs.Values.{Value, Number, Text, Address, Subscribers, Filters, Untold, Told, Subscriber}
+use Rattle.pcrf_facts.specs.Facts.{Fact, End, Removed, Field, fact_cmp}
+use Rattle.pcrf_model.specs.Limits.{flow_status_removed}
+use Rattle.pcrf_model.specs.Sessions.{Session}
 use Rattle.pcrf_model.specs.Holdings.{Holding}
 use Rattle.pcrf_model.specs.Operations.{Operation}
 use Rattle.pcrf_model.specs.Requests.{CcrValue, FlowValue, ComponentValue, AarValue}
 
 -- the fact that a request gives, if it gives it
-abbrev pub given : {A : Type 0} → Path → Tag → (A → Value) → Option A → List Fact
+abbrev pub given : {A : Type 0} → Place → Tag → (A → Value) → Option A → List Fact
 given p t as_value x = option_to_list (option_map (λ y. Field p t (as_value y)) x)
+
+-- the fields of a session that a request of either interface sets: host, realm and the type of the request, and what else it carries
+abbrev pub session_fields : Tag → Option (List ℕ) → Option (List ℕ) → Option (List Subscriber) → List ℕ → List ℕ → ℕ → List Fact
+session_fields t a n ids of_host of_realm kind =
+    given address t Address a
+    ++ given apn t Text n
+    ++ given subscribers t Subscribers ids
+    ++ (Field host t (Text of_host) ∷ Field realm t (Text of_realm) ∷ Field last t (Number kind) ∷ [])
 
 -- ---- Gx (TS 29.212, 4.5.1)
 
 -- the fields of an initial request or an update
 abbrev pub ccr_fields : CcrValue → Tag → List Fact
-ccr_fields q t =
-    let s : Session = gx q.session in
-    given (address s) t Address q.address
-    ++ given (apn s) t Text q.apn
-    ++ given (subscribers s) t Subscribers q.subscribers
-    ++ (Field (host s) t (Text q.host) ∷ Field (realm s) t (Text q.realm) ∷ Field (last s) t (Number (request_kind_number q.kind)) ∷ [])
+ccr_fields q t = session_fields t q.address q.apn q.subscribers q.host q.realm (request_kind_number q.kind)
 
 -- what the gateway is told by a difference: each removed name, and each installed rule
-abbrev pub told_facts : Session → Tag → DeltaValue → List Fact
-told_facts s t d =
-    map (λ n. Field (told_name s n) t Untold) d.removed
-    ++ map (λ (r : RuleValue). Field (told_name s r.name) t (Told r)) d.installed
-
--- the end of a session (TS 29.212, 4.5.7; TS 29.214, 4.4.4)
-abbrev pub end_facts : Session → List Fact
-end_facts s = Gone (whole s) ∷ []
+abbrev pub told_facts : Tag → DeltaValue → List Fact
+told_facts t d =
+    map (λ n. Field (OfRuleName n) t Untold) d.removed
+    ++ map (λ (r : RuleValue). Field (OfRuleName r.name) t (Told r)) d.installed
 
 -- ---- Rx (TS 29.214, 4.4.1 and 4.4.2): what is left out stays
 
 -- Flow-Status REMOVED
 abbrev pub is_removed : Option ℕ → Bool
-is_removed s = unwrap_or (option_map (λ n. n == 4) s) false
+is_removed s = unwrap_or (option_map (λ n. n == flow_status_removed) s) false
 
--- a flow that is removed makes only the fact that it is gone
-abbrev pub flow_facts : Session → ℕ → Tag → FlowValue → List Fact
-flow_facts s c t f = cond (is_removed f.status)
-    (Gone (flow s c f.number) ∷ [])
-    (given (flow_part s c f.number FlowDescriptions) t Filters f.filters
-    ++ given (flow_part s c f.number FlowUsage) t Number f.usage
-    ++ given (flow_part s c f.number FlowStatus) t Number f.status
-    ++ given (flow_part s c f.number MaxRateUp) t Number f.rate_up
-    ++ given (flow_part s c f.number MaxRateDown) t Number f.rate_down)
+-- a flow that is removed makes only the fact that it is
+abbrev pub flow_facts : ℕ → Tag → FlowValue → List Fact
+flow_facts c t f = cond (is_removed f.status)
+    (Removed (Flow c f.number) ∷ [])
+    (given (OfFlow c f.number FlowDescriptions) t Filters f.filters
+    ++ given (OfFlow c f.number FlowUsage) t Number f.usage
+    ++ given (OfFlow c f.number FlowStatus) t Number f.status
+    ++ given (OfFlow c f.number FlowRateUp) t Number f.rate_up
+    ++ given (OfFlow c f.number FlowRateDown) t Number f.rate_down)
 
--- a component that is removed makes only the fact that it is gone, whatever flows are described with it
-abbrev pub component_facts : Session → Tag → ComponentValue → List Fact
-component_facts s t c = cond (is_removed c.status)
-    (Gone (component s c.number) ∷ [])
-    (given (component_part s c.number MediaType) t Number c.media
-    ++ given (component_part s c.number FlowStatus) t Number c.status
-    ++ given (component_part s c.number MaxRateUp) t Number c.rate_up
-    ++ given (component_part s c.number MaxRateDown) t Number c.rate_down
-    ++ flat_map (flow_facts s c.number t) c.flows)
+-- a component that is removed makes only the fact that it is, whatever flows are described with it
+abbrev pub component_facts : Tag → ComponentValue → List Fact
+component_facts t c = cond (is_removed c.status)
+    (Removed (Component c.number) ∷ [])
+    (given (OfComponent c.number MediaType) t Number c.media
+    ++ given (OfComponent c.number ComponentStatus) t Number c.status
+    ++ given (OfComponent c.number ComponentRateUp) t Number c.rate_up
+    ++ given (OfComponent c.number ComponentRateDown) t Number c.rate_down
+    ++ flat_map (flow_facts c.number t) c.flows)
 
--- the facts of an AA request, component by component
+-- the facts of an AA request, component by component; what stands for the type of its request is 0
 abbrev pub aar_facts : AarValue → Tag → List Fact
-aar_facts q t =
-    let s : Session = af q.session in
-    given (address s) t Address q.address
-    ++ given (apn s) t Text q.apn
-    ++ given (subscribers s) t Subscribers q.subscribers
-    ++ (Field (host s) t (Text q.host) ∷ Field (realm s) t (Text q.realm) ∷ Field (last s) t (Number 0) ∷ [])
-    ++ flat_map (component_facts s t) q.components
+aar_facts q t = session_fields t q.address q.apn q.subscribers q.host q.realm 0 ++ flat_map (component_facts t) q.components
 
 -- ---- stamps
 
@@ -83,3 +77,7 @@ next_tag i h number = record { number = number; counter = h.clock + 1; site = i 
 -- the next operation of a site on its holding: its counter is the clock and one more
 abbrev pub next_operation : ℕ → Holding → ℕ → Session → List Fact → Operation
 next_operation i h number s facts = record { counter = h.clock + 1; site = i; number = number; session = s; facts = ascending fact_cmp facts }
+
+-- the end of a session alone (TS 29.212, 4.5.7; TS 29.214, 4.4.4)
+abbrev pub ending : ℕ → Holding → ℕ → Session → Operation
+ending i h number s = next_operation i h number s (End ∷ [])

@@ -1,11 +1,12 @@
 -- What an operator sees of a holding: every session, with its bindings, rules and told entries, and the clock (this project's profile).
-use Rattle.std.specs.Prelude.{ℕ, cond, List, ◌∷◌, map, Option, Some, None}
+use Rattle.std.specs.Prelude.{ℕ, Bool, cond, List, map, Option, Some, None}
+use Rattle.std.proofs.Common.{option_map}
 use Rattle.std.specs.Ordering.{is_eq}
 use Rattle.std.specs.List.{filter_map}
 use Rattle.pcrf_values.specs.RuleValues.{RuleValue}
+use Rattle.pcrf_facts.specs.Places.{Place, OfRuleName}
+use Rattle.pcrf_facts.specs.Values.{Value}
 use Rattle.pcrf_model.specs.Sessions.{Session, session_cmp, Kind, Gx, Af}
-use Rattle.pcrf_model.specs.Paths.{Step, RuleName}
-use Rattle.pcrf_model.specs.Values.{Value}
 use Rattle.pcrf_model.specs.Holdings.{Holding}
 use Rattle.pcrf_model.specs.Views.{View, Shown, view}
 use Rattle.pcrf_model.specs.Live.{is_live, home}
@@ -14,43 +15,73 @@ use Rattle.pcrf_model.specs.Tables.{Tables}
 use Rattle.pcrf_model.specs.Rules.{rules}
 use Rattle.pcrf_model.specs.Differences.{ToldRule, told}
 
--- a field of a session, a component or a flow, by its steps, and its value
+-- a field of a session, a component or a flow, and its value
 abbrev pub FieldShown : Type 0
-FieldShown = List Step × Value
+FieldShown = Place × Value
 
--- a field with its value; told entries are no fields
-abbrev pub field_shown : List Step → Value → Option FieldShown
-field_shown (RuleName n ∷ steps) x = None
-field_shown steps x = Some (steps, x)
+-- a field with its value; what was told is no field
+abbrev pub field_shown : Place → Value → Option FieldShown
+field_shown (OfRuleName n) x = None
+field_shown p x = Some (p, x)
 
--- all fields that the session shows, ascending by their paths
+-- all fields that the session shows, ascending by their places
 abbrev pub fields_shown : View → Session → List FieldShown
-fields_shown v s = filter_map (λ (x : Shown). cond (is_eq (session_cmp x.0.session s)) (field_shown x.0.steps x.1.1) None) v.all
+fields_shown v s = filter_map (λ (x : Shown). cond (is_eq (session_cmp x.session s)) (field_shown x.place x.value) None) v.all
 
--- of a live Gx session its fields, home, rules and told entries; of a live AF session its fields and its binding
-pub data SessionValue : Type 0 where
-  Ended Partial : SessionValue
-  LiveGx : List FieldShown → Option ℕ → List RuleValue → List ToldRule → SessionValue
-  LiveAf : List FieldShown → Option Session → SessionValue
+-- of a live Gx session: its fields, its home, its rules, and what its gateway was told
+pub record GxShown : Type 0 where
+  pub fields : List FieldShown
+  pub home : Option ℕ
+  pub rules : List RuleValue
+  pub told : List ToldRule
 
--- what is seen of a live session
-abbrev pub live_value : Tables → View → Session → Kind → SessionValue
-live_value t v s Gx = LiveGx (fields_shown v s) (home v s) (rules t v s) (told v s)
-live_value t v s Af = LiveAf (fields_shown v s) (bind v s)
+-- of a live AF session: its fields, and the Session-Id of the Gx session to which it is bound
+pub record AfShown : Type 0 where
+  pub fields : List FieldShown
+  pub binding : Option (List ℕ)
 
--- what is seen of a session
-abbrev pub session_value : Tables → View → Session → SessionValue
-session_value t v s = cond (v.ended s) Ended (cond (is_live v s) (live_value t v s s.kind) Partial)
+-- ended; partial, of which only some facts are known; or live, with what it shows
+pub data SessionValue (Seen : Type 0) : Type 0 where
+  Ended : SessionValue Seen
+  Partial : SessionValue Seen
+  Live : Seen → SessionValue Seen
 
--- every session that has a fact, ascending, Gx before AF
-abbrev pub session_values : Tables → View → List (Session × SessionValue)
-session_values t v = map (λ s. (s, session_value t v s)) v.sessions
+-- what is seen of a session, by what it would show if it is live
+abbrev pub session_value : {Seen : Type 0} → View → Session → Seen → SessionValue Seen
+session_value v s seen = cond (v.ended s) Ended (cond (is_live v s) (Live seen) Partial)
 
--- the clock, and each session with what is seen of it
+-- what a live Gx session shows
+abbrev pub gx_shown : Tables → View → Session → GxShown
+gx_shown t v s = record { fields = fields_shown v s; home = home v s; rules = rules t v s; told = told v s }
+
+-- what a live AF session shows
+abbrev pub af_shown : View → Session → AfShown
+af_shown v s = record { fields = fields_shown v s; binding = option_map (λ (x : Session). x.id) (bind v s) }
+
+-- a Gx session by its Session-Id, with what is seen of it
+abbrev pub gx_value : Tables → View → Session → Kind → Option (List ℕ × SessionValue GxShown)
+gx_value t v s Gx = Some (s.id, session_value v s (gx_shown t v s))
+gx_value t v s Af = None
+
+-- and an AF session
+abbrev pub af_value : View → Session → Kind → Option (List ℕ × SessionValue AfShown)
+af_value v s Gx = None
+af_value v s Af = Some (s.id, session_value v s (af_shown v s))
+
+-- the clock, and the sessions that have a fact, ascending by Session-Id, each with what is seen of it
 pub record OperatorValue : Type 0 where
   pub clock : ℕ
-  pub sessions : List (Session × SessionValue)
+  pub gx : List (List ℕ × SessionValue GxShown)
+  pub af : List (List ℕ × SessionValue AfShown)
+
+-- what an operator sees by this view and clock
+abbrev pub value_seen : Tables → ℕ → View → OperatorValue
+value_seen t clock v = record {
+  clock = clock;
+  gx = filter_map (λ (s : Session). gx_value t v s s.kind) v.sessions;
+  af = filter_map (λ (s : Session). af_value v s s.kind) v.sessions;
+}
 
 -- what an operator sees of a holding
 unfoldable pub operator_value : Tables → Holding → OperatorValue
-operator_value t h = record { clock = h.clock; sessions = session_values t (view h.facts) }
+operator_value t h = value_seen t h.clock (view h.facts)

@@ -3,8 +3,9 @@ use Rattle.std.specs.Prelude.{ℕ, ◌==◌, Bool, true, false, not, ◌&&◌, L
 use Rattle.std.proofs.Common.{option_map, unwrap_or}
 use Rattle.std.specs.Ordering.{is_eq}
 use Rattle.ranked.specs.Orders.{text_cmp}
+use Rattle.pcrf_values.specs.RuleValues.{DeltaValue}
 use Rattle.pcrf_model.specs.Sessions.{Session, is_gx}
-use Rattle.pcrf_model.specs.Paths.{host, realm}
+use Rattle.pcrf_facts.specs.Places.{host, realm}
 use Rattle.pcrf_model.specs.Holdings.{Holding}
 use Rattle.pcrf_model.specs.Views.{View, view, text}
 use Rattle.pcrf_model.specs.Live.{is_live, home}
@@ -19,7 +20,7 @@ use Rattle.pcrf_model.specs.Serving.{delta_of}
 -- the session's host is the given one, any where none is given
 abbrev pub is_of_host : View → Option (List ℕ) → Session → Bool
 is_of_host v None s = true
-is_of_host v (Some name) s = unwrap_or (option_map (λ x. is_eq (text_cmp x name)) (text v (host s))) false
+is_of_host v (Some name) s = unwrap_or (option_map (λ x. is_eq (text_cmp x name)) (text v s host)) false
 
 -- site i is the home of the session
 abbrev pub is_home : ℕ → View → Session → Bool
@@ -34,17 +35,24 @@ unfoldable pub due : Tables → ℕ → View → Option (List ℕ) → Option Se
 due t i v name = find (is_due t i v name) v.sessions
 
 -- what is told to the gateway of the session
-abbrev pub push_to : Tables → View → Session → PushValue
-push_to t v s = record { session = s.id; host = unwrap_or (text v (host s)) []; realm = unwrap_or (text v (realm s)) []; delta = delta_of t v s }
+abbrev pub push_to : View → Session → DeltaValue → PushValue
+push_to v s d = record { session = s.id; host = unwrap_or (text v s host) []; realm = unwrap_or (text v s realm) []; delta = d }
 
--- what is pushed, and the operation that is added; none where nothing is due
-unfoldable pub push : Tables → ℕ → Holding → Option (List ℕ) → Outcome
-push t i h name =
+-- what is pushed of a session, and the operation that is added
+abbrev pub telling : ℕ → Tables → ℕ → Holding → View → Session → Outcome
+telling most t i h v s =
+    let d : DeltaValue = delta_of most t v s in
+    record { reply = Pushed (Some (push_to v s d)); added = Some (next_operation i h 0 s (told_facts (next_tag i h 0) d)) }
+
+-- nothing is pushed
+abbrev pub nothing_pushed : Outcome
+nothing_pushed = record { reply = Pushed None; added = None }
+
+-- the push to the gateway of the session that is due, at most so many entries of its difference; none where nothing is due
+unfoldable pub push : ℕ → Tables → ℕ → Holding → Option (List ℕ) → Outcome
+push most t i h name =
     let v : View = view h.facts in
-    record {
-      reply = Pushed (option_map (push_to t v) (due t i v name));
-      added = option_map (λ s. next_operation i h 0 s (told_facts s (next_tag i h 0) (delta_of t v s))) (due t i v name);
-    }
+    unwrap_or (option_map (telling most t i h v) (due t i v name)) nothing_pushed
 
 -- something is due, and no counter is left for it
 unfoldable pub lacks_counter : Tables → ℕ → Holding → Option (List ℕ) → Bool

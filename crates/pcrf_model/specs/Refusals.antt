@@ -9,7 +9,7 @@ use Rattle.pcrf_values.specs.declared.request_kind.RequestKind.{RequestKind}
 use Rattle.pcrf_values.specs.declared.request_kind.RequestKind.TheVariants.{Initial, Update, Termination}
 use Rattle.pcrf_model.specs.Limits.{last_counter}
 use Rattle.pcrf_model.specs.Sessions.{gx, af}
-use Rattle.pcrf_model.specs.Holdings.{Holding}
+use Rattle.pcrf_model.specs.Holdings.{Holding, under}
 use Rattle.pcrf_model.specs.Views.{View, view}
 use Rattle.pcrf_model.specs.Live.{is_live}
 use Rattle.pcrf_model.specs.Bindings.{bind}
@@ -63,7 +63,7 @@ has_no_class t c = not (is_removed c.status) && unwrap_or (option_map (λ m. is_
 
 -- with the facts of the request added, its session is bound to none (TS 29.213, 5.2)
 abbrev pub binds_to_none : ℕ → Holding → AarValue → Bool
-binds_to_none i h q = is_none (bind (view (h.facts ++ aar_facts q (next_tag i h 0))) (af q.session))
+binds_to_none i h q = is_none (bind (view (h.facts ++ under (af q.session) (aar_facts q (next_tag i h 0)))) (af q.session))
 
 -- of an AA request
 abbrev pub aar_causes : Tables → ℕ → Holding → View → AarValue → List (Bool × Refusal)

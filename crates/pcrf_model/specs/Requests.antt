@@ -1,7 +1,7 @@
 -- The requests that a site serves, as read: plain values without memory.
 use Rattle.std.specs.Prelude.{ℕ, List, Option}
 use Rattle.pcrf_values.specs.declared.request_kind.RequestKind.{RequestKind}
-use Rattle.pcrf_model.specs.Values.{Subscriber}
+use Rattle.pcrf_facts.specs.Values.{Subscriber}
 
 -- A credit control request (TS 29.212, 5.6.2): Session-Id, Origin-Host, Origin-Realm, CC-Request-Type, CC-Request-Number, Framed-IP-Address
 -- as four octets, Called-Station-Id in small letters, and the Subscription-Ids, ascending, without repeats.

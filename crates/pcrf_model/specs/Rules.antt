@@ -7,29 +7,29 @@ use Rattle.ranked.specs.Orders.{pair_cmp}
 use Rattle.ranked.specs.Ascending.{ascending}
 use Rattle.pcrf_values.specs.RuleValues.{RuleValue, rule_cmp}
 use Rattle.pcrf_model.specs.Sessions.{Session}
-use Rattle.pcrf_model.specs.Paths.{FlowDescriptions, Step, Component, Flow, Part, apn}
+use Rattle.pcrf_facts.specs.Places.{FlowDescriptions, Place, OfFlow, apn}
 use Rattle.pcrf_model.specs.Views.{View, Shown, text}
 use Rattle.pcrf_model.specs.Live.{is_live}
 use Rattle.pcrf_model.specs.Bindings.{is_bound_to}
 use Rattle.pcrf_model.specs.Tables.{OperatorRule, ApnRow, Quality, Tables, apn_row}
 use Rattle.pcrf_model.specs.Flows.{FlowId, filters, class_of, flow_rule}
 
--- the flow whose filters stand at the path
-abbrev pub flow_at : Session → List Step → Option FlowId
-flow_at a (Component c ∷ Flow n ∷ Part FlowDescriptions ∷ []) = Some (record { session = a; component = c; flow = n })
-flow_at a steps = None
+-- the flow whose filters stand at the place
+abbrev pub flow_at : Session → Place → Option FlowId
+flow_at a (OfFlow c n FlowDescriptions) = Some (record { session = a; component = c; flow = n })
+flow_at a p = None
 
 -- the rule of a flow that shows filters and has a class
 abbrev pub rule_of : Tables → View → FlowId → Option RuleValue
 rule_of t v i = option_and_then (λ f. option_map (λ c. flow_rule t v i f c) (class_of t v i)) (filters v i)
 
--- the rule of the flow whose filters the path shows, if its session is bound to s
+-- the rule of the flow whose filters the place shows, if its session is bound to s
 abbrev pub rule_at : Tables → View → Session → Shown → Option RuleValue
-rule_at t v s x = cond (is_bound_to v s x.0.session) (option_and_then (rule_of t v) (flow_at x.0.session x.0.steps)) None
+rule_at t v s x = cond (is_bound_to v s x.session) (option_and_then (rule_of t v) (flow_at x.session x.place)) None
 
 -- the access point of the session, as the tables have it
 abbrev pub apn_of : Tables → View → Session → Option ApnRow
-apn_of t v s = option_and_then (apn_row t) (text v (apn s))
+apn_of t v s = option_and_then (apn_row t) (text v s apn)
 
 -- `op/` and the name in the table (this project's profile)
 abbrev pub operator_rule : OperatorRule → RuleValue

@@ -3,7 +3,7 @@ use Rattle.std.specs.Prelude.{ℕ, zero, suc, List, [], ◌∷◌, Option, Some,
 use Rattle.pcrf_values.specs.RuleValues.{RuleValue, DeltaValue}
 use Rattle.pcrf_values.specs.declared.request_kind.RequestKind.TheVariants.{Initial, Update, Termination}
 use Rattle.pcrf_model.specs.Sessions.{Session, gx, af}
-use Rattle.pcrf_model.specs.Values.{Subscriber}
+use Rattle.pcrf_facts.specs.Values.{Subscriber}
 use Rattle.pcrf_model.specs.Tables.{Class, Quality, Listed, Tables}
 use Rattle.pcrf_model.specs.Requests.{FlowValue, ComponentValue, CapabilitiesExchange, RequestValue, Ccr, Aar, Str, Base}
 

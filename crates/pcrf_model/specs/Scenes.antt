@@ -4,10 +4,10 @@ use Rattle.std.proofs.Common.{option_map}
 use Rattle.ranked.specs.declared.tag.Tag.{Tag}
 use Rattle.pcrf_values.specs.declared.refusal.Refusal.{Refusal}
 use Rattle.pcrf_values.specs.RuleValues.{DeltaValue}
-use Rattle.pcrf_model.specs.Limits.{last_counter}
-use Rattle.pcrf_model.specs.Paths.{FramedIpAddress, CalledStationId, SubscriptionIds, OriginHost, OriginRealm, RequestType, MediaType, FlowDescriptions, FlowUsage, FlowStatus, MaxRateUp, MaxRateDown, Component, Flow, Part, address}
-use Rattle.pcrf_model.specs.Values.{Number, Text, Subscribers, Filters, Address}
-use Rattle.pcrf_model.specs.Facts.{Field}
+use Rattle.pcrf_model.specs.Limits.{last_counter, delta_limit}
+use Rattle.pcrf_facts.specs.Places.{SessionField, FramedIpAddress, CalledStationId, SubscriptionIds, OriginHost, OriginRealm, RequestType, MediaType, ComponentRateUp, ComponentRateDown, FlowDescriptions, FlowUsage, FlowStatus, OfSession, OfComponent, OfFlow, address}
+use Rattle.pcrf_facts.specs.Values.{Number, Text, Subscribers, Filters, Address}
+use Rattle.pcrf_facts.specs.Facts.{Field}
 use Rattle.pcrf_model.specs.Holdings.{nothing_held, union}
 use Rattle.pcrf_model.specs.Operations.{Operation, holding_of}
 use Rattle.pcrf_model.specs.Views.{View, view}
@@ -15,7 +15,7 @@ use Rattle.pcrf_model.specs.Requests.{RequestValue}
 use Rattle.pcrf_model.specs.Replies.{PushValue, ReplyValue, OnGx, Pushed, Granted, Rejected}
 use Rattle.pcrf_model.specs.Serving.{serve}
 use Rattle.pcrf_model.specs.Pushing.{push}
-use Rattle.pcrf_model.specs.OperatorValues.{FieldShown, SessionValue, LiveGx}
+use Rattle.pcrf_model.specs.OperatorValues.{FieldShown, GxShown, AfShown}
 use Rattle.pcrf_model.specs.Steps.{SiteState, adding}
 use Rattle.pcrf_model.specs.Samples.{imsi, e164, sip_rule, uplink, any_to_any, operator, first_session, second_session, host_address, initial, update, termination, call, hang_up, audio, no_media, status_only, many_flows, ims_quality}
 
@@ -27,19 +27,19 @@ empty_site = record { holding = nothing_held; log = [] }
 
 -- what site i answers
 abbrev pub answers : ℕ → SiteState → RequestValue → ReplyValue
-answers i s q = (serve operator i s.holding q).reply
+answers i s q = (serve delta_limit operator i s.holding q).reply
 
 -- site i after the request
 abbrev pub serves : ℕ → SiteState → RequestValue → SiteState
-serves i s q = adding s (serve operator i s.holding q).added
+serves i s q = adding s (serve delta_limit operator i s.holding q).added
 
 -- what site i pushes to any host
 abbrev pub pushes : ℕ → SiteState → ReplyValue
-pushes i s = (push operator i s.holding None).reply
+pushes i s = (push delta_limit operator i s.holding None).reply
 
 -- site i after the push
 abbrev pub pushed : ℕ → SiteState → SiteState
-pushed i s = adding s (push operator i s.holding None).added
+pushed i s = adding s (push delta_limit operator i s.holding None).added
 
 -- with operations of another site
 abbrev pub taking : SiteState → List Operation → SiteState
@@ -211,7 +211,7 @@ newer_first = taking (taking (taking (taking empty_site after_restart.log) after
 abbrev pub last_operation : Operation
 last_operation =
     let t : Tag = record { number = 0; counter = last_counter; site = 1 } in
-    record { counter = last_counter; site = 1; number = 0; session = second_session; facts = Field (address second_session) t (Address (host_address 2)) ∷ [] }
+    record { counter = last_counter; site = 1; number = 0; session = second_session; facts = Field address t (Address (host_address 2)) ∷ [] }
 
 -- site 0 took it
 abbrev pub at_the_end : SiteState
@@ -234,17 +234,23 @@ all_fifty = pushed 0 first_forty
 -- ---- what an operator sees
 
 -- the first session, live at site 0
-abbrev pub live_first : SessionValue
-live_first = LiveGx
-    ((Part FramedIpAddress ∷ [], Address (host_address 1)) ∷ (Part CalledStationId ∷ [], Text (codes "ims")) ∷ (Part SubscriptionIds ∷ [], Subscribers (e164 ∷ imsi ∷ []))
-    ∷ (Part OriginHost ∷ [], Text (codes "gw")) ∷ (Part OriginRealm ∷ [], Text (codes "r")) ∷ (Part RequestType ∷ [], Number 1) ∷ [])
-    (Some 0) (sip_rule ∷ []) ((codes "op/sip", sip_rule) ∷ [])
+abbrev pub live_first : GxShown
+live_first = record {
+  fields =
+      (OfSession FramedIpAddress, Address (host_address 1)) ∷ (OfSession CalledStationId, Text (codes "ims")) ∷ (OfSession SubscriptionIds, Subscribers (e164 ∷ imsi ∷ []))
+      ∷ (OfSession OriginHost, Text (codes "gw")) ∷ (OfSession OriginRealm, Text (codes "r")) ∷ (OfSession RequestType, Number 1) ∷ [];
+  home = Some 0;
+  rules = sip_rule ∷ [];
+  told = (codes "op/sip", sip_rule) ∷ [];
+}
 
--- the call's fields by their paths: its flows, its component, its own
-abbrev pub call_fields : List FieldShown
-call_fields =
-    (Component 1 ∷ Flow 1 ∷ Part FlowDescriptions ∷ [], Filters (uplink ∷ any_to_any ∷ []))
-    ∷ (Component 1 ∷ Flow 2 ∷ Part FlowDescriptions ∷ [], Filters (uplink ∷ [])) ∷ (Component 1 ∷ Flow 2 ∷ Part FlowUsage ∷ [], Number 1)
-    ∷ (Component 1 ∷ Flow 2 ∷ Part FlowStatus ∷ [], Number 2)
-    ∷ (Component 1 ∷ Part MediaType ∷ [], Number 0) ∷ (Component 1 ∷ Part MaxRateUp ∷ [], Number 41000) ∷ (Component 1 ∷ Part MaxRateDown ∷ [], Number 80000)
-    ∷ (Part FramedIpAddress ∷ [], Address (host_address 1)) ∷ (Part OriginHost ∷ [], Text (codes "af")) ∷ (Part OriginRealm ∷ [], Text (codes "r")) ∷ (Part RequestType ∷ [], Number 0) ∷ []
+-- the call, bound to none: its fields, those of its component, those of its flows
+abbrev pub live_call : AfShown
+live_call = record {
+  fields =
+      (OfSession FramedIpAddress, Address (host_address 1)) ∷ (OfSession OriginHost, Text (codes "af")) ∷ (OfSession OriginRealm, Text (codes "r")) ∷ (OfSession RequestType, Number 0)
+      ∷ (OfComponent 1 MediaType, Number 0) ∷ (OfComponent 1 ComponentRateUp, Number 41000) ∷ (OfComponent 1 ComponentRateDown, Number 80000)
+      ∷ (OfFlow 1 1 FlowDescriptions, Filters (uplink ∷ any_to_any ∷ [])) ∷ (OfFlow 1 2 FlowDescriptions, Filters (uplink ∷ [])) ∷ (OfFlow 1 2 FlowUsage, Number 1)
+      ∷ (OfFlow 1 2 FlowStatus, Number 2) ∷ [];
+  binding = None;
+}

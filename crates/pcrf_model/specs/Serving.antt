@@ -6,9 +6,8 @@ use Rattle.pcrf_values.specs.Results.{success}
 use Rattle.pcrf_values.specs.declared.refusal.Refusal.{Refusal}
 use Rattle.pcrf_values.specs.declared.request_kind.RequestKind.{RequestKind}
 use Rattle.pcrf_values.specs.declared.request_kind.RequestKind.TheVariants.{Initial, Update, Termination}
-use Rattle.pcrf_model.specs.Limits.{delta_limit}
 use Rattle.pcrf_model.specs.Sessions.{Session, gx, af}
-use Rattle.pcrf_model.specs.Holdings.{Holding}
+use Rattle.pcrf_model.specs.Holdings.{Holding, under}
 use Rattle.pcrf_model.specs.Operations.{Operation, with_operation}
 use Rattle.pcrf_model.specs.Views.{View, view}
 use Rattle.pcrf_model.specs.Tables.{Tables}
@@ -16,39 +15,47 @@ use Rattle.pcrf_model.specs.Rules.{rules, quality_of}
 use Rattle.pcrf_model.specs.Differences.{told, difference, first}
 use Rattle.pcrf_model.specs.Requests.{CcrValue, AarValue, StrValue, BaseValue, RequestValue, Ccr, Aar, Str, Base}
 use Rattle.pcrf_model.specs.Replies.{Granted, Rejected, ReplyValue, OnGx, Done, Refused, OnBase, Outcome}
-use Rattle.pcrf_model.specs.Making.{ccr_fields, told_facts, end_facts, aar_facts, next_tag, next_operation}
+use Rattle.pcrf_model.specs.Making.{ccr_fields, told_facts, aar_facts, next_tag, next_operation, ending}
 use Rattle.pcrf_model.specs.Refusals.{ccr_refusal, aar_refusal, str_refusal, base_refusal}
 
 -- no names and no rules
 abbrev pub empty_delta : DeltaValue
 empty_delta = record { removed = []; installed = [] }
 
--- what the gateway is to be told of a session: the first entries of the difference
-abbrev pub delta_of : Tables → View → Session → DeltaValue
-delta_of t v s = first delta_limit (difference (told v s) (rules t v s))
+-- what the gateway is to be told of a session: the first entries of the difference, at most so many
+abbrev pub delta_of : ℕ → Tables → View → Session → DeltaValue
+delta_of most t v s = first most (difference (told v s) (rules t v s))
 
--- An initial request or an update that is accepted: its fields, and what the gateway is told on the holding with these fields;
--- the difference and the default quality of service that the session then shows are answered.
-unfoldable pub provisioned : Tables → ℕ → Holding → CcrValue → Outcome
-provisioned t i h q =
+-- An initial request or an update that is accepted: its fields, and what the gateway is told on the holding with these fields, at most so many
+-- entries; the difference and the default quality of service that the session then shows are answered.
+unfoldable pub provisioned : ℕ → Tables → ℕ → Holding → CcrValue → Outcome
+provisioned most t i h q =
     let s : Session = gx q.session in
     let fields = ccr_fields q (next_tag i h q.number) in
-    let v : View = view (h.facts ++ fields) in
-    let d : DeltaValue = delta_of t v s in
+    let v : View = view (h.facts ++ under s fields) in
+    let d : DeltaValue = delta_of most t v s in
     record {
       reply = OnGx (Granted d (quality_of t v s));
-      added = Some (next_operation i h q.number s (fields ++ told_facts s (next_tag i h 0) d));
+      added = Some (next_operation i h q.number s (fields ++ told_facts (next_tag i h 0) d));
     }
 
 -- a termination that is accepted: the end alone
 abbrev pub terminated : ℕ → Holding → CcrValue → Outcome
-terminated i h q = record { reply = OnGx (Granted empty_delta None); added = Some (next_operation i h q.number (gx q.session) (end_facts (gx q.session))) }
+terminated i h q = record { reply = OnGx (Granted empty_delta None); added = Some (ending i h q.number (gx q.session)) }
 
 -- a credit control request that is accepted, by its type
-abbrev pub accepted_ccr : Tables → ℕ → Holding → CcrValue → RequestKind → Outcome
-accepted_ccr t i h q Initial = provisioned t i h q
-accepted_ccr t i h q Update = provisioned t i h q
-accepted_ccr t i h q Termination = terminated i h q
+abbrev pub accepted_ccr : ℕ → Tables → ℕ → Holding → CcrValue → RequestKind → Outcome
+accepted_ccr most t i h q Initial = provisioned most t i h q
+accepted_ccr most t i h q Update = provisioned most t i h q
+accepted_ccr most t i h q Termination = terminated i h q
+
+-- an AA request that is accepted: what it describes
+abbrev pub described : ℕ → Holding → AarValue → Outcome
+described i h q = record { reply = Done; added = Some (next_operation i h 0 (af q.session) (aar_facts q (next_tag i h 0))) }
+
+-- a session termination request that is accepted: the end alone
+abbrev pub closed : ℕ → Holding → StrValue → Outcome
+closed i h q = record { reply = Done; added = Some (ending i h 0 (af q.session)) }
 
 -- refused, with nothing added, or accepted
 abbrev pub refused_or : (Refusal → ReplyValue) → Option Refusal → Outcome → Outcome
@@ -56,27 +63,27 @@ refused_or as_reply None accepted = accepted
 refused_or as_reply (Some r) accepted = record { reply = as_reply r; added = None }
 
 -- a credit control request
-unfoldable pub serve_ccr : Tables → ℕ → Holding → CcrValue → Outcome
-serve_ccr t i h q = refused_or (λ r. OnGx (Rejected r)) (ccr_refusal t h q) (accepted_ccr t i h q q.kind)
+unfoldable pub serve_ccr : ℕ → Tables → ℕ → Holding → CcrValue → Outcome
+serve_ccr most t i h q = refused_or (λ r. OnGx (Rejected r)) (ccr_refusal t h q) (accepted_ccr most t i h q q.kind)
 
--- an AA request: what it describes is added
+-- an AA request
 unfoldable pub serve_aar : Tables → ℕ → Holding → AarValue → Outcome
-serve_aar t i h q = refused_or Refused (aar_refusal t i h q) (record { reply = Done; added = Some (next_operation i h 0 (af q.session) (aar_facts q (next_tag i h 0))) })
+serve_aar t i h q = refused_or Refused (aar_refusal t i h q) (described i h q)
 
--- a session termination request: the end alone is added
+-- a session termination request
 unfoldable pub serve_str : ℕ → Holding → StrValue → Outcome
-serve_str i h q = refused_or Refused (str_refusal h q) (record { reply = Done; added = Some (next_operation i h 0 (af q.session) (end_facts (af q.session))) })
+serve_str i h q = refused_or Refused (str_refusal h q) (closed i h q)
 
 -- a base request adds nothing
 abbrev pub serve_base : BaseValue → Outcome
 serve_base q = record { reply = OnBase (unwrap_or (option_map (λ (r : Refusal). r.code) (base_refusal q.kind)) success); added = None }
 
--- what site i, which holds h, replies and adds; a refused request adds nothing
-abbrev pub serve : Tables → ℕ → Holding → RequestValue → Outcome
-serve t i h (Ccr q) = serve_ccr t i h q
-serve t i h (Aar q) = serve_aar t i h q
-serve t i h (Str q) = serve_str i h q
-serve t i h (Base q) = serve_base q
+-- What site i, which holds h, replies and adds, telling at most so many entries of a difference; a refused request adds nothing.
+abbrev pub serve : ℕ → Tables → ℕ → Holding → RequestValue → Outcome
+serve most t i h (Ccr q) = serve_ccr most t i h q
+serve most t i h (Aar q) = serve_aar t i h q
+serve most t i h (Str q) = serve_str i h q
+serve most t i h (Base q) = serve_base q
 
 -- with the operation, if there is one
 abbrev pub with_added : Holding → Option Operation → Holding

@@ -33,37 +33,34 @@ abbrev pub adding : SiteState → Option Operation → SiteState
 adding s None = s
 adding s (Some o) = record { holding = with_added s.holding (Some o); log = s.log ++ o ∷ [] }
 
--- its own operations from a position on, at most so many, with the length of the log
-abbrev pub own_reply : SiteState → ℕ → ReplyValue
-own_reply s p = Own (take range_limit (drop p s.log)) (length s.log)
+-- its own operations from a position on, as many as are answered at once
+abbrev pub own_from : List Operation → ℕ → List Operation
+own_from log p = take range_limit (drop p log)
 
--- all that it keeps, with the length of the log
-abbrev pub copy_reply : SiteState → ReplyValue
-copy_reply s = Copy (kept_of s.holding) (length s.log)
-
--- the replies that site i may give to the event
-abbrev pub MayReply : Tables → ℕ → SiteState → SiteEvent → ReplyValue → Type 0
-MayReply t i s (Serve q) r = r ≡ (serve t i s.holding q).reply
-MayReply t i s (Push name) r = (lacks_counter t i s.holding name ≡ false) × (r ≡ (push t i s.holding name).reply)
-MayReply t i s (Ops os) r = (n : ℕ) × (n ≤ length os) × (r ≡ Taken n)
-MayReply t i s (Whole k) r = r ≡ Done
-MayReply t i s (AskOwn p) r = r ≡ own_reply s p
-MayReply t i s AskWhole r = r ≡ copy_reply s
+-- The replies that site i may give to the event, where a message tells at most so many entries of a difference. Of operations to take in it may take
+-- the first alone.
+abbrev pub MayReply : ℕ → Tables → ℕ → SiteState → SiteEvent → ReplyValue → Type 0
+MayReply most t i s (Serve q) r = r ≡ (serve most t i s.holding q).reply
+MayReply most t i s (Push name) r = (lacks_counter t i s.holding name ≡ false) × (r ≡ (push most t i s.holding name).reply)
+MayReply most t i s (Ops os) r = (n : ℕ) × (n ≤ length os) × (r ≡ Taken n)
+MayReply most t i s (Whole k) r = r ≡ Done
+MayReply most t i s (AskOwn p) r = r ≡ Own (own_from s.log p) (length s.log)
+MayReply most t i s AskWhole r = r ≡ Copy (kept_of s.holding) (length s.log)
 
 -- the site after the event to which it gave that reply
-abbrev pub stepped : Tables → ℕ → SiteState → SiteEvent → ReplyValue → SiteState
-stepped t i s (Serve q) r = adding s (serve t i s.holding q).added
-stepped t i s (Push name) r = adding s (push t i s.holding name).added
-stepped t i s (Ops os) (Taken n) = record s { holding = union s.holding (holding_of (take n os)) }
-stepped t i s (Whole k) r = record s { holding = union s.holding k }
-stepped t i s e r = s
+abbrev pub stepped : ℕ → Tables → ℕ → SiteState → SiteEvent → ReplyValue → SiteState
+stepped most t i s (Serve q) r = adding s (serve most t i s.holding q).added
+stepped most t i s (Push name) r = adding s (push most t i s.holding name).added
+stepped most t i s (Ops os) (Taken n) = record s { holding = union s.holding (holding_of (take n os)) }
+stepped most t i s (Whole k) r = record s { holding = union s.holding k }
+stepped most t i s e r = s
 
 -- the event at site i, which was in the first state, gets that reply and leaves it in the second
-pub record IsStep (t : Tables) (i : ℕ) (before : SiteState) (event : SiteEvent) (reply : ReplyValue) (after : SiteState) : Type 0 where
-  pub may : MayReply t i before event reply
-  pub left : after ≡ stepped t i before event reply
+pub record IsStep (most : ℕ) (t : Tables) (i : ℕ) (before : SiteState) (event : SiteEvent) (reply : ReplyValue) (after : SiteState) : Type 0 where
+  pub may : MayReply most t i before event reply
+  pub left : after ≡ stepped most t i before event reply
 
 -- the events with their replies, in order, lead from the first state to the second
-abbrev pub Replays : Tables → ℕ → SiteState → List (SiteEvent × ReplyValue) → SiteState → Type 0
-Replays t i s [] z = s ≡ z
-Replays t i s (x ∷ xs) z = MayReply t i s x.0 x.1 × Replays t i (stepped t i s x.0 x.1) xs z
+abbrev pub Replays : ℕ → Tables → ℕ → SiteState → List (SiteEvent × ReplyValue) → SiteState → Type 0
+Replays most t i s [] z = s ≡ z
+Replays most t i s (x ∷ xs) z = MayReply most t i s x.0 x.1 × Replays most t i (stepped most t i s x.0 x.1) xs z

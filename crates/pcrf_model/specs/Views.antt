@@ -1,53 +1,71 @@
 -- What is read of a set of facts. All that follows is said of this view.
 use Rattle.std.specs.Prelude.{ℕ, Bool, List, map, Option, Some, None, is_some}
 use Rattle.std.proofs.Common.{Ordering, option_map, option_and_then}
+use Rattle.std.specs.Ordering.{on}
 use Rattle.std.specs.List.{filter_map}
 use Rattle.ranked.specs.Orders.{pair_cmp}
 use Rattle.ranked.specs.Ascending.{ascending}
+use Rattle.ranked.specs.declared.tag.Tag.{Tag}
+use Rattle.pcrf_facts.specs.Places.{Place, Removable, place_cmp}
+use Rattle.pcrf_facts.specs.Values.{Value, Number, Text, Address, Filters, Entry, entry_cmp}
+use Rattle.pcrf_facts.specs.Facts.{Fact, End, Removed, Field}
+use Rattle.pcrf_facts.specs.Held.{shown, removed, is_ended}
 use Rattle.pcrf_model.specs.Sessions.{Session, session_cmp}
-use Rattle.pcrf_model.specs.Paths.{Path, path_cmp, whole}
-use Rattle.pcrf_model.specs.Values.{Subscriber, Value, Number, Text, Address, Subscribers, Filters, Entry, entry_cmp}
-use Rattle.pcrf_model.specs.Facts.{Fact, Gone, Field, session_of}
-use Rattle.pcrf_model.specs.Holdings.{is_gone, shown}
+use Rattle.pcrf_model.specs.Holdings.{SessionFact, facts_on}
 
--- a path with what it shows
-abbrev pub Shown : Type 0
-Shown = Path × Entry
+-- a place of a session, and the tag and value that it shows
+pub record Shown : Type 0 where
+  pub session : Session
+  pub place : Place
+  pub tag : Tag
+  pub value : Value
 
--- by path
+-- by session, then place, tag and value
 abbrev pub shown_cmp : Shown → Shown → Ordering
-shown_cmp = pair_cmp path_cmp entry_cmp
+shown_cmp = on (λ x. (x.session, (x.place, (x.tag, x.value)))) (pair_cmp session_cmp (pair_cmp place_cmp entry_cmp))
 
--- the fact's path with what it shows
-abbrev pub showing : (Path → Option Entry) → Fact → Option Shown
-showing shows (Gone p) = None
-showing shows (Field p t v) = option_map (λ e. (p, e)) (shows p)
+-- a place with its entry
+abbrev pub shown_as : Session → Place → Entry → Shown
+shown_as s p e = record { session = s; place = p; tag = e.0; value = e.1 }
 
--- What each path shows; which session is ended; the paths that show, ascending, with what they show; the sessions that have a fact, ascending.
+-- what the place of a field shows
+abbrev pub showing : (Session → Place → Option Entry) → Session → Fact → Option Shown
+showing shows s End = None
+showing shows s (Removed r) = None
+showing shows s (Field p t v) = option_map (shown_as s p) (shows s p)
+
+-- What each place of a session shows; which session is ended; what of a session is removed; all that shows, ascending; the sessions that
+-- have a fact, ascending.
 pub record View : Type 0 where
-  pub shows : Path → Option Entry
+  pub shows : Session → Place → Option Entry
   pub ended : Session → Bool
+  pub removals : Session → List Removable
   pub all : List Shown
   pub sessions : List Session
 
+-- what the facts of a session show
+abbrev pub shown_on : List SessionFact → Session → Place → Option Entry
+shown_on facts s = shown (facts_on facts s)
+
 -- what is read of these facts
-unfoldable pub view : List Fact → View
+unfoldable pub view : List SessionFact → View
 view facts = record {
-  shows = shown facts;
-  ended = λ s. is_gone facts (whole s);
-  all = ascending shown_cmp (filter_map (showing (shown facts)) facts);
-  sessions = ascending session_cmp (map session_of facts);
+  shows = shown_on facts;
+  ended = λ s. is_ended (facts_on facts s);
+  removals = λ s. removed (facts_on facts s);
+  all = ascending shown_cmp (filter_map (λ (x : SessionFact). showing (shown_on facts) x.0 x.1) facts);
+  sessions = ascending session_cmp (map (λ (x : SessionFact). x.0) facts);
 }
 
--- ---- what a path shows, as a value of its kind
+-- ---- what a place shows, as a value of its kind
 
--- the value that a path shows
-abbrev pub value : View → Path → Option Value
-value v p = option_map (λ (e : Entry). e.1) (v.shows p)
+-- the value that a place of the session shows
+abbrev pub value : View → Session → Place → Option Value
+value v s p = option_map (λ (e : Entry). e.1) (v.shows s p)
 
--- the path shows something
-abbrev pub has : View → Path → Bool
-has v p = is_some (v.shows p)
+-- the place shows something
+abbrev pub has : View → Session → Place → Bool
+has v s p = is_some (v.shows s p)
 
 -- as a number
 abbrev pub as_number : Value → Option ℕ
@@ -64,20 +82,15 @@ abbrev pub as_address : Value → Option (List ℕ)
 as_address (Address a) = Some a
 as_address x = None
 
--- as subscribers
-abbrev pub as_subscribers : Value → Option (List Subscriber)
-as_subscribers (Subscribers s) = Some s
-as_subscribers x = None
-
 -- as filters
 abbrev pub as_filters : Value → Option (List (List ℕ))
 as_filters (Filters f) = Some f
 as_filters x = None
 
--- the number that a path shows
-abbrev pub number : View → Path → Option ℕ
-number v p = option_and_then as_number (value v p)
+-- the number that a place shows
+abbrev pub number : View → Session → Place → Option ℕ
+number v s p = option_and_then as_number (value v s p)
 
--- the text that a path shows
-abbrev pub text : View → Path → Option (List ℕ)
-text v p = option_and_then as_text (value v p)
+-- the text that a place shows
+abbrev pub text : View → Session → Place → Option (List ℕ)
+text v s p = option_and_then as_text (value v s p)

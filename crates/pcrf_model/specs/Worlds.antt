@@ -1,16 +1,18 @@
--- Several sites and the letters between them: what each site took and made, read from the events and the answers alone.
-use Rattle.std.specs.Prelude.{ℕ, zero, suc, List, [], ◌∷◌, ◌++◌, take, slice_get, slice_set, Option, Some, None, Result, Ok, Err}
-use Rattle.std.proofs.Common.{option_to_list, option_map, option_and_then, unwrap_or}
+-- Several sites and the letters between them: what each event answers, and what each site took, read from the events and the answers alone.
+use Rattle.std.specs.Prelude.{◌≡◌, ℕ, zero, suc, ◌+◌, ◌-◌, ◌<◌, ◌==◌, cond, List, [], ◌∷◌, ◌++◌, take, length, map, slice_get, slice_set, slice_index_or, Option, Some, None, Result, Ok, Err}
+use Rattle.std.proofs.Common.{option_to_list, option_map, unwrap_or}
+use Rattle.ranked.specs.Sets.{Same}
+use Rattle.pcrf_model.specs.Limits.{last_epoch}
 use Rattle.pcrf_model.specs.Holdings.{Holding, kept_of}
 use Rattle.pcrf_model.specs.Operations.{Operation, holding_of}
 use Rattle.pcrf_model.specs.Tables.{Tables}
 use Rattle.pcrf_model.specs.Requests.{RequestValue}
-use Rattle.pcrf_model.specs.Replies.{PushValue, ReplyValue}
+use Rattle.pcrf_model.specs.Replies.{PushValue, ReplyValue, Pushed}
 use Rattle.pcrf_model.specs.Serving.{serve}
-use Rattle.pcrf_model.specs.Pushing.{push}
-use Rattle.pcrf_model.specs.Steps.{SiteState, SiteEvent, AskOwn, own_reply, copy_reply}
+use Rattle.pcrf_model.specs.Pushing.{push, lacks_counter}
+use Rattle.pcrf_model.specs.Steps.{SiteState, SiteEvent, AskOwn, own_from}
 use Rattle.pcrf_model.specs.Letters.{LetterBody, Range, Snapshot, Acknowledgement, LetterValue, meaning}
-use Rattle.pcrf_model.specs.Cursors.{CursorsValue, start_cursors, ask, letter_of, took, ack_of, ack_letter, carried_ack, acked}
+use Rattle.pcrf_model.specs.Cursors.{CursorsValue, start_cursors, ask, letter_saying, took, ack_of, ack_letter, carried_ack, acked}
 
 -- Site i serves a request, or pushes to a host; site i makes a letter for site j; site j takes letter k; site j acknowledges to site i what it took
 -- of it; site i starts again, empty.
@@ -22,7 +24,7 @@ pub data WorldEvent : Type 0 where
   Ack : ℕ → ℕ → WorldEvent
   Restart : ℕ → WorldEvent
 
--- the answer; what was pushed; the number of the new letter; that it was taken; the new epoch
+-- the reply; what was pushed; the number of the new letter; that it was taken; the new epoch
 pub data WorldOutcome : Type 0 where
   Replied : ReplyValue → WorldOutcome
   PushedOut : Option PushValue → WorldOutcome
@@ -39,11 +41,100 @@ pub data WorldFault : Type 0 where
 abbrev pub WorldAnswer : Type 0
 WorldAnswer = Result WorldOutcome WorldFault
 
--- a site's number and epoch, the operations that it took, those that it made in this epoch, in order, and its cursors
-pub record SiteTook : Type 0 where
+-- ---- what is seen of a world
+
+-- a site: its number and epoch, what it holds and made in this epoch, and its cursors
+pub record SiteView : Type 0 where
   pub number : ℕ
   pub epoch : ℕ
+  pub state : SiteState
+  pub cursors : CursorsValue
+
+-- all sites, by number, and the letters, in the order in which they were made
+pub record WorldView : Type 0 where
+  pub sites : List SiteView
+  pub letters : List LetterValue
+
+-- how a world runs: the operator tables of all sites, how many entries of a difference a message tells, and what a site writes to a peer
+pub record Setting : Type 0 where
+  pub tables : Tables
+  pub most : ℕ
+  pub writes : SiteView → ℕ → LetterBody
+
+-- a site writes its whole log, whoever the peer is
+abbrev pub whole_log : SiteView → ℕ → LetterBody
+whole_log s peer = Range 0 s.state.log
+
+-- the operations that are asked for from a position on, or all that the site holds
+abbrev pub asked_body : SiteView → SiteEvent → LetterBody
+asked_body s (AskOwn p) = Range p (own_from s.state.log p)
+asked_body s e = Snapshot s.state.holding (length s.state.log)
+
+-- by the cursors: all, or the operations from what the peer said it took
+abbrev pub by_cursors : SiteView → ℕ → LetterBody
+by_cursors s peer = asked_body s (ask s.cursors peer)
+
+-- ---- what each event answers
+
+-- of that site, if there is one
+abbrev pub at_site : Option SiteView → (SiteView → WorldAnswer) → WorldAnswer
+at_site None answer = Err NoSuchSite
+at_site (Some s) answer = answer s
+
+-- what was pushed, if a counter is left for it
+abbrev pub push_answer : Setting → Option (List ℕ) → SiteView → WorldAnswer
+push_answer g name s = cond (lacks_counter g.tables s.number s.state.holding name) (Err ClockFull) (outcome (push g.most g.tables s.number s.state.holding name).reply)
+  where
+    outcome : ReplyValue → WorldAnswer
+    outcome (Pushed p) = Ok (PushedOut p)
+    outcome r = Ok (Replied r)
+
+-- that the letter was taken, if there is one
+abbrev pub merge_answer : Option LetterValue → WorldAnswer
+merge_answer None = Err NoSuchLetter
+merge_answer (Some l) = Ok Merged
+
+-- the next epoch, if there is one
+abbrev pub restart_answer : SiteView → WorldAnswer
+restart_answer s = cond (s.epoch == last_epoch) (Err EpochFull) (Ok (Restarted (s.epoch + 1)))
+
+-- the answer where memory is found
+abbrev pub answer_of : Setting → WorldView → WorldEvent → WorldAnswer
+answer_of g w (ServeAt i q) = at_site (slice_get w.sites i) (λ s. Ok (Replied (serve g.most g.tables s.number s.state.holding q).reply))
+answer_of g w (PushAt i name) = at_site (slice_get w.sites i) (push_answer g name)
+answer_of g w (Letter i j) = at_site (slice_get w.sites i) (λ s. at_site (slice_get w.sites j) (λ peer. Ok (Lettered (length w.letters))))
+answer_of g w (Merge j k) = at_site (slice_get w.sites j) (λ s. merge_answer (slice_get w.letters k))
+answer_of g w (Ack j i) = at_site (slice_get w.sites j) (λ s. at_site (slice_get w.sites i) (λ maker. Ok (Lettered (length w.letters))))
+answer_of g w (Restart i) = at_site (slice_get w.sites i) restart_answer
+
+-- so many operations of a letter may stand where memory is refused: of a range the first, of a snapshot none; an acknowledgement takes no memory
+abbrev pub MayStopAfter : LetterBody → ℕ → Type 0
+MayStopAfter (Range from os) n = n < length os
+MayStopAfter (Snapshot h m) n = n ≡ 0
+MayStopAfter (Acknowledgement m e c) n = ⊥
+
+-- where memory may be refused, and how many operations of a letter then stand; none of any other event
+abbrev pub MayRefuse : WorldView → WorldEvent → ℕ → Type 0
+MayRefuse w (ServeAt i q) n = (i < length w.sites) × (n ≡ 0)
+MayRefuse w (PushAt i name) n = (i < length w.sites) × (n ≡ 0)
+MayRefuse w (Letter i j) n = (i < length w.sites) × (j < length w.sites) × (n ≡ 0)
+MayRefuse w (Merge j k) n = (j < length w.sites) × (l : LetterValue) × (slice_get w.letters k ≡ Some l) × MayStopAfter l.body n
+MayRefuse w (Ack j i) n = (j < length w.sites) × (i < length w.sites) × (n ≡ 0)
+MayRefuse w (Restart i) n = ⊥
+
+-- the answers that an event may get
+abbrev pub Gives : Setting → WorldView → WorldEvent → WorldAnswer → Type 0
+Gives g w e (Err (NoMemory n)) = MayRefuse w e n
+Gives g w e answer = answer ≡ answer_of g w e
+
+-- ---- what each site took
+
+-- A site's number, the operations that it took since it last started, those that it made in each epoch before, in order, those that it made in
+-- this epoch, and its cursors.
+pub record SiteTook : Type 0 where
+  pub number : ℕ
   pub taken : List Operation
+  pub past : List (List Operation)
   pub log : List Operation
   pub cursors : CursorsValue
 
@@ -57,83 +148,50 @@ pub record WorldTook : Type 0 where
   pub sites : List SiteTook
   pub letters : List SentLetter
 
--- a site that took nothing yet, in that epoch
-abbrev pub fresh : ℕ → ℕ → SiteTook
-fresh number epoch = record { number = number; epoch = epoch; taken = []; log = []; cursors = start_cursors number epoch }
+-- epochs count from 1
+abbrev pub epoch_of : SiteTook → ℕ
+epoch_of s = length s.past + 1
 
--- sites 0 to n - 1, in epoch 1
+-- the operations that the site made in that epoch
+abbrev pub log_in : SiteTook → ℕ → List Operation
+log_in s epoch = slice_index_or (s.past ++ s.log ∷ []) (epoch - 1) []
+
+-- a site that took nothing yet
+abbrev pub fresh : ℕ → SiteTook
+fresh number = record { number = number; taken = []; past = []; log = []; cursors = start_cursors number 1 }
+
+-- sites 0 to n - 1
 abbrev pub fresh_sites : ℕ → List SiteTook
 fresh_sites zero = []
-fresh_sites (suc n) = fresh_sites n ++ fresh n 1 ∷ []
+fresh_sites (suc n) = fresh_sites n ++ fresh n ∷ []
 
--- sites 0 to n - 1, in epoch 1, and no letter
+-- sites 0 to n - 1, and no letter
 abbrev pub start : ℕ → WorldTook
 start n = record { sites = fresh_sites n; letters = [] }
 
--- ---- what a site holds, as the definitions have it
+-- what the site took, as a holding
+abbrev pub taken_holding : SiteTook → Holding
+taken_holding s = holding_of s.taken
 
--- what it took, as a holding
-abbrev pub held : SiteTook → Holding
-held s = holding_of s.taken
+-- what is seen of a site is a function of what it took: it holds what is kept of that
+abbrev pub site_view : SiteTook → SiteView
+site_view s = record { number = s.number; epoch = epoch_of s; state = record { holding = kept_of (taken_holding s); log = s.log }; cursors = s.cursors }
 
--- its state: what is kept of what it took, and its log
-abbrev pub state_of : SiteTook → SiteState
-state_of s = record { holding = kept_of (held s); log = s.log }
-
--- ---- letters
-
--- how a site makes a letter for a peer, if it makes one
-abbrev pub LetterRule : Type 0
-LetterRule = Tables → SiteTook → ℕ → Option LetterValue
-
--- what the site replies to what it is asked for a letter
-abbrev pub asked_reply : SiteTook → SiteEvent → ReplyValue
-asked_reply s (AskOwn p) = own_reply (state_of s) p
-asked_reply s e = copy_reply (state_of s)
-
--- the position from which operations are asked for
-abbrev pub asked_from : SiteEvent → ℕ
-asked_from (AskOwn p) = p
-asked_from e = 0
-
--- by the cursors: a snapshot, or a range from what the peer said it took
-abbrev pub by_cursors : LetterRule
-by_cursors t s peer = letter_of s.cursors t.edition (asked_from (ask s.cursors peer)) (asked_reply s (ask s.cursors peer))
-
--- the range of the whole log, whoever the peer is
-abbrev pub whole_log : LetterRule
-whole_log t s peer = Some (record { edition = t.edition; site = s.number; epoch = s.epoch; body = Range 0 s.log })
-
--- the letter with its meaning
-abbrev pub sent : SiteTook → LetterValue → SentLetter
-sent s l = record { letter = l; means = meaning s.taken l.body }
-
--- ---- what one event and its answer make of it
-
--- the world with that site changed
-abbrev pub at_site : WorldTook → ℕ → (SiteTook → SiteTook) → Option SiteTook → WorldTook
-at_site w i f None = w
-at_site w i f (Some s) = record w { sites = slice_set w.sites i (f s) }
-
--- the world with site i changed, where there is a site i
-abbrev pub change : WorldTook → ℕ → (SiteTook → SiteTook) → WorldTook
-change w i f = at_site w i f (slice_get w.sites i)
+-- what is seen of a world
+abbrev pub world_view : WorldTook → WorldView
+world_view w = record { sites = map site_view w.sites; letters = map (λ (l : SentLetter). l.letter) w.letters }
 
 -- with an operation that the site made, if it made one
 abbrev pub made : Option Operation → SiteTook → SiteTook
 made o s = record s { taken = s.taken ++ option_to_list o; log = s.log ++ option_to_list o }
 
--- with operations of a letter
-abbrev pub takes : List Operation → SiteTook → SiteTook
-takes os s = record s { taken = s.taken ++ os }
-
--- a letter that was taken whole: its operations, and what it does to the cursors
+-- what a letter that was taken whole does to the cursors
 abbrev pub cursors_after : CursorsValue → LetterValue → CursorsValue
 cursors_after c l = unwrap_or (option_map (acked c) (carried_ack l l.body)) (took c l)
 
 -- with a letter that was taken whole
-abbrev pub merges : SentLetter → SiteTook → SiteTook
-merges l s = record s { taken = s.taken ++ l.means; cursors = cursors_after s.cursors l.letter }
+abbrev pub merged : SentLetter → SiteTook → SiteTook
+merged l s = record s { taken = s.taken ++ l.means; cursors = cursors_after s.cursors l.letter }
 
 -- of a range the first operations alone; a snapshot is taken whole or not at all
 abbrev pub first_taken : ℕ → LetterBody → List Operation
@@ -141,42 +199,74 @@ first_taken n (Range from os) = take n os
 first_taken n (Snapshot h m) = []
 first_taken n (Acknowledgement m e c) = []
 
--- with one more letter, if one was made
-abbrev pub with_letter : WorldTook → Option SentLetter → WorldTook
-with_letter w l = record w { letters = w.letters ++ option_to_list l }
+-- with the first operations of a letter
+abbrev pub merged_in_part : ℕ → SentLetter → SiteTook → SiteTook
+merged_in_part n l s = record s { taken = s.taken ++ first_taken n l.letter.body }
 
--- the letter that site i makes for site j
-abbrev pub letter_for : LetterRule → Tables → WorldTook → ℕ → ℕ → Option SentLetter
-letter_for make t w i j = option_and_then (λ s. option_map (sent s) (make t s j)) (slice_get w.sites i)
+-- empty, in the next epoch
+abbrev pub restarted : SiteTook → SiteTook
+restarted s = record { number = s.number; taken = []; past = s.past ++ s.log ∷ []; log = []; cursors = start_cursors s.number (epoch_of s + 1) }
 
--- the acknowledgement that site j makes for site i
-abbrev pub ack_for : Tables → WorldTook → ℕ → ℕ → Option SentLetter
-ack_for t w j i = option_map (λ (s : SiteTook). sent s (ack_letter t.edition (ack_of s.cursors i))) (slice_get w.sites j)
+-- the world with site i changed, if there is one
+abbrev pub change : WorldTook → ℕ → (SiteTook → SiteTook) → WorldTook
+change w i f = record w { sites = changed (slice_get w.sites i) }
+  where
+    changed : Option SiteTook → List SiteTook
+    changed None = w.sites
+    changed (Some s) = slice_set w.sites i (f s)
 
--- site j takes the letter whole
-abbrev pub merging : WorldTook → ℕ → Option SentLetter → WorldTook
-merging w j None = w
-merging w j (Some l) = change w j (merges l)
+-- the world with site j changed by letter k, if there is one
+abbrev pub change_by : WorldTook → ℕ → ℕ → (SentLetter → SiteTook → SiteTook) → WorldTook
+change_by w j k f = by (slice_get w.letters k)
+  where
+    by : Option SentLetter → WorldTook
+    by None = w
+    by (Some l) = change w j (f l)
 
--- site j takes the first n operations of the letter
-abbrev pub merging_first : WorldTook → ℕ → ℕ → Option SentLetter → WorldTook
-merging_first w j n None = w
-merging_first w j n (Some l) = change w j (takes (first_taken n l.letter.body))
+-- a letter of the site, with what it means
+abbrev pub sent : SiteTook → LetterValue → SentLetter
+sent s l = record { letter = l; means = meaning s.taken l.body }
+
+-- the letter that the site writes to a peer
+abbrev pub letter_to : Setting → ℕ → SiteTook → SentLetter
+letter_to g peer s = sent s (letter_saying s.cursors g.tables.edition (g.writes (site_view s) peer))
+
+-- the acknowledgement that the site writes to a maker
+abbrev pub ack_to : Setting → ℕ → SiteTook → SentLetter
+ack_to g maker s = sent s (ack_letter g.tables.edition (ack_of s.cursors maker))
+
+-- with one more letter, which site i made
+abbrev pub with_letter : WorldTook → ℕ → (SiteTook → SentLetter) → WorldTook
+with_letter w i write = record w { letters = w.letters ++ option_to_list (option_map write (slice_get w.sites i)) }
 
 -- An answered request or push adds what the definitions give on what the site took; a letter gives its meaning to whoever takes it; a restart empties;
--- a fault changes nothing, but that the first operations of a range stand where memory ran out.
-abbrev pub after : LetterRule → Tables → WorldTook → WorldEvent → WorldAnswer → WorldTook
-after make t w (ServeAt i q) (Ok (Replied r)) = change w i (λ s. made (serve t i (held s) q).added s)
-after make t w (PushAt i name) (Ok (PushedOut p)) = change w i (λ s. made (push t i (held s) name).added s)
-after make t w (Letter i j) (Ok (Lettered k)) = with_letter w (letter_for make t w i j)
-after make t w (Merge j k) (Ok Merged) = merging w j (slice_get w.letters k)
-after make t w (Merge j k) (Err (NoMemory n)) = merging_first w j n (slice_get w.letters k)
-after make t w (Ack j i) (Ok (Lettered k)) = with_letter w (ack_for t w j i)
-after make t w (Restart i) (Ok (Restarted e)) = change w i (λ s. fresh s.number e)
-after make t w event answer = w
+-- a fault changes nothing, but that the first operations of a range stand where memory was refused.
+abbrev pub after : Setting → WorldTook → WorldEvent → WorldAnswer → WorldTook
+after g w (ServeAt i q) (Ok (Replied r)) = change w i (λ s. made (serve g.most g.tables s.number (taken_holding s) q).added s)
+after g w (PushAt i name) (Ok (PushedOut p)) = change w i (λ s. made (push g.most g.tables s.number (taken_holding s) name).added s)
+after g w (Letter i j) (Ok (Lettered k)) = with_letter w i (letter_to g j)
+after g w (Merge j k) (Ok Merged) = change_by w j k merged
+after g w (Merge j k) (Err (NoMemory n)) = change_by w j k (merged_in_part n)
+after g w (Ack j i) (Ok (Lettered k)) = with_letter w j (ack_to g i)
+after g w (Restart i) (Ok (Restarted e)) = change w i restarted
+after g w event answer = w
 
--- all events with their answers, in order
-abbrev pub after_all : LetterRule → Tables → WorldTook → List WorldEvent → List WorldAnswer → WorldTook
-after_all make t w [] answers = w
-after_all make t w (e ∷ es) [] = w
-after_all make t w (e ∷ es) (a ∷ answers) = after_all make t (after make t w e a) es answers
+-- ---- all events with their answers, in order
+
+-- what each site took in the end
+abbrev pub after_all : Setting → WorldTook → List WorldEvent → List WorldAnswer → WorldTook
+after_all g w [] answers = w
+after_all g w (e ∷ es) [] = w
+after_all g w (e ∷ es) (a ∷ answers) = after_all g (after g w e a) es answers
+
+-- each event has an answer that it may get on what the sites took before
+abbrev pub GivesAll : Setting → WorldTook → List WorldEvent → List WorldAnswer → Type 0
+GivesAll g w [] [] = Unit {0}
+GivesAll g w [] (a ∷ answers) = ⊥
+GivesAll g w (e ∷ es) [] = ⊥
+GivesAll g w (e ∷ es) (a ∷ answers) = Gives g (world_view w) e a × GivesAll g (after g w e a) es answers
+
+-- any two sites that took the same operations hold the same
+abbrev pub HoldAlike : List SiteTook → Type 0
+HoldAlike sites = (i j : ℕ) (a b : SiteTook) → slice_get sites i ≡ Some a → slice_get sites j ≡ Some b → Same a.taken b.taken →
+    (site_view a).state.holding ≡ (site_view b).state.holding

@@ -4,14 +4,13 @@ ghost use Rattle.std.specs.Prelude.{◌≡◌, ◌+◌, ℕ, List, [], ◌∷◌
 ghost use Rattle.pcrf_values.specs.Applications.{rx_application, relay_application};
 ghost use Rattle.pcrf_values.specs.Results.{success, unknown_session_id, authorization_rejected, unable_to_comply, session_not_available};
 ghost use Rattle.pcrf_model.specs.Limits.{range_limit};
-ghost use Rattle.pcrf_model.specs.Paths.{apn, told_name};
-ghost use Rattle.pcrf_model.specs.Values.{Text, Told, Untold};
-ghost use Rattle.pcrf_model.specs.Holdings.{value_at};
+ghost use Rattle.pcrf_facts.specs.Places.{OfRuleName, apn};
+ghost use Rattle.pcrf_facts.specs.Values.{Text, Told, Untold};
 ghost use Rattle.pcrf_model.specs.Views.{value, view};
 ghost use Rattle.pcrf_model.specs.Pushing.{lacks_counter};
-ghost use Rattle.pcrf_model.specs.Replies.{OnGx, Granted, Done, Refused, OnBase, Own};
+ghost use Rattle.pcrf_model.specs.Replies.{OnGx, Granted, Done, Refused, OnBase};
 ghost use Rattle.pcrf_model.specs.Letters.{Range};
-ghost use Rattle.pcrf_model.specs.Steps.{own_reply};
+ghost use Rattle.pcrf_model.specs.Steps.{own_from};
 ghost use Rattle.pcrf_model.specs.Letterbox.{body_of, count_taken};
 ghost use Rattle.pcrf_model.specs.Samples.{operator, first_session, second_session, host_address, nobodys_address, initial, update, termination, call, hang_up, audio, capabilities, sip_rule, delta};
 ghost use Rattle.pcrf_model.specs.Scenes.{empty_site, answers, serves, pushes, pushed, seen, rejected, push_of, no_push, at_the_end, with_call, one, last_operation};
@@ -55,7 +54,7 @@ pub fn late_update_gets_the_quality_of_the_shown_access_point()
         ≡ OnGx (Granted (delta (codes "op/sip" ∷ []) []) None) }
     ensures late { answers 0 moved_access_point (update_to 3 (codes "ims"))
         ≡ OnGx (Granted (delta [] []) None) }
-    ensures shown { value (seen moved_access_point) (apn first_session)
+    ensures shown { value (seen moved_access_point) first_session apn
         ≡ Some (Text (codes "net")) }
 {}
 
@@ -83,11 +82,11 @@ pub fn one_common_application_is_enough()
 
 /// Under equal tags a rule that was told stands above that none is told.
 pub fn told_rule_stands_above_none_under_equal_tags()
-    ensures first { value (view (told_as (Told sip_rule) ∷ told_as Untold ∷ []))
-        (told_name first_session sip_rule.name)
+    ensures first { value (view (told_as (Told sip_rule) ∷ told_as Untold ∷ [])) first_session
+        (OfRuleName sip_rule.name)
         ≡ Some (Told sip_rule) }
-    ensures second { value (view (told_as Untold ∷ told_as (Told sip_rule) ∷ []))
-        (told_name first_session sip_rule.name)
+    ensures second { value (view (told_as Untold ∷ told_as (Told sip_rule) ∷ [])) first_session
+        (OfRuleName sip_rule.name)
         ≡ Some (Told sip_rule) }
 {}
 
@@ -95,11 +94,8 @@ pub fn told_rule_stands_above_none_under_equal_tags()
 pub fn letters_carry_no_more_than_the_limit()
     ensures most { is_some (letter_of_many range_limit) ≡ true }
     ensures more { letter_of_many (range_limit + 1) ≡ None }
-    ensures asked { own_reply (record {
-      holding = empty_site.holding;
-      log = replicate (range_limit + 1) last_operation;
-    }) 0
-        ≡ Own (replicate range_limit last_operation) (range_limit + 1) }
+    ensures asked { own_from (replicate (range_limit + 1) last_operation) 0
+        ≡ replicate range_limit last_operation }
 {}
 
 /// A site that starts again has an empty log; letters of both its epochs are taken, and where memory ran out in the

@@ -1,16 +1,16 @@
 //! Worked examples: what the definitions give, computed, against what is worked out by hand.
 
 ghost use Rattle.std.specs.Prelude.{◌≡◌, ℕ, List, [], ◌∷◌, Some, None, codes, true, false, drop};
-ghost use Rattle.pcrf_model.specs.Paths.{address, apn, subscribers};
-ghost use Rattle.pcrf_model.specs.Values.{Text, Address, Subscribers};
-ghost use Rattle.pcrf_model.specs.Limits.{last_counter};
+ghost use Rattle.pcrf_facts.specs.Places.{address, apn, subscribers};
+ghost use Rattle.pcrf_facts.specs.Values.{Text, Address, Subscribers};
+ghost use Rattle.pcrf_model.specs.Limits.{last_counter, delta_limit};
 ghost use Rattle.pcrf_model.specs.Holdings.{nothing_held, kept_of, union};
 ghost use Rattle.pcrf_model.specs.Views.{value};
 ghost use Rattle.pcrf_model.specs.Live.{is_live, home};
 ghost use Rattle.pcrf_model.specs.Bindings.{bind};
 ghost use Rattle.pcrf_model.specs.Rules.{rules};
 ghost use Rattle.pcrf_model.specs.Differences.{told};
-ghost use Rattle.pcrf_model.specs.OperatorValues.{Ended, Partial, LiveAf, operator_value};
+ghost use Rattle.pcrf_model.specs.OperatorValues.{Ended, Partial, Live, operator_value};
 ghost use Rattle.pcrf_values.specs.Applications.{gx_application};
 ghost use Rattle.pcrf_values.specs.Results.{success, unknown_session_id, authorization_rejected, missing_avp, no_common_application, unable_to_comply, service_not_authorized, session_not_available, initial_parameters};
 ghost use Rattle.pcrf_model.specs.Replies.{OnGx, Granted, Done, Refused, OnBase};
@@ -18,9 +18,9 @@ ghost use Rattle.pcrf_model.specs.Serving.{serve};
 ghost use Rattle.pcrf_model.specs.Tables.{open_tables};
 ghost use Rattle.pcrf_model.specs.Letters.{Range, Snapshot, Acknowledgement};
 ghost use Rattle.pcrf_model.specs.Worlds.{by_cursors, whole_log};
-ghost use Rattle.pcrf_model.specs.Letterbox.{letter, newer_epoch, range_at, cursor_after, cursor, exchanged, body_of, held_at, count_taken, restarted};
+ghost use Rattle.pcrf_model.specs.Letterbox.{letter, newer_epoch, range_at, cursor_after, cursor, exchanged, body_of, held_at, count_taken, started_again};
 ghost use Rattle.pcrf_model.specs.Samples.{operator, imsi, e164, number_as_imsi, first_session, second_session, call_session, host_address, initial, initial_to, without_access_point, without_address, without_subscriber, nobodys_address, other_media, capabilities, many_flows, update, termination, call, hang_up, call_asking, no_media, signalling_rule, audio, status_only, sip_rule, audio_rule, rtcp_rule, delta};
-ghost use Rattle.pcrf_model.specs.Scenes.{live_first, call_fields, empty_site, taking, first_counter, ended_under_call, answers, serves, pushes, pushed, seen, granted, rejected, push_of, no_push, count_installed, one, repeated, with_call, with_signalling, call_pushed, disabled, component_removed, described_again, two_sessions, bound_to_second, second_ended, equal_stamps, updated, updated_late, overshadowed, other, other_updated, ended_there, ended_and_told, moved, hung_up, first_after_hang_up, other_after_hang_up, call_elsewhere, call_alone, call_and_session, older_first, newer_first, at_the_end, many_rules, first_forty, all_fifty};
+ghost use Rattle.pcrf_model.specs.Scenes.{live_first, live_call, empty_site, taking, first_counter, ended_under_call, answers, serves, pushes, pushed, seen, granted, rejected, push_of, no_push, count_installed, one, repeated, with_call, with_signalling, call_pushed, disabled, component_removed, described_again, two_sessions, bound_to_second, second_ended, equal_stamps, updated, updated_late, overshadowed, other, other_updated, ended_there, ended_and_told, moved, hung_up, first_after_hang_up, other_after_hang_up, call_elsewhere, call_alone, call_and_session, older_first, newer_first, at_the_end, many_rules, first_forty, all_fifty};
 
 /// An initial request is granted: it installs the operator's rule, with the default quality of service, and the session is live there.
 pub fn initial_request_installs_the_operators_rule()
@@ -28,7 +28,7 @@ pub fn initial_request_installs_the_operators_rule()
         ≡ granted (delta [] (sip_rule ∷ [])) }
     ensures clock { one.holding.clock ≡ 1 }
     ensures live { is_live (seen one) first_session ≡ true }
-    ensures access_point { value (seen one) (apn first_session) ≡ Some (Text (codes "ims")) }
+    ensures access_point { value (seen one) first_session apn ≡ Some (Text (codes "ims")) }
     ensures home { home (seen one) first_session ≡ Some 0 }
     ensures told { told (seen one) first_session ≡ (codes "op/sip", sip_rule) ∷ [] }
 {}
@@ -38,9 +38,9 @@ pub fn repeated_initial_request_installs_nothing()
     ensures answer { answers 0 one (initial first_session (host_address 1))
         ≡ granted (delta [] []) }
     ensures clock { repeated.holding.clock ≡ 2 }
-    ensures address { value (seen repeated) (address first_session)
+    ensures address { value (seen repeated) first_session address
         ≡ Some (Address (host_address 1)) }
-    ensures subscribers { value (seen repeated) (subscribers first_session)
+    ensures subscribers { value (seen repeated) first_session subscribers
         ≡ Some (Subscribers (e164 ∷ imsi ∷ [])) }
 {}
 
@@ -48,7 +48,7 @@ pub fn repeated_initial_request_installs_nothing()
 pub fn late_update_with_a_lower_number_leaves_the_address()
     ensures first { answers 0 one (update 2 (Some (host_address 2))) ≡ granted (delta [] []) }
     ensures second { answers 0 updated (update 1 (Some (host_address 3))) ≡ granted (delta [] []) }
-    ensures address { value (seen updated_late) (address first_session)
+    ensures address { value (seen updated_late) first_session address
         ≡ Some (Address (host_address 2)) }
     ensures clock { updated_late.holding.clock ≡ 3 }
 {}
@@ -138,9 +138,9 @@ pub fn greater_session_id_has_the_call_under_equal_stamps()
 /// Two operations under equal stamps, taken in either order, each twice: the same is kept, and the greater address shows.
 pub fn order_of_letters_does_not_count()
     ensures same { kept_of older_first.holding ≡ kept_of newer_first.holding }
-    ensures address { value (seen older_first) (address first_session)
+    ensures address { value (seen older_first) first_session address
         ≡ Some (Address (host_address 9)) }
-    ensures other { value (seen newer_first) (address first_session)
+    ensures other { value (seen newer_first) first_session address
         ≡ Some (Address (host_address 9)) }
 {}
 
@@ -197,9 +197,9 @@ pub fn capabilities_need_a_common_application()
 
 /// Without operator tables an initial request for any access point is granted, with no rule and no quality of service.
 pub fn without_tables_every_access_point_is_granted()
-    ensures reply { (serve open_tables 0 nothing_held (initial_to (codes "anything"))).reply
+    ensures reply { (serve delta_limit open_tables 0 nothing_held (initial_to (codes "anything"))).reply
         ≡ OnGx (Granted (delta [] []) None) }
-    ensures parameters { (serve open_tables 0 nothing_held without_access_point).reply
+    ensures parameters { (serve delta_limit open_tables 0 nothing_held without_access_point).reply
         ≡ rejected initial_parameters }
 {}
 
@@ -224,7 +224,7 @@ pub fn letters_carry_what_the_peer_lacks()
         ≡ Some (Range 1 (drop 1 (serves 0 one (update 1 None)).log)) }
     ensures taken { count_taken (exchanged by_cursors) 1 ≡ Some 2 }
     ensures same { held_at (exchanged by_cursors) 1 ≡ held_at (exchanged by_cursors) 0 }
-    ensures emptied { held_at restarted 0 ≡ Some nothing_held }
+    ensures emptied { held_at started_again 0 ≡ Some nothing_held }
 {}
 
 /// Letters of whole logs lead to the same.
@@ -257,11 +257,12 @@ pub fn flows_have_the_class_of_their_usage()
 /// An operator sees each session, ended, partial or live, and the clock.
 pub fn operator_sees_every_session()
     ensures ended { operator_value operator ended_there.holding
-        ≡ record { clock = 2; sessions = (first_session, Ended) ∷ [] } }
+        ≡ record { clock = 2; gx = (first_session.id, Ended) ∷ []; af = [] } }
     ensures partial { operator_value operator at_the_end.holding ≡ record {
       clock = last_counter;
-      sessions = (first_session, live_first) ∷ (second_session, Partial) ∷ [];
+      gx = (first_session.id, Live live_first) ∷ (second_session.id, Partial) ∷ [];
+      af = [];
     } }
     ensures call { operator_value operator call_alone.holding
-        ≡ record { clock = 2; sessions = (call_session, LiveAf call_fields None) ∷ [] } }
+        ≡ record { clock = 2; gx = []; af = (call_session.id, Live live_call) ∷ [] } }
 {}

@@ -3,4 +3,3 @@
 
 pub mod edge_examples;
 pub mod examples;
-pub mod laws;

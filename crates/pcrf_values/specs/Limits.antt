@@ -20,3 +20,27 @@ subscription_data_limit = 255
 -- how many Subscription-Ids a request may have
 abbrev pub subscribers_limit : ℕ
 subscribers_limit = 16
+
+-- how many media components an AA request may have
+abbrev pub components_limit : ℕ
+components_limit = 64
+
+-- how many flows a component of a request may have
+abbrev pub flows_limit : ℕ
+flows_limit = 64
+
+-- how many filters a flow may have: one for each direction (TS 29.214, 5.3.8)
+abbrev pub filters_limit : ℕ
+filters_limit = 2
+
+-- bytes of a filter
+abbrev pub filter_limit : ℕ
+filter_limit = 255
+
+-- bytes of a Charging-Rule-Name
+abbrev pub rule_name_limit : ℕ
+rule_name_limit = 600
+
+-- bytes of the name that an operator gives a rule
+abbrev pub operator_rule_name_limit : ℕ
+operator_rule_name_limit = 64

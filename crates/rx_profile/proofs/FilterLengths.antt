@@ -2,7 +2,7 @@
 use Rattle.std.proofs.Common.{◌≡◌, ℕ, Bool, true, false, nat_le, List, [], ◌∷◌, length, refl, Some, arith}
 use Rattle.std.proofs.lemmas.Bool.Decides.{nat_tests}
 use Rattle.pcrf_values.specs.Texts.{one_to}
-use Rattle.rx_profile.specs.Limits.{filter_limit}
+use Rattle.pcrf_values.specs.Limits.{filter_limit}
 use Rattle.rx_profile.specs.Services.{is_filter}
 
 -- a filter has a byte at least, and not too many

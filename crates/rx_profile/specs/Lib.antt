@@ -1,6 +1,5 @@
 pub mod Answers
 pub mod Avps
-pub mod Limits
 pub mod Media
 pub mod Numbers
 pub mod Requests

@@ -6,7 +6,7 @@ use Rattle.dia_codec.specs.Reading.{avps_of}
 use Rattle.pcrf_model.specs.Requests.{FlowValue, ComponentValue}
 use Rattle.dia_base.specs.Rows.{Row, Kind, required, optional, repeated, unsigned32, octet_string, grouped, values_of, number_at}
 use Rattle.rx_profile.specs.Avps.{flow_description, flow_number, flow_status, flow_usage, max_requested_bandwidth_dl, max_requested_bandwidth_ul, media_component_number, media_sub_component, media_type}
-use Rattle.rx_profile.specs.Limits.{filters_limit, flows_limit}
+use Rattle.pcrf_values.specs.Limits.{filters_limit, flows_limit}
 use Rattle.rx_profile.specs.Numbers.{status_row, usage_row, rate_rows}
 
 -- ---- flows

@@ -12,7 +12,7 @@ use Rattle.dia_base.specs.Rows.{Row, optional, repeated, text_to, ipv4_address, 
 use Rattle.dia_base.specs.Sessions.{session_row}
 use Rattle.dia_base.specs.Subscriptions.{subscription_row, subscribers_of}
 use Rattle.rx_profile.specs.Avps.{media_component_description}
-use Rattle.rx_profile.specs.Limits.{components_limit}
+use Rattle.pcrf_values.specs.Limits.{components_limit}
 use Rattle.rx_profile.specs.Media.{component, component_of}
 use Rattle.rx_profile.specs.Services.{services_refusal}
 use Rattle.rx_profile.specs.declared.request.Aar.{Aar}

@@ -5,7 +5,7 @@ use Rattle.pcrf_values.specs.Results.{invalid_service_information, filter_restri
 use Rattle.pcrf_values.specs.declared.refusal.Refusal.{Refusal}
 use Rattle.pcrf_model.specs.Requests.{FlowValue, ComponentValue}
 use Rattle.dia_base.specs.Rows.{or_else, refusal_among}
-use Rattle.rx_profile.specs.Limits.{filter_limit}
+use Rattle.pcrf_values.specs.Limits.{filter_limit}
 
 -- ---- numbers
 

@@ -1,7 +1,7 @@
 //! Media components and flows as a request describes them (TS 29.214, 5.3.16 and 5.3.18).
 ghost use Rattle.std.specs.Prelude.{◌≡◌, ◌≤◌, false, length, None, OnOk, IfOk, IfErr, option_copied};
 ghost use Rattle.dia_base.specs.Rows.{IsFaultOf};
-ghost use Rattle.rx_profile.specs.Limits.{components_limit, flows_limit};
+ghost use Rattle.pcrf_values.specs.Limits.{components_limit, flows_limit};
 ghost use Rattle.rx_profile.specs.Services.{component_numbers, flow_numbers, repeats, services_refusal};
 ghost use Rattle.rx_profile.specs.Values.{component_value, flow_value};
 
@@ -75,7 +75,7 @@ struct NumberedComponent {
 impl Model for NumberedComponent {
     ghost use Rattle.std.specs.Prelude.{◌≡◌, ◌≤◌, false, length};
     ghost use Rattle.pcrf_model.specs.Requests.{ComponentValue};
-    ghost use Rattle.rx_profile.specs.Limits.{flows_limit};
+    ghost use Rattle.pcrf_values.specs.Limits.{flows_limit};
     ghost use Rattle.rx_profile.specs.Services.{flow_numbers, repeats};
     ghost use Rattle.rx_profile.specs.Values.{component_value};
 
@@ -113,7 +113,7 @@ pub struct Component {
 impl Model for Component {
     ghost use Rattle.std.specs.Prelude.{◌≡◌, ◌≤◌, false, length};
     ghost use Rattle.pcrf_model.specs.Requests.{ComponentValue};
-    ghost use Rattle.rx_profile.specs.Limits.{flows_limit};
+    ghost use Rattle.pcrf_values.specs.Limits.{flows_limit};
     ghost use Rattle.rx_profile.specs.Services.{flow_numbers, repeats};
     ghost use Rattle.rx_profile.specs.Values.{component_value};
 
@@ -166,7 +166,7 @@ pub struct Components {
 impl Model for Components {
     ghost use Rattle.std.specs.Prelude.{◌≡◌, ◌≤◌, List, false, length};
     ghost use Rattle.pcrf_model.specs.Requests.{ComponentValue};
-    ghost use Rattle.rx_profile.specs.Limits.{components_limit};
+    ghost use Rattle.pcrf_values.specs.Limits.{components_limit};
     ghost use Rattle.rx_profile.specs.Services.{component_numbers, repeats};
 
     ghost Value = { List ComponentValue };

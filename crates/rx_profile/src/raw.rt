@@ -36,7 +36,7 @@ impl Model for RawFlow {
     ghost use Rattle.std.specs.Prelude.{◌≤◌, length};
     ghost use Rattle.ranked.specs.Sets.{if_any};
     ghost use Rattle.pcrf_model.specs.Requests.{FlowValue};
-    ghost use Rattle.rx_profile.specs.Limits.{filters_limit};
+    ghost use Rattle.pcrf_values.specs.Limits.{filters_limit};
     ghost use Rattle.rx_profile.specs.Values.{flow_value};
 
     ghost Value = { FlowValue };
@@ -56,7 +56,7 @@ pub struct RawComponent {
 impl Model for RawComponent {
     ghost use Rattle.std.specs.Prelude.{◌≤◌, length};
     ghost use Rattle.pcrf_model.specs.Requests.{ComponentValue};
-    ghost use Rattle.rx_profile.specs.Limits.{flows_limit};
+    ghost use Rattle.pcrf_values.specs.Limits.{flows_limit};
     ghost use Rattle.rx_profile.specs.Values.{component_value};
 
     ghost Value = { ComponentValue };

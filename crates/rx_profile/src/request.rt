@@ -6,7 +6,7 @@ ghost use Rattle.dia_codec.specs.Spelling.{avp_views};
 ghost use Rattle.dia_base.specs.Avps.{called_station_id, framed_ip_address};
 ghost use Rattle.dia_base.specs.Rows.{AcceptsAll, IsFaultOf, rows_refusal, value_of};
 ghost use Rattle.dia_base.specs.Subscriptions.{subscribers_of};
-ghost use Rattle.rx_profile.specs.Limits.{components_limit};
+ghost use Rattle.pcrf_values.specs.Limits.{components_limit};
 ghost use Rattle.rx_profile.specs.Requests.{aar_of, aar_refusal, aar_rows, aar_view, access_rows, raw_view};
 
 use crate::codes::avps::MEDIA_COMPONENT_DESCRIPTION;

@@ -1,5 +1,0 @@
-use Rattle.pcrf_model.proofs.ViewLaws.{view-kept, view-Same}
-use Rattle.pcrf_model.proofs.laws.kept_facts_show_the_same.Goals as goal
-
-pub returns : goal.returns
-returns c = record { kept = view-kept; members = view-Same }
