@@ -1,0 +1,11 @@
+pub mod BindLaws
+pub mod DifferenceLaws
+pub mod DueLaws
+pub mod FirstEntries
+pub mod HoldingLaws
+pub mod NameLaws
+pub mod ReadingLaws
+pub mod StepLaws
+pub mod ToldLaws
+pub mod UnionLaws
+pub mod ViewLaws

@@ -3,3 +3,4 @@
 
 pub mod edge_examples;
 pub mod examples;
+pub mod laws;

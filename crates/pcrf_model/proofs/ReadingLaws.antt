@@ -1,0 +1,111 @@
+-- What is read of a view, and what a site does, is the same on the kept facts.
+use Rattle.std.proofs.Common.{◌≡◌, ℕ, List, Option, refl, ap}
+use Rattle.ranked.specs.Sets.{Same}
+use Rattle.pcrf_values.specs.declared.request_kind.RequestKind.{RequestKind}
+use Rattle.pcrf_values.specs.declared.request_kind.RequestKind.TheVariants.{Initial, Update, Termination}
+use Rattle.pcrf_model.specs.Holdings.{SessionFact, kept_facts, under, Holding, kept_of}
+use Rattle.pcrf_model.specs.Sessions.{gx, af}
+use Rattle.pcrf_model.specs.Views.{View, view}
+use Rattle.pcrf_model.specs.Live.{is_live, is_partial, home}
+use Rattle.pcrf_model.specs.Bindings.{matches, bind}
+use Rattle.pcrf_model.specs.Tables.{Tables}
+use Rattle.pcrf_model.specs.Rules.{rules}
+use Rattle.pcrf_model.specs.Differences.{told, difference}
+use Rattle.pcrf_model.specs.OperatorValues.{operator_value, value_seen}
+use Rattle.pcrf_model.specs.Requests.{CcrValue, AarValue, StrValue, RequestValue, Ccr, Aar, Str, Base}
+use Rattle.pcrf_model.specs.Making.{ccr_fields, aar_facts, next_tag}
+use Rattle.pcrf_model.specs.Refusals.{ccr_refusal, aar_refusal, str_refusal}
+use Rattle.pcrf_model.specs.Serving.{accepted_ccr, serve, serve_ccr, serve_aar, serve_str, provisioned}
+use Rattle.pcrf_model.specs.Pushing.{push, lacks_counter}
+use Rattle.pcrf_model.specs.Laws.{ReadsTheSame}
+use Rattle.pcrf_model.proofs.ViewLaws.{view-Same, view-kept}
+use Rattle.pcrf_model.proofs.UnionLaws.{view_sorted, view_with}
+
+-- equal views read the same
+reads : (v w : View) → v ≡ w → ReadsTheSame v w
+reads v w e = record {
+  places = λ s p. ap (λ (z : View). z.shows s p) e;
+  removals = λ s. ap (λ (z : View). z.removals s) e;
+  ends = λ s. ap (λ (z : View). z.ended s) e;
+  lives = λ s. ap (λ (z : View). is_live z s) e;
+  partials = λ s. ap (λ (z : View). is_partial z s) e;
+  homes = λ s. ap (λ (z : View). home z s) e;
+  candidates = λ a s. ap (λ (z : View). matches z a s) e;
+  bindings = λ a. ap (λ (z : View). bind z a) e;
+  lists = λ t s. ap (λ (z : View). rules t z s) e;
+  entries = λ s. ap (λ (z : View). told z s) e;
+  differences = λ t s. ap (λ (z : View). difference (told z s) (rules t z s)) e;
+}
+
+-- the kept facts
+pub reads-kept : (facts : List SessionFact) → ReadsTheSame (view (kept_facts facts)) (view facts)
+reads-kept facts = reads _ _ (view-kept facts)
+
+-- facts with the same members
+pub reads-Same : (xs ys : List SessionFact) → Same xs ys → ReadsTheSame (view xs) (view ys)
+reads-Same xs ys s = reads _ _ (view-Same xs ys s)
+
+-- an operator sees the same
+pub operator_value-kept_of : (t : Tables) (h : Holding) → operator_value t (kept_of h) ≡ operator_value t h
+unfolding operator_value
+operator_value-kept_of t h = ap (λ (v : View). value_seen t h.clock v) (view_sorted h.facts)
+
+-- ---- requests
+
+-- what a request makes of a holding, as a function of the views with and without its facts
+provisioned-kept_of : (most : ℕ) (t : Tables) (i : ℕ) (h : Holding) (q : CcrValue) → provisioned most t i (kept_of h) q ≡ provisioned most t i h q
+unfolding provisioned
+provisioned-kept_of most t i h q = rw (view_with h.facts (under (gx q.session) (ccr_fields q (next_tag i h q.number)))) refl
+
+-- the same credit control requests are refused
+ccr_refusal-kept_of : (t : Tables) (h : Holding) (q : CcrValue) → ccr_refusal t (kept_of h) q ≡ ccr_refusal t h q
+unfolding ccr_refusal
+ccr_refusal-kept_of t h q = rw (view_sorted h.facts) refl
+
+-- the same AA requests are refused
+aar_refusal-kept_of : (t : Tables) (i : ℕ) (h : Holding) (q : AarValue) → aar_refusal t i (kept_of h) q ≡ aar_refusal t i h q
+unfolding aar_refusal
+aar_refusal-kept_of t i h q = rw (view_with h.facts (under (af q.session) (aar_facts q (next_tag i h 0))), view_sorted h.facts) refl
+
+-- the same session termination requests are refused
+str_refusal-kept_of : (h : Holding) (q : StrValue) → str_refusal (kept_of h) q ≡ str_refusal h q
+unfolding str_refusal
+str_refusal-kept_of h q = rw (view_sorted h.facts) refl
+
+-- an accepted request makes the same
+accepted-kept_of : (most : ℕ) (t : Tables) (i : ℕ) (h : Holding) (q : CcrValue) (k : RequestKind) → accepted_ccr most t i (kept_of h) q k ≡ accepted_ccr most t i h q k
+accepted-kept_of most t i h q Initial = provisioned-kept_of most t i h q
+accepted-kept_of most t i h q Update = provisioned-kept_of most t i h q
+accepted-kept_of most t i h q Termination = refl
+
+-- a credit control request is served the same
+serve_ccr-kept_of : (most : ℕ) (t : Tables) (i : ℕ) (h : Holding) (q : CcrValue) → serve_ccr most t i (kept_of h) q ≡ serve_ccr most t i h q
+unfolding serve_ccr
+serve_ccr-kept_of most t i h q = rw (ccr_refusal-kept_of t h q, accepted-kept_of most t i h q q.kind) refl
+
+-- an AA request is served the same
+serve_aar-kept_of : (t : Tables) (i : ℕ) (h : Holding) (q : AarValue) → serve_aar t i (kept_of h) q ≡ serve_aar t i h q
+unfolding serve_aar
+serve_aar-kept_of t i h q = rw (aar_refusal-kept_of t i h q) refl
+
+-- a session termination request is served the same
+serve_str-kept_of : (i : ℕ) (h : Holding) (q : StrValue) → serve_str i (kept_of h) q ≡ serve_str i h q
+unfolding serve_str
+serve_str-kept_of i h q = rw (str_refusal-kept_of h q) refl
+
+-- any request is served the same
+pub serve-kept_of : (most : ℕ) (t : Tables) (i : ℕ) (h : Holding) (q : RequestValue) → serve most t i (kept_of h) q ≡ serve most t i h q
+serve-kept_of most t i h (Ccr q) = serve_ccr-kept_of most t i h q
+serve-kept_of most t i h (Aar q) = serve_aar-kept_of t i h q
+serve-kept_of most t i h (Str q) = serve_str-kept_of i h q
+serve-kept_of most t i h (Base q) = refl
+
+-- the same is pushed
+pub push-kept_of : (most : ℕ) (t : Tables) (i : ℕ) (h : Holding) (name : Option (List ℕ)) → push most t i (kept_of h) name ≡ push most t i h name
+unfolding push
+push-kept_of most t i h name = rw (view_sorted h.facts) refl
+
+-- a counter is lacking just then
+pub lacks_counter-kept_of : (t : Tables) (i : ℕ) (h : Holding) (name : Option (List ℕ)) → lacks_counter t i (kept_of h) name ≡ lacks_counter t i h name
+unfolding lacks_counter
+lacks_counter-kept_of t i h name = rw (view_sorted h.facts) refl
