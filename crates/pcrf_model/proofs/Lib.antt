@@ -2,10 +2,15 @@ pub mod BindLaws
 pub mod DifferenceLaws
 pub mod DueLaws
 pub mod FirstEntries
+pub mod FormReading
 pub mod HoldingLaws
 pub mod NameLaws
+pub mod ProvisionLaws
 pub mod ReadingLaws
+pub mod RuleNames
 pub mod StepLaws
+pub mod TellingLaws
+pub mod ToldFacts
 pub mod ToldLaws
 pub mod UnionLaws
 pub mod ViewLaws
