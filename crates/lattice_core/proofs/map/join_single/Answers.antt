@@ -1,4 +1,4 @@
-use Rattle.std.proofs.Common.{rules, ap, sym, ◌∙◌}
+use Rattle.std.proofs.Common.{ap, sym, ◌∙◌}
 use Rattle.lattice_core.specs.Entries.{put, map_joined}
 use Rattle.lattice_core.specs.laws.Maps.{joined_single}
 use Rattle.lattice_core.proofs.SingleEntries.{only_entry}
