@@ -8,7 +8,7 @@ use Rattle.ranked.specs.Sets.{In, Same}
 use Rattle.ranked.specs.Orders.{pair_cmp}
 use Rattle.ranked.specs.Tags.{tag_cmp}
 use Rattle.ranked.specs.declared.tag.Tag.{Tag}
-use Rattle.ranked.proofs.Plain.{some_same, none_some}
+use Rattle.ranked.proofs.Plain.{clash, some_same, none_some}
 use Rattle.ranked.proofs.OrderLaws.{IsRanked, eq_itself}
 use Rattle.ranked.proofs.SetLaws.{In-left, In-right, In-cases, Same-itself, both_top}
 use Rattle.ranked.proofs.PartLaws.{IsStrict, Keeps, In-flat_map, flat_map-In, only_top, one_kept, IsMadeOf, IsRising, parts_kept, made_of_both}
@@ -21,8 +21,8 @@ use Rattle.lattice_core.proofs.Lookups.{value_joined}
 use Rattle.lattice_core.proofs.MapParts.{option_facts, option_valid, option_both, option_own, valid_at, joined_rises, map_into, map_back, map_keyed}
 use Rattle.pcrf_facts.specs.Places.{Place}
 use Rattle.pcrf_facts.specs.Values.{Value, value_cmp, Entry, entry_cmp}
-use Rattle.pcrf_facts.specs.Facts.{Fact, Field, is_shaded_by}
-use Rattle.pcrf_facts.specs.Held.{kept, held, joined}
+use Rattle.pcrf_facts.specs.Facts.{Fact, End, Removed, Field, is_shaded_by}
+use Rattle.pcrf_facts.specs.Held.{kept, held, joined, ends}
 use Rattle.pcrf_facts.proofs.FactLaws.{place_ranked, entry_ranked, shaded_irr, shaded_trans}
 use Rattle.pcrf_facts.proofs.JoinedLaws.{joined-held}
 use Rattle.record_levels.specs.Levels.{entry_by, at_place, live_at, level}
@@ -205,3 +205,10 @@ held_more {A} fact_of facts i f within is =
     ∙ ap held (sym (map-append fact_of (take i facts) (f ∷ [])))
     ∙ ap (λ (g : A). held (map fact_of (take i facts ++ g ∷ []))) is
     ∙ ap (λ (l : List A). held (map fact_of l)) (sym (take_more facts i f within))
+
+-- ---- the end
+-- what the end overshadows is not the end
+pub not_the_end : (a : Fact) → is_shaded_by a End ≡ true → ends a ≡ false
+not_the_end End h = clash false h refl
+not_the_end (Removed r) h = refl
+not_the_end (Field p t v) h = refl

@@ -1,2 +1,3 @@
 pub mod LevelLaws
+pub mod Ordered
 pub mod SessionLaws

@@ -1,5 +1,5 @@
 -- The facts of the fields of a session.
-use Rattle.std.specs.Prelude.{ℕ, List, [], ◌∷◌, Option, Some, None}
+use Rattle.std.specs.Prelude.{ℕ, Bool, ◌&&◌, is_some, List, [], ◌∷◌, Option, Some, None}
 use Rattle.std.specs.Net.Addr.{ipv4_octets}
 use Rattle.std.specs.declared.net.ipv4_addr.Ipv4Addr.{Ipv4Addr}
 use Rattle.ranked.specs.declared.tag.Tag.{Tag}
@@ -45,6 +45,12 @@ session_entry x RequestType = entry_by Number x.client.last
 abbrev pub session_says : Option (SessionFields ℕ) → SessionField → Option Entry
 session_says None f = None
 session_says (Some x) f = session_entry x f
+
+-- each of them is there
+abbrev pub has_all : {L : Type 0} → SessionFields L → Bool
+has_all x =
+    is_some x.user.address && (is_some x.user.apn && (is_some x.user.subscribers
+    && (is_some x.client.host && (is_some x.client.realm && is_some x.client.last))))
 
 -- nothing of the user
 abbrev pub no_user : UserFields

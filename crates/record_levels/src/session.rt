@@ -1,6 +1,6 @@
 //! The fields that sessions of both kinds have.
 ghost use Rattle.std.specs.Prelude.{◌≡◌, IfOk};
-ghost use Rattle.record_levels.specs.SessionFacts.{no_user, no_client, no_fields, one_field};
+ghost use Rattle.record_levels.specs.SessionFacts.{no_user, no_client, no_fields, one_field, has_all};
 ghost use Rattle.record_levels.specs.SessionJoins.{fields_joined};
 
 use lattice_core::{Join, Ranked, Reg, Tag};
@@ -105,6 +105,19 @@ impl<L: Ranked> SessionFields<L> {
             SessionValue::Last(last) => fields.client.last.put(tag, last.try_copy()?),
         }
         Ok(fields)
+    }
+
+    /// Each of the fields is there.
+    pub fn has_all(&self) -> bool
+        ensures { result ≡ has_all self.now }
+    {
+        let user = self.user.address.get().is_some()
+            && self.user.apn.get().is_some()
+            && self.user.subscribers.get().is_some();
+        user
+            && self.client.host.get().is_some()
+            && self.client.realm.get().is_some()
+            && self.client.last.get().is_some()
     }
 
     /// Joins other fields into these, without memory.
