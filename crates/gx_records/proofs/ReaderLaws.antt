@@ -1,5 +1,5 @@
 -- What readers of a record answer shows.
-use Rattle.std.proofs.Common.{◌≡◌, ℕ, Bool, true, false, not, ◌&&◌, ◌↔◌, Option, Some, None, inl, inr, refl, ◌∙◌}
+use Rattle.std.proofs.Common.{◌≡◌, Bool, true, false, not, ◌&&◌, ◌↔◌, Some, inl, inr, refl, ◌∙◌}
 use Rattle.ranked.specs.Ascending.{ascending}
 use Rattle.ranked.specs.Sets.{In}
 use Rattle.ranked.proofs.OrderLaws.{text_ranked}
@@ -8,16 +8,15 @@ use Rattle.ranked.proofs.Plain.{none_some}
 use Rattle.ranked.proofs.SetLaws.{any-none}
 use Rattle.lattice_core.specs.declared.tombed.Tombed.{Tombed}
 use Rattle.lattice_core.specs.declared.tombed.Tombed.TheVariants.{Live, Ended}
-use Rattle.lattice_core.proofs.MapParts.{option_facts}
 use Rattle.pcrf_facts.specs.Places.{SessionField, OfSession}
 use Rattle.pcrf_facts.specs.Values.{Entry}
-use Rattle.pcrf_facts.specs.Facts.{Fact, End, Removed, Field, fact_cmp, is_shaded_by}
+use Rattle.pcrf_facts.specs.Facts.{Field, fact_cmp}
 use Rattle.pcrf_facts.specs.Held.{ends, is_ended, shown}
-use Rattle.pcrf_facts.specs.Live.{gx_has_what_it_needs, gx_is_live}
+use Rattle.pcrf_facts.specs.Live.{gx_is_live}
 use Rattle.pcrf_facts.proofs.JoinedLaws.{sorted-In}
 use Rattle.pcrf_facts.proofs.ShownLaws.{shown-Same, is_ended-Same, shown_alone}
 use Rattle.record_levels.specs.SessionFacts.{session_entry, session_says, has_all}
-use Rattle.record_levels.proofs.LevelLaws.{lives, place_has, level_made, not_the_end}
+use Rattle.record_levels.proofs.LevelLaws.{place_has, level_made, not_the_end}
 use Rattle.record_levels.proofs.SessionLaws.{all_said}
 use Rattle.gx_records.specs.declared.parts.GxParts.{GxParts}
 use Rattle.gx_records.specs.GxFacts.{parts_facts, record_facts, fields_at}

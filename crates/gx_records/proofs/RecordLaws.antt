@@ -1,15 +1,11 @@
 -- The facts of a record's join are what is kept of the facts of both.
 use Rattle.std.proofs.Common.{◌≡◌, ℕ, true, List, [], ◌∷◌, ◌⊎◌, Option, Some, None, inl, inr, refl, sym, ap, ◌∙◌, subst}
-use Rattle.std.specs.Ordering.{nat_cmp}
 use Rattle.ranked.specs.Ascending.{ascending}
-use Rattle.ranked.specs.Orders.{text_cmp}
 use Rattle.ranked.specs.Sets.{In}
-use Rattle.ranked.specs.declared.tag.Tag.{Tag}
 use Rattle.ranked.proofs.OrderLaws.{text_ranked}
 use Rattle.ranked.proofs.PartLaws.{Keeps, IsRising}
 use Rattle.ranked.proofs.Plain.{none_some}
 use Rattle.pcrf_values.specs.RuleValues.{RuleValue}
-use Rattle.lattice_core.specs.Tombs.{tombed_facts}
 use Rattle.lattice_core.specs.declared.tombed.Tombed.{Tombed}
 use Rattle.lattice_core.proofs.TombParts.{tombs_keep}
 use Rattle.pcrf_facts.specs.Places.{SessionField, Place, OfSession, OfComponent, OfFlow, OfRuleName, Removable}
@@ -19,7 +15,6 @@ use Rattle.pcrf_facts.specs.Facts as facts
 use Rattle.pcrf_facts.specs.Held.{held, joined}
 use Rattle.pcrf_facts.proofs.JoinedLaws.{joined_is, held_is}
 use Rattle.pcrf_facts.proofs.KeyLaws.{key_by, key_rises}
-use Rattle.record_levels.specs.Levels.{entry_by, at_place}
 use Rattle.record_levels.specs.SessionFacts.{session_fields, session_entry}
 use Rattle.record_levels.specs.declared.session.SessionValue.TheVariants as session_value
 use Rattle.record_levels.proofs.LevelLaws.{shaded_strict, register_keeps, level_all, IsLevel, level_keeps}

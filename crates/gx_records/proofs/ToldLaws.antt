@@ -1,7 +1,9 @@
 -- What a record holds under names is what shows there.
-use Rattle.std.proofs.Common.{◌≡◌, ℕ, List, [], ◌∷◌, ◌++◌, Option, Some, None, refl, sym, ap, ◌∙◌, subst, Ordering, Less}
+use Rattle.std.proofs.Common.{◌≡◌, ℕ, ◌<◌, ◌+◌, length, take, get_or, option_map, List, [], ◌∷◌, ◌++◌, Option, Some, None, refl, sym, ap, ◌∙◌, subst, Ordering, Less}
 use Rattle.std.specs.Ordering.{ordering_then}
-use Rattle.std.specs.List.{flat_map, filter_map}
+use Rattle.std.specs.List.{flat_map, filter_map, cons_option}
+use Rattle.std.specs.Option.{option_to_list}
+use Rattle.std.proofs.lemmas.List.{take_more}
 use Rattle.std.proofs.lemmas.List.Elements.{filter_map-append}
 use Rattle.ranked.specs.Ascending.{ascending, Rises}
 use Rattle.ranked.specs.Orders.{pair_cmp, text_cmp}
@@ -19,14 +21,14 @@ use Rattle.lattice_core.specs.Entries as entries
 use Rattle.pcrf_facts.specs.Places.{SessionField, OfSession, OfComponent, OfFlow, OfRuleName}
 use Rattle.pcrf_facts.specs.Values.{Value, Number, Text, Address, Subscribers, Filters, Untold, Told, Entry}
 use Rattle.pcrf_facts.specs.Facts.{Fact, End, Removed, Field, fact_cmp}
-use Rattle.pcrf_facts.specs.ToldWords.{as_told, named_told, ToldEntry, told_entry, told_entries}
+use Rattle.pcrf_facts.specs.ToldWords.{as_told, named_told, ToldEntry, told_entry, told_entries, told_rule}
 use Rattle.pcrf_facts.proofs.FactLaws.{tag_ranked, rule_ranked, fact_ranked}
 use Rattle.pcrf_facts.proofs.JoinedLaws.{sorted-In}
 use Rattle.record_levels.specs.Levels.{at_place}
 use Rattle.record_levels.specs.SessionFacts.{session_fields, session_entry}
 use Rattle.record_levels.proofs.Ordered.{entries_ascending}
 use Rattle.gx_records.specs.declared.parts.GxParts.{GxParts}
-use Rattle.gx_records.specs.GxFacts.{told_value, told_at, parts_facts, record_facts, told_held}
+use Rattle.gx_records.specs.GxFacts.{told_value, told_at, record_facts, told_held, rule_under}
 use Rattle.gx_records.specs.GxJoins.{told_cmp, Register, record_valid}
 use Rattle.gx_records.proofs.RecordLaws.{told_order, record_held}
 
@@ -146,3 +148,31 @@ told_entries_is x v =
     (facts_ascend all (ascending-ascending fact_cmp fact_ranked (record_facts x)))
     (subst (λ (l : List ToldEntry). Same l (filter_map told_entry all)) (facts_tell x) (filter_map-Same told_entry (record_facts x) all (Same-back all (record_facts x) (sorted-In (record_facts x)))))
     ∙ ap (filter_map told_entry) (sym (record_held x v))
+
+-- ---- names with rules
+-- the name with the rule that stands under it
+abbrev pub told_pair : List ℕ × Register → Option (List ℕ × RuleValue)
+told_pair e = option_map (λ r. (e.0, r)) (rule_under e.1)
+
+-- by what stands under a name
+pair_tells : (e : List ℕ × Register) (es : List (List ℕ × Register)) → filter_map told_pair es ≡ filter_map told_rule (filter_map told_held es) → filter_map told_pair (e ∷ es) ≡ filter_map told_rule (filter_map told_held (e ∷ es))
+pair_tells (name, None) es h = h
+pair_tells (name, Some (t, None)) es h = h
+pair_tells (name, Some (t, Some r)) es h = ap (λ (l : List (List ℕ × RuleValue)). (name, r) ∷ l) h
+
+-- the pairs are those that are told
+pub pairs_tell : (es : List (List ℕ × Register)) → filter_map told_pair es ≡ filter_map told_rule (filter_map told_held es)
+pairs_tell [] = refl
+pairs_tell (e ∷ es) = pair_tells e es (pairs_tell es)
+
+-- of the first names and one more
+pub one_more : (es : List (List ℕ × Register)) (i : ℕ) (e : List ℕ × Register) → i < length es → e ≡ get_or es i e → filter_map told_pair (take (i + 1) es) ≡ filter_map told_pair (take i es) ++ option_to_list (told_pair e)
+one_more es i e within is =
+    ap (filter_map told_pair) (take_more es i e within)
+    ∙ ap (λ (g : List ℕ × Register). filter_map told_pair (take i es ++ g ∷ [])) (sym is)
+    ∙ filter_map-append told_pair (take i es) (e ∷ [])
+    ∙ ap (λ (l : List (List ℕ × RuleValue)). filter_map told_pair (take i es) ++ l) (one_pair (told_pair e))
+  where
+    one_pair : (x : Option (List ℕ × RuleValue)) → cons_option x [] ≡ option_to_list x
+    one_pair None = refl
+    one_pair (Some p) = refl

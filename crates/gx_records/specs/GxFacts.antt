@@ -1,6 +1,5 @@
 -- The facts of a record of a Gx session.
 use Rattle.std.specs.Prelude.{ℕ, List, [], ◌∷◌, Option, Some, None}
-use Rattle.std.proofs.Common.{option_map}
 use Rattle.ranked.specs.declared.tag.Tag.{Tag}
 use Rattle.pcrf_values.specs.RuleValues.{RuleValue}
 use Rattle.lattice_core.specs.declared.tombed.Tombed.{Tombed}
@@ -11,7 +10,7 @@ use Rattle.pcrf_facts.specs.Values.{Value, Untold}
 use Rattle.pcrf_facts.specs.Values as values
 use Rattle.pcrf_facts.specs.Facts as facts
 use Rattle.pcrf_facts.specs.ToldWords.{ToldEntry}
-use Rattle.record_levels.specs.Levels.{entry_by, at_place, level, live_at}
+use Rattle.record_levels.specs.Levels.{entry_by, at_place, level}
 use Rattle.record_levels.specs.SessionFacts.{session_fact, session_fields, session_entry, no_fields, one_field}
 use Rattle.record_levels.specs.declared.session.SessionValue.{SessionValue}
 use Rattle.record_levels.specs.declared.session.SessionFields.{SessionFields}
@@ -51,6 +50,11 @@ fields_at Ended = None
 abbrev pub told_held : List ℕ × Option (Tag × Option RuleValue) → Option ToldEntry
 told_held (name, None) = None
 told_held (name, Some e) = Some (name, e)
+
+-- the rule that was told, where one was
+abbrev pub rule_under : Option (Tag × Option RuleValue) → Option RuleValue
+rule_under None = None
+rule_under (Some e) = e.1
 
 -- ---- records of one fact
 -- no fact

@@ -11,7 +11,7 @@ ghost use Rattle.pcrf_facts.specs.Values as values;
 ghost use Rattle.pcrf_facts.specs.Values.{Number, Text};
 ghost use Rattle.record_levels.specs.Levels.{entry_by};
 ghost use Rattle.record_levels.specs.SessionFacts.{address_value, session_says};
-ghost use Rattle.gx_records.specs.GxFacts.{fact_of, fields_at, single, told_held};
+ghost use Rattle.gx_records.specs.GxFacts.{fact_of, fields_at, rule_under, single, told_held};
 
 use crate::fact::{GxFact, OpenRequestType};
 use crate::parts::GxParts;
@@ -254,13 +254,23 @@ impl GxRec {
     {
         let mut pairs = Vec::new(alloc);
         for entry in self.told_facts() {
-            if let Some((_, Some(rule))) = entry.1.get() {
+            if let Some(rule) = rule_under(&entry.1) {
                 let name = entry.0.try_copy()?;
                 let rule = rule.try_copy()?;
                 pairs.push((name, rule))?;
             }
         }
         Ok(Told { pairs })
+    }
+}
+
+// The rule that was told, where one was.
+fn rule_under(told: &Reg<Option<Rule>>) -> Option<&Rule>
+    ensures { option_copied result ≡ rule_under told.now }
+{
+    match told.get() {
+        Some((_, Some(rule))) => Some(rule),
+        _ => None,
     }
 }
 
