@@ -97,6 +97,10 @@ its_fact : (b : Bool) (f g : Fact) → cond b (Some f) None ≡ Some g → (b �
 its_fact true f g h = (refl, cc)
 its_fact false f g h = absurd (cc)
 
+-- what is on the session is a fact with it
+pub on_session-is : (s : Session) (x : SessionFact) (f : Fact) → on_session s x ≡ Some f → (x.0 ≡ s) × (x.1 ≡ f)
+on_session-is s x f h = let k = its_fact (is_eq (session_cmp s x.0)) x.1 f h in (sym (eq_is session_ranked s x.0 k.0), k.1)
+
 -- a fact on the session is one of its facts
 pub In-facts_on : (facts : List SessionFact) (s : Session) (f : Fact) → In (s, f) facts → In f (facts_on facts s)
 In-facts_on facts s f i = In-filter_map (on_session s) (s, f) f facts i (ap (λ b. cond b (Some f) None) (eq_itself session_ranked s))

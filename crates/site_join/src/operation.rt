@@ -1,0 +1,97 @@
+//! Operations: what accepted requests and pushes make, and what sites send each other.
+ghost use Rattle.std.specs.Prelude.{◌≡◌, ◌≤◌, IfOk, map};
+ghost use Rattle.pcrf_model.specs.Limits.{last_counter};
+ghost use Rattle.site_join.specs.States.{session_of, facts_in};
+
+use gx_records::GxFact;
+use pcrf_values::SessionId;
+use ranked::Ranked;
+use std::alloc::{AllocError, Global};
+use std::marker::Model;
+
+/// A session with facts on it.
+#[derive(Drop)]
+pub enum SessionFacts {
+    /// A gateway's session (TS 29.212).
+    Gx(SessionId, Vec<GxFact>),
+}
+
+/// What one accepted request or push adds to what its site knows: the counter and the site that it is stamped with, the
+/// CC-Request-Number (0 where there is none), a session, and facts on it.
+#[derive(Drop)]
+pub struct Operation {
+    counter: u64,
+    site: u8,
+    number: u32,
+    facts: SessionFacts,
+}
+
+impl Model for Operation {
+    ghost use Rattle.std.specs.Prelude.{◌≤◌};
+    ghost use Rattle.pcrf_model.specs.Limits.{last_counter};
+    ghost use Rattle.pcrf_model.specs.Operations.{Operation};
+    ghost use Rattle.site_join.specs.States.{session_of, facts_in};
+
+    ghost Value = { Operation };
+
+    ghost view = { λ o. record {
+      counter = o.counter;
+      site = o.site;
+      number = o.number;
+      session = session_of o.facts;
+      facts = facts_in o.facts;
+    } };
+
+    ghost invariant = { λ o. o.counter ≤ last_counter };
+}
+
+impl Operation {
+    /// The operation of these parts.
+    pub fn stamped(counter: u64, site: u8, number: u32, facts: SessionFacts) -> Operation
+        requires { counter ≤ last_counter }
+        ensures { result ≡ record {
+          counter = counter;
+          site = site;
+          number = number;
+          session = session_of facts;
+          facts = facts_in facts;
+        } }
+    {
+        Operation {
+            counter,
+            site,
+            number,
+            facts,
+        }
+    }
+
+    /// The counter that it is stamped with.
+    pub fn counter(&self) -> u64
+        ensures counter { result ≡ self.now.counter }
+        ensures bounded { result ≤ last_counter }
+    {
+        self.counter
+    }
+
+    /// The site that made it.
+    pub fn site(&self) -> u8
+        ensures { result ≡ self.now.site }
+    {
+        self.site
+    }
+
+    /// The CC-Request-Number, 0 where there is none.
+    pub fn number(&self) -> u32
+        ensures { result ≡ self.now.number }
+    {
+        self.number
+    }
+
+    /// The session and the facts on it.
+    pub fn facts(&self) -> &SessionFacts
+        ensures session { session_of result.now ≡ self.now.session }
+        ensures facts { facts_in result.now ≡ self.now.facts }
+    {
+        &self.facts
+    }
+}

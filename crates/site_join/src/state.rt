@@ -1,0 +1,115 @@
+//! The records of all sessions, with the clock.
+ghost use Rattle.std.specs.Prelude.{◌≡◌, ◌≤◌, map, IfOk, OnOk, OnErr};
+ghost use Rattle.std.specs.Option.{option_copied};
+ghost use Rattle.pcrf_model.specs.Limits.{last_counter};
+ghost use Rattle.pcrf_model.specs.Sessions.{gx};
+ghost use Rattle.pcrf_model.specs.Holdings.{nothing_held, facts_on, kept_of};
+ghost use Rattle.pcrf_model.specs.Operations.{with_operation};
+ghost use Rattle.ranked.specs.Orders.{text_cmp};
+ghost use Rattle.lattice_core.specs.Entries.{put};
+ghost use Rattle.pcrf_facts.specs.Held.{held, joined};
+ghost use Rattle.gx_records.specs.GxFacts.{fact_of};
+ghost use Rattle.site_join.specs.States.{record_facts, gx_with};
+
+use crate::operation::{Operation, SessionFacts};
+use gx_records::{GxFact, GxRec};
+use lattice_core::{Join, JoinTree};
+use pcrf_values::SessionId;
+use ranked::Ranked;
+use std::alloc::{AllocError, Global};
+use std::marker::Model;
+
+/// What a site holds: a record of each session of which it knows a fact, by Session-Id, and the greatest counter of the
+/// operations that it took. Contracts see it as the facts that are kept, each with its session, and the clock.
+#[derive(Drop)]
+pub struct State {
+    alloc: Global,
+    gx: JoinTree<SessionId, GxRec>,
+    clock: u64,
+}
+
+impl Model for State {
+    ghost use Rattle.std.specs.Prelude.{[], ◌≤◌};
+    ghost use Rattle.pcrf_model.specs.Limits.{last_counter};
+    ghost use Rattle.pcrf_model.specs.Holdings.{Holding};
+    ghost use Rattle.site_join.specs.States.{held_by};
+
+    ghost Value = { Holding };
+
+    ghost view = { λ s. held_by s.gx [] s.clock };
+
+    ghost invariant = { λ s. s.clock ≤ last_counter };
+}
+
+impl State {
+    /// Nothing is held.
+    pub fn start(alloc: Global) -> State
+        ensures { result ≡ nothing_held }
+    {
+        State {
+            alloc,
+            gx: JoinTree::start(alloc),
+            clock: 0,
+        }
+    }
+
+    /// The greatest counter of the operations that were taken, 0 at first.
+    pub fn clock(&self) -> u64
+        ensures clock { result ≡ self.now.clock }
+        ensures bounded { result ≤ last_counter }
+    {
+        self.clock
+    }
+
+    /// The record of a gateway's session, if a fact of it is known.
+    pub fn gx(&self, id: &SessionId) -> Option<&GxRec>
+        ensures { record_facts (option_copied result) ≡ facts_on self.now.facts (gx id.now) }
+    {
+        self.gx.note_valid();
+        self.gx.get(id)
+    }
+
+    /// Takes an operation, wherever it was made, once or again; a refusal changes nothing.
+    pub fn take(&mut self, operation: &Operation) -> Result<(), AllocError>
+        ensures ok { OnOk result (self.new ≡ kept_of (with_operation self.old operation.now)) }
+        ensures err { OnErr result (self.new ≡ self.old) }
+    {
+        self.gx.note_valid();
+        join_facts(self.alloc, &mut self.gx, operation.facts())?;
+        self.clock = self.clock.max(operation.counter());
+        Ok(())
+    }
+}
+
+/// Joins facts into the record of their session.
+fn join_facts(
+    alloc: Global,
+    gx: &mut JoinTree<SessionId, GxRec>,
+    facts: &SessionFacts,
+) -> Result<(), AllocError>
+    ensures gx { OnOk result (gx.new ≡ gx_with gx.old facts.now) }
+    ensures gx_unchanged { OnErr result (gx.new ≡ gx.old) }
+{
+    match facts {
+        SessionFacts::Gx(id, facts) => join_gx(alloc, gx, id, facts.as_slice()),
+    }
+}
+
+/// Joins facts into the record of a gateway's session.
+fn join_gx(
+    alloc: Global,
+    records: &mut JoinTree<SessionId, GxRec>,
+    id: &SessionId,
+    facts: &[GxFact],
+) -> Result<(), AllocError>
+    ensures ok { OnOk result
+        (records.new ≡ put text_cmp joined records.old id.now (held (map fact_of facts.now))) }
+    ensures err { OnErr result (records.new ≡ records.old) }
+{
+    let record = GxRec::of_facts(alloc, facts)?;
+    let id = id.try_copy()?;
+    if let Err((refused, _)) = records.join_at(id, record) {
+        return Err(refused);
+    }
+    Ok(())
+}
