@@ -2,6 +2,8 @@ pub mod BindLaws
 pub mod DifferenceLaws
 pub mod DueLaws
 pub mod FirstEntries
+pub mod FormLaws
+pub mod FormReading
 pub mod HoldingLaws
 pub mod NameLaws
 pub mod ReadingLaws

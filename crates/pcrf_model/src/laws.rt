@@ -71,3 +71,15 @@ pub fn first_due_session_is_pushed()
     ensures none { PushesNoneWhereNoneIsDue }
 {}
 
+/// Operations of the form make holdings of the form, and a union of such holdings, or what is kept of one, has it.
+pub fn holdings_keep_their_form()
+    ensures union { UnionKeepsTheForm }
+    ensures kept { KeepingKeepsTheForm }
+    ensures operations { OperationsMakeTheForm }
+{}
+
+/// Served requests and pushes add operations of the form.
+pub fn sites_add_operations_of_the_form()
+    ensures serving { ServingAddsTheForm }
+    ensures pushing { PushingAddsTheForm }
+{}
