@@ -4,6 +4,7 @@ pub mod DueLaws
 pub mod FirstEntries
 pub mod FormLaws
 pub mod FormReading
+pub mod MadeForms
 pub mod HoldingLaws
 pub mod NameLaws
 pub mod ReadingLaws
