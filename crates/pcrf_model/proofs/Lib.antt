@@ -4,8 +4,9 @@ pub mod DueLaws
 pub mod FirstEntries
 pub mod FormLaws
 pub mod FormReading
-pub mod MadeForms
+pub mod GatewayForms
 pub mod HoldingLaws
+pub mod MadeForms
 pub mod NameLaws
 pub mod ReadingLaws
 pub mod StepLaws

@@ -1,6 +1,6 @@
 -- What requests and pushes make: facts that stand together at places of their own, none overshadowed by another, as one operation of the form.
 use Rattle.std.proofs.lemmas.Bool.Decides.{nat_tests}
-use Rattle.std.proofs.Common.{◌≡◌, ℕ, ◌+◌, ◌<◌, ◌≤◌, Bool, true, false, not, ◌&&◌, nat_le, nat_lt, List, [], ◌∷◌, ◌++◌, map, length, Option, Some, None, inl, inr, refl, sym, ap, ◌∙◌, subst, option_map, option_to_list, unwrap_or, Ordering, Less, Equal, Greater, arith}
+use Rattle.std.proofs.Common.{◌≡◌, ℕ, ◌+◌, ◌<◌, ◌≤◌, Bool, true, false, cond, not, ◌&&◌, nat_le, nat_lt, List, [], ◌∷◌, ◌++◌, map, length, Option, Some, None, inl, inr, refl, sym, ap, ◌∙◌, subst, option_map, flat_map, Ordering, Less, Equal, Greater, arith}
 use Rattle.std.specs.Ordering.{is_lt, ordering_then}
 use Rattle.std.specs.Cmp.{first_so, second_so, tied_itself}
 use Rattle.std.specs.List.{list_any, list_all}
@@ -10,20 +10,20 @@ use Rattle.ranked.specs.Sets.{In}
 use Rattle.ranked.specs.declared.tag.Tag.{Tag}
 use Rattle.ranked.proofs.Plain.{clash, is_false, both, some_same}
 use Rattle.ranked.proofs.OrderLaws.{eq_itself}
-use Rattle.ranked.proofs.SetLaws.{In-cases, any-none}
+use Rattle.ranked.proofs.SetLaws.{In-left, In-right, In-cases, any-none}
 use Rattle.ranked.proofs.AscendingLaws.{map-ascending, ascending-ascending}
-use Rattle.pcrf_facts.specs.Places.{Place, position_cmp}
-use Rattle.pcrf_facts.specs.Values.{Value, entry_cmp}
+use Rattle.pcrf_facts.specs.Places.{SessionField, FramedIpAddress, CalledStationId, SubscriptionIds, OriginHost, OriginRealm, RequestType, Place, OfSession, place_position, position_cmp, address, apn, subscribers, host}
+use Rattle.pcrf_facts.specs.Values.{Subscriber, Value, Number, Text, Address, Subscribers, entry_cmp}
 use Rattle.pcrf_facts.specs.Facts.{Fact, End, Removed, Field, position, entry, fact_cmp, is_shaded_by}
-use Rattle.pcrf_facts.proofs.FactLaws.{position_ranked, fact_ranked, shaded_irr, same_place}
+use Rattle.pcrf_facts.proofs.FactLaws.{place_ranked, position_ranked, fact_ranked, shaded_irr, same_place}
 use Rattle.pcrf_facts.proofs.JoinedLaws.{sorted-In}
 use Rattle.pcrf_model.specs.Limits.{last_counter, site_limit}
 use Rattle.pcrf_model.specs.Sessions.{Kind, Session}
 use Rattle.pcrf_model.specs.Holdings.{Holding}
 use Rattle.pcrf_model.specs.Operations.{Operation}
-use Rattle.pcrf_model.specs.Making.{given, next_operation, ending}
+use Rattle.pcrf_model.specs.Making.{given, session_fields, next_operation, ending}
 use Rattle.pcrf_model.specs.Refusals.{is_clock_full}
-use Rattle.pcrf_model.specs.Forms.{is_rising, is_stamp, is_within, is_tagged, is_session, is_request_number, is_none_or, stand_together, fits, is_operation}
+use Rattle.pcrf_model.specs.Forms.{is_rising, is_stamp, is_within, is_tagged, is_session, is_request_number, is_none_or, is_address, is_apn, is_identity, are_subscribers, is_user, fits_session_field, stand_together, fits, is_operation}
 use Rattle.pcrf_model.proofs.FormLaws.{all_pass, test_by_rises, le_passes, test_by_formed}
 
 -- ---- facts that stand together
@@ -124,16 +124,99 @@ end_in_form i h n s a number session = made_in_form i h n s (End ∷ []) a numbe
   each = λ f. elim [ inl e ↦ subst (λ (g : Fact). (fits s.kind g && is_tagged s.kind (h.clock + 1) i n g) ≡ true) (sym e) refl | inr j ↦ absurd j ];
 })
 
--- ---- what may be given
+-- ---- all facts of a list
 
--- the fact that is given is a field with a value that was given
-pub given-In : {A : Type 0} (p : Place) (t : Tag) (as_value : A → Value) (x : Option A) (f : Fact) → In f (given p t as_value x) → (v : Value) × (option_map as_value x ≡ Some v) × (f ≡ Field p t v)
-given-In p t as_value None f i = absurd i
-given-In p t as_value (Some y) f (inl e) = (as_value y, refl, e)
-given-In p t as_value (Some y) f (inr i) = absurd i
+-- each fact of the list is so
+pub record Each (P : Fact → Type 0) (facts : List Fact) : Type 0 where
+  pub so : (f : Fact) → In f facts → P f
 
--- which passes the test of all that are given
+module _ {P : Fact → Type 0} where
+  -- of no fact
+  pub none : Each P []
+  none = record { so = λ f i. absurd i }
+
+  -- of one more
+  pub more : {f : Fact} {fs : List Fact} → P f → Each P fs → Each P (f ∷ fs)
+  more p all = record { so = λ g. elim [ inl e ↦ subst P (sym e) p | inr i ↦ all.so g i ] }
+
+  infixl 5 ◌and◌
+  -- of two lists
+  pub ◌and◌ : {xs ys : List Fact} → Each P xs → Each P ys → Each P (xs ++ ys)
+  ◌and◌ {xs = xs} {ys = ys} a b = record { so = λ f i. elim (In-cases f xs ys i) [ inl j ↦ a.so f j | inr j ↦ b.so f j ] }
+
+  -- of one of two
+  pub either : {xs ys : List Fact} (b : Bool) → (b ≡ true → Each P xs) → (b ≡ false → Each P ys) → Each P (cond b xs ys)
+  either true x y = x refl
+  either false x y = y refl
+
+  -- of what each member of a list makes
+  pub all_of : {A : Type 0} (make : A → List Fact) (xs : List A) → ((x : A) → In x xs → Each P (make x)) → Each P (flat_map make xs)
+  all_of make [] h = none
+  all_of make (x ∷ xs) h = h x (inl refl) and all_of make xs (λ y i. h y (inr i))
+
+  -- of one fact for each member
+  pub all_map : {A : Type 0} (make : A → Fact) (xs : List A) → ((x : A) → In x xs → P (make x)) → Each P (map make xs)
+  all_map make [] h = none
+  all_map make (x ∷ xs) h = more (h x (inl refl)) (all_map make xs (λ y i. h y (inr i)))
+
+  -- of what may be given
+  pub all_given : {A : Type 0} (p : Place) (t : Tag) (as_value : A → Value) (x : Option A) → ((v : Value) → option_map as_value x ≡ Some v → P (Field p t v)) → Each P (given p t as_value x)
+  all_given p t as_value None h = none
+  all_given p t as_value (Some y) h = more (h (as_value y) refl) none
+
+-- what may be given passes the test of all that are given
 pub given_passes : {A : Type 0} (test : A → Bool) (as_value : A → Value) (x : Option A) (v : Value) (good : Value → Bool) → ((y : A) → test y ≡ true → good (as_value y) ≡ true)
     → is_none_or test x ≡ true → option_map as_value x ≡ Some v → good v ≡ true
 given_passes test as_value None v good fit h e = absurd (cc)
 given_passes test as_value (Some y) v good fit h e = subst (λ (z : Value). good z ≡ true) (some_same (as_value y) v e) (fit y h)
+
+-- ---- the fields of a session
+
+-- what a request says in each
+abbrev pub session_value : Option (List ℕ) → Option (List ℕ) → Option (List Subscriber) → List ℕ → List ℕ → ℕ → SessionField → Option Value
+session_value a n ids of_host of_realm kind FramedIpAddress = option_map Address a
+session_value a n ids of_host of_realm kind CalledStationId = option_map Text n
+session_value a n ids of_host of_realm kind SubscriptionIds = option_map Subscribers ids
+session_value a n ids of_host of_realm kind OriginHost = Some (Text of_host)
+session_value a n ids of_host of_realm kind OriginRealm = Some (Text of_realm)
+session_value a n ids of_host of_realm kind RequestType = Some (Number kind)
+
+module _ (a n : Option (List ℕ)) (ids : Option (List Subscriber)) (of_host of_realm : List ℕ) (kind : ℕ) where
+  -- each fact of them says that
+  pub session_each : {P : Fact → Type 0} (t : Tag) → ((f : SessionField) (v : Value) → session_value a n ids of_host of_realm kind f ≡ Some v → P (Field (OfSession f) t v)) → Each P (session_fields t a n ids of_host of_realm kind)
+  session_each t h =
+      all_given address t Address a (h FramedIpAddress) and all_given apn t Text n (h CalledStationId) and all_given subscribers t Subscribers ids (h SubscriptionIds)
+      and more (h OriginHost (Text of_host) refl) (more (h OriginRealm (Text of_realm) refl) (more (h RequestType (Number kind) refl) none))
+
+  -- one of them is there
+  pub session_some : (t : Tag) (ys : List Fact) → (f : Fact) × In f (session_fields t a n ids of_host of_realm kind ++ ys)
+  session_some t ys =
+      let f : Fact = Field host t (Text of_host) in
+      (f, In-left f (session_fields t a n ids of_host of_realm kind) ys (In-right f (given address t Address a ++ given apn t Text n ++ given subscribers t Subscribers ids) _ (inl refl)))
+
+  -- and what it says fits
+  pub session_fits : (k : Kind) → is_user a n ids ≡ true → is_identity of_host ≡ true → is_identity of_realm ≡ true → fits_session_field k RequestType (Number kind) ≡ true
+      → (f : SessionField) (v : Value) → session_value a n ids of_host of_realm kind f ≡ Some v → fits_session_field k f v ≡ true
+  session_fits k user hosts realms last FramedIpAddress v e =
+      given_passes is_address Address a v (fits_session_field k FramedIpAddress) (λ y h. h) (first_so (is_none_or is_address a) _ (first_so (is_none_or is_address a && is_none_or is_apn n) _ user)) e
+  session_fits k user hosts realms last CalledStationId v e =
+      given_passes is_apn Text n v (fits_session_field k CalledStationId) (λ y h. h) (second_so (is_none_or is_address a) _ (first_so (is_none_or is_address a && is_none_or is_apn n) _ user)) e
+  session_fits k user hosts realms last SubscriptionIds v e =
+      given_passes are_subscribers Subscribers ids v (fits_session_field k SubscriptionIds) (λ y h. h) (second_so (is_none_or is_address a && is_none_or is_apn n) _ user) e
+  session_fits k user hosts realms last OriginHost v e = subst (λ (z : Value). fits_session_field k OriginHost z ≡ true) (some_same (Text of_host) v e) hosts
+  session_fits k user hosts realms last OriginRealm v e = subst (λ (z : Value). fits_session_field k OriginRealm z ≡ true) (some_same (Text of_realm) v e) realms
+  session_fits k user hosts realms last RequestType v e = subst (λ (z : Value). fits_session_field k RequestType z ≡ true) (some_same (Number kind) v e) last
+
+-- ---- places
+
+-- two places at one position are one
+pub one_place : (p q : Place) → place_position p ≡ place_position q → p ≡ q
+one_place p q e = place_ranked.same p q (ap (position_cmp (place_position p)) (sym e) ∙ tied_itself position_ranked.total (place_position p))
+
+-- so are two fields that say the same there, under one tag
+pub one_field : (p q : Place) (t : Tag) (v w : Value) → p ≡ q → v ≡ w → Field p t v ≡ Field q t w
+one_field p q t v w e f = λ i. Field (e i) t (f i)
+
+-- session fields that are one
+pub one_session_field : (f g : SessionField) → OfSession f ≡ OfSession g → f ≡ g
+one_session_field f g e = cc

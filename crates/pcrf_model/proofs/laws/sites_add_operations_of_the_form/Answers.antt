@@ -1,4 +1,5 @@
-use Rattle.pcrf_model.proofs.MadeForms.{end_in_form, given_passes}
+use Rattle.pcrf_model.proofs.MadeForms.{end_in_form, one_session_field, session_fits, session_some}
+use Rattle.pcrf_model.proofs.GatewayForms.{gateway_makes}
 use Rattle.pcrf_model.proofs.laws.sites_add_operations_of_the_form.Goals as goal
 
 pub returns : goal.returns
