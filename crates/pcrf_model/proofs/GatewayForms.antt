@@ -18,7 +18,7 @@ use Rattle.pcrf_model.specs.Sessions.{Kind, Gx}
 use Rattle.pcrf_model.specs.Differences.{rule_name_of}
 use Rattle.pcrf_model.specs.Making.{told_facts}
 use Rattle.pcrf_model.specs.Forms.{is_text, is_rule, is_tagged, fits, fits_session_field, fits_rule_name}
-use Rattle.pcrf_model.proofs.MadeForms.{CanStand, clear_field, MayMake, Each, ◌and◌, all_map, one_place, one_field, one_session_field}
+use Rattle.pcrf_model.proofs.MadeForms.{CanStand, IsField, field, clear_fields, MayMake, Each, ◌and◌, all_map, one_place, one_field, one_session_field}
 
 -- A difference that may be told: names and rules in form, no two rules of one name, and no name both removed and installed.
 pub record CanTell (d : DeltaValue) : Type 0 where
@@ -53,6 +53,12 @@ module _ (n c i : ℕ) (says : SessionField → Option Value) (d : DeltaValue) w
       all_map (λ m. Field (OfRuleName m) (tag 0 c i) Untold) d.removed untold
       and all_map (λ (r : RuleValue). Field (OfRuleName r.name) (tag 0 c i) (Told r)) d.installed newly_told
 
+  -- and each is a field
+  is_field : (f : Fact) → Is f → IsField f
+  is_field f (at_field a v s) = field (OfSession a) (tag n c i) v
+  is_field f (untold m j) = field (OfRuleName m) (tag 0 c i) Untold
+  is_field f (newly_told r j) = field (OfRuleName r.name) (tag 0 c i) (Told r)
+
   module _ (can : CanTell d) where
     -- two at one position are one
     apart : (f g : Fact) → Is f → Is g → position f ≡ position g → f ≡ g
@@ -64,18 +70,6 @@ module _ (n c i : ℕ) (says : SessionField → Option Value) (d : DeltaValue) w
     apart f g (untold m j) (newly_told s k) e = absurd (can.not_both m j (subst (λ (x : List ℕ). In x (map rule_name_of d.installed)) (sym (one_name m s.name e)) (In-map rule_name_of s d.installed k)))
     apart f g (newly_told r j) (untold o k) e = absurd (can.not_both o k (subst (λ (x : List ℕ). In x (map rule_name_of d.installed)) (one_name r.name o e) (In-map rule_name_of r d.installed j)))
     apart f g a b e = let k : (position f).0 ≡ (position g).0 = ap (λ (p : Position). p.0) e in absurd (omega (arith, k))
-
-    -- none overshadows another
-    clear : (f g : Fact) → Is f → Is g → (position f ≡ position g → f ≡ g) → is_shaded_by f g ≡ false
-    clear f g (at_field a v s) (at_field b w u) one = clear_field _ _ _ _ _ _ one
-    clear f g (at_field a v s) (untold o k) one = clear_field _ _ _ _ _ _ one
-    clear f g (at_field a v s) (newly_told r k) one = clear_field _ _ _ _ _ _ one
-    clear f g (untold m j) (at_field b w u) one = clear_field _ _ _ _ _ _ one
-    clear f g (untold m j) (untold o k) one = clear_field _ _ _ _ _ _ one
-    clear f g (untold m j) (newly_told r k) one = clear_field _ _ _ _ _ _ one
-    clear f g (newly_told r j) (at_field b w u) one = clear_field _ _ _ _ _ _ one
-    clear f g (newly_told r j) (untold o k) one = clear_field _ _ _ _ _ _ one
-    clear f g (newly_told r j) (newly_told s k) one = clear_field _ _ _ _ _ _ one
 
     module _ (fit : (f : SessionField) (v : Value) → says f ≡ Some v → fits_session_field Gx f v ≡ true) where
       -- each is in form
@@ -93,7 +87,7 @@ module _ (n c i : ℕ) (says : SessionField → Option Value) (d : DeltaValue) w
         stand = record {
           some = one;
           apart = λ f g j k. apart f g (all.so f j) (all.so g k);
-          clear = λ f g j k. clear f g (all.so f j) (all.so g k) (apart f g (all.so f j) (all.so g k));
+          clear = λ f g j k. clear_fields f g (is_field f (all.so f j)) (is_field g (all.so g k)) (apart f g (all.so f j) (all.so g k));
         };
         each = λ f j. in_form f (all.so f j);
       }

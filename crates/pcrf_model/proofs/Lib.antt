@@ -4,6 +4,7 @@ pub mod DueLaws
 pub mod FirstEntries
 pub mod FormLaws
 pub mod FormReading
+pub mod FunctionForms
 pub mod GatewayForms
 pub mod HoldingLaws
 pub mod MadeForms

@@ -70,11 +70,19 @@ clear_itself : (f g : Fact) → f ≡ g → is_shaded_by f g ≡ false
 clear_itself f g e = subst (λ (z : Fact). is_shaded_by f z ≡ false) e (shaded_irr f)
 
 -- fields overshadow each other at one place alone
-pub clear_field : (p q : Place) (t u : Tag) (v w : Value) → (position (Field p t v) ≡ position (Field q u w) → Field p t v ≡ Field q u w) → is_shaded_by (Field p t v) (Field q u w) ≡ false
+clear_field : (p q : Place) (t u : Tag) (v w : Value) → (position (Field p t v) ≡ position (Field q u w) → Field p t v ≡ Field q u w) → is_shaded_by (Field p t v) (Field q u w) ≡ false
 clear_field p q t u v w one =
     is_false _ (λ h.
     let same = one (ap (λ (r : Place). position (Field r t v)) (same_place p q t u v w h)) in
     clash (is_shaded_by (Field p t v) (Field q u w)) h (clear_itself (Field p t v) (Field q u w) same))
+
+-- a field at some place
+pub data IsField : Fact → Type 0 where
+  field : (p : Place) (t : Tag) (v : Value) → IsField (Field p t v)
+
+-- which overshadows no other field at another place
+pub clear_fields : (f g : Fact) → IsField f → IsField g → (position f ≡ position g → f ≡ g) → is_shaded_by f g ≡ false
+clear_fields f g (field p t v) (field q u w) one = clear_field p q t u v w one
 
 -- ---- one operation
 
