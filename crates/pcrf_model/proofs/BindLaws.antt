@@ -1,25 +1,22 @@
 -- A binding is the greatest session that matches.
-use Rattle.std.proofs.Common.{◌≡◌, Bool, true, false, cond, not, ◌&&◌, List, [], ◌∷◌, map, ◌↔◌, Option, Some, None, refl, sym, ap, ◌∙◌, subst, option_map, Ordering, Less}
-use Rattle.std.specs.Ordering.{is_eq, is_lt}
-use Rattle.std.specs.Cmp.{first_so, second_so, tied_itself}
+use Rattle.std.proofs.Common.{◌≡◌, true, false, cond, not, ◌&&◌, List, ◌↔◌, Option, Some, None, refl, sym, ap, ◌∙◌, subst, option_map, Less}
+use Rattle.std.specs.Ordering.{is_lt}
+use Rattle.std.specs.Cmp.{first_so, second_so}
 use Rattle.std.specs.List.{filter_map}
-use Rattle.ranked.specs.declared.tag.Tag.{Tag}
 use Rattle.ranked.proofs.Plain.{clash, is_false, some_same, some_is, came_from, lt_less}
-use Rattle.ranked.specs.Sets.{In, best, greatest}
-use Rattle.pcrf_model.specs.Sessions.{Kind, Gx, Af, Session, session_cmp, gx, is_gx}
+use Rattle.ranked.specs.Sets.{In, greatest}
+use Rattle.pcrf_model.specs.Sessions.{Kind, Gx, Af, Session, gx, is_gx}
 use Rattle.pcrf_facts.specs.Places.{address}
-use Rattle.pcrf_facts.specs.Values.{Value, Entry, entry_cmp}
+use Rattle.pcrf_facts.specs.Values.{Entry}
 use Rattle.pcrf_model.specs.Holdings.{SessionFact}
 use Rattle.pcrf_model.specs.Views.{View, view, has}
 use Rattle.pcrf_model.specs.Live.{is_live, has_what_it_needs}
 use Rattle.pcrf_model.specs.Bindings.{Candidate, candidate_cmp, standing, candidate, matches, bind}
 use Rattle.pcrf_model.specs.Laws.{IsBinding}
-use Rattle.ranked.proofs.SetLaws.{best-in, best-top, both_top, less_irr, less_trans, In-filter_map, filter_map-In, In-map}
+use Rattle.ranked.proofs.SetLaws.{both_top, In-filter_map, filter_map-In}
 use Rattle.ranked.proofs.OrderLaws.{IsRanked, nat_ranked, text_ranked, pair_ranked}
 use Rattle.ranked.proofs.Greatest.{greatest_is, greatest_some}
-use Rattle.pcrf_model.proofs.HoldingLaws.{session_ranked}
 use Rattle.pcrf_model.proofs.ViewLaws.{shows-known}
-use Rattle.ranked.proofs.AscendingLaws.{ascending-In}
 
 -- candidates are ranked
 candidate_ranked : IsRanked candidate_cmp

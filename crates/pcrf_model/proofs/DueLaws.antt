@@ -1,14 +1,11 @@
 -- The session that is pushed is the first that is due.
 use Rattle.std.proofs.Common.{◌≡◌, ℕ, zero, suc, ◌+◌, ◌-◌, ◌≤◌, map, Bool, true, false, cond, not, List, [], ◌∷◌, length, find, take, Option, Some, None, inl, inr, refl, sym, ap, ◌∙◌, subst, Ordering, Less, arith}
-use Rattle.std.specs.Ordering.{is_eq, is_lt}
+use Rattle.std.specs.Ordering.{is_lt}
 use Rattle.std.specs.Cmp.{tied_itself, first_so, second_so}
-use Rattle.std.specs.List.{filter_map}
-use Rattle.ranked.specs.declared.tag.Tag.{Tag}
 use Rattle.ranked.specs.Ascending.{Rises}
 use Rattle.ranked.specs.Sets.{In}
 use Rattle.ranked.proofs.Plain.{clash, some_same, none_some, some_is}
 use Rattle.ranked.proofs.OrderLaws.{IsRanked}
-use Rattle.ranked.proofs.SetLaws.{In-filter_map, filter_map-In}
 use Rattle.ranked.proofs.AscendingLaws.{ascending-ascending}
 use Rattle.pcrf_values.specs.RuleValues.{DeltaValue}
 use Rattle.pcrf_facts.specs.Places.{address}

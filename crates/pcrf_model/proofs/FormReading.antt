@@ -1,6 +1,6 @@
 -- What the form of a holding and of operator tables says of single facts and rows.
 use Rattle.std.proofs.lemmas.Bool.Decides.{nat_tests}
-use Rattle.std.proofs.Common.{◌≡◌, ℕ, ◌<◌, ◌≤◌, ◌^◌, ◌==◌, Bool, true, false, cond, not, ◌&&◌, List, [], ◌∷◌, map, find, nat_le, Option, Some, None, inl, inr, refl, sym, ap, ◌∙◌, subst, option_map, arith, ltb-true, nat_lt}
+use Rattle.std.proofs.Common.{◌≡◌, ℕ, ◌<◌, ◌≤◌, ◌^◌, ◌==◌, Bool, true, false, cond, not, ◌&&◌, List, [], ◌∷◌, map, find, nat_le, Option, Some, None, inl, inr, refl, sym, ap, ◌∙◌, subst, option_map, arith, ltb-true}
 use Rattle.std.specs.Ordering.{is_eq}
 use Rattle.std.specs.Cmp.{first_so, second_so}
 use Rattle.std.specs.List.{list_any, list_all}
@@ -17,7 +17,7 @@ use Rattle.pcrf_model.specs.Sessions.{Kind, Gx, Af, Session}
 use Rattle.pcrf_model.specs.Holdings.{SessionFact, session_fact_cmp, Holding}
 use Rattle.pcrf_model.specs.Tables.{OperatorRule, ApnRow, Apns, Every, Listed, Tables, row_among, apn_row}
 use Rattle.pcrf_model.specs.Limits.{last_counter}
-use Rattle.pcrf_model.specs.Forms.{is_rising, fits, is_counted, is_session, is_unsigned, fits_flow_field, is_stamp, number_at, is_held, is_holding, are_names_apart, is_operator_rule, is_apn_row, are_apns, are_tables}
+use Rattle.pcrf_model.specs.Forms.{is_rising, fits, is_counted, is_session, is_unsigned, fits_flow_field, is_stamp, is_held, is_holding, are_names_apart, is_operator_rule, is_apn_row, are_apns, are_tables}
 
 -- what all members pass, each passes
 pub each_passes : {A : Type 0} (test : A → Bool) (xs : List A) → list_all test xs ≡ true → (x : A) → In x xs → test x ≡ true

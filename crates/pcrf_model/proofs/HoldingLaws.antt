@@ -1,13 +1,13 @@
 -- The orders of sessions and of facts with their sessions; overshadowing on each session; the facts of one session.
-use Rattle.std.proofs.Common.{◌≡◌, ℕ, zero, suc, Bool, true, false, cond, not, List, ◌++◌, map, ◌⊎◌, Some, None, inl, inr, refl, sym, ap, ◌∙◌, subst}
+use Rattle.std.proofs.Common.{◌≡◌, ℕ, zero, suc, Bool, true, false, cond, not, List, ◌++◌, Some, None, inl, inr, refl, sym, ap, subst}
 use Rattle.std.specs.Ordering.{is_eq}
 use Rattle.std.specs.Cmp.{first_so, second_so}
-use Rattle.std.specs.List.{filter, filter_map}
+use Rattle.std.specs.List.{filter}
 use Rattle.ranked.specs.Ascending.{ascending}
 use Rattle.ranked.specs.Sets.{In, Same}
 use Rattle.ranked.proofs.Plain.{clash, is_false, not_true, both}
 use Rattle.ranked.proofs.OrderLaws.{IsRanked, nat_ranked, text_ranked, pair_ranked, on_ranked, eq_is, eq_itself}
-use Rattle.ranked.proofs.SetLaws.{In-left, In-right, In-cases, Same-back, In-map, map-In, In-filter_map, filter_map-In, filter_map-Same, In-filter, filter-In, maximal-In, In-maximal, maximal-append, maximal-Same}
+use Rattle.ranked.proofs.SetLaws.{In-left, In-right, In-cases, In-map, map-In, In-filter_map, filter_map-In, filter_map-Same, In-filter, filter-In, maximal-In, In-maximal, maximal-append, maximal-Same}
 use Rattle.ranked.proofs.AscendingLaws.{ascending-In, ascending-Same}
 use Rattle.ranked.proofs.PartLaws.{IsStrict}
 use Rattle.pcrf_facts.specs.Facts.{Fact, is_shaded_by}

@@ -9,8 +9,12 @@ pub mod GatewayForms
 pub mod HoldingLaws
 pub mod MadeForms
 pub mod NameLaws
+pub mod ProvisionLaws
 pub mod ReadingLaws
+pub mod RuleNames
 pub mod StepLaws
+pub mod TellingLaws
+pub mod ToldFacts
 pub mod ToldLaws
 pub mod UnionLaws
 pub mod ViewLaws

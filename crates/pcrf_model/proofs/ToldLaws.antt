@@ -1,5 +1,5 @@
 -- The told entries of a session are in order, and no name comes twice.
-use Rattle.std.proofs.Common.{◌≡◌, ℕ, true, false, cond, List, [], ◌∷◌, map, Option, Some, None, refl, sym, ap, ◌∙◌, subst, Ordering, Less, Equal, Greater}
+use Rattle.std.proofs.Common.{◌≡◌, ℕ, true, false, cond, List, [], ◌∷◌, map, Option, Some, None, refl, sym, ap, ◌∙◌, Ordering, Less, Equal, Greater}
 use Rattle.std.specs.Ordering.{is_eq, is_lt, ordering_then}
 use Rattle.std.specs.Cmp.{tied_itself}
 use Rattle.std.specs.List.{filter_map}
@@ -13,7 +13,7 @@ use Rattle.ranked.proofs.OrderLaws.{text_ranked, eq_is, eq_itself}
 use Rattle.ranked.proofs.AscendingLaws.{map-ascending, filter_map-ascending, ascending-ascending, ascending-itself, Distinct-ascending}
 use Rattle.pcrf_values.specs.RuleValues.{RuleValue, rule_cmp}
 use Rattle.pcrf_facts.specs.Places.{Place, OfRuleName, place_cmp}
-use Rattle.pcrf_facts.specs.Values.{Value, Told, Entry, entry_cmp}
+use Rattle.pcrf_facts.specs.Values.{Value, Told, entry_cmp}
 use Rattle.pcrf_model.specs.Sessions.{Session, session_cmp}
 use Rattle.pcrf_model.specs.Holdings.{SessionFact}
 use Rattle.pcrf_model.specs.Views.{View, Shown, shown_cmp, shown_as, shown_on, showing, view}

@@ -1,26 +1,25 @@
 -- The view is that of the kept facts, and that of the set.
-use Rattle.std.proofs.Common.{◌≡◌, true, false, cond, List, map, ◌⊎◌, Option, Some, None, inl, inr, refl, sym, ap, ◌∙◌, subst, option_map}
+use Rattle.std.proofs.Common.{◌≡◌, true, List, map, ◌⊎◌, Option, Some, None, inl, inr, refl, sym, ap, ◌∙◌, subst, option_map}
 use Rattle.std.specs.List.{filter_map}
 use Rattle.ranked.specs.Ascending.{ascending}
 use Rattle.ranked.specs.Sets.{In, Same}
-use Rattle.ranked.specs.declared.tag.Tag.{Tag}
-use Rattle.ranked.proofs.Plain.{clash, none_some}
+use Rattle.ranked.proofs.Plain.{none_some}
 use Rattle.ranked.proofs.OrderLaws.{IsRanked, pair_ranked, on_ranked}
-use Rattle.ranked.proofs.SetLaws.{top_of, filter_map-Same, filter_map-In, In-filter_map, In-any, In-map, map-In, map-Same}
+use Rattle.ranked.proofs.SetLaws.{top_of, filter_map-Same, filter_map-In, In-filter_map, In-map, map-In, map-Same}
 use Rattle.ranked.proofs.AscendingLaws.{ascending-In, ascending-Same}
-use Rattle.pcrf_facts.specs.Places.{Place, Removable}
-use Rattle.pcrf_facts.specs.Values.{Value, Entry}
-use Rattle.pcrf_facts.specs.Facts.{Fact, End, Removed, Field, is_shaded_by}
-use Rattle.pcrf_facts.specs.Held.{kept, held, is_gone, blocks, value_at, shown, is_ended, removed}
+use Rattle.pcrf_facts.specs.Places.{Place}
+use Rattle.pcrf_facts.specs.Values.{Entry}
+use Rattle.pcrf_facts.specs.Facts.{Fact, End, Removed, Field}
+use Rattle.pcrf_facts.specs.Held.{kept, held}
 use Rattle.pcrf_facts.specs.Laws.{ShowTheSame}
-use Rattle.pcrf_facts.proofs.FactLaws.{place_ranked, entry_ranked, same_place}
-use Rattle.pcrf_facts.proofs.JoinedLaws.{held-Same, sorted-In}
+use Rattle.pcrf_facts.proofs.FactLaws.{place_ranked, entry_ranked}
+use Rattle.pcrf_facts.proofs.JoinedLaws.{sorted-In}
 use Rattle.pcrf_facts.proofs.ShownLaws.{members_show_the_same, held_shows_the_same, fact_there}
 use Rattle.pcrf_model.specs.Sessions.{Session, session_cmp}
 use Rattle.pcrf_model.specs.Holdings.{SessionFact, is_shaded_there_by, kept_facts, facts_on}
-use Rattle.pcrf_model.specs.Views.{Shown, shown_cmp, shown_as, shown_on, showing, View, view}
+use Rattle.pcrf_model.specs.Views.{Shown, shown_cmp, shown_as, shown_on, showing, view}
 use Rattle.pcrf_model.specs.Laws.{ReadsEachSession}
-use Rattle.pcrf_model.proofs.HoldingLaws.{session_ranked, there_irr, there_trans, kept_facts-In, facts_on-Same, facts_on-kept, facts_on-In, In-facts_on, same_session, shaded_there}
+use Rattle.pcrf_model.proofs.HoldingLaws.{session_ranked, there_irr, there_trans, kept_facts-In, facts_on-Same, facts_on-kept, facts_on-In, same_session}
 
 -- what shows is ranked
 pub shown_ranked : IsRanked shown_cmp

@@ -1,13 +1,11 @@
 -- The laws of the definitions.
 use Rattle.std.specs.Prelude.{◌≡◌, ℕ, ◌+◌, ◌<◌, ◌≤◌, length, true, false, List, ◌++◌, ◌↔◌, map, Option, Some, None}
 use Rattle.std.proofs.Common.{Less}
-use Rattle.std.specs.Ordering.{is_lt}
 use Rattle.ranked.specs.Ascending.{ascending}
 use Rattle.pcrf_values.specs.RuleValues.{RuleValue, DeltaValue}
 use Rattle.ranked.specs.Sets.{In, Same, Distinct}
-use Rattle.pcrf_facts.specs.Places.{Place, OfRuleName}
-use Rattle.pcrf_facts.specs.Values.{Value, Entry}
-use Rattle.pcrf_facts.specs.Facts.{Fact, Field}
+use Rattle.pcrf_facts.specs.Places.{Place}
+use Rattle.pcrf_facts.specs.Facts.{Fact}
 use Rattle.pcrf_facts.specs.Held.{kept, shown, removed, is_ended}
 use Rattle.pcrf_model.specs.Limits.{site_limit}
 use Rattle.pcrf_model.specs.Sessions.{Session, session_cmp, gx}

@@ -1,5 +1,5 @@
 -- What an operator sees of a holding: every session, with its bindings, rules and told entries, and the clock (this project's profile).
-use Rattle.std.specs.Prelude.{ℕ, Bool, cond, List, map, Option, Some, None}
+use Rattle.std.specs.Prelude.{ℕ, cond, List, Option, Some, None}
 use Rattle.std.proofs.Common.{option_map}
 use Rattle.std.specs.Ordering.{is_eq}
 use Rattle.std.specs.List.{filter_map}

@@ -1,5 +1,5 @@
 -- The PCC rules of a Gx session (TS 23.203, 6.3; TS 29.212, 4.3.1).
-use Rattle.std.specs.Prelude.{cond, List, [], ◌∷◌, ◌++◌, map, Option, Some, None, codes}
+use Rattle.std.specs.Prelude.{cond, List, [], ◌++◌, map, Option, Some, None, codes}
 use Rattle.std.proofs.Common.{Ordering, option_map, option_and_then, unwrap_or}
 use Rattle.std.specs.Ordering.{nat_cmp, on}
 use Rattle.std.specs.List.{filter_map}

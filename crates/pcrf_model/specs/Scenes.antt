@@ -5,7 +5,7 @@ use Rattle.ranked.specs.declared.tag.Tag.{Tag}
 use Rattle.pcrf_values.specs.declared.refusal.Refusal.{Refusal}
 use Rattle.pcrf_values.specs.RuleValues.{DeltaValue}
 use Rattle.pcrf_model.specs.Limits.{last_counter, delta_limit}
-use Rattle.pcrf_facts.specs.Places.{SessionField, FramedIpAddress, CalledStationId, SubscriptionIds, OriginHost, OriginRealm, RequestType, MediaType, ComponentRateUp, ComponentRateDown, FlowDescriptions, FlowUsage, FlowStatus, OfSession, OfComponent, OfFlow, address}
+use Rattle.pcrf_facts.specs.Places.{FramedIpAddress, CalledStationId, SubscriptionIds, OriginHost, OriginRealm, RequestType, MediaType, ComponentRateUp, ComponentRateDown, FlowDescriptions, FlowUsage, FlowStatus, OfSession, OfComponent, OfFlow, address}
 use Rattle.pcrf_facts.specs.Values.{Number, Text, Subscribers, Filters, Address}
 use Rattle.pcrf_facts.specs.Facts.{Field}
 use Rattle.pcrf_model.specs.Holdings.{nothing_held, union}
@@ -15,7 +15,7 @@ use Rattle.pcrf_model.specs.Requests.{RequestValue}
 use Rattle.pcrf_model.specs.Replies.{PushValue, ReplyValue, OnGx, Pushed, Granted, Rejected}
 use Rattle.pcrf_model.specs.Serving.{serve}
 use Rattle.pcrf_model.specs.Pushing.{push}
-use Rattle.pcrf_model.specs.OperatorValues.{FieldShown, GxShown, AfShown}
+use Rattle.pcrf_model.specs.OperatorValues.{GxShown, AfShown}
 use Rattle.pcrf_model.specs.Steps.{SiteState, adding}
 use Rattle.pcrf_model.specs.Samples.{imsi, e164, sip_rule, uplink, any_to_any, operator, first_session, second_session, host_address, initial, update, termination, call, hang_up, audio, no_media, status_only, many_flows, ims_quality}
 

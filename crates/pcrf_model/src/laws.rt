@@ -1,6 +1,6 @@
 //! The laws of the definitions, each the contract of a function without a body.
 
-ghost use Rattle.pcrf_model.specs.Laws.{KeepsUnions, KeepsUnionsOfHoldings, KeepsEachSession, KeepsOnce, ReplacingChangesOne, UnionIsCommutative, UnionIsAssociative, UnionIsIdempotent, OnlyOperationsCount, HoldsTheUnion, HoldsJustTheFacts, SameOperationsHoldTheSame, SessionsAreReadAlone, KeptShowsTheSame, OnlyMembersCount, KeptReadsTheSame, MembersReadTheSame, KeptHasTheSameValue, KeptServesTheSame, KeptPushesTheSame, KeptStepsTheSame, DifferenceLeadsThere, NoNameTwice, FirstLeavesTheRest, FirstIsAll, ToldIsTold, BindsToTheGreatest, BindsToNoneWhereNoneMatches, PushesTheFirstDue, PushesNoneWhereNoneIsDue, UnionKeepsTheForm, KeepingKeepsTheForm, OperationsMakeTheForm, ServingAddsTheForm, PushingAddsTheForm, RuleNamesDiffer, SessionIsTold, ProvisioningTells, PushingTells};
+ghost use Rattle.pcrf_model.specs.Laws.{KeepsUnions, KeepsUnionsOfHoldings, KeepsEachSession, KeepsOnce, ReplacingChangesOne, UnionIsCommutative, UnionIsAssociative, UnionIsIdempotent, OnlyOperationsCount, HoldsTheUnion, HoldsJustTheFacts, SameOperationsHoldTheSame, SessionsAreReadAlone, KeptShowsTheSame, OnlyMembersCount, KeptReadsTheSame, MembersReadTheSame, KeptHasTheSameValue, KeptServesTheSame, KeptPushesTheSame, KeptStepsTheSame, DifferenceLeadsThere, NoNameTwice, FirstLeavesTheRest, FirstIsAll, ToldIsTold, BindsToTheGreatest, BindsToNoneWhereNoneMatches, PushesTheFirstDue, PushesNoneWhereNoneIsDue, RuleNamesDiffer, SessionIsTold, ProvisioningTells, PushingTells};
 
 /// What is kept of what was kept and of more is what is kept of all.
 pub fn keeping_keeps_unions()
@@ -69,6 +69,24 @@ pub fn binding_is_the_greatest_match()
 pub fn first_due_session_is_pushed()
     ensures first { PushesTheFirstDue }
     ensures none { PushesNoneWhereNoneIsDue }
+{}
+
+/// No two rules of one session have one name.
+pub fn names_of_rules_differ()
+    ensures { RuleNamesDiffer }
+{}
+
+/// What a gateway was told of a session is in order, with no name twice; told the difference it has just the session's rules, and told its first
+/// entries it lacks just the rest.
+pub fn gateway_is_told_the_rules()
+    ensures told { ToldIsTold }
+    ensures session { SessionIsTold }
+{}
+
+/// An accepted initial request, an update or a push tells a gateway the first entries of the difference, and what it lacks then is the rest.
+pub fn gateway_lacks_what_the_first_entries_left()
+    ensures provisioning { ProvisioningTells }
+    ensures pushing { PushingTells }
 {}
 
 /// Operations of the form make holdings of the form, and a union of such holdings, or what is kept of one, has it.
