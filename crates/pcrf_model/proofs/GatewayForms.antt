@@ -2,12 +2,11 @@
 use Rattle.std.proofs.Common.{◌≡◌, ℕ, ◌^◌, Bool, true, false, ◌&&◌, List, ◌++◌, map, Option, Some, inl, inr, refl, sym, ap, ◌∙◌, subst, arith}
 use Rattle.std.specs.Ordering.{is_eq}
 use Rattle.ranked.specs.Orders.{text_cmp}
-use Rattle.ranked.specs.Sets.{In, Distinct}
+use Rattle.ranked.specs.Sets.{In}
 use Rattle.ranked.specs.declared.tag.Tag.{Tag}
 use Rattle.ranked.proofs.Plain.{both, some_same}
 use Rattle.ranked.proofs.OrderLaws.{text_ranked, eq_itself}
 use Rattle.ranked.proofs.SetLaws.{In-map}
-use Rattle.ranked.proofs.DistinctLaws.{one_of_key}
 use Rattle.pcrf_values.specs.Limits.{rule_name_limit}
 use Rattle.pcrf_values.specs.RuleValues.{RuleValue, DeltaValue}
 use Rattle.pcrf_facts.specs.Places.{SessionField, Place, OfSession, OfRuleName, Position, place_position}
@@ -18,15 +17,15 @@ use Rattle.pcrf_model.specs.Sessions.{Kind, Gx}
 use Rattle.pcrf_model.specs.Differences.{rule_name_of}
 use Rattle.pcrf_model.specs.Making.{told_facts}
 use Rattle.pcrf_model.specs.Forms.{is_text, is_rule, is_tagged, fits, fits_session_field, fits_rule_name}
+use Rattle.pcrf_model.proofs.ToldFacts.{IsApart}
 use Rattle.pcrf_model.proofs.MadeForms.{CanStand, IsField, field, clear_fields, MayMake, Each, ◌and◌, all_map, one_place, one_field, one_session_field}
 
--- A difference that may be told: names and rules in form, no two rules of one name, and no name both removed and installed.
+-- A difference that may be told: names and rules in form, and apart.
 pub record CanTell (d : DeltaValue) : Type 0 where
   pub names : (n : List ℕ) → In n d.removed → is_text rule_name_limit n ≡ true
   pub names_too : (r : RuleValue) → In r d.installed → is_text rule_name_limit r.name ≡ true
   pub rules : (r : RuleValue) → In r d.installed → is_rule r ≡ true
-  pub one_each : Distinct (map rule_name_of d.installed)
-  pub not_both : (n : List ℕ) → In n d.removed → In n (map rule_name_of d.installed) → ⊥
+  pub apart : IsApart d
 
 -- the tag of an operation's facts with that number
 abbrev tag : ℕ → ℕ → ℕ → Tag
@@ -66,9 +65,9 @@ module _ (n c i : ℕ) (says : SessionField → Option Value) (d : DeltaValue) w
         let p = one_place (OfSession a) (OfSession b) e in
         one_field (OfSession a) (OfSession b) (tag n c i) v w p (some_same v w (sym s ∙ ap says (one_session_field a b p) ∙ u))
     apart f g (untold m j) (untold o k) e = ap (λ (p : Place). Field p (tag 0 c i) Untold) (one_place (OfRuleName m) (OfRuleName o) e)
-    apart f g (newly_told r j) (newly_told s k) e = ap (λ (x : RuleValue). Field (OfRuleName x.name) (tag 0 c i) (Told x)) (one_of_key rule_name_of d.installed can.one_each r s j k (one_name r.name s.name e))
-    apart f g (untold m j) (newly_told s k) e = absurd (can.not_both m j (subst (λ (x : List ℕ). In x (map rule_name_of d.installed)) (sym (one_name m s.name e)) (In-map rule_name_of s d.installed k)))
-    apart f g (newly_told r j) (untold o k) e = absurd (can.not_both o k (subst (λ (x : List ℕ). In x (map rule_name_of d.installed)) (one_name r.name o e) (In-map rule_name_of r d.installed j)))
+    apart f g (newly_told r j) (newly_told s k) e = ap (λ (x : RuleValue). Field (OfRuleName x.name) (tag 0 c i) (Told x)) (can.apart.one_each r s j k (one_name r.name s.name e))
+    apart f g (untold m j) (newly_told s k) e = absurd (can.apart.not_both m j (subst (λ (x : List ℕ). In x (map rule_name_of d.installed)) (sym (one_name m s.name e)) (In-map rule_name_of s d.installed k)))
+    apart f g (newly_told r j) (untold o k) e = absurd (can.apart.not_both o k (subst (λ (x : List ℕ). In x (map rule_name_of d.installed)) (one_name r.name o e) (In-map rule_name_of r d.installed j)))
     apart f g a b e = let k : (position f).0 ≡ (position g).0 = ap (λ (p : Position). p.0) e in absurd (omega (arith, k))
 
     module _ (fit : (f : SessionField) (v : Value) → says f ≡ Some v → fits_session_field Gx f v ≡ true) where
