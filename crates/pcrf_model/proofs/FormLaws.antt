@@ -200,7 +200,7 @@ under_rises s facts r =
     (rises_of_keys (λ f g. position_cmp (position f) (position g)) position_cmp position (λ f g l. l) facts r)
 
 -- the least and the most of what is within
-within_most : (least most n : ℕ) → (nat_le least n && nat_le n most) ≡ true → n ≤ most
+pub within_most : (least most n : ℕ) → (nat_le least n && nat_le n most) ≡ true → n ≤ most
 within_most least most n h = let k = second_so (nat_le least n) _ h in grind (arith, nat_tests, k)
 
 -- what one operation makes has the form

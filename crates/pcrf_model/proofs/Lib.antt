@@ -11,6 +11,7 @@ pub mod MadeForms
 pub mod NameLaws
 pub mod ProvisionLaws
 pub mod ReadingLaws
+pub mod RuleForms
 pub mod RuleNames
 pub mod StepLaws
 pub mod TellingLaws
