@@ -24,7 +24,7 @@ use Rattle.pcrf_model.proofs.MadeForms.{CanStand, IsField, field, clear_fields, 
 -- ---- what requests say of components and flows
 
 -- numbers that pass the test differ
-numbers_differ : (ns : List ℕ) → are_apart ns ≡ true → Distinct ns
+pub numbers_differ : (ns : List ℕ) → are_apart ns ≡ true → Distinct ns
 numbers_differ [] h = tt
 numbers_differ (n ∷ ns) h = (λ i. clash (list_any (λ m. m == n) ns) (In-any (λ m. m == n) n ns i (same n)) (not_true _ (first_so _ _ h)), numbers_differ ns (second_so (not (list_any (λ m. m == n) ns)) _ h))
   where
@@ -94,11 +94,11 @@ abbrev tag : ℕ → ℕ → Tag
 tag counter site = record { number = 0; counter = counter; site = site }
 
 -- the number of a component
-abbrev component_number : ComponentValue → ℕ
+abbrev pub component_number : ComponentValue → ℕ
 component_number c = c.number
 
 -- and of a flow
-abbrev flow_number : FlowValue → ℕ
+abbrev pub flow_number : FlowValue → ℕ
 flow_number x = x.number
 
 -- a component that a request describes, and whether it removes it

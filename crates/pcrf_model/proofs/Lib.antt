@@ -13,6 +13,7 @@ pub mod ProvisionLaws
 pub mod ReadingLaws
 pub mod RuleForms
 pub mod RuleNames
+pub mod ServedForms
 pub mod StepLaws
 pub mod TellingLaws
 pub mod ToldFacts

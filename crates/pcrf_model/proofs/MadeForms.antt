@@ -172,6 +172,10 @@ module _ {P : Fact → Type 0} where
   all_given p t as_value None h = none
   all_given p t as_value (Some y) h = more (h (as_value y) refl) none
 
+-- what one list has both have
+pub some_left : (xs ys : List Fact) → (f : Fact) × In f xs → (f : Fact) × In f (xs ++ ys)
+some_left xs ys r = (r.0, In-left r.0 xs ys r.1)
+
 -- what may be given passes the test of all that are given
 pub given_passes : {A : Type 0} (test : A → Bool) (as_value : A → Value) (x : Option A) (v : Value) (good : Value → Bool) → ((y : A) → test y ≡ true → good (as_value y) ≡ true)
     → is_none_or test x ≡ true → option_map as_value x ≡ Some v → good v ≡ true
@@ -197,10 +201,8 @@ module _ (a n : Option (List ℕ)) (ids : Option (List Subscriber)) (of_host of_
       and more (h OriginHost (Text of_host) refl) (more (h OriginRealm (Text of_realm) refl) (more (h RequestType (Number kind) refl) none))
 
   -- one of them is there
-  pub session_some : (t : Tag) (ys : List Fact) → (f : Fact) × In f (session_fields t a n ids of_host of_realm kind ++ ys)
-  session_some t ys =
-      let f : Fact = Field host t (Text of_host) in
-      (f, In-left f (session_fields t a n ids of_host of_realm kind) ys (In-right f (given address t Address a ++ given apn t Text n ++ given subscribers t Subscribers ids) _ (inl refl)))
+  pub session_some : (t : Tag) → (f : Fact) × In f (session_fields t a n ids of_host of_realm kind)
+  session_some t = (Field host t (Text of_host), In-right _ (given address t Address a ++ given apn t Text n ++ given subscribers t Subscribers ids) _ (inl refl))
 
   -- and what it says fits
   pub session_fits : (k : Kind) → is_user a n ids ≡ true → is_identity of_host ≡ true → is_identity of_realm ≡ true → fits_session_field k RequestType (Number kind) ≡ true

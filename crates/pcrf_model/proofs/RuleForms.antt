@@ -5,17 +5,18 @@ use Rattle.std.proofs.lemmas.List.Folds.{list_all-append}
 use Rattle.std.proofs.lemmas.Str.Parse.{digit_from_value}
 use Rattle.std.specs.Str.Parse.{AllDigits}
 use Rattle.std.specs.Prelude.{codes}
-use Rattle.std.proofs.Common.{◌≡◌, ℕ, min, ◌+◌, ◌<◌, ◌≤◌, ◌^◌, Bool, true, false, cond, ◌&&◌, nat_le, ◌==◌, List, [], ◌∷◌, ◌++◌, map, length, find, Option, Some, None, ◌⊎◌, inl, inr, refl, sym, ap, ◌∙◌, subst, option_map, option_and_then, unwrap_or, decimal, length-append, arith}
+use Rattle.std.proofs.Common.{◌≡◌, ℕ, min, ◌+◌, ◌-◌, ◌<◌, ◌≤◌, ◌^◌, Bool, true, false, cond, ◌&&◌, nat_le, ◌==◌, List, [], ◌∷◌, ◌++◌, map, length, find, Option, Some, None, ◌⊎◌, inl, inr, refl, sym, ap, ◌∙◌, subst, option_map, option_and_then, unwrap_or, decimal, length-append, arith}
 use Rattle.std.specs.Cmp.{first_so, second_so}
-use Rattle.std.specs.List.{list_all, filter}
+use Rattle.std.specs.List.{list_all}
 use Rattle.ranked.specs.Ascending.{ascending}
 use Rattle.ranked.specs.Sets.{In}
 use Rattle.ranked.specs.declared.tag.Tag.{Tag}
 use Rattle.ranked.proofs.Plain.{clash, both, some_same}
 use Rattle.ranked.proofs.SetLaws.{In-cases, map-In}
+use Rattle.ranked.proofs.DistinctLaws.{take-In}
 use Rattle.ranked.proofs.AscendingLaws.{ascending-In}
 use Rattle.pcrf_values.specs.Limits.{session_id_limit, rule_name_limit, operator_rule_name_limit}
-use Rattle.pcrf_values.specs.RuleValues.{RuleValue}
+use Rattle.pcrf_values.specs.RuleValues.{RuleValue, DeltaValue}
 use Rattle.pcrf_facts.specs.Places.{ComponentField, ComponentStatus, FlowField, FlowDescriptions, FlowStatus, Place, OfComponent, OfFlow, OfRuleName, apn}
 use Rattle.pcrf_facts.specs.Values.{Value, Number, Filters, Told, Entry}
 use Rattle.pcrf_facts.specs.Facts.{Field}
@@ -27,14 +28,18 @@ use Rattle.pcrf_model.specs.Live.{is_live}
 use Rattle.pcrf_model.specs.Tables.{Class, OperatorRule, ApnRow, Tables, media_class, apn_row}
 use Rattle.pcrf_model.specs.Flows.{FlowId, or_else, of_flow, of_component, filters, flow_status, is_signalling, media_type, class_of, Uplink, Downlink, asked_rate, flow_rule_name, flow_rule}
 use Rattle.pcrf_model.specs.Rules.{rule_of, apn_of, operator_rule, operator_rules, flow_rules, listed_cmp, rules}
-use Rattle.pcrf_model.specs.Differences.{ToldRule, told, rule_name_of}
+use Rattle.pcrf_model.specs.Differences.{ToldRule, told, told_name_of, difference}
+use Rattle.pcrf_model.specs.Serving.{delta_of}
 use Rattle.pcrf_model.specs.Forms.{is_byte, is_text, is_unsigned, is_class_from, is_class, is_status, are_filters, is_rule, is_operator_rule, is_session, fits_place, fits_component_field, fits_flow_field, fits_rule_name, is_holding, are_tables, are_apns}
 use Rattle.pcrf_model.proofs.HoldingLaws.{facts_on-In}
 use Rattle.pcrf_model.proofs.ViewLaws.{sessions_alone}
 use Rattle.pcrf_model.proofs.ToldLaws.{told-shows}
 use Rattle.pcrf_model.proofs.FormReading.{each_passes, found, held_fact, fact_fits, flows_fit, table_row}
-use Rattle.pcrf_model.proofs.RuleNames.{IsOfFlow, and_then, row_of, listed_ranked}
+use Rattle.pcrf_model.proofs.DifferenceLaws.{removed-In, installed-In}
+use Rattle.pcrf_model.proofs.RuleNames.{IsOfFlow, row_of, listed_ranked, rules-names_differ}
 use Rattle.pcrf_model.proofs.RuleNames as names
+use Rattle.pcrf_model.proofs.ProvisionLaws.{first_apart}
+use Rattle.pcrf_model.proofs.GatewayForms.{CanTell}
 use Rattle.pcrf_model.proofs.FormLaws.{le_passes, within_most}
 
 -- ---- texts
@@ -69,7 +74,7 @@ text_of : (most : ℕ) (t : List ℕ) → 1 ≤ length t → length t ≤ most �
 text_of most t l m b = both (nat_le 1 (length t) && nat_le (length t) most) _ (both (nat_le 1 (length t)) _ (le_passes 1 (length t) l) (le_passes (length t) most m)) b
 
 -- the name of an operator's rule, with its prefix
-pub operator_name : (n : List ℕ) → is_text operator_rule_name_limit n ≡ true → is_text rule_name_limit (codes "op/" ++ n) ≡ true
+operator_name : (n : List ℕ) → is_text operator_rule_name_limit n ≡ true → is_text rule_name_limit (codes "op/" ++ n) ≡ true
 operator_name n h =
     let short = within_most 1 operator_rule_name_limit (length n) (first_so _ _ h) in
     text_of rule_name_limit (codes "op/" ++ n) (omega arith) (omega (arith, short)) (bytes_append (codes "op/") n refl (second_so _ _ h))
@@ -178,7 +183,7 @@ module _ (t : Tables) (h : Holding) (tables : are_tables t ≡ true) (form : is_
   v = view h.facts
 
   -- where a place shows a fact stands
-  shown_fact : (s : Session) (p : Place) (e : Entry) → v.shows s p ≡ Some e → In (s, Field p e.0 e.1) h.facts
+  pub shown_fact : (s : Session) (p : Place) (e : Entry) → v.shows s p ≡ Some e → In (s, Field p e.0 e.1) h.facts
   shown_fact s p e k = facts_on-In h.facts s (Field p e.0 e.1) (fact_there (facts_on h.facts s) p e (sym ((sessions_alone h.facts s).shows p) ∙ k))
 
   -- so what shows fits
@@ -214,3 +219,58 @@ module _ (t : Tables) (h : Holding) (tables : are_tables t ≡ true) (form : is_
     where
       least : (a b : ℕ) → min a b ≤ b
       least a b = omega arith
+
+  -- a rule in form, with its name
+  abbrev GoodRule : RuleValue → Type 0
+  GoodRule x = (is_text rule_name_limit x.name ≡ true) × (is_rule x ≡ true)
+
+  -- so is each that the operator gives
+  given_in_form : (s : Session) (x : RuleValue) → In x (operator_rules t v s) → GoodRule x
+  given_in_form s x i = of_row (apn_of t v s) refl i
+    where
+      of_row : (row : Option ApnRow) → apn_of t v s ≡ row → In x (unwrap_or (option_map (λ (r : ApnRow). map operator_rule r.rules) row) []) → GoodRule x
+      of_row None e j = absurd j
+      of_row (Some r) e j =
+          let w = row_of t (text v s apn) r e in
+          let m = map-In operator_rule x r.rules j in
+          let good = (table_row t tables w.0 r w.1).each m.0 m.1 in
+          (
+            subst (λ (z : RuleValue). is_text rule_name_limit z.name ≡ true) (sym m.2) (operator_name m.0.name (first_so _ _ (first_so _ _ (first_so _ _ good)))),
+            subst (λ (z : RuleValue). is_rule z ≡ true) (sym m.2) (operator_rule_in_form m.0 good),
+          )
+
+  -- and each of the session, live or not
+  pub rule_in_form : (s : Session) (x : RuleValue) → In x (rules t v s) → GoodRule x
+  unfolding rules
+  rule_in_form s x = elim (is_live v s) as (λ b. In x (cond b (ascending listed_cmp (operator_rules t v s ++ flow_rules t v s)) []) → GoodRule x) [
+    | true ↦ λ i. elim (In-cases x (operator_rules t v s) (flow_rules t v s) ((ascending-In listed_cmp listed_ranked (operator_rules t v s ++ flow_rules t v s) x).0 i)) [
+      | inl j ↦ given_in_form s x j
+      | inr j ↦ flow_rule_in_form x (names.of_flow t h.facts s (flows_fit h form) x j)
+    ]
+    | false ↦ λ i. absurd i
+  ]
+
+  -- a name under which a rule may be told is one of the gateway's
+  told_name : (k : Kind) (n : List ℕ) (x : Value) → fits_place k (OfRuleName n) x ≡ true → is_text rule_name_limit n ≡ true
+  told_name Gx n x w = first_so _ _ w
+  told_name Af n x w = clash false w refl
+
+  -- so are the names of told entries
+  pub told_in_form : (s : Session) (u : ToldRule) → In u (told v s) → is_text rule_name_limit u.0 ≡ true
+  told_in_form s u i =
+      let r = told-shows h.facts s u i in
+      told_name s.kind u.0 (Told u.1) (shown_fits s (OfRuleName u.0) (r.0, Told u.1) r.1)
+
+  -- and what is told of a difference
+  pub can_tell : (most : ℕ) (s : Session) → CanTell (delta_of most t v s)
+  can_tell most s =
+      let whole : DeltaValue = difference (told v s) (rules t v s) in
+      let installed = λ (r : RuleValue) (i : In r (delta_of most t v s).installed). rule_in_form s r (installed-In (told v s) (rules t v s) r (take-In (most - length whole.removed) r whole.installed i)).0 in
+      record {
+        names = λ n i.
+            let u = map-In told_name_of n (told v s) (removed-In (told v s) (rules t v s) n (take-In most n whole.removed i)).0 in
+            subst (λ (z : List ℕ). is_text rule_name_limit z ≡ true) (sym u.2) (told_in_form s u.0 u.1);
+        names_too = λ r i. (installed r i).0;
+        rules = λ r i. (installed r i).1;
+        apart = first_apart most t h.facts s (rules-names_differ t h.facts s tables (flows_fit h form));
+      }

@@ -64,7 +64,7 @@ one_op (Some r) apart x y i j e =
 -- ---- the flows'
 
 -- what comes of two came of both
-pub and_then : {A B : Type 0} (f : A → Option B) (x : Option A) (y : B) → option_and_then f x ≡ Some y → (z : A) × (x ≡ Some z) × (f z ≡ Some y)
+and_then : {A B : Type 0} (f : A → Option B) (x : Option A) (y : B) → option_and_then f x ≡ Some y → (z : A) × (x ≡ Some z) × (f z ≡ Some y)
 and_then f None y h = absurd (cc)
 and_then f (Some z) y h = (z, refl, h)
 

@@ -1,4 +1,4 @@
-use Rattle.pcrf_model.proofs.RuleForms.{operator_name}
+use Rattle.pcrf_model.proofs.ServedForms.{provisioned_good}
 use Rattle.pcrf_model.proofs.FunctionForms.{components_each, function_makes}
 use Rattle.pcrf_model.proofs.MadeForms.{end_in_form, one_session_field, session_fits, session_some}
 use Rattle.pcrf_model.proofs.GatewayForms.{gateway_makes}
