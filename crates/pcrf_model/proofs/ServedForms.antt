@@ -3,11 +3,13 @@ use Rattle.std.proofs.lemmas.Bool.Decides.{nat_tests}
 use Rattle.std.proofs.Common.{◌≡◌, ℕ, ◌+◌, ◌-◌, ◌<◌, ◌≤◌, Bool, true, false, cond, not, ◌&&◌, ◌==◌, is_some, List, [], ◌∷◌, ◌++◌, map, take, length, Option, Some, None, inl, inr, refl, sym, ap, ◌∙◌, subst, option_map, unwrap_or, length-append, length-take, flat_map, arith}
 use Rattle.std.proofs.lemmas.List.{length-map}
 use Rattle.std.specs.Cmp.{first_so, second_so}
+use Rattle.std.specs.List.{list_all}
 use Rattle.ranked.specs.Ascending.{ascending}
 use Rattle.ranked.specs.Sets.{In, Same}
 use Rattle.ranked.specs.declared.tag.Tag.{Tag}
 use Rattle.ranked.proofs.Plain.{clash, is_false, both, some_same, some_is, not_true}
 use Rattle.ranked.proofs.SetLaws.{Same-itself, Same-through, Same-append, map-Same}
+use Rattle.pcrf_values.specs.Limits.{session_id_limit}
 use Rattle.pcrf_values.specs.RuleValues.{RuleValue, DeltaValue}
 use Rattle.pcrf_values.specs.Numbers.{request_kind_number}
 use Rattle.pcrf_values.specs.Results.{unknown_session_id, unable_to_comply}
@@ -33,7 +35,7 @@ use Rattle.pcrf_model.specs.Refusals.{first_cause, is_clock_full, ccr_causes, cc
 use Rattle.pcrf_model.specs.Replies.{ReplyValue, OnGx, Rejected, Refused, Outcome}
 use Rattle.pcrf_model.specs.Serving.{empty_delta, delta_of, provisioned, terminated, accepted_ccr, described, closed, refused_or, serve_ccr, serve_aar, serve_str, serve}
 use Rattle.pcrf_model.specs.Pushing.{is_due, due, telling, nothing_pushed, push, lacks_counter}
-use Rattle.pcrf_model.specs.Forms.{is_unsigned, is_identity, is_origin, is_user, is_session, fits_session_field, is_component, is_held, is_operation, is_holding, is_request, are_tables}
+use Rattle.pcrf_model.specs.Forms.{is_text, is_unsigned, is_identity, is_origin, is_user, is_session, fits_session_field, are_apart, is_component, is_request_number, is_operation, is_holding, is_request, are_tables}
 use Rattle.pcrf_model.proofs.HoldingLaws.{sorted-In}
 use Rattle.pcrf_model.proofs.ViewLaws.{view-Same}
 use Rattle.pcrf_model.proofs.BindLaws.{has_address}
@@ -86,6 +88,33 @@ str_left : (h : Holding) (q : StrValue) → str_refusal h q ≡ None → is_cloc
 unfolding str_refusal
 str_left h q e = no_cause ((not (is_live (view h.facts) (af q.session)), unknown_session_id) ∷ no_counter h ∷ []) (no_counter h) (inr (inl refl)) e
 
+-- ---- requests of the form, by parts
+
+-- what each carries
+origin_parts : (id of_host of_realm : List ℕ) → is_origin id of_host of_realm ≡ true → (is_text session_id_limit id ≡ true) × (is_identity of_host ≡ true) × (is_identity of_realm ≡ true)
+origin_parts id of_host of_realm w =
+    let two = first_so (is_text session_id_limit id && is_identity of_host) (is_identity of_realm) w in
+    (first_so (is_text session_id_limit id) (is_identity of_host) two, second_so (is_text session_id_limit id) (is_identity of_host) two, second_so (is_text session_id_limit id && is_identity of_host) (is_identity of_realm) w)
+
+-- a credit control request
+ccr_parts : (q : CcrValue) → is_request (Ccr q) ≡ true → (is_origin q.session q.host q.realm ≡ true) × (is_user q.address q.apn q.subscribers ≡ true) × (is_unsigned q.number ≡ true)
+ccr_parts q w =
+    let origin = is_origin q.session q.host q.realm in
+    let user = is_user q.address q.apn q.subscribers in
+    let two = first_so (origin && user) (is_unsigned q.number) w in
+    (first_so origin user two, second_so origin user two, second_so (origin && user) (is_unsigned q.number) w)
+
+-- an AA request
+aar_parts : (q : AarValue) → is_request (Aar q) ≡ true
+    → (is_origin q.session q.host q.realm ≡ true) × (is_user q.address q.apn q.subscribers ≡ true) × (list_all is_component q.components ≡ true) × (are_apart (map component_number q.components) ≡ true)
+aar_parts q w =
+    let origin = is_origin q.session q.host q.realm in
+    let user = is_user q.address q.apn q.subscribers in
+    let components = list_all is_component q.components in
+    let three = first_so (origin && user && components) (are_apart (map component_number q.components)) w in
+    let two = first_so (origin && user) components three in
+    (first_so origin user two, second_so origin user two, second_so (origin && user) components three, second_so (origin && user && components) (are_apart (map component_number q.components)) w)
+
 -- ---- outcomes
 
 -- what may be added is of the form
@@ -118,6 +147,10 @@ module _ (most : ℕ) (t : Tables) (i : ℕ) (h : Holding) (tables : are_tables 
     abbrev says : SessionField → Option Value
     says = session_value q.address q.apn q.subscribers q.host q.realm (request_kind_number q.kind)
 
+    -- the session and its client
+    known : (is_text session_id_limit q.session ≡ true) × (is_identity q.host ≡ true) × (is_identity q.realm ≡ true)
+    known = origin_parts q.session q.host q.realm origin
+
     -- nothing may be told
     nothing : CanTell empty_delta
     nothing = record { names = λ n j. absurd j; names_too = λ r j. absurd j; rules = λ r j. absurd j; apart = record { one_each = λ a b j. absurd j; not_both = λ n j. absurd j } }
@@ -128,7 +161,7 @@ module _ (most : ℕ) (t : Tables) (i : ℕ) (h : Holding) (tables : are_tables 
 
     -- and fits
     fields_fit : (f : SessionField) (v : Value) → says f ≡ Some v → fits_session_field Gx f v ≡ true
-    fields_fit = session_fits q.address q.apn q.subscribers q.host q.realm (request_kind_number q.kind) Gx user (second_so _ _ (first_so _ _ origin)) (second_so _ _ origin) last
+    fields_fit = session_fits q.address q.apn q.subscribers q.host q.realm (request_kind_number q.kind) Gx user known.1 known.2 last
 
     -- some field is there
     some_field : (f : Fact) × In f fields
@@ -136,7 +169,7 @@ module _ (most : ℕ) (t : Tables) (i : ℕ) (h : Holding) (tables : are_tables 
 
     -- facts of the request make an operation of the form
     ccr_makes : (d : DeltaValue) (made : List Fact) → CanTell d → Each (IsOfGateway q.number (h.clock + 1) i says d) made → ((f : Fact) × In f made) → is_operation (next_operation i h q.number s made) ≡ true
-    ccr_makes d made tell each some = made_in_form i h q.number s made can low (first_so _ _ (first_so _ _ origin)) (gateway_makes q.number (h.clock + 1) i says d tell fields_fit made each some)
+    ccr_makes d made tell each some = made_in_form i h q.number s made can low known.0 (gateway_makes q.number (h.clock + 1) i says d tell fields_fit made each some)
 
     -- the holding with the fields has the form
     abbrev with_fields : Holding
@@ -163,6 +196,119 @@ module _ (most : ℕ) (t : Tables) (i : ℕ) (h : Holding) (tables : are_tables 
         let tell = subst (λ (w : View). CanTell (delta_of most t w s)) fields_view (can_tell t with_fields tables fields_form most s) in
         adds_this _ (ccr_makes d (fields ++ told_facts u d) tell (fields_each d and told_each q.number (h.clock + 1) i says d) (some_left fields (told_facts u d) some_field))
 
-    -- and a termination
-    terminated_good : Good (terminated i h q).added
-    terminated_good = adds_this _ (end_in_form i h q.number s can low (first_so _ _ (first_so _ _ origin)))
+  -- any credit control request
+  ccr_good : i < site_limit → (q : CcrValue) → is_request (Ccr q) ≡ true → Good (serve_ccr most t i h q).added
+  unfolding serve_ccr
+  ccr_good site q w =
+      let parts = ccr_parts q w in
+      good_or (λ r. OnGx (Rejected r)) (ccr_refusal t h q) (accepted_ccr most t i h q q.kind)
+      (λ e. by_kind (can_add i h site form (ccr_left t h q e)) parts.0 parts.1 parts.2 q.kind refl)
+    where
+      of_type : (k : RequestKind) → fits_session_field Gx RequestType (Number (request_kind_number k)) ≡ true → q.kind ≡ k → fits_session_field Gx RequestType (Number (request_kind_number q.kind)) ≡ true
+      of_type k fit e = subst (λ (z : RequestKind). fits_session_field Gx RequestType (Number (request_kind_number z)) ≡ true) (sym e) fit
+
+      by_kind : CanAdd i h → is_origin q.session q.host q.realm ≡ true → is_user q.address q.apn q.subscribers ≡ true → is_unsigned q.number ≡ true → (k : RequestKind) → q.kind ≡ k → Good (accepted_ccr most t i h q k).added
+      by_kind can origin user number Initial e = provisioned_good can q origin user number (of_type Initial refl e)
+      by_kind can origin user number Update e = provisioned_good can q origin user number (of_type Update refl e)
+      by_kind can origin user number Termination e = adds_this _ (end_in_form i h q.number (gx q.session) can number (origin_parts q.session q.host q.realm origin).0)
+
+  -- ---- Rx
+
+  -- any AA request
+  aar_good : i < site_limit → (q : AarValue) → is_request (Aar q) ≡ true → Good (serve_aar t i h q).added
+  unfolding serve_aar
+  aar_good site q w = good_or Refused (aar_refusal t i h q) (described i h q) (λ e. adds_this _ (makes (can_add i h site form (aar_left t i h q e))))
+    where
+      makes : CanAdd i h → is_operation (next_operation i h 0 (af q.session) (aar_facts q (next_tag i h 0))) ≡ true
+      makes can =
+          let parts = aar_parts q w in
+          let origin = origin_parts q.session q.host q.realm parts.0 in
+          let says : SessionField → Option Value = session_value q.address q.apn q.subscribers q.host q.realm 0 in
+          let u : Tag = next_tag i h 0 in
+          made_in_form i h 0 (af q.session) (aar_facts q u) can refl origin.0
+          (function_makes (h.clock + 1) i says q.components (each_passes is_component q.components parts.2) (numbers_differ (map component_number q.components) parts.3)
+          (session_fits q.address q.apn q.subscribers q.host q.realm 0 Af parts.1 origin.1 origin.2 refl)
+          (aar_facts q u)
+          (session_each q.address q.apn q.subscribers q.host q.realm 0 u at_session and components_each (h.clock + 1) i says q.components)
+          (some_left _ (flat_map (component_facts u) q.components) (session_some q.address q.apn q.subscribers q.host q.realm 0 u)))
+
+  -- any session termination request
+  str_good : i < site_limit → (q : StrValue) → is_request (Str q) ≡ true → Good (serve_str i h q).added
+  unfolding serve_str
+  str_good site q w = good_or Refused (str_refusal h q) (closed i h q)
+      (λ e. adds_this _ (end_in_form i h 0 (af q.session) (can_add i h site form (str_left h q e)) refl (origin_parts q.session q.host q.realm w).0))
+
+  -- any request
+  serve_good : i < site_limit → (q : RequestValue) → is_request q ≡ true → Good (serve most t i h q).added
+  serve_good site (Ccr q) w = ccr_good site q w
+  serve_good site (Aar q) w = aar_good site q w
+  serve_good site (Str q) w = str_good site q w
+  serve_good site (Base q) w = λ o e. absurd (cc)
+
+  -- ---- pushes
+
+  -- a session that is due is the gateway's
+  due_gateway : (name : Option (List ℕ)) (s : Session) → is_due t i (view h.facts) name s ≡ true → s.kind ≡ Gx
+  due_gateway name s w = of_kind s.kind (first_so _ _ (first_so _ _ (first_so _ _ (first_so _ _ w))))
+    where
+      of_kind : (k : Kind) → is_gx k ≡ true → k ≡ Gx
+      of_kind Gx e = refl
+      of_kind Af e = clash false e refl
+
+  -- and in form
+  due_in_form : (name : Option (List ℕ)) (s : Session) → is_due t i (view h.facts) name s ≡ true → is_session s ≡ true
+  due_in_form name s w =
+      let both = first_so _ _ (first_so _ _ (first_so _ _ w)) in
+      let shows = some_is ((view h.facts).shows s address) (has_address (view h.facts) s s.kind (first_so _ _ both) (second_so _ _ (second_so _ _ both))) in
+      first_so _ _ (first_so _ _ (held_fact h form (s, Field address shows.0.0 shows.0.1) (shown_fact t h tables form s address shows.0 shows.1)))
+
+  -- a list that is not empty has a member
+  some_member : (fs : List Fact) → 1 ≤ length fs → (f : Fact) × In f fs
+  some_member [] l = absurd (omega (arith, l))
+  some_member (f ∷ fs) l = (f, inl refl)
+
+  -- as many facts tell as there are entries
+  told_length : (u : Tag) (d : DeltaValue) → length (told_facts u d) ≡ length d.removed + length d.installed
+  told_length u d = simp (length-append, length-map)
+
+  -- something is told of what is due, where a message carries an entry
+  told_some : (name : Option (List ℕ)) (s : Session) → 1 ≤ most → is_due t i (view h.facts) name s ≡ true → 1 ≤ length (told_facts (next_tag i h 0) (delta_of most t (view h.facts) s))
+  told_some name s one w =
+      let d : DeltaValue = difference (told (view h.facts) s) (rules t (view h.facts) s) in
+      let open_ : not (is_empty d) ≡ true = second_so _ _ w in
+      let lacks : 1 ≤ length d.removed + length d.installed = not_empty (length d.removed + length d.installed) open_ in
+      let count = told_length (next_tag i h 0) (delta_of most t (view h.facts) s) in
+      let names = length-take most d.removed in
+      let installed = length-take (most - length d.removed) d.installed in
+      omega (arith, one, lacks, count, names, installed)
+    where
+      not_empty : (n : ℕ) → not (n == 0) ≡ true → 1 ≤ n
+      not_empty n k = let e = not_true _ k in grind (arith, nat_tests, e)
+
+  -- what is told of a session that is due makes an operation of the form
+  telling_good : (name : Option (List ℕ)) (s : Session) → 1 ≤ most → CanAdd i h → is_due t i (view h.facts) name s ≡ true → Good (telling most t i h (view h.facts) s).added
+  telling_good name s one can w =
+      let d : DeltaValue = delta_of most t (view h.facts) s in
+      let u : Tag = next_tag i h 0 in
+      let k = sym (due_gateway name s w) in
+      let says : SessionField → Option Value = λ f. None in
+      let makes = gateway_makes 0 (h.clock + 1) i says d (can_tell t h tables form most s) (λ f v e. absurd (cc)) (told_facts u d) (told_each 0 (h.clock + 1) i says d) (some_member (told_facts u d) (told_some name s one w)) in
+      adds_this _ (made_in_form i h 0 s (told_facts u d) can (subst (λ (z : Kind). is_request_number z 0 ≡ true) k refl) (due_in_form name s w)
+      (subst (λ (z : Kind). MayMake z (h.clock + 1) i 0 (told_facts u d)) k makes))
+
+  -- whatever is pushed
+  push_good : 1 ≤ most → i < site_limit → (name : Option (List ℕ)) → lacks_counter t i h name ≡ false → Good (push most t i h name).added
+  unfolding push lacks_counter
+  push_good one site name w = of_due (due t i (view h.facts) name) refl w
+    where
+      of_due : (x : Option Session) → due t i (view h.facts) name ≡ x → (is_some x && is_clock_full h) ≡ false → Good (unwrap_or (option_map (telling most t i h (view h.facts)) x) nothing_pushed).added
+      of_due None e k = λ o q. absurd (cc)
+      of_due (Some s) e k = telling_good name s one (can_add i h site form k) (first_due t i h.facts name s e).is_one
+
+-- serving adds an operation of the form
+pub serving_in_form : (most : ℕ) (t : Tables) (i : ℕ) (h : Holding) (q : RequestValue) (o : Operation) → are_tables t ≡ true → i < site_limit → is_holding h ≡ true → is_request q ≡ true → (serve most t i h q).added ≡ Some o → is_operation o ≡ true
+serving_in_form most t i h q o tables site form w = serve_good most t i h tables form site q w o
+
+-- and pushing
+pub pushing_in_form : (most : ℕ) (t : Tables) (i : ℕ) (h : Holding) (name : Option (List ℕ)) (o : Operation) → 1 ≤ most → are_tables t ≡ true → i < site_limit → is_holding h ≡ true → lacks_counter t i h name ≡ false → (push most t i h name).added ≡ Some o → is_operation o ≡ true
+pushing_in_form most t i h name o one tables site form w = push_good most t i h tables form one site name w o
