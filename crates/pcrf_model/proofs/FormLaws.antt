@@ -30,7 +30,7 @@ use Rattle.pcrf_model.proofs.FormReading.{each_passes}
 -- where each member passes, all pass
 pub all_pass : {A : Type 0} (test : A → Bool) (xs : List A) → ((x : A) → In x xs → test x ≡ true) → list_all test xs ≡ true
 all_pass test [] h = refl
-all_pass test (x ∷ xs) h = both (test x) _ (h x (inl refl)) (all_pass test xs (λ y i. h y (inr i)))
+all_pass test (x ∷ xs) h = both _ _ (h x (inl refl)) (all_pass test xs (λ y i. h y (inr i)))
 
 module _ {A : Type 0} (cmp : A → A → Ordering) where
   -- a list that passes the test of rising rises
@@ -38,13 +38,25 @@ module _ {A : Type 0} (cmp : A → A → Ordering) where
   rises_by_test [] h = tt
   rises_by_test (x ∷ xs) h = (
     λ y i. lt_less (cmp x y) (each_passes (λ z. is_lt (cmp x z)) xs (first_so _ _ h) y i),
-    rises_by_test xs (second_so (list_all (λ z. is_lt (cmp x z)) xs) _ h),
+    rises_by_test xs (second_so _ _ h),
   )
 
   -- and one that rises passes it
   pub test_by_rises : (xs : List A) → Rises cmp xs → is_rising cmp xs ≡ true
   test_by_rises [] r = refl
-  test_by_rises (x ∷ xs) r = both (list_all (λ z. is_lt (cmp x z)) xs) _ (all_pass (λ z. is_lt (cmp x z)) xs (λ y i. ap is_lt (r.0 y i))) (test_by_rises xs r.1)
+  test_by_rises (x ∷ xs) r = both _ _ (all_pass (λ z. is_lt (cmp x z)) xs (λ y i. ap is_lt (r.0 y i))) (test_by_rises xs r.1)
+
+-- a number that is no greater passes the test
+pub le_passes : (m n : ℕ) → m ≤ n → nat_le m n ≡ true
+le_passes m n h = grind (arith, nat_tests)
+
+-- and one that passes is no greater
+pub passes_le : (m n : ℕ) → nat_le m n ≡ true → m ≤ n
+passes_le m n h = grind (arith, nat_tests)
+
+-- what is within is no more than the most
+pub within_most : (least most n : ℕ) → (nat_le least n && nat_le n most) ≡ true → n ≤ most
+within_most least most n h = passes_le n most (second_so _ _ h)
 
 -- ---- the form of holdings, by parts
 
@@ -57,24 +69,17 @@ pub record HasForm (h : Holding) : Type 0 where
 -- is what passes the test
 pub form_by_test : (h : Holding) → is_holding h ≡ true → HasForm h
 form_by_test h w =
-    let two = first_so (nat_le h.clock last_counter && is_rising session_fact_cmp h.facts) _ w in
-    let low = first_so (nat_le h.clock last_counter) _ two in
+    let two = first_so _ _ w in
     record {
-      clock = grind (arith, nat_tests, low);
-      rises = rises_by_test session_fact_cmp h.facts (second_so (nat_le h.clock last_counter) _ two);
-      held = each_passes (is_held h.clock) h.facts (second_so (nat_le h.clock last_counter && is_rising session_fact_cmp h.facts) _ w);
+      clock = passes_le h.clock last_counter (first_so _ _ two);
+      rises = rises_by_test session_fact_cmp h.facts (second_so _ _ two);
+      held = each_passes (is_held h.clock) h.facts (second_so _ _ w);
     }
-
--- a number that is no greater passes the test
-pub le_passes : (m n : ℕ) → m ≤ n → nat_le m n ≡ true
-le_passes m n h = grind (arith, nat_tests)
 
 -- and what has the form passes the test
 pub test_by_form : (h : Holding) → HasForm h → is_holding h ≡ true
 test_by_form h f =
-    both (nat_le h.clock last_counter && is_rising session_fact_cmp h.facts) _
-    (both (nat_le h.clock last_counter) _ (le_passes h.clock last_counter f.clock) (test_by_rises session_fact_cmp h.facts f.rises))
-    (all_pass (is_held h.clock) h.facts f.held)
+    both _ _ (both _ _ (le_passes h.clock last_counter f.clock) (test_by_rises session_fact_cmp h.facts f.rises)) (all_pass (is_held h.clock) h.facts f.held)
 
 -- ---- unions, and what is kept
 
@@ -83,20 +88,15 @@ counted_later : (k : Kind) (m n : ℕ) (f : Fact) → m ≤ n → is_counted k m
 counted_later k m n End l h = refl
 counted_later k m n (Removed r) l h = refl
 counted_later k m n (Field p t x) l h =
-    let three = first_so (is_stamp t.counter t.site && nat_le t.counter m && is_unsigned t.number) _ h in
-    let two = first_so (is_stamp t.counter t.site && nat_le t.counter m) _ three in
-    let low = second_so (is_stamp t.counter t.site) _ two in
-    both (is_stamp t.counter t.site && nat_le t.counter n && is_unsigned t.number) _
-    (both (is_stamp t.counter t.site && nat_le t.counter n) _
-    (both (is_stamp t.counter t.site) _ (first_so (is_stamp t.counter t.site) _ two) (grind (arith, nat_tests, low)))
-    (second_so (is_stamp t.counter t.site && nat_le t.counter m) _ three))
-    (second_so (is_stamp t.counter t.site && nat_le t.counter m && is_unsigned t.number) _ h)
+    let three = first_so _ _ h in
+    let two = first_so _ _ three in
+    let low = passes_le t.counter m (second_so _ _ two) in
+    both _ _ (both _ _ (both _ _ (first_so _ _ two) (le_passes t.counter n (omega (arith, l, low)))) (second_so _ _ three)) (second_so _ _ h)
 
 -- what is held up to a clock is held up to a later one
 held_later : (m n : ℕ) (x : SessionFact) → m ≤ n → is_held m x ≡ true → is_held n x ≡ true
 held_later m n x l h =
-    both (is_session x.0 && fits x.0.kind x.1) _ (first_so (is_session x.0 && fits x.0.kind x.1) _ h)
-    (counted_later x.0.kind m n x.1 l (second_so (is_session x.0 && fits x.0.kind x.1) _ h))
+    both _ _ (first_so _ _ h) (counted_later x.0.kind m n x.1 l (second_so _ _ h))
 
 -- the union of two of the form
 union_form : (h k : Holding) → HasForm h → HasForm k → HasForm (union h k)
@@ -144,30 +144,30 @@ pub record IsFormed (o : Operation) : Type 0 where
 -- is what passes the test
 pub formed_by_test : (o : Operation) → is_operation o ≡ true → IsFormed o
 formed_by_test o w =
-    let four = first_so (is_stamp o.counter o.site && is_request_number o.session.kind o.number && is_session o.session && stand_together o.facts) _ w in
-    let three = first_so (is_stamp o.counter o.site && is_request_number o.session.kind o.number && is_session o.session) _ four in
-    let two = first_so (is_stamp o.counter o.site && is_request_number o.session.kind o.number) _ three in
+    let four = first_so _ _ w in
+    let three = first_so _ _ four in
+    let two = first_so _ _ three in
     record {
-      stamp = first_so (is_stamp o.counter o.site) _ two;
-      number = second_so (is_stamp o.counter o.site) _ two;
-      session = second_so (is_stamp o.counter o.site && is_request_number o.session.kind o.number) _ three;
-      together = second_so (is_stamp o.counter o.site && is_request_number o.session.kind o.number && is_session o.session) _ four;
+      stamp = first_so _ _ two;
+      number = second_so _ _ two;
+      session = second_so _ _ three;
+      together = second_so _ _ four;
       each = each_passes (λ f. fits o.session.kind f && is_tagged o.session.kind o.counter o.site o.number f) o.facts
-          (second_so (is_stamp o.counter o.site && is_request_number o.session.kind o.number && is_session o.session && stand_together o.facts) _ w);
+          (second_so _ _ w);
     }
 
 -- and what is so passes the test
 pub test_by_formed : (o : Operation) → IsFormed o → is_operation o ≡ true
 test_by_formed o f =
-    both (is_stamp o.counter o.site && is_request_number o.session.kind o.number && is_session o.session && stand_together o.facts) _
-    (both (is_stamp o.counter o.site && is_request_number o.session.kind o.number && is_session o.session) _
-    (both (is_stamp o.counter o.site && is_request_number o.session.kind o.number) _
-    (both (is_stamp o.counter o.site) _ f.stamp f.number) f.session) f.together)
+    both _ _
+    (both _ _
+    (both _ _
+    (both _ _ f.stamp f.number) f.session) f.together)
     (all_pass (λ g. fits o.session.kind g && is_tagged o.session.kind o.counter o.site o.number g) o.facts f.each)
 
 -- the number in a tag is that of its place, and has 32 bits
 number_stays : (k : Kind) (p : Place) (n : ℕ) → is_request_number k n ≡ true → (is_unsigned (number_at k p n) && (number_at k p n == number_at k p (number_at k p n))) ≡ true
-number_stays Gx (OfSession f) n h = both (is_unsigned n) _ h (grind (arith, nat_tests))
+number_stays Gx (OfSession f) n h = both _ _ h (grind (arith, nat_tests))
 number_stays Gx (OfComponent c f) n h = refl
 number_stays Gx (OfFlow c m f) n h = refl
 number_stays Gx (OfRuleName t) n h = refl
@@ -183,9 +183,9 @@ counted_by_tag o w (Field p t x) h =
     let numbers = number_stays k p o.number w.number in
     let itself : nat_le o.counter o.counter ≡ true = le_passes o.counter o.counter (omega arith) in
     let counted : is_counted k o.counter (Field p own x) ≡ true =
-    both (is_stamp o.counter o.site && nat_le o.counter o.counter && is_unsigned own.number) _
-    (both (is_stamp o.counter o.site && nat_le o.counter o.counter) _ (both (is_stamp o.counter o.site) _ w.stamp itself) (first_so (is_unsigned own.number) _ numbers))
-    (second_so (is_unsigned own.number) _ numbers) in
+    both _ _
+    (both _ _ (both _ _ w.stamp itself) (first_so _ _ numbers))
+    (second_so _ _ numbers) in
     subst (λ (g : Tag). is_counted k o.counter (Field p g x) ≡ true) (sym (eq_is tag_ranked t own h)) counted
 
 -- facts are in order where their positions are
@@ -199,25 +199,21 @@ under_rises s facts r =
     map-ascending (λ f g. position_cmp (position f) (position g)) session_fact_cmp (λ f. (s, f)) facts (λ f g i j l. less_by_position s f g l)
     (rises_of_keys (λ f g. position_cmp (position f) (position g)) position_cmp position (λ f g l. l) facts r)
 
--- the least and the most of what is within
-pub within_most : (least most n : ℕ) → (nat_le least n && nat_le n most) ≡ true → n ≤ most
-within_most least most n h = let k = second_so (nat_le least n) _ h in grind (arith, nat_tests, k)
-
 -- what one operation makes has the form
 one_form : (o : Operation) → IsFormed o → HasForm (record { facts = under o.session o.facts; clock = o.counter })
 one_form o w =
-    let two = first_so (nat_le 1 (length o.facts) && is_rising position_cmp (map position o.facts)) _ w.together in
+    let two = first_so _ _ w.together in
     record {
-      clock = within_most 1 last_counter o.counter (first_so (is_within 1 last_counter o.counter) _ w.stamp);
-      rises = under_rises o.session o.facts (rises_by_test position_cmp (map position o.facts) (second_so (nat_le 1 (length o.facts)) _ two));
+      clock = within_most 1 last_counter o.counter (first_so _ _ w.stamp);
+      rises = under_rises o.session o.facts (rises_by_test position_cmp (map position o.facts) (second_so _ _ two));
       held = λ x i.
           let u = under-In o.session x o.facts i in
           let k : Kind = o.session.kind in
           let e = w.each x.1 u.1 in
           subst (λ (s : Session). is_held o.counter (s, x.1) ≡ true) (sym u.0)
-          (both (is_session o.session && fits k x.1) _
-          (both (is_session o.session) _ w.session (first_so (fits k x.1) _ e))
-          (counted_by_tag o w x.1 (second_so (fits k x.1) _ e)));
+          (both _ _
+          (both _ _ w.session (first_so _ _ e))
+          (counted_by_tag o w x.1 (second_so _ _ e)));
     }
 
 -- and so has a holding with one more

@@ -26,7 +26,7 @@ use Rattle.pcrf_model.proofs.MadeForms.{CanStand, IsField, field, clear_fields, 
 -- numbers that pass the test differ
 pub numbers_differ : (ns : List ℕ) → are_apart ns ≡ true → Distinct ns
 numbers_differ [] h = tt
-numbers_differ (n ∷ ns) h = (λ i. clash (list_any (λ m. m == n) ns) (In-any (λ m. m == n) n ns i (same n)) (not_true _ (first_so _ _ h)), numbers_differ ns (second_so (not (list_any (λ m. m == n) ns)) _ h))
+numbers_differ (n ∷ ns) h = (λ i. clash (list_any (λ m. m == n) ns) (In-any (λ m. m == n) n ns i (same n)) (not_true _ (first_so _ _ h)), numbers_differ ns (second_so _ _ h))
   where
     same : (m : ℕ) → (m == m) ≡ true
     same m = grind (arith, nat_tests)
@@ -240,14 +240,14 @@ module _ (k i : ℕ) (says : SessionField → Option Value) (cs : List Component
     module _ (fit : (f : SessionField) (v : Value) → says f ≡ Some v → fits_session_field Af f v ≡ true) where
       -- each is in form
       in_form : (f : Fact) → Is f → (fits Af f && is_tagged Af k i 0 f) ≡ true
-      in_form f (at_session a v s) = both (fits Af f) _ (fit a v s) (eq_itself tag_ranked (tag k i))
-      in_form f (component_gone c x) = both (fits Af f) _ (component_low x) refl
-      in_form f (flow_gone c x n) = both (fits Af f) _ (both (is_unsigned c.number) _ (component_low n.component) (flow_low n)) refl
+      in_form f (at_session a v s) = both _ _ (fit a v s) (eq_itself tag_ranked (tag k i))
+      in_form f (component_gone c x) = both _ _ (component_low x) refl
+      in_form f (flow_gone c x n) = both _ _ (both _ _ (component_low n.component) (flow_low n)) refl
       in_form f (at_component c x a v s) =
-          both (fits Af f) _ (both (is_unsigned c.number) _ (component_low x) (component_fits c (each c x.there) x.status a v s)) (eq_itself tag_ranked (tag k i))
+          both _ _ (both _ _ (component_low x) (component_fits c (each c x.there) x.status a v s)) (eq_itself tag_ranked (tag k i))
       in_form f (at_flow c x n a v s) =
-          both (fits Af f) _
-          (both (is_unsigned c.number && is_unsigned x.number) _ (both (is_unsigned c.number) _ (component_low n.component) (flow_low n)) (flow_fits x (flow_in n) n.status a v s))
+          both _ _
+          (both _ _ (both _ _ (component_low n.component) (flow_low n)) (flow_fits x (flow_in n) n.status a v s))
           (eq_itself tag_ranked (tag k i))
 
       -- so such facts may make an operation

@@ -73,11 +73,11 @@ module _ (n c i : ℕ) (says : SessionField → Option Value) (d : DeltaValue) w
     module _ (fit : (f : SessionField) (v : Value) → says f ≡ Some v → fits_session_field Gx f v ≡ true) where
       -- each is in form
       in_form : (f : Fact) → Is f → (fits Gx f && is_tagged Gx c i n f) ≡ true
-      in_form f (at_field a v s) = both (fits_session_field Gx a v) _ (fit a v s) (eq_itself tag_ranked (tag n c i))
-      in_form f (untold m j) = both (fits Gx f) _ (both (is_text rule_name_limit m) _ (can.names m j) refl) (eq_itself tag_ranked (tag 0 c i))
+      in_form f (at_field a v s) = both _ _ (fit a v s) (eq_itself tag_ranked (tag n c i))
+      in_form f (untold m j) = both _ _ (both _ _ (can.names m j) refl) (eq_itself tag_ranked (tag 0 c i))
       in_form f (newly_told r j) =
-          both (fits Gx f) _
-          (both (is_text rule_name_limit r.name) _ (can.names_too r j) (both (is_eq (text_cmp r.name r.name)) _ (eq_itself text_ranked r.name) (can.rules r j)))
+          both _ _
+          (both _ _ (can.names_too r j) (both _ _ (eq_itself text_ranked r.name) (can.rules r j)))
           (eq_itself tag_ranked (tag 0 c i))
 
       -- so such facts may make an operation

@@ -57,8 +57,8 @@ pub stands : (facts : List Fact) → CanStand facts → stand_together (ascendin
 stands facts c =
     let sorted : List Fact = ascending fact_cmp facts in
     let there = λ (f : Fact) (i : In f sorted). (sorted-In facts f).0 i in
-    both (nat_le 1 (length sorted) && is_rising position_cmp (map position sorted)) _
-    (both (nat_le 1 (length sorted)) _
+    both _ _
+    (both _ _
     (has_one c.some.0 sorted ((sorted-In facts c.some.0).1 c.some.1))
     (test_by_rises position_cmp (map position sorted) (map-ascending fact_cmp position_cmp position sorted
     (λ f g i j. position_less facts c f g (there f i) (there g j))
@@ -104,8 +104,8 @@ made_in_form i h n s facts a number session m =
     let left = a.left in
     let low : nat_lt i site_limit ≡ true = grind (arith, nat_tests) in
     test_by_formed (next_operation i h n s facts) (record {
-      stamp = both (is_within 1 last_counter (h.clock + 1)) _
-          (both (nat_le 1 (h.clock + 1)) _ (le_passes 1 (h.clock + 1) (omega arith)) (le_passes (h.clock + 1) last_counter (omega (arith, left))))
+      stamp = both _ _
+          (both _ _ (le_passes 1 (h.clock + 1) (omega arith)) (le_passes (h.clock + 1) last_counter (omega (arith, left))))
           low;
       number = number;
       session = session;
@@ -208,11 +208,11 @@ module _ (a n : Option (List ℕ)) (ids : Option (List Subscriber)) (of_host of_
   pub session_fits : (k : Kind) → is_user a n ids ≡ true → is_identity of_host ≡ true → is_identity of_realm ≡ true → fits_session_field k RequestType (Number kind) ≡ true
       → (f : SessionField) (v : Value) → session_value a n ids of_host of_realm kind f ≡ Some v → fits_session_field k f v ≡ true
   session_fits k user hosts realms last FramedIpAddress v e =
-      given_passes is_address Address a v (fits_session_field k FramedIpAddress) (λ y h. h) (first_so (is_none_or is_address a) _ (first_so (is_none_or is_address a && is_none_or is_apn n) _ user)) e
+      given_passes is_address Address a v (fits_session_field k FramedIpAddress) (λ y h. h) (first_so _ _ (first_so _ _ user)) e
   session_fits k user hosts realms last CalledStationId v e =
-      given_passes is_apn Text n v (fits_session_field k CalledStationId) (λ y h. h) (second_so (is_none_or is_address a) _ (first_so (is_none_or is_address a && is_none_or is_apn n) _ user)) e
+      given_passes is_apn Text n v (fits_session_field k CalledStationId) (λ y h. h) (second_so _ _ (first_so _ _ user)) e
   session_fits k user hosts realms last SubscriptionIds v e =
-      given_passes are_subscribers Subscribers ids v (fits_session_field k SubscriptionIds) (λ y h. h) (second_so (is_none_or is_address a && is_none_or is_apn n) _ user) e
+      given_passes are_subscribers Subscribers ids v (fits_session_field k SubscriptionIds) (λ y h. h) (second_so _ _ user) e
   session_fits k user hosts realms last OriginHost v e = subst (λ (z : Value). fits_session_field k OriginHost z ≡ true) (some_same (Text of_host) v e) hosts
   session_fits k user hosts realms last OriginRealm v e = subst (λ (z : Value). fits_session_field k OriginRealm z ≡ true) (some_same (Text of_realm) v e) realms
   session_fits k user hosts realms last RequestType v e = subst (λ (z : Value). fits_session_field k RequestType z ≡ true) (some_same (Number kind) v e) last

@@ -50,12 +50,12 @@ low_unsigned m n l h = grind (arith, nat_tests, h)
 
 -- two texts of bytes make one
 bytes_append : (xs ys : List ℕ) → list_all is_byte xs ≡ true → list_all is_byte ys ≡ true → list_all is_byte (xs ++ ys) ≡ true
-bytes_append xs ys a b = list_all-append is_byte xs ys ∙ both (list_all is_byte xs) _ a b
+bytes_append xs ys a b = list_all-append is_byte xs ys ∙ both _ _ a b
 
 -- digits are bytes
 digits_are_bytes : (ds : List ℕ) → AllDigits 10 ds → list_all is_byte ds ≡ true
 digits_are_bytes [] d = refl
-digits_are_bytes (c ∷ cs) d = let k = digit_from_value c d.0 in both (is_byte c) _ (grind (arith, nat_tests, k)) (digits_are_bytes cs d.1)
+digits_are_bytes (c ∷ cs) d = let k = digit_from_value c d.0 in both _ _ (grind (arith, nat_tests, k)) (digits_are_bytes cs d.1)
 
 -- a written number has at most ten of them
 record IsWritten (ds : List ℕ) : Type 0 where
@@ -71,7 +71,7 @@ written n h = record {
 
 -- a text of bytes, not empty, and not too long
 text_of : (most : ℕ) (t : List ℕ) → 1 ≤ length t → length t ≤ most → list_all is_byte t ≡ true → is_text most t ≡ true
-text_of most t l m b = both (nat_le 1 (length t) && nat_le (length t) most) _ (both (nat_le 1 (length t)) _ (le_passes 1 (length t) l) (le_passes (length t) most m)) b
+text_of most t l m b = both _ _ (both _ _ (le_passes 1 (length t) l) (le_passes (length t) most m)) b
 
 -- the name of an operator's rule, with its prefix
 operator_name : (n : List ℕ) → is_text operator_rule_name_limit n ≡ true → is_text rule_name_limit (codes "op/" ++ n) ≡ true

@@ -34,7 +34,7 @@ use Rattle.pcrf_model.specs.Making.{ccr_fields, told_facts, component_facts, aar
 use Rattle.pcrf_model.specs.Refusals.{first_cause, is_clock_full, ccr_causes, ccr_refusal, aar_causes, aar_refusal, str_refusal}
 use Rattle.pcrf_model.specs.Replies.{ReplyValue, OnGx, Rejected, Refused, Outcome}
 use Rattle.pcrf_model.specs.Serving.{empty_delta, delta_of, provisioned, terminated, accepted_ccr, described, closed, refused_or, serve_ccr, serve_aar, serve_str, serve}
-use Rattle.pcrf_model.specs.Pushing.{is_due, due, telling, nothing_pushed, push, lacks_counter}
+use Rattle.pcrf_model.specs.Pushing.{is_of_host, is_home, is_due, due, telling, nothing_pushed, push, lacks_counter}
 use Rattle.pcrf_model.specs.Forms.{is_text, is_unsigned, is_identity, is_origin, is_user, is_session, fits_session_field, are_apart, is_component, is_request_number, is_operation, is_holding, is_request, are_tables}
 use Rattle.pcrf_model.proofs.HoldingLaws.{sorted-In}
 use Rattle.pcrf_model.proofs.ViewLaws.{view-Same}
@@ -275,8 +275,9 @@ module _ (most : ℕ) (t : Tables) (i : ℕ) (h : Holding) (tables : are_tables 
   told_some : (name : Option (List ℕ)) (s : Session) → 1 ≤ most → is_due t i (view h.facts) name s ≡ true → 1 ≤ length (told_facts (next_tag i h 0) (delta_of most t (view h.facts) s))
   told_some name s one w =
       let d : DeltaValue = difference (told (view h.facts) s) (rules t (view h.facts) s) in
-      let open_ : not (is_empty d) ≡ true = second_so _ _ w in
-      let lacks : 1 ≤ length d.removed + length d.installed = not_empty (length d.removed + length d.installed) open_ in
+      let v : View = view h.facts in
+      let open_ = second_so (is_gx s.kind && is_live v s && is_home i v s && is_of_host v name s) (not (is_empty d)) w in
+      let lacks = not_empty (length d.removed + length d.installed) open_ in
       let count = told_length (next_tag i h 0) (delta_of most t (view h.facts) s) in
       let names = length-take most d.removed in
       let installed = length-take (most - length d.removed) d.installed in
