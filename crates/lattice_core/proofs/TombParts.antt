@@ -3,14 +3,9 @@ use Rattle.std.proofs.Common.{◌≡◌, Bool, true, List, [], ◌∷◌, ◌++�
 use Rattle.ranked.specs.Sets.{In, Same, maximal}
 use Rattle.ranked.proofs.SetLaws.{In-right, In-cases}
 use Rattle.ranked.proofs.PartLaws.{IsStrict, Keeps, only_top, one_kept}
-use Rattle.lattice_core.specs.Tombs.{tombed_joined, tombed_valid}
+use Rattle.lattice_core.specs.Tombs.{tombed_joined, tombed_valid, tombed_facts}
 use Rattle.lattice_core.specs.declared.tombed.Tombed.{Tombed}
 use Rattle.lattice_core.specs.declared.tombed.Tombed.TheVariants.{Live, Ended}
-
--- the facts of a live value, or the end alone
-abbrev pub tombed_facts : {A T : Type 0} → A → (T → List A) → Tombed T → List A
-tombed_facts end facts Ended = end ∷ []
-tombed_facts end facts (Live x) = facts x
 
 module _ {A T : Type 0} {below : A → A → Bool} {valid : T → Type 0} {join : T → T → T} {facts : T → List A} (strict : IsStrict below) (end : A) (ends : (v : T) (a : A) → In a (facts v) → below a end ≡ true) (keeps : Keeps below valid join facts) where
   -- both live, or one has ended

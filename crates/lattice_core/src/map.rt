@@ -1,5 +1,5 @@
 //! Maps that are joined entry by entry, for few entries.
-ghost use Rattle.std.specs.Prelude.{◌≡◌, [], IfOk, OnErr, IfErr, MatchResult};
+ghost use Rattle.std.specs.Prelude.{◌≡◌, [], IfOk, OnErr, IfErr, MatchResult, length};
 ghost use Rattle.std.specs.Option.{option_copied};
 ghost use Rattle.std.specs.Slice.Iter.{iter_rest};
 ghost use Rattle.lattice_core.specs.Entries.{value_at, IsAscending, IsAt, IsGap, AllValues, put, put_all, map_joined};
@@ -112,6 +112,35 @@ fn copy_entries<K: Ranked, V: Join>(map: &JoinMap<K, V>) -> Result<JoinMap<K, V>
     Ok(JoinMap { entries })
 }
 
+// Joins a map of one entry into a map, with no copy of that.
+fn join_single<K: Ranked, V: Join>(
+    map: &mut JoinMap<K, V>,
+    single: JoinMap<K, V>,
+) -> Result<(), (AllocError, JoinMap<K, V>)>
+    requires { length single ≡ 1 }
+    ensures joins { IfOk result (λ _. map.new ≡ map_joined K.cmp V.joined map.old single) }
+    ensures unchanged { OnErr result (map.new ≡ map.old) }
+    ensures given_back { IfErr result (λ e. e.1 ≡ single) }
+{
+    map.note_valid();
+    let mut entries = single.entries;
+    let Some((key, value)) = entries.pop() else {
+        return Ok(());
+    };
+    let copy = match key.try_copy() {
+        Ok(copy) => copy,
+        Err(refused) => {
+            entries.push_reserved((key, value));
+            return Err((refused, JoinMap { entries }));
+        }
+    };
+    if let Err((refused, value)) = map.join_at(copy, value) {
+        entries.push_reserved((key, value));
+        return Err((refused, JoinMap { entries }));
+    }
+    Ok(())
+}
+
 impl<K: Ranked, V: Join> Join for JoinMap<K, V> {
     ghost use Rattle.lattice_core.specs.laws.Maps.{map_comm, map_assoc, map_idem, map_closed};
 
@@ -138,6 +167,20 @@ impl<K: Ranked, V: Join> Join for JoinMap<K, V> {
             }
         }
         Ok(both)
+    }
+
+    // A map of one entry costs one insertion, any other a copy of the map.
+    fn join_in(&mut self, other: JoinMap<K, V>) -> Result<(), (AllocError, JoinMap<K, V>)> {
+        if other.entries.len() == 1 {
+            return join_single(self, other);
+        }
+        match self.joined_copy(&other) {
+            Ok(both) => {
+                *self = both;
+                Ok(())
+            }
+            Err(refused) => Err((refused, other)),
+        }
     }
 
     fn try_copy(&self) -> Result<JoinMap<K, V>, AllocError> {

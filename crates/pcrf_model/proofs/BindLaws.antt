@@ -1,5 +1,5 @@
 -- A binding is the greatest session that matches.
-use Rattle.std.proofs.Common.{◌≡◌, true, false, cond, not, ◌&&◌, List, ◌↔◌, Option, Some, None, refl, sym, ap, ◌∙◌, subst, option_map, Less}
+use Rattle.std.proofs.Common.{◌≡◌, true, false, cond, not, ◌&&◌, List, ◌↔◌, Option, Some, None, is_some, refl, sym, ap, ◌∙◌, subst, option_map, Less}
 use Rattle.std.specs.Ordering.{is_lt}
 use Rattle.std.specs.Cmp.{first_so, second_so}
 use Rattle.std.specs.List.{filter_map}
@@ -9,7 +9,7 @@ use Rattle.pcrf_model.specs.Sessions.{Kind, Gx, Af, Session, gx, is_gx}
 use Rattle.pcrf_facts.specs.Places.{address}
 use Rattle.pcrf_facts.specs.Values.{Entry}
 use Rattle.pcrf_model.specs.Holdings.{SessionFact}
-use Rattle.pcrf_model.specs.Views.{View, view, has}
+use Rattle.pcrf_model.specs.Views.{View, view}
 use Rattle.pcrf_model.specs.Live.{is_live, has_what_it_needs}
 use Rattle.pcrf_model.specs.Bindings.{Candidate, candidate_cmp, standing, candidate, matches, bind}
 use Rattle.pcrf_model.specs.Laws.{IsBinding}
@@ -38,8 +38,8 @@ module _ (v : View) (a s : Session) (m : matches v a s ≡ true) where
   live = second_so (not (is_gx a.kind) && is_gx s.kind && is_live v a) _ kinds_and_lives
 
 -- a live Gx session shows an address
-pub has_address : (v : View) (s : Session) (k : Kind) → is_gx k ≡ true → has_what_it_needs v s k ≡ true → has v s address ≡ true
-has_address v s Gx g h = first_so _ _ (first_so _ _ (first_so _ _ (first_so _ _ (first_so _ _ h))))
+pub has_address : (v : View) (s : Session) (k : Kind) → is_gx k ≡ true → has_what_it_needs v s k ≡ true → is_some (v.shows s address) ≡ true
+has_address v s Gx g h = first_so _ _ h
 has_address v s Af g h = clash false g refl
 
 -- a Gx session is the one of its Session-Id

@@ -104,7 +104,7 @@ is_flow_place (OfFlow c n f) = true
 is_flow_place p = false
 
 -- a field of the session, and nothing else
-record IsField (f : Fact) : Type 0 where
+pub record IsField (f : Fact) : Type 0 where
   pub name : SessionField
   pub tag : Tag
   pub value : Value
@@ -117,7 +117,7 @@ given_field n t as_value (Some y) f (inl e) = record { name = n; tag = t; value 
 given_field n t as_value (Some y) f (inr i) = absurd i
 
 -- every fact that a request's fields make is one
-of_request : (q : CcrValue) (t : Tag) (f : Fact) → In f (ccr_fields q t) → IsField f
+pub of_request : (q : CcrValue) (t : Tag) (f : Fact) → In f (ccr_fields q t) → IsField f
 of_request q t f i =
     let a : List Fact = given address t Address q.address in
     let b : List Fact = given apn t Text q.apn in

@@ -16,7 +16,7 @@ use Rattle.pcrf_model.specs.Cursors.{start_cursors, letter_of}
 use Rattle.pcrf_model.specs.Worlds.{WorldEvent, ServeAt, Letter, Merge, Restart, Replied, Lettered, Merged, Restarted, NoMemory, WorldAnswer, WorldTook, start, whole_log, after_all}
 use Rattle.pcrf_model.specs.Letterbox.{writing}
 use Rattle.pcrf_model.specs.Samples.{operator, imsi, e164, first_session, second_session, host_address, initial, update, call, hang_up, audio, sip_rule}
-use Rattle.pcrf_model.specs.Scenes.{serves, taking, one, with_call, call_pushed, last_operation}
+use Rattle.pcrf_model.specs.Scenes.{serves, one, with_call, call_pushed, last_operation}
 
 -- ---- two gateways, each with a call that it was not told of
 
@@ -39,12 +39,6 @@ pushed_session name = session_in (push delta_limit operator 0 two_due.holding na
     session_in : ReplyValue → Option (List ℕ)
     session_in (Pushed p) = option_map (λ x. x.session) p
     session_in r = None
-
--- ---- the last counter
-
--- site 0 with a call, at the last counter
-abbrev pub call_at_the_end : SiteState
-call_at_the_end = taking with_call (last_operation ∷ [])
 
 -- ---- one flow of two removed
 

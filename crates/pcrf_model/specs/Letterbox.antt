@@ -1,14 +1,13 @@
 -- Letters and worlds of the worked examples.
-use Rattle.std.specs.Prelude.{ℕ, List, [], ◌∷◌, Option, None, Ok, length, slice_get}
+use Rattle.std.specs.Prelude.{ℕ, List, [], ◌∷◌, Option, None, Ok, Err, length, slice_get}
 use Rattle.std.proofs.Common.{option_map}
-use Rattle.pcrf_model.specs.Limits.{delta_limit}
+use Rattle.pcrf_model.specs.Limits.{delta_limit, last_epoch}
 use Rattle.pcrf_model.specs.Holdings.{Holding, nothing_held}
-use Rattle.pcrf_model.specs.Replies.{Done}
 use Rattle.pcrf_model.specs.Letters.{LetterBody, Range, Snapshot, LetterValue}
 use Rattle.pcrf_model.specs.Cursors.{Cursor, CursorsValue, start_cursors, maker_entry, took}
-use Rattle.pcrf_model.specs.Worlds.{WorldEvent, ServeAt, Letter, Merge, Ack, Restart, Replied, Lettered, Merged, Restarted, WorldAnswer, SiteView, SiteTook, SentLetter, WorldTook, start, Setting, by_cursors, taken_holding, after_all}
-use Rattle.pcrf_model.specs.Samples.{operator, first_session, host_address, initial, update}
-use Rattle.pcrf_model.specs.Scenes.{one}
+use Rattle.pcrf_model.specs.Worlds.{WorldEvent, ServeAt, PushAt, Letter, Merge, Ack, Restart, Replied, Lettered, Merged, Restarted, NoSuchSite, NoSuchLetter, WorldAnswer, SiteView, WorldView, SiteTook, SentLetter, WorldTook, start, Setting, whole_log, by_cursors, taken_holding, world_view, answer_of, after, after_all}
+use Rattle.pcrf_model.specs.Samples.{operator, first_session, host_address, initial, update, sip_rule, delta}
+use Rattle.pcrf_model.specs.Scenes.{granted, one, call_at_the_end}
 
 -- ---- cursors of site 1 for the operations of site 0
 
@@ -45,18 +44,25 @@ exchange =
     ServeAt 0 (initial first_session (host_address 1)) ∷ Letter 0 1 ∷ Merge 1 0 ∷ Ack 1 0 ∷ Merge 0 1
     ∷ ServeAt 0 (update 1 None) ∷ Letter 0 1 ∷ Merge 1 2 ∷ []
 
--- what the world answered to each
+-- what the world answers to each
 abbrev pub exchange_answers : List WorldAnswer
 exchange_answers =
-    Ok (Replied Done) ∷ Ok (Lettered 0) ∷ Ok Merged ∷ Ok (Lettered 1) ∷ Ok Merged
-    ∷ Ok (Replied Done) ∷ Ok (Lettered 2) ∷ Ok Merged ∷ []
+    Ok (Replied (granted (delta [] (sip_rule ∷ [])))) ∷ Ok (Lettered 0) ∷ Ok Merged ∷ Ok (Lettered 1) ∷ Ok Merged
+    ∷ Ok (Replied (granted (delta [] []))) ∷ Ok (Lettered 2) ∷ Ok Merged ∷ []
 
 -- a world of that operator, by that way to write letters
-abbrev pub writing : (SiteView → ℕ → LetterBody) → Setting
+abbrev pub writing : (CursorsValue → SiteView → ℕ → LetterBody) → Setting
 writing w = record { tables = operator; most = delta_limit; writes = w }
 
+-- the answers to the events where memory is found
+abbrev pub answers_all : Setting → WorldTook → List WorldEvent → List WorldAnswer
+answers_all g w [] = []
+answers_all g w (e ∷ es) =
+    let a : WorldAnswer = answer_of g (world_view w) e in
+    a ∷ answers_all g (after g w e a) es
+
 -- the world after the exchange
-abbrev pub exchanged : (SiteView → ℕ → LetterBody) → WorldTook
+abbrev pub exchanged : (CursorsValue → SiteView → ℕ → LetterBody) → WorldTook
 exchanged w = after_all (writing w) (start 2) exchange exchange_answers
 
 -- what letter k says
@@ -74,3 +80,23 @@ count_taken w i = option_map (λ (s : SiteTook). length s.taken) (slice_get w.si
 -- site 0 starts again after the exchange
 abbrev pub started_again : WorldTook
 started_again = after_all (writing by_cursors) (exchanged by_cursors) (Restart 0 ∷ []) (Ok (Restarted 2) ∷ [])
+
+-- ---- faults
+
+-- events at a world of two sites of which none names what is there
+abbrev pub astray : List WorldEvent
+astray =
+    ServeAt 2 (initial first_session (host_address 1)) ∷ PushAt 2 None ∷ Letter 0 2 ∷ Letter 2 0 ∷ Merge 2 0 ∷ Merge 1 0 ∷ Ack 1 2 ∷ Restart 2 ∷ []
+
+-- what the world answers to each
+abbrev pub astray_answers : List WorldAnswer
+astray_answers =
+    Err NoSuchSite ∷ Err NoSuchSite ∷ Err NoSuchSite ∷ Err NoSuchSite ∷ Err NoSuchSite ∷ Err NoSuchLetter ∷ Err NoSuchSite ∷ Err NoSuchSite ∷ []
+
+-- site 0 in its last epoch, at the last counter, with a call of which its gateway was not told
+abbrev pub at_its_end : WorldView
+at_its_end = record { sites = record { number = 0; epoch = last_epoch; state = call_at_the_end } ∷ []; letters = [] }
+
+-- what it answers
+abbrev pub answer_at_its_end : WorldEvent → WorldAnswer
+answer_at_its_end = answer_of (writing whole_log) at_its_end

@@ -1,17 +1,15 @@
--- Live and partial sessions, and the home of a session.
+-- Live and partial sessions, and the home of a session, by what a view shows.
 use Rattle.std.specs.Prelude.{ℕ, Bool, not, ◌&&◌, Option}
-use Rattle.std.proofs.Common.{option_map}
 use Rattle.std.specs.Ordering.{is_eq}
 use Rattle.std.specs.List.{list_any}
-use Rattle.pcrf_facts.specs.Places.{address, apn, subscribers, host, realm, last}
-use Rattle.pcrf_facts.specs.Values.{Entry}
+use Rattle.pcrf_facts.specs.Live.{gx_has_what_it_needs, af_has_what_it_needs, home_by}
 use Rattle.pcrf_model.specs.Sessions.{Kind, Gx, Af, Session, session_cmp}
-use Rattle.pcrf_model.specs.Views.{View, has}
+use Rattle.pcrf_model.specs.Views.{View}
 
--- what a session of its kind has to show: of Gx all that an initial request gives (TS 29.212, 4.5.1), of Rx an address (TS 29.213, 5.2)
+-- what a session of its kind has to show
 abbrev pub has_what_it_needs : View → Session → Kind → Bool
-has_what_it_needs v s Gx = has v s address && has v s apn && has v s subscribers && has v s host && has v s realm && has v s last
-has_what_it_needs v s Af = has v s address
+has_what_it_needs v s Gx = gx_has_what_it_needs (v.shows s)
+has_what_it_needs v s Af = af_has_what_it_needs (v.shows s)
 
 -- not ended, and showing what its kind needs
 abbrev pub is_live : View → Session → Bool
@@ -25,6 +23,6 @@ is_known v s = list_any (λ x. is_eq (session_cmp x s)) v.sessions
 abbrev pub is_partial : View → Session → Bool
 is_partial v s = is_known v s && not (v.ended s) && not (is_live v s)
 
--- the site that served the last request of the session: that of the tag of its type (this project's profile)
+-- the site that served the last request of the session
 abbrev pub home : View → Session → Option ℕ
-home v s = option_map (λ (e : Entry). e.0.site) (v.shows s last)
+home v s = home_by (v.shows s)

@@ -217,6 +217,10 @@ last_operation =
 abbrev pub at_the_end : SiteState
 at_the_end = taking one (last_operation ∷ [])
 
+-- and so with a call
+abbrev pub call_at_the_end : SiteState
+call_at_the_end = taking with_call (last_operation ∷ [])
+
 -- ---- more rules than a message carries
 
 -- a call of fifty flows

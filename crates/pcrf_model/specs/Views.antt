@@ -1,5 +1,5 @@
 -- What is read of a set of facts. All that follows is said of this view.
-use Rattle.std.specs.Prelude.{ℕ, Bool, List, map, Option, Some, None, is_some}
+use Rattle.std.specs.Prelude.{ℕ, Bool, List, map, Option, Some, None}
 use Rattle.std.proofs.Common.{Ordering, option_map, option_and_then}
 use Rattle.std.specs.Ordering.{on}
 use Rattle.std.specs.List.{filter_map}
@@ -62,10 +62,6 @@ view facts = record {
 -- the value that a place of the session shows
 abbrev pub value : View → Session → Place → Option Value
 value v s p = option_map (λ (e : Entry). e.1) (v.shows s p)
-
--- the place shows something
-abbrev pub has : View → Session → Place → Bool
-has v s p = is_some (v.shows s p)
 
 -- as a number
 abbrev pub as_number : Value → Option ℕ

@@ -43,27 +43,27 @@ WorldAnswer = Result WorldOutcome WorldFault
 
 -- ---- what is seen of a world
 
--- a site: its number and epoch, what it holds and made in this epoch, and its cursors
+-- a site: its number and epoch, what it holds, and what it made in this epoch
 pub record SiteView : Type 0 where
   pub number : ℕ
   pub epoch : ℕ
   pub state : SiteState
-  pub cursors : CursorsValue
 
 -- all sites, by number, and the letters, in the order in which they were made
 pub record WorldView : Type 0 where
   pub sites : List SiteView
   pub letters : List LetterValue
 
--- how a world runs: the operator tables of all sites, how many entries of a difference a message tells, and what a site writes to a peer
+-- How a world runs: the operator tables of all sites, how many entries of a difference a message tells, and what a site with these cursors writes
+-- to a peer.
 pub record Setting : Type 0 where
   pub tables : Tables
   pub most : ℕ
-  pub writes : SiteView → ℕ → LetterBody
+  pub writes : CursorsValue → SiteView → ℕ → LetterBody
 
 -- a site writes its whole log, whoever the peer is
-abbrev pub whole_log : SiteView → ℕ → LetterBody
-whole_log s peer = Range 0 s.state.log
+abbrev pub whole_log : CursorsValue → SiteView → ℕ → LetterBody
+whole_log c s peer = Range 0 s.state.log
 
 -- the operations that are asked for from a position on, or all that the site holds
 abbrev pub asked_body : SiteView → SiteEvent → LetterBody
@@ -71,8 +71,8 @@ asked_body s (AskOwn p) = Range p (own_from s.state.log p)
 asked_body s e = Snapshot s.state.holding (length s.state.log)
 
 -- by the cursors: all, or the operations from what the peer said it took
-abbrev pub by_cursors : SiteView → ℕ → LetterBody
-by_cursors s peer = asked_body s (ask s.cursors peer)
+abbrev pub by_cursors : CursorsValue → SiteView → ℕ → LetterBody
+by_cursors c s peer = asked_body s (ask c peer)
 
 -- ---- what each event answers
 
@@ -138,10 +138,10 @@ pub record SiteTook : Type 0 where
   pub log : List Operation
   pub cursors : CursorsValue
 
--- a letter, and the operations that it means
+-- a letter, and all that its maker had taken when it was made
 pub record SentLetter : Type 0 where
   pub letter : LetterValue
-  pub means : List Operation
+  pub behind : List Operation
 
 -- all sites, by number, and the letters, in the order in which they were made
 pub record WorldTook : Type 0 where
@@ -175,7 +175,7 @@ taken_holding s = holding_of s.taken
 
 -- what is seen of a site is a function of what it took: it holds what is kept of that
 abbrev pub site_view : SiteTook → SiteView
-site_view s = record { number = s.number; epoch = epoch_of s; state = record { holding = kept_of (taken_holding s); log = s.log }; cursors = s.cursors }
+site_view s = record { number = s.number; epoch = epoch_of s; state = record { holding = kept_of (taken_holding s); log = s.log } }
 
 -- what is seen of a world
 abbrev pub world_view : WorldTook → WorldView
@@ -191,7 +191,7 @@ cursors_after c l = unwrap_or (option_map (acked c) (carried_ack l l.body)) (too
 
 -- with a letter that was taken whole
 abbrev pub merged : SentLetter → SiteTook → SiteTook
-merged l s = record s { taken = s.taken ++ l.means; cursors = cursors_after s.cursors l.letter }
+merged l s = record s { taken = s.taken ++ meaning l.behind l.letter.body; cursors = cursors_after s.cursors l.letter }
 
 -- of a range the first operations alone; a snapshot is taken whole or not at all
 abbrev pub first_taken : ℕ → LetterBody → List Operation
@@ -223,13 +223,13 @@ change_by w j k f = by (slice_get w.letters k)
     by None = w
     by (Some l) = change w j (f l)
 
--- a letter of the site, with what it means
+-- a letter of the site
 abbrev pub sent : SiteTook → LetterValue → SentLetter
-sent s l = record { letter = l; means = meaning s.taken l.body }
+sent s l = record { letter = l; behind = s.taken }
 
 -- the letter that the site writes to a peer
 abbrev pub letter_to : Setting → ℕ → SiteTook → SentLetter
-letter_to g peer s = sent s (letter_saying s.cursors g.tables.edition (g.writes (site_view s) peer))
+letter_to g peer s = sent s (letter_saying s.cursors g.tables.edition (g.writes s.cursors (site_view s) peer))
 
 -- the acknowledgement that the site writes to a maker
 abbrev pub ack_to : Setting → ℕ → SiteTook → SentLetter

@@ -1,6 +1,6 @@
 //! Worked examples at the edges of the definitions, computed, against what is worked out by hand.
 
-ghost use Rattle.std.specs.Prelude.{◌≡◌, ◌+◌, ℕ, List, [], ◌∷◌, Some, None, codes, is_some, is_none, true, replicate};
+ghost use Rattle.std.specs.Prelude.{◌≡◌, ◌+◌, ℕ, List, [], ◌∷◌, Some, None, Err, codes, is_some, is_none, true, replicate, slice_get};
 ghost use Rattle.pcrf_values.specs.Applications.{rx_application, relay_application};
 ghost use Rattle.pcrf_values.specs.Results.{success, unknown_session_id, authorization_rejected, unable_to_comply, session_not_available};
 ghost use Rattle.pcrf_model.specs.Limits.{range_limit};
@@ -11,10 +11,12 @@ ghost use Rattle.pcrf_model.specs.Pushing.{lacks_counter};
 ghost use Rattle.pcrf_model.specs.Replies.{OnGx, Granted, Done, Refused, OnBase};
 ghost use Rattle.pcrf_model.specs.Letters.{Range};
 ghost use Rattle.pcrf_model.specs.Steps.{own_from};
-ghost use Rattle.pcrf_model.specs.Letterbox.{body_of, count_taken};
+ghost use Rattle.pcrf_model.specs.Worlds.{SiteTook, PushAt, Restart, EpochFull, ClockFull, start, whole_log, by_cursors, epoch_of, log_in};
+ghost use Rattle.std.proofs.Common.{option_map};
+ghost use Rattle.pcrf_model.specs.Letterbox.{writing, exchange, exchange_answers, answers_all, astray, astray_answers, answer_at_its_end, body_of, count_taken};
 ghost use Rattle.pcrf_model.specs.Samples.{operator, first_session, second_session, host_address, nobodys_address, initial, update, termination, call, hang_up, audio, capabilities, sip_rule, delta};
-ghost use Rattle.pcrf_model.specs.Scenes.{empty_site, answers, serves, pushes, pushed, seen, rejected, push_of, no_push, at_the_end, with_call, one, last_operation};
-ghost use Rattle.pcrf_model.specs.Edges.{pushed_session, two_due, call_at_the_end, flow_removed, flow_described_again, flow_status, update_to, moved_access_point, call_ended, told_as, own_of, letter_of_many, both_epochs, first_of_older};
+ghost use Rattle.pcrf_model.specs.Scenes.{empty_site, answers, serves, pushes, pushed, seen, rejected, push_of, no_push, at_the_end, with_call, one, last_operation, call_at_the_end};
+ghost use Rattle.pcrf_model.specs.Edges.{pushed_session, two_due, flow_removed, flow_described_again, flow_status, update_to, moved_access_point, call_ended, told_as, own_of, letter_of_many, both_epochs, first_of_older};
 
 /// Of two sessions that are due the one with the lesser Session-Id is pushed; where a host is named, that host's; where
 /// no session is of that host, none.
@@ -108,4 +110,22 @@ pub fn letters_of_both_epochs_are_taken()
     ensures emptied { count_taken both_epochs 0 ≡ Some 1 }
     ensures taken { count_taken both_epochs 1 ≡ Some 3 }
     ensures in_the_middle { count_taken first_of_older 1 ≡ Some 2 }
+{}
+
+/// What a world answers is a function of the events, where memory is found: replies, numbers of letters, and the first
+/// fault.
+pub fn world_answers_by_its_sites_and_letters()
+    ensures exchange { answers_all (writing by_cursors) (start 2) exchange ≡ exchange_answers }
+    ensures astray { answers_all (writing whole_log) (start 2) astray ≡ astray_answers }
+    ensures epoch { answer_at_its_end (Restart 0) ≡ Err EpochFull }
+    ensures counter { answer_at_its_end (PushAt 0 None) ≡ Err ClockFull }
+{}
+
+/// The log of an epoch stays after a restart, and the epoch counts up.
+pub fn logs_of_all_epochs_stay()
+    ensures epoch { option_map epoch_of (slice_get both_epochs.sites 0) ≡ Some 2 }
+    ensures older { option_map (λ (s : SiteTook). log_in s 1) (slice_get both_epochs.sites 0)
+        ≡ Some (serves 0 one (update 1 None)).log }
+    ensures newer { option_map (λ (s : SiteTook). log_in s 2) (slice_get both_epochs.sites 0)
+        ≡ Some (serves 0 empty_site (initial second_session (host_address 2))).log }
 {}

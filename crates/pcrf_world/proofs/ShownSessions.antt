@@ -14,18 +14,21 @@ use Rattle.lattice_core.specs.Registers.{reg_joined}
 use Rattle.ranked.specs.declared.tag.Tag.{Tag}
 use Rattle.ranked.specs.Sets.{Same, greatest}
 use Rattle.pcrf_model.specs.Sessions.{Session, gx, session_cmp}
-use Rattle.pcrf_model.specs.Paths.{Path, address, apn, last}
-use Rattle.pcrf_model.specs.Values.{Value, Number, Text, Address, Entry, value_cmp, entry_cmp}
-use Rattle.pcrf_model.specs.Facts.{Fact, fact_cmp, session_of}
-use Rattle.pcrf_model.specs.Holdings.{entry_at, value_at, shown}
+use Rattle.pcrf_facts.specs.Places.{Place, address, apn, last}
+use Rattle.pcrf_facts.specs.Values.{Value, Number, Text, Address, Entry, value_cmp, entry_cmp}
+use Rattle.pcrf_facts.specs.Facts.{Fact, fact_cmp}
+use Rattle.pcrf_facts.specs.Held.{blocks, is_gone, entry_at, value_at, shown}
+use Rattle.pcrf_model.specs.Holdings.{SessionFact, session_fact_cmp, under, facts_on}
 use Rattle.pcrf_model.specs.Operations.{holding_of}
 use Rattle.pcrf_model.specs.Views.{View, view, as_address, as_text}
 use Rattle.pcrf_model.specs.Making.{ccr_fields}
-use Rattle.ranked.proofs.SetLaws.{Same-itself, Same-through, Same-append, Same-turn}
-use Rattle.pcrf_model.proofs.FactLaws.{fact_ranked, session_ranked}
+use Rattle.ranked.proofs.Plain.{clash, is_false}
+use Rattle.ranked.proofs.SetLaws.{any-In, map-Same, Same-itself, Same-through, Same-append, Same-turn}
+use Rattle.pcrf_facts.proofs.FactLaws.{fact_ranked}
+use Rattle.pcrf_model.proofs.HoldingLaws.{session_ranked, session_fact_ranked, facts_on-In}
 use Rattle.ranked.proofs.AscendingLaws.{ascending-In, ascending-Same}
-use Rattle.pcrf_model.proofs.ViewLaws.{view-Same}
-use Rattle.pcrf_world.proofs.Fields.{AreFieldFacts, AreFieldFacts-append, fields_of_request, none_gone}
+use Rattle.pcrf_model.proofs.ViewLaws.{its_session, view-Same}
+use Rattle.pcrf_world.proofs.Fields.{held_field}
 use Rattle.lattice_core.proofs.Registers.{by_tag, greatest-push, joined_none}
 use Rattle.ranked.proofs.Greatest.{greatest-map}
 use Rattle.pcrf_world.specs.declared.shown.GxSession.{GxSession}
@@ -34,10 +37,10 @@ use Rattle.pcrf_world.specs.Shown.{GxSessionValue, shown_session, shown_sessions
 use Rattle.pcrf_world.specs.GxSessions.{gx_session_value, address_cmp, with_given}
 
 -- ---- the facts of operations, one after another
-abbrev given_by : GxOperationValue → List Fact
-given_by o = ccr_fields (initial_request o) o.tag
+abbrev given_by : GxOperationValue → List SessionFact
+given_by o = under (gx o.session) (ccr_fields (initial_request o) o.tag)
 
-abbrev facts_of : List GxOperationValue → List Fact
+abbrev facts_of : List GxOperationValue → List SessionFact
 facts_of [] = []
 facts_of (o ∷ os) = given_by o ++ facts_of os
 
@@ -45,55 +48,55 @@ facts_of (o ∷ os) = given_by o ++ facts_of os
 held_Same : (os : List GxOperationValue) → Same (holding_of (map operation_of os)).facts (facts_of os)
 held_Same [] = Same-itself []
 held_Same (o ∷ os) =
-    let held : List Fact = (holding_of (map operation_of os)).facts in
-    let one : List Fact = ascending fact_cmp (given_by o) in
-    Same-through (ascending fact_cmp (held ++ one)) (held ++ one) (given_by o ++ facts_of os)
-    (ascending-In fact_cmp fact_ranked (held ++ one))
+    let held : List SessionFact = (holding_of (map operation_of os)).facts in
+    let fields : List Fact = ccr_fields (initial_request o) o.tag in
+    let one : List SessionFact = under (gx o.session) (ascending fact_cmp fields) in
+    Same-through (ascending session_fact_cmp (held ++ one)) (held ++ one) (given_by o ++ facts_of os)
+    (ascending-In session_fact_cmp session_fact_ranked (held ++ one))
     (Same-through (held ++ one) (facts_of os ++ given_by o) (given_by o ++ facts_of os)
-    (Same-append held one (facts_of os) (given_by o) (held_Same os) (ascending-In fact_cmp fact_ranked (given_by o)))
+    (Same-append held one (facts_of os) (given_by o) (held_Same os) (map-Same (λ (f : Fact). (gx o.session, f)) (ascending fact_cmp fields) fields (ascending-In fact_cmp fact_ranked fields)))
     (Same-turn (facts_of os) (given_by o)))
 
 -- so they are seen alike
 view_held : (os : List GxOperationValue) → view (holding_of (map operation_of os)).facts ≡ view (facts_of os)
 view_held os = view-Same (holding_of (map operation_of os)).facts (facts_of os) (held_Same os)
 
--- they are fields
-all_fields : (os : List GxOperationValue) → AreFieldFacts (facts_of os)
-all_fields [] = tt
-all_fields (o ∷ os) = AreFieldFacts-append (given_by o) (facts_of os) (fields_of_request o) (all_fields os)
-
 -- ---- what is said of a session
 abbrev said_if : {A : Type 0} → Ordering → A → Option A
 said_if c x = cond (is_eq c) (Some x) None
+
+-- what facts say at a place of the session
+abbrev said_there : Place → List ℕ → List SessionFact → List Entry
+said_there p id facts = filter_map (entry_at p) (facts_on facts (gx id))
 
 -- what an operation says, where it speaks of the session
 abbrev pub said : {T : Type 0} → (GxOperationValue → T) → List ℕ → GxOperationValue → Option (Tag × T)
 said what id o = said_if (text_cmp id o.session) (o.tag, what o)
 
-address_said : (id : List ℕ) (o : GxOperationValue) (rest : List Fact) → filter_map (entry_at (address (gx id))) (given_by o ++ rest) ≡ cons_option (said (λ q. Address (ipv4_octets q.fields.address)) id o) (filter_map (entry_at (address (gx id))) rest)
-address_said id o rest = elim (text_cmp id o.session) as (λ c. text_cmp id o.session ≡ c → filter_map (entry_at (address (gx id))) (given_by o ++ rest) ≡ cons_option (said_if c (o.tag, Address (ipv4_octets o.fields.address))) (filter_map (entry_at (address (gx id))) rest)) [
+address_said : (id : List ℕ) (o : GxOperationValue) (rest : List SessionFact) → said_there address id (given_by o ++ rest) ≡ cons_option (said (λ q. Address (ipv4_octets q.fields.address)) id o) (said_there address id rest)
+address_said id o rest = elim (text_cmp id o.session) as (λ c. text_cmp id o.session ≡ c → said_there address id (given_by o ++ rest) ≡ cons_option (said_if c (o.tag, Address (ipv4_octets o.fields.address))) (said_there address id rest)) [
   | Less ↦ λ e. rw e refl
   | Equal ↦ λ e. rw e refl
   | Greater ↦ λ e. rw e refl
 ] refl
 
-apn_said : (id : List ℕ) (o : GxOperationValue) (rest : List Fact) → filter_map (entry_at (apn (gx id))) (given_by o ++ rest) ≡ cons_option (said (λ q. Text q.fields.apn) id o) (filter_map (entry_at (apn (gx id))) rest)
-apn_said id o rest = elim (text_cmp id o.session) as (λ c. text_cmp id o.session ≡ c → filter_map (entry_at (apn (gx id))) (given_by o ++ rest) ≡ cons_option (said_if c (o.tag, Text o.fields.apn)) (filter_map (entry_at (apn (gx id))) rest)) [
+apn_said : (id : List ℕ) (o : GxOperationValue) (rest : List SessionFact) → said_there apn id (given_by o ++ rest) ≡ cons_option (said (λ q. Text q.fields.apn) id o) (said_there apn id rest)
+apn_said id o rest = elim (text_cmp id o.session) as (λ c. text_cmp id o.session ≡ c → said_there apn id (given_by o ++ rest) ≡ cons_option (said_if c (o.tag, Text o.fields.apn)) (said_there apn id rest)) [
   | Less ↦ λ e. rw e refl
   | Equal ↦ λ e. rw e refl
   | Greater ↦ λ e. rw e refl
 ] refl
 
-last_said : (id : List ℕ) (o : GxOperationValue) (rest : List Fact) → filter_map (entry_at (last (gx id))) (given_by o ++ rest) ≡ cons_option (said (λ q. Number 1) id o) (filter_map (entry_at (last (gx id))) rest)
-last_said id o rest = elim (text_cmp id o.session) as (λ c. text_cmp id o.session ≡ c → filter_map (entry_at (last (gx id))) (given_by o ++ rest) ≡ cons_option (said_if c (o.tag, Number 1)) (filter_map (entry_at (last (gx id))) rest)) [
+last_said : (id : List ℕ) (o : GxOperationValue) (rest : List SessionFact) → said_there last id (given_by o ++ rest) ≡ cons_option (said (λ q. Number 1) id o) (said_there last id rest)
+last_said id o rest = elim (text_cmp id o.session) as (λ c. text_cmp id o.session ≡ c → said_there last id (given_by o ++ rest) ≡ cons_option (said_if c (o.tag, Number 1)) (said_there last id rest)) [
   | Less ↦ λ e. rw e refl
   | Equal ↦ λ e. rw e refl
   | Greater ↦ λ e. rw e refl
 ] refl
 
-module _ (p : Path) (id : List ℕ) (what : GxOperationValue → Value) (one : (o : GxOperationValue) (rest : List Fact) → filter_map (entry_at p) (given_by o ++ rest) ≡ cons_option (said what id o) (filter_map (entry_at p) rest)) where
+module _ (p : Place) (id : List ℕ) (what : GxOperationValue → Value) (one : (o : GxOperationValue) (rest : List SessionFact) → said_there p id (given_by o ++ rest) ≡ cons_option (said what id o) (said_there p id rest)) where
   -- what all say
-  entries : (os : List GxOperationValue) → filter_map (entry_at p) (facts_of os) ≡ filter_map (said what id) os
+  entries : (os : List GxOperationValue) → said_there p id (facts_of os) ≡ filter_map (said what id) os
   entries [] = refl
   entries (o ∷ os) = one o (facts_of os) ∙ ap (cons_option (said what id o)) (entries os)
 
@@ -133,8 +136,13 @@ module _ {T : Type 0} (R : T → T → Ordering) (what : GxOperationValue → T)
 
 -- ---- what is shown
 -- nothing is gone
-not_gone : (os : List GxOperationValue) (p : Path) → shown (facts_of os) p ≡ value_at (facts_of os) p
-not_gone os p = ap (λ (b : Bool). cond b None (value_at (facts_of os) p)) (none_gone (facts_of os) p (all_fields os))
+not_gone : (os : List GxOperationValue) (s : Session) (p : Place) → shown (facts_on (facts_of os) s) p ≡ value_at (facts_on (facts_of os) s) p
+not_gone os s p =
+    let facts : List Fact = facts_on (facts_of os) s in
+    ap (λ (b : Bool). cond b None (value_at facts p)) (is_false (is_gone facts p) (λ h.
+    let r = any-In (blocks p) facts h in
+    let f = held_field os (s, r.0) ((held_Same os (s, r.0)).1 (facts_on-In (facts_of os) s r.0 r.1)) in
+    clash (blocks p r.0) r.2 (ap (blocks p) f.is)))
 
 abbrev address_said_at : List ℕ → List GxOperationValue → Option (Tag × Ipv4Addr)
 address_said_at = said_at address_cmp (λ o. o.fields.address)
@@ -149,22 +157,22 @@ last_said_at = said_at nat_cmp (λ o. 1)
 abbrev pub registers_of : List ℕ → List GxOperationValue → GxSession
 registers_of id os = record { session = id; address = address_said_at id os; apn = apn_said_at id os; last = last_said_at id os }
 
-address_shown : (id : List ℕ) (os : List GxOperationValue) → shown (facts_of os) (address (gx id)) ≡ option_map (λ (e : Tag × Ipv4Addr). (e.0, Address (ipv4_octets e.1))) (address_said_at id os)
+address_shown : (id : List ℕ) (os : List GxOperationValue) → shown (facts_on (facts_of os) (gx id)) address ≡ option_map (λ (e : Tag × Ipv4Addr). (e.0, Address (ipv4_octets e.1))) (address_said_at id os)
 address_shown id os =
-    not_gone os (address (gx id))
-    ∙ ap (greatest entry_cmp) (entries (address (gx id)) id (λ o. Address (ipv4_octets o.fields.address)) (address_said id) os)
+    not_gone os (gx id) address
+    ∙ ap (greatest entry_cmp) (entries address id (λ o. Address (ipv4_octets o.fields.address)) (address_said id) os)
     ∙ greatest_said address_cmp (λ o. o.fields.address) id (λ a. Address (ipv4_octets a)) (λ x y. refl) os
 
-apn_shown : (id : List ℕ) (os : List GxOperationValue) → shown (facts_of os) (apn (gx id)) ≡ option_map (λ (e : Tag × List ℕ). (e.0, Text e.1)) (apn_said_at id os)
+apn_shown : (id : List ℕ) (os : List GxOperationValue) → shown (facts_on (facts_of os) (gx id)) apn ≡ option_map (λ (e : Tag × List ℕ). (e.0, Text e.1)) (apn_said_at id os)
 apn_shown id os =
-    not_gone os (apn (gx id))
-    ∙ ap (greatest entry_cmp) (entries (apn (gx id)) id (λ o. Text o.fields.apn) (apn_said id) os)
+    not_gone os (gx id) apn
+    ∙ ap (greatest entry_cmp) (entries apn id (λ o. Text o.fields.apn) (apn_said id) os)
     ∙ greatest_said text_cmp (λ o. o.fields.apn) id Text (λ x y. refl) os
 
-last_shown : (id : List ℕ) (os : List GxOperationValue) → shown (facts_of os) (last (gx id)) ≡ option_map (λ (e : Tag × ℕ). (e.0, Number e.1)) (last_said_at id os)
+last_shown : (id : List ℕ) (os : List GxOperationValue) → shown (facts_on (facts_of os) (gx id)) last ≡ option_map (λ (e : Tag × ℕ). (e.0, Number e.1)) (last_said_at id os)
 last_shown id os =
-    not_gone os (last (gx id))
-    ∙ ap (greatest entry_cmp) (entries (last (gx id)) id (λ o. Number 1) (last_said id) os)
+    not_gone os (gx id) last
+    ∙ ap (greatest entry_cmp) (entries last id (λ o. Number 1) (last_said id) os)
     ∙ greatest_said nat_cmp (λ o. 1) id Number (λ x y. refl) os
 
 -- read as an address, as a text, and by its tag
@@ -241,9 +249,9 @@ six_times x xs ys s =
     again x (x ∷ x ∷ x ∷ x ∷ x ∷ xs) ys (again x (x ∷ x ∷ x ∷ x ∷ xs) ys (again x (x ∷ x ∷ x ∷ xs) ys (again x (x ∷ x ∷ xs) ys (again x (x ∷ xs) ys (once x xs ys s)))))
 
 -- the sessions of the facts are those of the operations
-sessions_Same : (os : List GxOperationValue) → Same (map session_of (facts_of os)) (map (λ (o : GxOperationValue). gx o.session) os)
+sessions_Same : (os : List GxOperationValue) → Same (map its_session (facts_of os)) (map (λ (o : GxOperationValue). gx o.session) os)
 sessions_Same [] = Same-itself {A = Session} []
-sessions_Same (o ∷ os) = six_times (gx o.session) (map session_of (facts_of os)) (map (λ (q : GxOperationValue). gx q.session) os) (sessions_Same os)
+sessions_Same (o ∷ os) = six_times (gx o.session) (map its_session (facts_of os)) (map (λ (q : GxOperationValue). gx q.session) os) (sessions_Same os)
 
 -- Session-Ids in order are their sessions in order
 place_gx : (id : List ℕ) (ids : List (List ℕ)) → place session_cmp (gx id) (map gx ids) ≡ map gx (place text_cmp id ids)
@@ -262,7 +270,7 @@ ascending_gx (o ∷ os) = ap (place session_cmp (gx o.session)) (ascending_gx os
 
 view_sessions : (os : List GxOperationValue) → (view (facts_of os)).sessions ≡ map gx (ascending text_cmp (named os))
 unfolding view
-view_sessions os = ascending-Same session_cmp session_ranked (map session_of (facts_of os)) (map (λ (o : GxOperationValue). gx o.session) os) (sessions_Same os) ∙ ascending_gx os
+view_sessions os = ascending-Same session_cmp session_ranked (map its_session (facts_of os)) (map (λ (o : GxOperationValue). gx o.session) os) (sessions_Same os) ∙ ascending_gx os
 
 -- map after map
 map_gx : (v : View) (ids : List (List ℕ)) → map (λ (id : List ℕ). shown_session v (gx id)) ids ≡ map (shown_session v) (map gx ids)

@@ -5,7 +5,7 @@ use Rattle.ranked.specs.declared.tag.Tag.{Tag}
 use Rattle.ranked.specs.Ascending.{ascending}
 use Rattle.pcrf_values.specs.declared.request_kind.RequestKind.TheVariants.{Initial}
 use Rattle.pcrf_model.specs.Sessions.{gx}
-use Rattle.pcrf_model.specs.Facts.{fact_cmp}
+use Rattle.pcrf_facts.specs.Facts.{fact_cmp}
 use Rattle.pcrf_model.specs.Requests.{CcrValue}
 use Rattle.pcrf_model.specs.Making.{ccr_fields}
 use Rattle.pcrf_model.specs.Refusals.{lacks_parameters}

@@ -2,7 +2,7 @@
 use Rattle.std.specs.Prelude.{ℕ, List, map, Option}
 use Rattle.std.proofs.Common.{option_and_then}
 use Rattle.pcrf_model.specs.Sessions.{Session}
-use Rattle.pcrf_model.specs.Paths.{address, apn}
+use Rattle.pcrf_facts.specs.Places.{address, apn}
 use Rattle.pcrf_model.specs.Views.{View, view, value, as_address, text}
 use Rattle.pcrf_model.specs.Live.{home}
 use Rattle.pcrf_model.specs.Holdings.{Holding}
@@ -15,7 +15,7 @@ pub record GxSessionValue : Type 0 where
   pub home : Option ℕ
 
 abbrev pub shown_session : View → Session → GxSessionValue
-shown_session v s = record { session = s.id; address = option_and_then as_address (value v (address s)); apn = text v (apn s); home = home v s }
+shown_session v s = record { session = s.id; address = option_and_then as_address (value v s address); apn = text v s apn; home = home v s }
 
 -- every session that a holding knows, ascending; all are gateways' as yet
 abbrev pub shown_sessions : Holding → List GxSessionValue

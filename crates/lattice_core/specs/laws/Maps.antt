@@ -152,6 +152,10 @@ module _ {K V : Type 0} (cmp : K → K → Ordering) (join : V → V → V) (o :
     put_all_itself [] h = refl
     put_all_itself (e ∷ es) h = put_all_put es [] e.0 e.1 ∙ ap (λ m. put cmp join m e.0 e.1) (put_all_itself es h.1) ∙ front e es h.0
 
+    -- the join with a map of one entry puts that entry
+    pub joined_single : (es : List (K × V)) (k : K) (v : V) → IsAscending cmp es → map_joined cmp join es ((k, v) ∷ []) ≡ put cmp join es k v
+    joined_single es k v h = ap (λ m. put cmp join m k v) (put_all_itself es h)
+
     -- the join of a map with itself is that map
     pub map_idem : (valid : V → Type 0) (idem : (x : V) → valid x → join x x ≡ x) (es : List (K × V)) → IsAscending cmp es × AllValues valid es → map_joined cmp join es es ≡ es
     map_idem valid idem es h = once_more valid idem es h.1 ∙ put_all_itself es h.0

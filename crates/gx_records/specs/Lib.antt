@@ -1,0 +1,2 @@
+pub mod GxFacts
+pub mod GxJoins

@@ -1,0 +1,18 @@
+//! The facts of Gx sessions.
+use lattice_core::Tag;
+use pcrf_values::{BoundedNumber, Rule, RuleName};
+use record_levels::SessionValue;
+
+/// The CC-Request-Type of a request that leaves a session open: INITIAL_REQUEST, 1, or UPDATE_REQUEST, 2 (RFC 8506, 8.3).
+pub type OpenRequestType = BoundedNumber<1, 2>;
+
+/// A fact of a Gx session.
+#[derive(Drop)]
+pub enum GxFact {
+    /// The session is ended.
+    End,
+    /// A field of the session.
+    Field(Tag, SessionValue<OpenRequestType>),
+    /// What the gateway was told under the name of a rule: the rule, or nothing where it was told to remove it.
+    Told(Tag, RuleName, Option<Rule>),
+}

@@ -1,0 +1,12 @@
+//! What a site holds of one Gx session, joined from facts in any order.
+#![tactic(auto)]
+
+mod fact;
+mod parts;
+mod record;
+mod told;
+
+pub use fact::{GxFact, OpenRequestType};
+pub use record::GxRec;
+pub use record_levels::SessionValue;
+pub use told::Told;

@@ -1,0 +1,103 @@
+//! What is known of a Gx session that isn't ended.
+ghost use Rattle.std.specs.Prelude.{◌≡◌, IfOk};
+ghost use Rattle.gx_records.specs.GxFacts.{no_parts, one_field_of, one_told};
+
+use crate::fact::OpenRequestType;
+use lattice_core::{Join, JoinMap, Ranked, Reg, Tag};
+use pcrf_values::{Rule, RuleName};
+use record_levels::{SessionFields, SessionValue};
+use std::alloc::{AllocError, Global};
+
+/// The fields of a session, and what its gateway was told of rules.
+#[derive(Drop)]
+pub struct GxParts {
+    pub fields: SessionFields<OpenRequestType>,
+    pub told: JoinMap<RuleName, Reg<Option<Rule>>>,
+}
+
+impl GxParts {
+    /// No fact.
+    pub fn start(alloc: Global) -> GxParts
+        ensures { result ≡ no_parts }
+    {
+        GxParts {
+            fields: SessionFields::start(),
+            told: JoinMap::start(alloc),
+        }
+    }
+
+    /// One field.
+    pub fn of(
+        alloc: Global,
+        tag: Tag,
+        value: &SessionValue<OpenRequestType>,
+    ) -> Result<GxParts, AllocError>
+        ensures { IfOk result (λ r. r ≡ one_field_of tag value.now) }
+    {
+        let fields = SessionFields::of(tag, value)?;
+        Ok(GxParts {
+            fields,
+            told: JoinMap::start(alloc),
+        })
+    }
+
+    /// What was told under one name.
+    pub fn of_told(
+        alloc: Global,
+        tag: Tag,
+        name: &RuleName,
+        rule: &Option<Rule>,
+    ) -> Result<GxParts, AllocError>
+        ensures { IfOk result (λ r. r ≡ one_told tag name.now rule.now) }
+    {
+        let mut parts = GxParts::start(alloc);
+        let mut told = Reg::start();
+        told.put(tag, rule.try_copy()?);
+        let name = name.try_copy()?;
+        if let Err((refused, _)) = parts.told.join_at(name, told) {
+            return Err(refused);
+        }
+        Ok(parts)
+    }
+}
+
+impl Join for GxParts {
+    ghost use Rattle.gx_records.specs.GxJoins.{parts_joined, parts_valid, parts_comm, parts_assoc, parts_idem, parts_closed};
+
+    ghost joined = { parts_joined };
+
+    ghost valid = { parts_valid };
+
+    ghost commutative = { parts_comm };
+
+    ghost associative = { parts_assoc };
+
+    ghost idempotent = { parts_idem };
+
+    ghost closed = { parts_closed };
+
+    fn joined_copy(&self, other: &GxParts) -> Result<GxParts, AllocError> {
+        let fields = self.fields.joined_copy(&other.fields)?;
+        let told = self.told.joined_copy(&other.told)?;
+        Ok(GxParts { fields, told })
+    }
+
+    fn join_in(&mut self, other: GxParts) -> Result<(), (AllocError, GxParts)> {
+        let GxParts { fields, told } = other;
+        if let Err((refused, told)) = self.told.join_in(told) {
+            return Err((refused, GxParts { fields, told }));
+        }
+        self.fields.join_fields(fields);
+        Ok(())
+    }
+
+    fn try_copy(&self) -> Result<GxParts, AllocError> {
+        let fields = self.fields.try_copy()?;
+        let told = self.told.try_copy()?;
+        Ok(GxParts { fields, told })
+    }
+
+    fn note_valid(&self) {
+        self.told.note_valid();
+    }
+}

@@ -1,0 +1,60 @@
+-- The flows of an AF session, and what they show of status and rates (TS 29.214, 4.4.1, 5.3.11 and 5.3.12).
+use Rattle.std.specs.Prelude.{ℕ, Bool, false, cond, ◌==◌, List, Option, Some, None}
+use Rattle.std.proofs.Common.{option_map, option_and_then, unwrap_or}
+use Rattle.std.specs.Ordering.{nat_cmp}
+use Rattle.std.specs.List.{filter_map}
+use Rattle.ranked.specs.Orders.{pair_cmp}
+use Rattle.ranked.specs.Ascending.{ascending}
+use Rattle.pcrf_facts.specs.Places.{ComponentField, ComponentStatus, FlowField, FlowUsage, FlowStatus, Place, OfSession, OfComponent, OfFlow, OfRuleName}
+use Rattle.pcrf_facts.specs.Values.{Value, Number, Text, Address, Subscribers, Filters, Untold, Told, Entry}
+use Rattle.pcrf_facts.specs.Facts.{Fact, End, Removed, Field}
+use Rattle.pcrf_facts.specs.Held.{held}
+use Rattle.pcrf_facts.specs.Live.{Shows}
+
+-- the component and the flow of which the place is a field
+abbrev pub flow_of_place : Place → Option (ℕ × ℕ)
+flow_of_place (OfSession f) = None
+flow_of_place (OfComponent c f) = None
+flow_of_place (OfFlow c n f) = Some (c, n)
+flow_of_place (OfRuleName t) = None
+
+-- of which the fact gives a field
+abbrev pub flow_of : Fact → Option (ℕ × ℕ)
+flow_of End = None
+flow_of (Removed r) = None
+flow_of (Field p t v) = flow_of_place p
+
+-- the flows of which a field shows, each once, ascending by component and flow
+abbrev pub flows : List Fact → List (ℕ × ℕ)
+flows facts = ascending (pair_cmp nat_cmp nat_cmp) (filter_map flow_of (held facts))
+
+-- the value as a number, if it is one
+abbrev pub as_number : Value → Option ℕ
+as_number (Number n) = Some n
+as_number (Text t) = None
+as_number (Address a) = None
+as_number (Subscribers s) = None
+as_number (Filters f) = None
+as_number Untold = None
+as_number (Told r) = None
+
+-- the number that shows at the place
+abbrev pub number_at : Shows → Place → Option ℕ
+number_at shows p = option_and_then (λ (e : Entry). as_number e.1) (shows p)
+
+-- the first, where it is there, else the second
+abbrev pub or_else : {A : Type 0} → Option A → Option A → Option A
+or_else None y = y
+or_else (Some x) y = Some x
+
+-- the flow shows Flow-Usage RTCP
+abbrev pub is_rtcp : Shows → ℕ → ℕ → Bool
+is_rtcp shows c n = unwrap_or (option_map (λ u. u == 1) (number_at shows (OfFlow c n FlowUsage))) false
+
+-- the flow's Flow-Status, else its component's, else ENABLED
+abbrev pub flow_status : Shows → ℕ → ℕ → ℕ
+flow_status shows c n = unwrap_or (or_else (number_at shows (OfFlow c n FlowStatus)) (number_at shows (OfComponent c ComponentStatus))) 2
+
+-- the rate that requests gave it, by the fields of one direction: its own, else, unless it is RTCP, its component's
+abbrev pub given_rate : Shows → ℕ → ℕ → FlowField → ComponentField → Option ℕ
+given_rate shows c n own whole = or_else (number_at shows (OfFlow c n own)) (cond (is_rtcp shows c n) None (number_at shows (OfComponent c whole)))
