@@ -1,16 +1,15 @@
 -- Holdings keep their form: unions, what is kept of one, and what operations of the form make.
 use Rattle.std.proofs.lemmas.Bool.Decides.{nat_tests}
-use Rattle.std.proofs.Common.{◌≡◌, ℕ, max, ◌≤◌, Bool, true, false, ◌&&◌, List, [], ◌∷◌, ◌++◌, map, inl, inr, refl, sym, ap, ◌∙◌, subst, nat_le, ◌==◌, length, Ordering, Less, Equal, Greater, arith}
-use Rattle.std.specs.Ordering.{is_eq, is_lt, ordering_then}
+use Rattle.std.proofs.Common.{◌≡◌, ℕ, max, ◌≤◌, Bool, true, ◌&&◌, List, [], ◌∷◌, ◌++◌, map, inl, inr, refl, sym, ap, ◌∙◌, subst, nat_le, ◌==◌, Ordering, Less, arith}
+use Rattle.std.specs.Ordering.{is_lt, ordering_then}
 use Rattle.std.specs.Cmp.{first_so, second_so, tied_itself}
 use Rattle.std.specs.List.{list_all}
 use Rattle.std.specs.Option.{option_cmp}
-use Rattle.ranked.specs.Ascending.{ascending, IsBelowAll, Rises}
+use Rattle.ranked.specs.Ascending.{Rises}
 use Rattle.ranked.specs.Sets.{In}
-use Rattle.ranked.specs.Tags.{tag_cmp}
 use Rattle.ranked.specs.declared.tag.Tag.{Tag}
-use Rattle.ranked.proofs.Plain.{clash, both, lt_less}
-use Rattle.ranked.proofs.OrderLaws.{IsRanked, eq_is, eq_itself}
+use Rattle.ranked.proofs.Plain.{both, lt_less}
+use Rattle.ranked.proofs.OrderLaws.{eq_is}
 use Rattle.ranked.proofs.SetLaws.{In-cases, In-map}
 use Rattle.ranked.proofs.AscendingLaws.{map-ascending, ascending-ascending}
 use Rattle.pcrf_facts.specs.Places.{Place, OfSession, OfComponent, OfFlow, OfRuleName, position_cmp}
@@ -18,10 +17,10 @@ use Rattle.pcrf_facts.specs.Values.{entry_cmp}
 use Rattle.pcrf_facts.specs.Facts.{Fact, End, Removed, Field, position, entry, fact_cmp}
 use Rattle.pcrf_facts.proofs.FactLaws.{tag_ranked}
 use Rattle.pcrf_model.specs.Limits.{last_counter}
-use Rattle.pcrf_model.specs.Sessions.{Kind, Gx, Af, Session, session_cmp}
-use Rattle.pcrf_model.specs.Holdings.{SessionFact, session_fact_cmp, kept_facts, under, Holding, nothing_held, union, kept_of}
+use Rattle.pcrf_model.specs.Sessions.{Kind, Gx, Af, Session}
+use Rattle.pcrf_model.specs.Holdings.{SessionFact, session_fact_cmp, kept_facts, under, Holding, union, kept_of}
 use Rattle.pcrf_model.specs.Operations.{Operation, with_operation, holding_of}
-use Rattle.pcrf_model.specs.Forms.{is_within, is_rising, is_stamp, is_unsigned, number_at, is_tagged, is_counted, is_session, is_request_number, stand_together, fits, is_operation, is_held, is_holding}
+use Rattle.pcrf_model.specs.Forms.{is_rising, is_stamp, is_unsigned, number_at, is_tagged, is_counted, is_session, is_request_number, stand_together, fits, is_operation, is_held, is_holding}
 use Rattle.pcrf_model.proofs.HoldingLaws.{session_ranked, session_fact_ranked, sorted-In, kept_facts-In, under-In}
 use Rattle.pcrf_model.proofs.FormReading.{each_passes}
 

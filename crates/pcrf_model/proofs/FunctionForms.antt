@@ -1,25 +1,25 @@
 -- What an application function's requests make is in form: the fields of a session, of its components and of their flows, and what is removed.
 use Rattle.std.proofs.lemmas.Bool.Decides.{nat_tests}
-use Rattle.std.proofs.Common.{◌≡◌, ℕ, Bool, true, false, cond, not, ◌&&◌, nat_eq, ◌==◌, List, [], ◌∷◌, ◌++◌, map, Option, Some, None, inl, inr, refl, sym, ap, ◌∙◌, subst, option_map, flat_map, arith}
+use Rattle.std.proofs.Common.{◌≡◌, ℕ, Bool, true, false, ◌&&◌, ◌==◌, List, [], ◌∷◌, map, Option, Some, None, refl, sym, ap, ◌∙◌, subst, option_map, flat_map, arith}
 use Rattle.std.specs.Cmp.{first_so, second_so}
-use Rattle.std.specs.List.{list_any, list_all}
+use Rattle.std.specs.List.{list_any}
 use Rattle.ranked.specs.Sets.{In, Distinct}
 use Rattle.ranked.specs.declared.tag.Tag.{Tag}
 use Rattle.ranked.proofs.Plain.{clash, is_false, both, some_same, not_true}
 use Rattle.ranked.proofs.OrderLaws.{eq_itself}
 use Rattle.ranked.proofs.SetLaws.{In-any}
 use Rattle.ranked.proofs.DistinctLaws.{one_of_key}
-use Rattle.pcrf_facts.specs.Places.{SessionField, ComponentField, MediaType, ComponentStatus, ComponentRateUp, ComponentRateDown, FlowField, FlowDescriptions, FlowUsage, FlowStatus, FlowRateUp, FlowRateDown, Place, OfSession, OfComponent, OfFlow, Removable, Component, Flow, Position, place_position}
+use Rattle.pcrf_facts.specs.Places.{SessionField, ComponentField, MediaType, ComponentStatus, ComponentRateUp, ComponentRateDown, FlowField, FlowDescriptions, FlowUsage, FlowStatus, FlowRateUp, FlowRateDown, OfSession, OfComponent, OfFlow, Component, Flow, Position}
 use Rattle.pcrf_facts.specs.Values.{Value, Number, Filters}
 use Rattle.pcrf_facts.specs.Facts.{Fact, Removed, Field, position, is_shaded_by}
 use Rattle.pcrf_facts.proofs.FactLaws.{tag_ranked}
 use Rattle.pcrf_facts.proofs.KeyLaws.{number_is}
-use Rattle.pcrf_model.specs.Sessions.{Kind, Af}
+use Rattle.pcrf_model.specs.Sessions.{Af}
 use Rattle.pcrf_model.specs.Requests.{FlowValue, ComponentValue}
 use Rattle.pcrf_model.specs.Making.{is_removed, flow_facts, component_facts}
 use Rattle.pcrf_model.specs.Forms.{is_within, is_unsigned, is_none_or, is_status, is_usage, are_filters, is_tagged, fits, fits_session_field, fits_component_field, fits_flow_field, is_flow, are_apart, is_component}
 use Rattle.pcrf_model.proofs.FormReading.{each_passes}
-use Rattle.pcrf_model.proofs.MadeForms.{CanStand, IsField, field, clear_fields, MayMake, Each, none, more, either, ◌and◌, all_of, all_given, given_passes, one_place, one_field, one_session_field}
+use Rattle.pcrf_model.proofs.MadeForms.{IsField, field, clear_fields, MayMake, Each, none, more, either, ◌and◌, all_of, all_given, given_passes, one_place, one_field, one_session_field}
 
 -- ---- what requests say of components and flows
 

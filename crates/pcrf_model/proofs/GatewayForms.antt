@@ -1,7 +1,5 @@
 -- What a gateway's requests and pushes make is in form: the fields of a session, and what is told of its rules.
-use Rattle.std.proofs.Common.{◌≡◌, ℕ, ◌^◌, Bool, true, false, ◌&&◌, List, ◌++◌, map, Option, Some, inl, inr, refl, sym, ap, ◌∙◌, subst, arith}
-use Rattle.std.specs.Ordering.{is_eq}
-use Rattle.ranked.specs.Orders.{text_cmp}
+use Rattle.std.proofs.Common.{◌≡◌, ℕ, true, ◌&&◌, List, map, Option, Some, refl, sym, ap, ◌∙◌, subst, arith}
 use Rattle.ranked.specs.Sets.{In}
 use Rattle.ranked.specs.declared.tag.Tag.{Tag}
 use Rattle.ranked.proofs.Plain.{both, some_same}
@@ -11,14 +9,14 @@ use Rattle.pcrf_values.specs.Limits.{rule_name_limit}
 use Rattle.pcrf_values.specs.RuleValues.{RuleValue, DeltaValue}
 use Rattle.pcrf_facts.specs.Places.{SessionField, Place, OfSession, OfRuleName, Position, place_position}
 use Rattle.pcrf_facts.specs.Values.{Value, Untold, Told}
-use Rattle.pcrf_facts.specs.Facts.{Fact, Field, position, is_shaded_by}
+use Rattle.pcrf_facts.specs.Facts.{Fact, Field, position}
 use Rattle.pcrf_facts.proofs.FactLaws.{tag_ranked}
-use Rattle.pcrf_model.specs.Sessions.{Kind, Gx}
+use Rattle.pcrf_model.specs.Sessions.{Gx}
 use Rattle.pcrf_model.specs.Differences.{rule_name_of}
 use Rattle.pcrf_model.specs.Making.{told_facts}
-use Rattle.pcrf_model.specs.Forms.{is_text, is_rule, is_tagged, fits, fits_session_field, fits_rule_name}
+use Rattle.pcrf_model.specs.Forms.{is_text, is_rule, is_tagged, fits, fits_session_field}
 use Rattle.pcrf_model.proofs.ToldFacts.{IsApart}
-use Rattle.pcrf_model.proofs.MadeForms.{CanStand, IsField, field, clear_fields, MayMake, Each, ◌and◌, all_map, one_place, one_field, one_session_field}
+use Rattle.pcrf_model.proofs.MadeForms.{IsField, field, clear_fields, MayMake, Each, ◌and◌, all_map, one_place, one_field, one_session_field}
 
 -- A difference that may be told: names and rules in form, and apart.
 pub record CanTell (d : DeltaValue) : Type 0 where

@@ -1,30 +1,27 @@
 -- What requests and pushes make: facts that stand together at places of their own, none overshadowed by another, as one operation of the form.
 use Rattle.std.proofs.lemmas.Bool.Decides.{nat_tests}
-use Rattle.std.proofs.Common.{◌≡◌, ℕ, ◌+◌, ◌<◌, ◌≤◌, Bool, true, false, cond, not, ◌&&◌, nat_le, nat_lt, List, [], ◌∷◌, ◌++◌, map, length, Option, Some, None, inl, inr, refl, sym, ap, ◌∙◌, subst, option_map, flat_map, Ordering, Less, Equal, Greater, arith}
+use Rattle.std.proofs.Common.{◌≡◌, ℕ, ◌+◌, ◌<◌, Bool, true, false, cond, not, ◌&&◌, nat_le, nat_lt, List, [], ◌∷◌, ◌++◌, map, length, Option, Some, None, inl, inr, refl, sym, ap, ◌∙◌, subst, option_map, flat_map, Ordering, Less, Equal, Greater, arith}
 use Rattle.std.specs.Ordering.{is_lt, ordering_then}
 use Rattle.std.specs.Cmp.{first_so, second_so, tied_itself}
-use Rattle.std.specs.List.{list_any, list_all}
+use Rattle.std.specs.List.{list_any}
 use Rattle.std.specs.Option.{option_cmp}
 use Rattle.ranked.specs.Ascending.{ascending}
 use Rattle.ranked.specs.Sets.{In}
 use Rattle.ranked.specs.declared.tag.Tag.{Tag}
 use Rattle.ranked.proofs.Plain.{clash, is_false, both, some_same}
-use Rattle.ranked.proofs.OrderLaws.{eq_itself}
 use Rattle.ranked.proofs.SetLaws.{In-left, In-right, In-cases, any-none}
 use Rattle.ranked.proofs.AscendingLaws.{map-ascending, ascending-ascending}
 use Rattle.pcrf_facts.specs.Places.{SessionField, FramedIpAddress, CalledStationId, SubscriptionIds, OriginHost, OriginRealm, RequestType, Place, OfSession, place_position, position_cmp, address, apn, subscribers, host}
 use Rattle.pcrf_facts.specs.Values.{Subscriber, Value, Number, Text, Address, Subscribers, entry_cmp}
-use Rattle.pcrf_facts.specs.Facts.{Fact, End, Removed, Field, position, entry, fact_cmp, is_shaded_by}
+use Rattle.pcrf_facts.specs.Facts.{Fact, End, Field, position, entry, fact_cmp, is_shaded_by}
 use Rattle.pcrf_facts.proofs.FactLaws.{place_ranked, position_ranked, fact_ranked, shaded_irr, same_place}
 use Rattle.pcrf_facts.proofs.JoinedLaws.{sorted-In}
 use Rattle.pcrf_model.specs.Limits.{last_counter, site_limit}
 use Rattle.pcrf_model.specs.Sessions.{Kind, Session}
 use Rattle.pcrf_model.specs.Holdings.{Holding}
-use Rattle.pcrf_model.specs.Operations.{Operation}
 use Rattle.pcrf_model.specs.Making.{given, session_fields, next_operation, ending}
-use Rattle.pcrf_model.specs.Refusals.{is_clock_full}
-use Rattle.pcrf_model.specs.Forms.{is_rising, is_stamp, is_within, is_tagged, is_session, is_request_number, is_none_or, is_address, is_apn, is_identity, are_subscribers, is_user, fits_session_field, stand_together, fits, is_operation}
-use Rattle.pcrf_model.proofs.FormLaws.{all_pass, test_by_rises, le_passes, test_by_formed}
+use Rattle.pcrf_model.specs.Forms.{is_tagged, is_session, is_request_number, is_none_or, is_address, is_apn, is_identity, are_subscribers, is_user, fits_session_field, stand_together, fits, is_operation}
+use Rattle.pcrf_model.proofs.FormLaws.{test_by_rises, le_passes, test_by_formed}
 
 -- ---- facts that stand together
 

@@ -5,32 +5,31 @@ use Rattle.std.proofs.lemmas.List.Folds.{list_all-append}
 use Rattle.std.proofs.lemmas.Str.Parse.{digit_from_value}
 use Rattle.std.specs.Str.Parse.{AllDigits}
 use Rattle.std.specs.Prelude.{codes}
-use Rattle.std.proofs.Common.{◌≡◌, ℕ, min, ◌+◌, ◌-◌, ◌<◌, ◌≤◌, ◌^◌, Bool, true, false, cond, ◌&&◌, nat_le, ◌==◌, List, [], ◌∷◌, ◌++◌, map, length, find, Option, Some, None, ◌⊎◌, inl, inr, refl, sym, ap, ◌∙◌, subst, option_map, option_and_then, unwrap_or, decimal, length-append, arith}
+use Rattle.std.proofs.Common.{◌≡◌, ℕ, min, ◌-◌, ◌<◌, ◌≤◌, ◌^◌, true, false, cond, ◌==◌, List, [], ◌∷◌, ◌++◌, map, length, find, Option, Some, None, inl, inr, refl, sym, ap, ◌∙◌, subst, option_map, option_and_then, unwrap_or, decimal, length-append, arith}
 use Rattle.std.specs.Cmp.{first_so, second_so}
 use Rattle.std.specs.List.{list_all}
 use Rattle.ranked.specs.Ascending.{ascending}
 use Rattle.ranked.specs.Sets.{In}
-use Rattle.ranked.specs.declared.tag.Tag.{Tag}
 use Rattle.ranked.proofs.Plain.{clash, both, some_same}
 use Rattle.ranked.proofs.SetLaws.{In-cases, map-In}
 use Rattle.ranked.proofs.DistinctLaws.{take-In}
 use Rattle.ranked.proofs.AscendingLaws.{ascending-In}
 use Rattle.pcrf_values.specs.Limits.{session_id_limit, rule_name_limit, operator_rule_name_limit}
 use Rattle.pcrf_values.specs.RuleValues.{RuleValue, DeltaValue}
-use Rattle.pcrf_facts.specs.Places.{ComponentField, ComponentStatus, FlowField, FlowDescriptions, FlowStatus, Place, OfComponent, OfFlow, OfRuleName, apn}
+use Rattle.pcrf_facts.specs.Places.{ComponentStatus, FlowDescriptions, FlowStatus, Place, OfComponent, OfFlow, OfRuleName, apn}
 use Rattle.pcrf_facts.specs.Values.{Value, Number, Filters, Told, Entry}
 use Rattle.pcrf_facts.specs.Facts.{Field}
 use Rattle.pcrf_facts.proofs.ShownLaws.{fact_there}
 use Rattle.pcrf_model.specs.Sessions.{Kind, Gx, Af, Session}
-use Rattle.pcrf_model.specs.Holdings.{SessionFact, facts_on, Holding}
-use Rattle.pcrf_model.specs.Views.{View, view, value, number, text, as_number, as_filters}
+use Rattle.pcrf_model.specs.Holdings.{facts_on, Holding}
+use Rattle.pcrf_model.specs.Views.{View, view, value, text, as_number, as_filters}
 use Rattle.pcrf_model.specs.Live.{is_live}
-use Rattle.pcrf_model.specs.Tables.{Class, OperatorRule, ApnRow, Tables, media_class, apn_row}
+use Rattle.pcrf_model.specs.Tables.{Class, OperatorRule, ApnRow, Tables, media_class}
 use Rattle.pcrf_model.specs.Flows.{FlowId, or_else, of_flow, of_component, filters, flow_status, is_signalling, media_type, class_of, Uplink, Downlink, asked_rate, flow_rule_name, flow_rule}
 use Rattle.pcrf_model.specs.Rules.{rule_of, apn_of, operator_rule, operator_rules, flow_rules, listed_cmp, rules}
 use Rattle.pcrf_model.specs.Differences.{ToldRule, told, told_name_of, difference}
 use Rattle.pcrf_model.specs.Serving.{delta_of}
-use Rattle.pcrf_model.specs.Forms.{is_byte, is_text, is_unsigned, is_class_from, is_class, is_status, are_filters, is_rule, is_operator_rule, is_session, fits_place, fits_component_field, fits_flow_field, fits_rule_name, is_holding, are_tables, are_apns}
+use Rattle.pcrf_model.specs.Forms.{is_byte, is_text, is_unsigned, is_class, is_status, are_filters, is_rule, is_operator_rule, is_session, fits_place, is_holding, are_tables}
 use Rattle.pcrf_model.proofs.HoldingLaws.{facts_on-In}
 use Rattle.pcrf_model.proofs.ViewLaws.{sessions_alone}
 use Rattle.pcrf_model.proofs.ToldLaws.{told-shows}

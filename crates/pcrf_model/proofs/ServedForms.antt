@@ -1,23 +1,23 @@
 -- Served requests and pushes add operations of the form.
 use Rattle.std.proofs.lemmas.Bool.Decides.{nat_tests}
-use Rattle.std.proofs.Common.{◌≡◌, ℕ, ◌+◌, ◌-◌, ◌<◌, ◌≤◌, Bool, true, false, cond, not, ◌&&◌, ◌==◌, is_some, List, [], ◌∷◌, ◌++◌, map, take, length, Option, Some, None, inl, inr, refl, sym, ap, ◌∙◌, subst, option_map, unwrap_or, length-append, length-take, flat_map, arith}
+use Rattle.std.proofs.Common.{◌≡◌, ℕ, ◌+◌, ◌-◌, ◌<◌, ◌≤◌, Bool, true, false, cond, not, ◌&&◌, ◌==◌, is_some, List, [], ◌∷◌, ◌++◌, map, length, Option, Some, None, inl, inr, refl, sym, ap, ◌∙◌, subst, option_map, unwrap_or, length-append, length-take, flat_map, arith}
 use Rattle.std.proofs.lemmas.List.{length-map}
 use Rattle.std.specs.Cmp.{first_so, second_so}
 use Rattle.std.specs.List.{list_all}
 use Rattle.ranked.specs.Ascending.{ascending}
-use Rattle.ranked.specs.Sets.{In, Same}
+use Rattle.ranked.specs.Sets.{In}
 use Rattle.ranked.specs.declared.tag.Tag.{Tag}
-use Rattle.ranked.proofs.Plain.{clash, is_false, both, some_same, some_is, not_true}
+use Rattle.ranked.proofs.Plain.{clash, some_same, some_is, not_true}
 use Rattle.ranked.proofs.SetLaws.{Same-itself, Same-through, Same-append, map-Same}
 use Rattle.pcrf_values.specs.Limits.{session_id_limit}
-use Rattle.pcrf_values.specs.RuleValues.{RuleValue, DeltaValue}
+use Rattle.pcrf_values.specs.RuleValues.{DeltaValue}
 use Rattle.pcrf_values.specs.Numbers.{request_kind_number}
 use Rattle.pcrf_values.specs.Results.{unknown_session_id, unable_to_comply}
 use Rattle.pcrf_values.specs.declared.refusal.Refusal.{Refusal}
 use Rattle.pcrf_values.specs.declared.request_kind.RequestKind.{RequestKind}
 use Rattle.pcrf_values.specs.declared.request_kind.RequestKind.TheVariants.{Initial, Update, Termination}
-use Rattle.pcrf_facts.specs.Places.{SessionField, RequestType, OfRuleName, address}
-use Rattle.pcrf_facts.specs.Values.{Value, Number, Untold, Told}
+use Rattle.pcrf_facts.specs.Places.{SessionField, RequestType, address}
+use Rattle.pcrf_facts.specs.Values.{Value, Number}
 use Rattle.pcrf_facts.specs.Facts.{Fact, Field, fact_cmp}
 use Rattle.pcrf_facts.proofs.JoinedLaws as facts
 use Rattle.pcrf_model.specs.Limits.{last_counter, site_limit}
@@ -29,11 +29,11 @@ use Rattle.pcrf_model.specs.Live.{is_live}
 use Rattle.pcrf_model.specs.Tables.{Tables}
 use Rattle.pcrf_model.specs.Rules.{rules}
 use Rattle.pcrf_model.specs.Differences.{told, difference, is_empty}
-use Rattle.pcrf_model.specs.Requests.{CcrValue, ComponentValue, AarValue, StrValue, RequestValue, Ccr, Aar, Str, Base}
-use Rattle.pcrf_model.specs.Making.{ccr_fields, told_facts, component_facts, aar_facts, next_tag, next_operation, ending}
+use Rattle.pcrf_model.specs.Requests.{CcrValue, AarValue, StrValue, RequestValue, Ccr, Aar, Str, Base}
+use Rattle.pcrf_model.specs.Making.{ccr_fields, told_facts, component_facts, aar_facts, next_tag, next_operation}
 use Rattle.pcrf_model.specs.Refusals.{first_cause, is_clock_full, ccr_causes, ccr_refusal, aar_causes, aar_refusal, str_refusal}
 use Rattle.pcrf_model.specs.Replies.{ReplyValue, OnGx, Rejected, Refused, Outcome}
-use Rattle.pcrf_model.specs.Serving.{empty_delta, delta_of, provisioned, terminated, accepted_ccr, described, closed, refused_or, serve_ccr, serve_aar, serve_str, serve}
+use Rattle.pcrf_model.specs.Serving.{empty_delta, delta_of, provisioned, accepted_ccr, described, closed, refused_or, serve_ccr, serve_aar, serve_str, serve}
 use Rattle.pcrf_model.specs.Pushing.{is_of_host, is_home, is_due, due, telling, nothing_pushed, push, lacks_counter}
 use Rattle.pcrf_model.specs.Forms.{is_text, is_unsigned, is_identity, is_origin, is_user, is_session, fits_session_field, are_apart, is_component, is_request_number, is_operation, is_holding, is_request, are_tables}
 use Rattle.pcrf_model.proofs.HoldingLaws.{sorted-In}
