@@ -207,11 +207,10 @@ module _ (t : Tables) (h : Holding) (tables : are_tables t ≡ true) (form : is_
       let known = first_so _ _ (first_so _ _ (held_fact h form (i.session, Field (OfFlow i.component i.flow FlowDescriptions) e.0.0 e.0.1) (shown_fact i.session (OfFlow i.component i.flow FlowDescriptions) e.0 e.1))) in
       let fs = second_so _ _ (value_fits as_filters Filters filters_of Af i.session (OfFlow i.component i.flow FlowDescriptions) m.shown o.kind m.of_filters) in
       let status = status_of (of_flow v i FlowStatus) (of_component v i ComponentStatus)
-          (λ n q. second_so _ _ (value_fits as_number Number number_of Af i.session (OfFlow i.component i.flow FlowStatus) n o.kind q))
-          (λ n q. second_so _ _ (value_fits as_number Number number_of Af i.session (OfComponent i.component ComponentStatus) n o.kind q)) in
+      (λ n q. second_so _ _ (value_fits as_number Number number_of Af i.session (OfFlow i.component i.flow FlowStatus) n o.kind q))
+      (λ n q. second_so _ _ (value_fits as_number Number number_of Af i.session (OfComponent i.component ComponentStatus) n o.kind q)) in
       let c : Class = m.class in
-      let good = rule_of_class (flow_rule_name i) (flow_status v i) m.shown c _ _ status fs (class_in_form t tables v i c m.of_class) (least (asked_rate t v i Uplink c.max_ul) c.max_ul) (least (asked_rate t v i Downlink c.max_dl) c.max_dl) in
-      (
+      let good = rule_of_class (flow_rule_name i) (flow_status v i) m.shown c _ _ status fs (class_in_form t tables v i c m.of_class) (least (asked_rate t v i Uplink c.max_ul) c.max_ul) (least (asked_rate t v i Downlink c.max_dl) c.max_dl) in (
         subst (λ (r : RuleValue). is_text rule_name_limit r.name ≡ true) (sym m.is) (flow_name i known o.low_component o.low_flow),
         subst (λ (r : RuleValue). is_rule r ≡ true) (sym m.is) good,
       )
@@ -232,8 +231,7 @@ module _ (t : Tables) (h : Holding) (tables : are_tables t ≡ true) (form : is_
       of_row (Some r) e j =
           let w = row_of t (text v s apn) r e in
           let m = map-In operator_rule x r.rules j in
-          let good = (table_row t tables w.0 r w.1).each m.0 m.1 in
-          (
+          let good = (table_row t tables w.0 r w.1).each m.0 m.1 in (
             subst (λ (z : RuleValue). is_text rule_name_limit z.name ≡ true) (sym m.2) (operator_name m.0.name (first_so _ _ (first_so _ _ (first_so _ _ good)))),
             subst (λ (z : RuleValue). is_rule z ≡ true) (sym m.2) (operator_rule_in_form m.0 good),
           )
