@@ -2,9 +2,8 @@
 use Rattle.std.specs.Prelude.{ℕ, List, [], ◌∷◌, map, Some, None, codes}
 use Rattle.ranked.specs.declared.tag.Tag.{Tag}
 use Rattle.pcrf_values.specs.declared.request_kind.RequestKind.TheVariants.{Update}
-use Rattle.pcrf_values.specs.RuleValues.{RuleValue}
-use Rattle.pcrf_facts.specs.Places.{MediaType, Place, OfComponent, OfRuleName, address, host, last}
-use Rattle.pcrf_facts.specs.Values.{Subscriber, Value, Number, Text, Address, Told}
+use Rattle.pcrf_facts.specs.Places.{MediaType, OfComponent, OfRuleName, address}
+use Rattle.pcrf_facts.specs.Values.{Subscriber, Number, Address, Told}
 use Rattle.pcrf_facts.specs.Facts.{Fact, End, Field}
 use Rattle.pcrf_model.specs.Sessions.{Session}
 use Rattle.pcrf_model.specs.Holdings.{Holding}
