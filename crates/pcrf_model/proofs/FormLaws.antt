@@ -94,8 +94,7 @@ counted_later k m n (Field p t x) l h =
 
 -- what is held up to a clock is held up to a later one
 held_later : (m n : ℕ) (x : SessionFact) → m ≤ n → is_held m x ≡ true → is_held n x ≡ true
-held_later m n x l h =
-    both _ _ (first_so _ _ h) (counted_later x.0.kind m n x.1 l (second_so _ _ h))
+held_later m n x l h = both _ _ (first_so _ _ h) (counted_later x.0.kind m n x.1 l (second_so _ _ h))
 
 -- the union of two of the form
 union_form : (h k : Holding) → HasForm h → HasForm k → HasForm (union h k)
@@ -127,10 +126,10 @@ kept_in_form h a =
 
 -- ---- operations
 
--- keys that rise are those of members that rise
-rises_of_keys : {A B : Type 0} (R : A → A → Ordering) (S : B → B → Ordering) (key : A → B) → ((x y : A) → S (key x) (key y) ≡ Less → R x y ≡ Less) → (xs : List A) → Rises S (map key xs) → Rises R xs
-rises_of_keys R S key less [] r = tt
-rises_of_keys R S key less (x ∷ xs) r = (λ y i. less x y (r.0 (key y) (In-map key y xs i)), rises_of_keys R S key less xs r.1)
+-- where the keys of a list rise it rises by key
+rises_by_key : {A B : Type 0} (cmp : B → B → Ordering) (key : A → B) (xs : List A) → Rises cmp (map key xs) → Rises (λ x y. cmp (key x) (key y)) xs
+rises_by_key cmp key [] r = tt
+rises_by_key cmp key (x ∷ xs) r = (λ y i. r.0 (key y) (In-map key y xs i), rises_by_key cmp key xs r.1)
 
 -- an operation of the form, by parts
 pub record IsFormed (o : Operation) : Type 0 where
@@ -151,17 +150,13 @@ formed_by_test o w =
       number = second_so _ _ two;
       session = second_so _ _ three;
       together = second_so _ _ four;
-      each = each_passes (λ f. fits o.session.kind f && is_tagged o.session.kind o.counter o.site o.number f) o.facts
-          (second_so _ _ w);
+      each = each_passes (λ f. fits o.session.kind f && is_tagged o.session.kind o.counter o.site o.number f) o.facts (second_so _ _ w);
     }
 
 -- and what is so passes the test
 pub test_by_formed : (o : Operation) → IsFormed o → is_operation o ≡ true
 test_by_formed o f =
-    both _ _
-    (both _ _
-    (both _ _
-    (both _ _ f.stamp f.number) f.session) f.together)
+    both _ _ (both _ _ (both _ _ (both _ _ f.stamp f.number) f.session) f.together)
     (all_pass (λ g. fits o.session.kind g && is_tagged o.session.kind o.counter o.site o.number g) o.facts f.each)
 
 -- the number in a tag is that of its place, and has 32 bits
@@ -181,10 +176,7 @@ counted_by_tag o w (Field p t x) h =
     let own : Tag = record { number = number_at k p o.number; counter = o.counter; site = o.site } in
     let numbers = number_stays k p o.number w.number in
     let itself : nat_le o.counter o.counter ≡ true = le_passes o.counter o.counter (omega arith) in
-    let counted : is_counted k o.counter (Field p own x) ≡ true =
-    both _ _
-    (both _ _ (both _ _ w.stamp itself) (first_so _ _ numbers))
-    (second_so _ _ numbers) in
+    let counted : is_counted k o.counter (Field p own x) ≡ true = both _ _ (both _ _ (both _ _ w.stamp itself) (first_so _ _ numbers)) (second_so _ _ numbers) in
     subst (λ (g : Tag). is_counted k o.counter (Field p g x) ≡ true) (sym (eq_is tag_ranked t own h)) counted
 
 -- facts are in order where their positions are
@@ -196,7 +188,7 @@ less_by_position s f g h =
 under_rises : (s : Session) (facts : List Fact) → Rises position_cmp (map position facts) → Rises session_fact_cmp (under s facts)
 under_rises s facts r =
     map-ascending (λ f g. position_cmp (position f) (position g)) session_fact_cmp (λ f. (s, f)) facts (λ f g i j l. less_by_position s f g l)
-    (rises_of_keys (λ f g. position_cmp (position f) (position g)) position_cmp position (λ f g l. l) facts r)
+    (rises_by_key position_cmp position facts r)
 
 -- what one operation makes has the form
 one_form : (o : Operation) → IsFormed o → HasForm (record { facts = under o.session o.facts; clock = o.counter })
@@ -210,9 +202,7 @@ one_form o w =
           let k : Kind = o.session.kind in
           let e = w.each x.1 u.1 in
           subst (λ (s : Session). is_held o.counter (s, x.1) ≡ true) (sym u.0)
-          (both _ _
-          (both _ _ w.session (first_so _ _ e))
-          (counted_by_tag o w x.1 (second_so _ _ e)));
+          (both _ _ (both _ _ w.session (first_so _ _ e)) (counted_by_tag o w x.1 (second_so _ _ e)));
     }
 
 -- and so has a holding with one more

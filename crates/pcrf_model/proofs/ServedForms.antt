@@ -92,28 +92,23 @@ str_left h q e = no_cause ((not (is_live (view h.facts) (af q.session)), unknown
 
 -- what each carries
 origin_parts : (id of_host of_realm : List ℕ) → is_origin id of_host of_realm ≡ true → (is_text session_id_limit id ≡ true) × (is_identity of_host ≡ true) × (is_identity of_realm ≡ true)
-origin_parts id of_host of_realm w =
-    let two = first_so (is_text session_id_limit id && is_identity of_host) (is_identity of_realm) w in
-    (first_so (is_text session_id_limit id) (is_identity of_host) two, second_so (is_text session_id_limit id) (is_identity of_host) two, second_so (is_text session_id_limit id && is_identity of_host) (is_identity of_realm) w)
+origin_parts id of_host of_realm w = let two = first_so _ _ w in (first_so _ _ two, second_so _ _ two, second_so _ _ w)
 
 -- a credit control request
 ccr_parts : (q : CcrValue) → is_request (Ccr q) ≡ true → (is_origin q.session q.host q.realm ≡ true) × (is_user q.address q.apn q.subscribers ≡ true) × (is_unsigned q.number ≡ true)
 ccr_parts q w =
-    let origin = is_origin q.session q.host q.realm in
-    let user = is_user q.address q.apn q.subscribers in
-    let two = first_so (origin && user) (is_unsigned q.number) w in
-    (first_so origin user two, second_so origin user two, second_so (origin && user) (is_unsigned q.number) w)
+    let all : (is_origin q.session q.host q.realm && is_user q.address q.apn q.subscribers && is_unsigned q.number) ≡ true = w in
+    let two = first_so _ _ all in
+    (first_so _ _ two, second_so _ _ two, second_so _ _ all)
 
 -- an AA request
 aar_parts : (q : AarValue) → is_request (Aar q) ≡ true
     → (is_origin q.session q.host q.realm ≡ true) × (is_user q.address q.apn q.subscribers ≡ true) × (list_all is_component q.components ≡ true) × (are_apart (map component_number q.components) ≡ true)
 aar_parts q w =
-    let origin = is_origin q.session q.host q.realm in
-    let user = is_user q.address q.apn q.subscribers in
-    let components = list_all is_component q.components in
-    let three = first_so (origin && user && components) (are_apart (map component_number q.components)) w in
-    let two = first_so (origin && user) components three in
-    (first_so origin user two, second_so origin user two, second_so (origin && user) components three, second_so (origin && user && components) (are_apart (map component_number q.components)) w)
+    let all : (is_origin q.session q.host q.realm && is_user q.address q.apn q.subscribers && list_all is_component q.components && are_apart (map component_number q.components)) ≡ true = w in
+    let three = first_so _ _ all in
+    let two = first_so _ _ three in
+    (first_so _ _ two, second_so _ _ two, second_so _ _ three, second_so _ _ all)
 
 -- ---- outcomes
 
