@@ -105,7 +105,7 @@ place_undo (OfFlow c n f) = ap (OfFlow c n) (flow_undo f)
 place_undo (OfRuleName t) = refl
 
 -- positions are ranked
-position_ranked : IsRanked position_cmp
+pub position_ranked : IsRanked position_cmp
 position_ranked = pair_ranked nat_ranked (pair_ranked nat_ranked (pair_ranked nat_ranked (pair_ranked nat_ranked text_ranked)))
 
 -- places are ranked

@@ -33,13 +33,13 @@ use Rattle.pcrf_model.proofs.BindLaws.{bind-greatest}
 use Rattle.pcrf_model.proofs.NameLaws.{heads, parts_of_name}
 
 -- the order of listed rules is one
-listed_ranked : IsRanked listed_cmp
+pub listed_ranked : IsRanked listed_cmp
 listed_ranked = on_ranked (λ (r : RuleValue). (r.precedence, r)) (λ p. p.1) (λ _. refl) (pair_ranked nat_ranked rule_ranked)
 
 -- ---- the operator's
 
 -- the row of a session is a row of the tables
-row_of : (t : Tables) (name : Option (List ℕ)) (r : ApnRow) → option_and_then (apn_row t) name ≡ Some r → (n : List ℕ) × (apn_row t n ≡ Some r)
+pub row_of : (t : Tables) (name : Option (List ℕ)) (r : ApnRow) → option_and_then (apn_row t) name ≡ Some r → (n : List ℕ) × (apn_row t n ≡ Some r)
 row_of t None r h = absurd (cc)
 row_of t (Some n) r h = (n, h)
 

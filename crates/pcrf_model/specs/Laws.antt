@@ -225,10 +225,10 @@ abbrev pub ServingAddsTheForm : Type 0
 ServingAddsTheForm = (most : ℕ) (t : Tables) (i : ℕ) (h : Holding) (q : RequestValue) (o : Operation) →
     are_tables t ≡ true → i < site_limit → is_holding h ≡ true → is_request q ≡ true → (serve most t i h q).added ≡ Some o → is_operation o ≡ true
 
--- and so does a push for which a counter is left
+-- and so does a push for which a counter is left, where a message carries an entry
 abbrev pub PushingAddsTheForm : Type 0
 PushingAddsTheForm = (most : ℕ) (t : Tables) (i : ℕ) (h : Holding) (name : Option (List ℕ)) (o : Operation) →
-    are_tables t ≡ true → i < site_limit → is_holding h ≡ true → lacks_counter t i h name ≡ false → (push most t i h name).added ≡ Some o → is_operation o ≡ true
+    1 ≤ most → are_tables t ≡ true → i < site_limit → is_holding h ≡ true → lacks_counter t i h name ≡ false → (push most t i h name).added ≡ Some o → is_operation o ≡ true
 
 -- ---- names of rules, and what a gateway lacks after it was told
 

@@ -11,6 +11,7 @@ pub mod Letters
 pub mod Limits
 pub mod Live
 pub mod Making
+pub mod Malformed
 pub mod Operations
 pub mod OperatorValues
 pub mod Pushing

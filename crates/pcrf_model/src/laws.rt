@@ -1,6 +1,6 @@
 //! The laws of the definitions, each the contract of a function without a body.
 
-ghost use Rattle.pcrf_model.specs.Laws.{KeepsUnions, KeepsUnionsOfHoldings, KeepsEachSession, KeepsOnce, ReplacingChangesOne, UnionIsCommutative, UnionIsAssociative, UnionIsIdempotent, OnlyOperationsCount, HoldsTheUnion, HoldsJustTheFacts, SameOperationsHoldTheSame, SessionsAreReadAlone, KeptShowsTheSame, OnlyMembersCount, KeptReadsTheSame, MembersReadTheSame, KeptHasTheSameValue, KeptServesTheSame, KeptPushesTheSame, KeptStepsTheSame, DifferenceLeadsThere, NoNameTwice, FirstLeavesTheRest, FirstIsAll, ToldIsTold, BindsToTheGreatest, BindsToNoneWhereNoneMatches, PushesTheFirstDue, PushesNoneWhereNoneIsDue, RuleNamesDiffer, SessionIsTold, ProvisioningTells, PushingTells};
+ghost use Rattle.pcrf_model.specs.Laws.{KeepsUnions, KeepsUnionsOfHoldings, KeepsEachSession, KeepsOnce, ReplacingChangesOne, UnionIsCommutative, UnionIsAssociative, UnionIsIdempotent, OnlyOperationsCount, HoldsTheUnion, HoldsJustTheFacts, SameOperationsHoldTheSame, SessionsAreReadAlone, KeptShowsTheSame, OnlyMembersCount, KeptReadsTheSame, MembersReadTheSame, KeptHasTheSameValue, KeptServesTheSame, KeptPushesTheSame, KeptStepsTheSame, DifferenceLeadsThere, NoNameTwice, FirstLeavesTheRest, FirstIsAll, ToldIsTold, BindsToTheGreatest, BindsToNoneWhereNoneMatches, PushesTheFirstDue, PushesNoneWhereNoneIsDue, RuleNamesDiffer, SessionIsTold, ProvisioningTells, PushingTells, UnionKeepsTheForm, KeepingKeepsTheForm, OperationsMakeTheForm, ServingAddsTheForm, PushingAddsTheForm};
 
 /// What is kept of what was kept and of more is what is kept of all.
 pub fn keeping_keeps_unions()
@@ -87,4 +87,17 @@ pub fn gateway_is_told_the_rules()
 pub fn gateway_lacks_what_the_first_entries_left()
     ensures provisioning { ProvisioningTells }
     ensures pushing { PushingTells }
+{}
+
+/// Operations of the form make holdings of the form, and a union of such holdings, or what is kept of one, has it.
+pub fn holdings_keep_their_form()
+    ensures union { UnionKeepsTheForm }
+    ensures kept { KeepingKeepsTheForm }
+    ensures operations { OperationsMakeTheForm }
+{}
+
+/// Served requests and pushes add operations of the form.
+pub fn sites_add_operations_of_the_form()
+    ensures serving { ServingAddsTheForm }
+    ensures pushing { PushingAddsTheForm }
 {}

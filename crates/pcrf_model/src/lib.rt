@@ -3,4 +3,5 @@
 
 pub mod edge_examples;
 pub mod examples;
+pub mod form_examples;
 pub mod laws;

@@ -1,0 +1,14 @@
+use Rattle.std.proofs.Common.{refl}
+use Rattle.std.specs.Fmt.{digits}
+use Rattle.pcrf_model.specs.Views.{view}
+use Rattle.pcrf_model.specs.Bindings.{bind}
+use Rattle.pcrf_model.specs.Rules.{rules}
+use Rattle.pcrf_model.specs.Differences.{told}
+use Rattle.pcrf_model.specs.Refusals.{ccr_refusal, aar_refusal, str_refusal}
+use Rattle.pcrf_model.specs.Serving.{provisioned, serve_ccr, serve_aar, serve_str}
+use Rattle.pcrf_model.specs.Pushing.{due, push}
+use Rattle.pcrf_model.proofs.form_examples.holdings_of_the_examples_are_in_form.Goals as goal
+
+pub returns : goal.returns
+unfolding digits view bind rules told ccr_refusal aar_refusal str_refusal provisioned serve_ccr serve_aar serve_str due push
+returns c = record { empty = refl; told = refl; removed = refl; ended = refl }
