@@ -1,5 +1,5 @@
 -- The facts of a record of an AF session, level by level.
-use Rattle.std.specs.Prelude.{ℕ, List, [], ◌∷◌, Option, None, Some}
+use Rattle.std.specs.Prelude.{ℕ, List, [], ◌∷◌, Option}
 use Rattle.lattice_core.specs.declared.tombed.Tombed.{Tombed}
 use Rattle.lattice_core.specs.Tombs.{tombed_facts}
 use Rattle.pcrf_facts.specs.Places.{ComponentField, MediaType, ComponentStatus, ComponentRateUp, ComponentRateDown, FlowField, FlowDescriptions, FlowUsage, FlowStatus, FlowRateUp, FlowRateDown, OfSession, OfComponent, OfFlow}

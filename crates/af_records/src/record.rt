@@ -499,7 +499,7 @@ fn status_of(
     whole: Option<&(Tag, OpenStatusNumber)>,
 ) -> FlowStatus
     ensures { flow_status_number result ≡ unwrap_or
-        (words.or_else (held_number (option_copied own)) (held_number (option_copied whole))) 2 }
+        (words.or_else (held_number (option_copied own.entry)) (held_number (option_copied whole.entry))) 2 }
 {
     let told = match own {
         Some(told) => Some(told.1),
@@ -515,13 +515,9 @@ fn status_of(
 }
 
 // The rate of a flow in one direction, by what it and its component say.
-fn given_rate(
-    own: Option<&(Tag, u32)>,
-    is_rtcp: bool,
-    whole: Option<&(Tag, u32)>,
-) -> Option<u32>
-    ensures { result ≡ words.or_else (held_number (option_copied own))
-        (cond is_rtcp None (held_number (option_copied whole))) }
+fn given_rate(own: Option<&(Tag, u32)>, is_rtcp: bool, whole: Option<&(Tag, u32)>) -> Option<u32>
+    ensures { result ≡ words.or_else (held_number (option_copied own.entry))
+        (cond is_rtcp None (held_number (option_copied whole.entry))) }
 {
     match own {
         Some(told) => Some(told.1),
