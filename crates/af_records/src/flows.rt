@@ -1,28 +1,53 @@
 //! The flows of a record, one after another.
 ghost use Rattle.std.specs.Prelude.{◌≡◌};
 ghost use Rattle.std.specs.Iterator.{YieldsFirst, item_count};
-ghost use Rattle.af_records.specs.FlowLists.{is_listed, flows_left};
+ghost use Rattle.af_records.specs.FlowLists.{is_listed, component_flows};
+ghost use Rattle.std.specs.List.{flat_map};
 
 use crate::component::ComponentParts;
 use crate::flow::FlowParts;
 use lattice_core::Tombed;
+use std::marker::Model;
 
-/// The Media-Component-Numbers and Flow-Numbers of some flows of a record, ascending: of those of which a field shows, or of
-/// those that are removed.
+/// The Media-Component-Numbers and Flow-Numbers of some flows of a record, ascending, which contracts see as their list: of
+/// those of which a field shows, or of those that are removed.
 #[derive(Drop)]
 pub struct Flows<'a> {
-    pub(crate) removed: bool,
-    pub(crate) components: &'a [(u32, Tombed<ComponentParts>)],
-    pub(crate) component: u32,
-    pub(crate) flows: &'a [(u32, Tombed<FlowParts>)],
+    removed: bool,
+    components: &'a [(u32, Tombed<ComponentParts>)],
+    component: u32,
+    flows: &'a [(u32, Tombed<FlowParts>)],
+}
+
+impl<'a> Model for Flows<'a> {
+    ghost use Rattle.std.specs.Prelude.{ℕ, List};
+    ghost use Rattle.af_records.specs.FlowLists.{flows_left};
+
+    ghost Value = { List (ℕ × ℕ) };
+
+    ghost view = { λ s. flows_left s.removed s.component s.flows.now s.components.now };
+}
+
+impl<'a> Flows<'a> {
+    /// The flows of these components that are removed, or those of which a field shows.
+    pub(crate) fn of(removed: bool, components: &'a [(u32, Tombed<ComponentParts>)]) -> Flows<'a>
+        ensures { result ≡ flat_map (component_flows removed) components.now }
+    {
+        Flows {
+            removed,
+            components,
+            component: 0,
+            flows: &[],
+        }
+    }
 }
 
 impl<'a> Iterator for Flows<'a> {
     type Item = (u32, u32);
 
-    ghost next_gives = { YieldsFirst (λ s. flows_left s.removed s.component s.flows.now s.components.now) };
+    ghost next_gives = { YieldsFirst (λ s. s) };
 
-    ghost remaining = { item_count (λ s. flows_left s.removed s.component s.flows.now s.components.now) };
+    ghost remaining = { item_count (λ s. s) };
 
     fn next(&mut self) -> Option<(u32, u32)> {
         loop {

@@ -13,8 +13,7 @@ ghost use Rattle.pcrf_facts.specs.Values as values;
 ghost use Rattle.pcrf_facts.specs.Values.{Number, Text};
 ghost use Rattle.record_levels.specs.Levels.{entry_by};
 ghost use Rattle.record_levels.specs.SessionFacts.{address_value, session_says};
-ghost use Rattle.af_records.specs.FlowLists.{flows_left};
-ghost use Rattle.af_records.specs.RemovedLists.{removable_of, removed_left};
+ghost use Rattle.af_records.specs.RemovedLists.{removable_of};
 ghost use Rattle.af_records.specs.Parts.{fields_at, components_of, component_at, flow_at, component_says, flow_says, held_number};
 ghost use Rattle.af_records.specs.RecordFacts.{fact_of};
 ghost use Rattle.af_records.specs.Singles.{single, with_component};
@@ -461,35 +460,19 @@ impl AfRec {
     /// The flows of which a field shows, ascending.
     #[tactic(auto, using(crate::proofs::FlowLaws::flows_is))]
     pub fn flows(&self) -> Flows<'_>
-        ensures { flows_left result.removed result.component result.flows.now result.components.now
-            ≡ words.flows self.now }
+        ensures { result ≡ words.flows self.now }
     {
         self.parts.note_valid();
-        Flows {
-            removed: false,
-            components: components_of(&self.parts),
-            component: 0,
-            flows: &[],
-        }
+        Flows::of(false, components_of(&self.parts))
     }
 
     /// The components and flows that are removed, as far as that is kept, components first.
     #[tactic(auto, using(crate::proofs::RemovedLaws::removed_is))]
     pub fn removed(&self) -> RemovedParts<'_>
-        ensures { map removable_of (removed_left result.components.now
-            (flows_left result.flows.removed result.flows.component result.flows.flows.now result.flows.components.now))
-            ≡ held_words.removed self.now }
+        ensures { map removable_of result ≡ held_words.removed self.now }
     {
         self.parts.note_valid();
-        RemovedParts {
-            components: components_of(&self.parts),
-            flows: Flows {
-                removed: true,
-                components: components_of(&self.parts),
-                component: 0,
-                flows: &[],
-            },
-        }
+        RemovedParts::of(components_of(&self.parts))
     }
 }
 

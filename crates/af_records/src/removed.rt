@@ -1,12 +1,14 @@
 //! What of a record is removed, one part after another.
-ghost use Rattle.std.specs.Prelude.{◌≡◌};
+ghost use Rattle.std.specs.Prelude.{◌≡◌, true};
+ghost use Rattle.std.specs.List.{flat_map};
 ghost use Rattle.std.specs.Iterator.{YieldsFirst, item_count};
-ghost use Rattle.af_records.specs.FlowLists.{flows_left};
+ghost use Rattle.af_records.specs.FlowLists.{component_flows};
 ghost use Rattle.af_records.specs.RemovedLists.{removed_left};
 
 use crate::component::ComponentParts;
 use crate::flows::Flows;
 use lattice_core::Tombed;
+use std::marker::Model;
 
 /// A part of a session that is removed.
 #[derive(Clone, Copy, Debug, PartialEq, Eq)]
@@ -17,19 +19,42 @@ pub enum RemovedPart {
     Flow(u32, u32),
 }
 
-/// The removed components, and then the removed flows of components that aren't, each ascending.
+/// The removed components, and then the removed flows of components that aren't, each ascending; which contracts see as that
+/// list.
 #[derive(Drop)]
 pub struct RemovedParts<'a> {
-    pub(crate) components: &'a [(u32, Tombed<ComponentParts>)],
-    pub(crate) flows: Flows<'a>,
+    components: &'a [(u32, Tombed<ComponentParts>)],
+    flows: Flows<'a>,
+}
+
+impl<'a> Model for RemovedParts<'a> {
+    ghost use Rattle.std.specs.Prelude.{List};
+    ghost use Rattle.af_records.specs.declared.removed.RemovedPart.{RemovedPart};
+    ghost use Rattle.af_records.specs.RemovedLists.{removed_left};
+
+    ghost Value = { List RemovedPart };
+
+    ghost view = { λ s. removed_left s.components.now s.flows };
+}
+
+impl<'a> RemovedParts<'a> {
+    /// What of these components is removed.
+    pub(crate) fn of(components: &'a [(u32, Tombed<ComponentParts>)]) -> RemovedParts<'a>
+        ensures { result ≡ removed_left components.now (flat_map (component_flows true) components.now) }
+    {
+        RemovedParts {
+            components,
+            flows: Flows::of(true, components),
+        }
+    }
 }
 
 impl<'a> Iterator for RemovedParts<'a> {
     type Item = RemovedPart;
 
-    ghost next_gives = { YieldsFirst (λ s. removed_left s.components.now (flows_left s.flows.removed s.flows.component s.flows.flows.now s.flows.components.now)) };
+    ghost next_gives = { YieldsFirst (λ s. s) };
 
-    ghost remaining = { item_count (λ s. removed_left s.components.now (flows_left s.flows.removed s.flows.component s.flows.flows.now s.flows.components.now)) };
+    ghost remaining = { item_count (λ s. s) };
 
     fn next(&mut self) -> Option<RemovedPart> {
         while let Some((first, others)) = self.components.split_first() {
