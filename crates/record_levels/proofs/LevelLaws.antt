@@ -5,7 +5,6 @@ use Rattle.std.specs.Ordering.{is_lt, ordering_then}
 use Rattle.std.specs.List.{flat_map}
 use Rattle.std.proofs.lemmas.List.{take_more, map-append}
 use Rattle.ranked.specs.Sets.{In, Same}
-use Rattle.ranked.specs.Orders.{pair_cmp}
 use Rattle.ranked.specs.Tags.{tag_cmp}
 use Rattle.ranked.specs.declared.tag.Tag.{Tag}
 use Rattle.ranked.proofs.Plain.{clash, some_same, none_some}

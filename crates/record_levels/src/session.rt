@@ -114,8 +114,7 @@ impl<L: Ranked> SessionFields<L> {
         let user = self.user.address.get().is_some()
             && self.user.apn.get().is_some()
             && self.user.subscribers.get().is_some();
-        user
-            && self.client.host.get().is_some()
+        user && self.client.host.get().is_some()
             && self.client.realm.get().is_some()
             && self.client.last.get().is_some()
     }

@@ -1,0 +1,5 @@
+pub mod FlowLaws
+pub mod FlowOrder
+pub mod ReaderLaws
+pub mod RecordLaws
+pub mod RemovedLaws

@@ -1,0 +1,8 @@
+use Rattle.std.proofs.Common.{ap, ◌∙◌}
+use Rattle.pcrf_facts.specs.Places.{FramedIpAddress}
+use Rattle.record_levels.specs.SessionFacts.{address_value}
+use Rattle.record_levels.specs.Levels.{entry_by}
+use Rattle.af_records.proofs.record.AfRec.address.Goals as goal
+
+pub returns-in-Some : goal.returns-in-Some
+returns-in-Some c = ap (entry_by address_value) c.get.ensures ∙ c.in-Some.ensures FramedIpAddress

@@ -1,0 +1,6 @@
+pub mod FlowLists
+pub mod Joins
+pub mod Parts
+pub mod RecordFacts
+pub mod RemovedLists
+pub mod Singles

@@ -1,0 +1,20 @@
+//! What a site holds of one AF session, joined from facts in any order.
+#![tactic(auto)]
+
+mod component;
+mod fact;
+mod flow;
+mod flows;
+mod rates;
+mod record;
+mod removed;
+mod session;
+
+pub use fact::{
+    AfFact, AfRequestType, ComponentValue, FlowUsageNumber, FlowValue, OpenStatusNumber,
+};
+pub use flows::Flows;
+pub use rates::GivenRates;
+pub use record::AfRec;
+pub use record_levels::SessionValue;
+pub use removed::{RemovedPart, RemovedParts};

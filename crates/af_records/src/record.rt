@@ -1,0 +1,512 @@
+//! Records of AF sessions.
+ghost use Rattle.std.specs.Prelude.{◌≡◌, [], ◌∷◌, IfOk, OnOk, OnErr, None, cond, map};
+ghost use Rattle.std.proofs.Common.{unwrap_or};
+ghost use Rattle.std.specs.Option.{option_copied};
+ghost use Rattle.pcrf_values.specs.Numbers.{flow_status_number};
+ghost use Rattle.pcrf_facts.specs.FlowWords as words;
+ghost use Rattle.pcrf_facts.specs.Held.{held, joined, is_ended, shown};
+ghost use Rattle.pcrf_facts.specs.Held as held_words;
+ghost use Rattle.pcrf_facts.specs.Live.{af_is_live};
+ghost use Rattle.pcrf_facts.specs.Places as places;
+ghost use Rattle.pcrf_facts.specs.Places.{SessionField, ComponentField, FlowField, OfSession, OfComponent, OfFlow};
+ghost use Rattle.pcrf_facts.specs.Values as values;
+ghost use Rattle.pcrf_facts.specs.Values.{Number, Text};
+ghost use Rattle.record_levels.specs.Levels.{entry_by};
+ghost use Rattle.record_levels.specs.SessionFacts.{address_value, session_says};
+ghost use Rattle.af_records.specs.RemovedLists.{removable_of};
+ghost use Rattle.af_records.specs.Parts.{fields_at, components_of, component_at, flow_at, component_says, flow_says, held_number};
+ghost use Rattle.af_records.specs.RecordFacts.{fact_of};
+ghost use Rattle.af_records.specs.Singles.{single, with_component};
+ghost use Rattle.lattice_core.specs.declared.tombed.Tombed.TheVariants.{Live};
+
+use crate::component::ComponentParts;
+use crate::fact::{AfFact, AfRequestType, FlowUsageNumber, OpenStatusNumber};
+use crate::flow::FlowParts;
+use crate::flows::Flows;
+use crate::rates::GivenRates;
+use crate::removed::RemovedParts;
+use crate::session::SessionParts;
+use lattice_core::{Join, Tag, Tombed};
+use pcrf_values::{Apn, DiameterIdentity, Filters, FlowStatus, Subscribers};
+use record_levels::SessionFields;
+use std::alloc::{AllocError, Global};
+use std::marker::Model;
+use std::net::Ipv4Addr;
+
+/// The number of Flow-Usage RTCP (TS 29.214, 5.3.12).
+const RTCP: u32 = 1;
+
+/// What is known of one AF session, which contracts see as the facts that are kept, ascending.
+#[derive(Drop)]
+pub struct AfRec {
+    parts: Tombed<SessionParts>,
+}
+
+impl Model for AfRec {
+    ghost use Rattle.std.specs.Prelude.{List};
+    ghost use Rattle.ranked.specs.Ascending.{ascending};
+    ghost use Rattle.pcrf_facts.specs.Facts.{Fact, fact_cmp};
+    ghost use Rattle.af_records.specs.RecordFacts.{record_facts};
+
+    ghost Value = { List Fact };
+
+    ghost view = { λ r. ascending fact_cmp (record_facts r.parts) };
+}
+
+impl Join for AfRec {
+    ghost use Rattle.std.specs.Prelude.{◌++◌};
+    ghost use Rattle.pcrf_facts.specs.Held.{held, joined};
+    ghost use Rattle.pcrf_facts.proofs.JoinedLaws.{joined_comm, joined_assoc, joined_idem, held_twice};
+
+    ghost joined = { joined };
+
+    ghost valid = { λ facts. held facts ≡ facts };
+
+    ghost commutative = { joined_comm };
+
+    ghost associative = { joined_assoc };
+
+    ghost idempotent = { joined_idem };
+
+    ghost closed = { λ xs ys _ _. held_twice (xs ++ ys) };
+
+    #[tactic(auto, using(crate::proofs::RecordLaws::record_joined_is))]
+    fn joined_copy(&self, other: &AfRec) -> Result<AfRec, AllocError> {
+        self.parts.note_valid();
+        other.parts.note_valid();
+        let parts = self.parts.joined_copy(&other.parts)?;
+        Ok(AfRec { parts })
+    }
+
+    #[tactic(auto, using(crate::proofs::RecordLaws::record_joined_is))]
+    fn join_in(&mut self, other: AfRec) -> Result<(), (AllocError, AfRec)> {
+        let theirs = other.parts;
+        self.parts.note_valid();
+        theirs.note_valid();
+        if let Err((refused, parts)) = self.parts.join_in(theirs) {
+            return Err((refused, AfRec { parts }));
+        }
+        Ok(())
+    }
+
+    fn try_copy(&self) -> Result<AfRec, AllocError> {
+        let parts = self.parts.try_copy()?;
+        Ok(AfRec { parts })
+    }
+
+    #[tactic(auto, using(crate::proofs::RecordLaws::record_held))]
+    fn note_valid(&self) {
+        self.parts.note_valid();
+    }
+}
+
+// The record of one fact.
+fn single(alloc: Global, fact: &AfFact) -> Result<Tombed<SessionParts>, AllocError>
+    ensures { IfOk result (λ r. r ≡ single fact.now) }
+{
+    match fact {
+        AfFact::End => Ok(Tombed::Ended),
+        AfFact::ComponentRemoved(component) => with_component(alloc, *component, Tombed::Ended),
+        AfFact::FlowRemoved(component, flow) => {
+            let parts = ComponentParts::with_flow(alloc, *flow, Tombed::Ended)?;
+            with_component(alloc, *component, Tombed::Live(parts))
+        }
+        AfFact::Session(tag, value) => Ok(Tombed::Live(SessionParts::of(alloc, *tag, value)?)),
+        AfFact::Component(component, tag, value) => {
+            let parts = ComponentParts::of(alloc, *tag, value);
+            with_component(alloc, *component, Tombed::Live(parts))
+        }
+        AfFact::Flow(component, flow, tag, value) => {
+            let fields = FlowParts::of(*tag, value)?;
+            let parts = ComponentParts::with_flow(alloc, *flow, Tombed::Live(fields))?;
+            with_component(alloc, *component, Tombed::Live(parts))
+        }
+    }
+}
+
+// A record of one component.
+fn with_component(
+    alloc: Global,
+    number: u32,
+    component: Tombed<ComponentParts>,
+) -> Result<Tombed<SessionParts>, AllocError>
+    ensures { IfOk result (λ r. r ≡ Live (with_component number component)) }
+{
+    let session = SessionParts::with_component(alloc, number, component)?;
+    Ok(Tombed::Live(session))
+}
+
+// The fields, where the session isn't ended.
+fn fields_at(parts: &Tombed<SessionParts>) -> Option<&SessionFields<AfRequestType>>
+    ensures { option_copied result ≡ fields_at parts.now }
+{
+    match parts {
+        Tombed::Live(session) => Some(&session.fields),
+        Tombed::Ended => None,
+    }
+}
+
+// All components, none of a session that is ended.
+fn components_of(parts: &Tombed<SessionParts>) -> &[(u32, Tombed<ComponentParts>)]
+    ensures { result.now ≡ components_of parts.now }
+{
+    match parts {
+        Tombed::Live(session) => session.components.entries(),
+        Tombed::Ended => &[],
+    }
+}
+
+// The component, where it shows.
+fn component_at(parts: &Tombed<SessionParts>, component: u32) -> Option<&ComponentParts>
+    ensures { option_copied result ≡ component_at parts.now component }
+{
+    match parts {
+        Tombed::Live(session) => match session.components.get(&component) {
+            Some(Tombed::Live(found)) => Some(found),
+            _ => None,
+        },
+        Tombed::Ended => None,
+    }
+}
+
+// The flow, where it shows.
+fn flow_at(parts: &Tombed<SessionParts>, component: u32, flow: u32) -> Option<&FlowParts>
+    ensures { option_copied result ≡ flow_at parts.now component flow }
+{
+    match component_at(parts, component) {
+        Some(found) => match found.flows.get(&flow) {
+            Some(Tombed::Live(found)) => Some(found),
+            _ => None,
+        },
+        None => None,
+    }
+}
+
+impl AfRec {
+    /// No fact.
+    pub fn start(alloc: Global) -> AfRec
+        ensures { result ≡ [] }
+    {
+        AfRec {
+            parts: Tombed::Live(SessionParts::start(alloc)),
+        }
+    }
+
+    /// Adds a fact; a refusal changes nothing.
+    #[tactic(auto, using(crate::proofs::RecordLaws::record_put_is))]
+    pub fn put(&mut self, alloc: Global, fact: &AfFact) -> Result<(), AllocError>
+        ensures ok { OnOk result (self.new ≡ joined self.old (fact_of fact.now ∷ [])) }
+        ensures err { OnErr result (self.new ≡ self.old) }
+    {
+        self.parts.note_valid();
+        let one = single(alloc, fact)?;
+        if let Err((refused, _)) = self.parts.join_in(one) {
+            return Err(refused);
+        }
+        Ok(())
+    }
+
+    /// The record of these facts.
+    pub fn of_facts(alloc: Global, facts: &[AfFact]) -> Result<AfRec, AllocError>
+        ensures { IfOk result (λ r. r ≡ held (map fact_of facts.now)) }
+    {
+        let mut record = AfRec::start(alloc);
+        for fact in facts {
+            record.put(alloc, fact)?;
+        }
+        Ok(record)
+    }
+
+    /// The session is ended.
+    #[tactic(auto, using(crate::proofs::ReaderLaws::ended_is))]
+    pub fn ended(&self) -> bool
+        ensures { result ≡ is_ended self.now }
+    {
+        match &self.parts {
+            Tombed::Ended => true,
+            Tombed::Live(_) => false,
+        }
+    }
+
+    /// The session isn't ended, and shows an address.
+    #[tactic(auto, using(crate::proofs::ReaderLaws::live_is))]
+    pub fn live(&self) -> bool
+        ensures { result ≡ af_is_live self.now }
+    {
+        self.parts.note_valid();
+        match &self.parts {
+            Tombed::Ended => false,
+            Tombed::Live(session) => session.fields.user.address.get().is_some(),
+        }
+    }
+
+    // The fields, where they show.
+    fn fields(&self) -> Option<&SessionFields<AfRequestType>>
+        ensures { (f : SessionField) → session_says (option_copied result) f ≡ shown self.now (OfSession f) }
+    {
+        self.parts.note_valid();
+        fields_at(&self.parts)
+    }
+
+    // The component, whose fields say what shows at its places.
+    fn component(&self, number: u32) -> Option<&ComponentParts>
+        ensures { (f : ComponentField) → component_says (option_copied result) f ≡ shown self.now (OfComponent number f) }
+    {
+        self.parts.note_valid();
+        component_at(&self.parts, number)
+    }
+
+    // The flow, whose fields say what shows at its places.
+    fn flow(&self, component: u32, number: u32) -> Option<&FlowParts>
+        ensures { (f : FlowField) → flow_says (option_copied result) f ≡ shown self.now (OfFlow component number f) }
+    {
+        self.parts.note_valid();
+        flow_at(&self.parts, component, number)
+    }
+
+    /// The Framed-IP-Address of the user, with its tag.
+    pub fn address(&self) -> Option<&(Tag, Ipv4Addr)>
+        ensures { entry_by address_value (option_copied result) ≡ shown self.now places.address }
+    {
+        match self.fields() {
+            Some(found) => found.user.address.get(),
+            None => None,
+        }
+    }
+
+    /// The Called-Station-Id, with its tag.
+    pub fn apn(&self) -> Option<&(Tag, Apn)>
+        ensures { entry_by Text (option_copied result) ≡ shown self.now places.apn }
+    {
+        match self.fields() {
+            Some(found) => found.user.apn.get(),
+            None => None,
+        }
+    }
+
+    /// The subscribers, with its tag.
+    pub fn subscribers(&self) -> Option<&(Tag, Subscribers)>
+        ensures { entry_by values.Subscribers (option_copied result) ≡ shown self.now places.subscribers }
+    {
+        match self.fields() {
+            Some(found) => found.user.subscribers.get(),
+            None => None,
+        }
+    }
+
+    /// The Origin-Host of the application function, with its tag.
+    pub fn host(&self) -> Option<&(Tag, DiameterIdentity)>
+        ensures { entry_by Text (option_copied result) ≡ shown self.now places.host }
+    {
+        match self.fields() {
+            Some(found) => found.client.host.get(),
+            None => None,
+        }
+    }
+
+    /// The Origin-Realm of the application function, with its tag.
+    pub fn realm(&self) -> Option<&(Tag, DiameterIdentity)>
+        ensures { entry_by Text (option_copied result) ≡ shown self.now places.realm }
+    {
+        match self.fields() {
+            Some(found) => found.client.realm.get(),
+            None => None,
+        }
+    }
+
+    /// What stands for the type of the last request, with its tag.
+    pub fn last(&self) -> Option<&(Tag, AfRequestType)>
+        ensures { entry_by Number (option_copied result) ≡ shown self.now places.last }
+    {
+        match self.fields() {
+            Some(found) => found.client.last.get(),
+            None => None,
+        }
+    }
+
+    /// The Media-Type of a component, with its tag.
+    pub fn component_media_type(&self, component: u32) -> Option<&(Tag, u32)>
+        ensures { entry_by Number (option_copied result)
+            ≡ shown self.now (OfComponent component places.MediaType) }
+    {
+        match self.component(component) {
+            Some(found) => found.media_type.get(),
+            None => None,
+        }
+    }
+
+    /// The Flow-Status of a component, with its tag.
+    pub fn component_status(&self, component: u32) -> Option<&(Tag, OpenStatusNumber)>
+        ensures { entry_by Number (option_copied result)
+            ≡ shown self.now (OfComponent component places.ComponentStatus) }
+    {
+        match self.component(component) {
+            Some(found) => found.status.get(),
+            None => None,
+        }
+    }
+
+    /// The Max-Requested-Bandwidth-UL of a component, with its tag.
+    pub fn component_rate_up(&self, component: u32) -> Option<&(Tag, u32)>
+        ensures { entry_by Number (option_copied result)
+            ≡ shown self.now (OfComponent component places.ComponentRateUp) }
+    {
+        match self.component(component) {
+            Some(found) => found.rates.up.get(),
+            None => None,
+        }
+    }
+
+    /// The Max-Requested-Bandwidth-DL of a component, with its tag.
+    pub fn component_rate_down(&self, component: u32) -> Option<&(Tag, u32)>
+        ensures { entry_by Number (option_copied result)
+            ≡ shown self.now (OfComponent component places.ComponentRateDown) }
+    {
+        match self.component(component) {
+            Some(found) => found.rates.down.get(),
+            None => None,
+        }
+    }
+
+    /// The Flow-Description of a flow, with its tag.
+    pub fn flow_descriptions(&self, component: u32, flow: u32) -> Option<&(Tag, Filters)>
+        ensures { entry_by values.Filters (option_copied result)
+            ≡ shown self.now (OfFlow component flow places.FlowDescriptions) }
+    {
+        match self.flow(component, flow) {
+            Some(found) => found.descriptions.get(),
+            None => None,
+        }
+    }
+
+    /// The Flow-Usage of a flow, with its tag.
+    pub fn flow_usage(&self, component: u32, flow: u32) -> Option<&(Tag, FlowUsageNumber)>
+        ensures { entry_by Number (option_copied result)
+            ≡ shown self.now (OfFlow component flow places.FlowUsage) }
+    {
+        match self.flow(component, flow) {
+            Some(found) => found.usage.get(),
+            None => None,
+        }
+    }
+
+    /// The Flow-Status of a flow itself, with its tag.
+    pub fn flow_own_status(&self, component: u32, flow: u32) -> Option<&(Tag, OpenStatusNumber)>
+        ensures { entry_by Number (option_copied result)
+            ≡ shown self.now (OfFlow component flow places.FlowStatus) }
+    {
+        match self.flow(component, flow) {
+            Some(found) => found.status.get(),
+            None => None,
+        }
+    }
+
+    /// The Max-Requested-Bandwidth-UL of a flow, with its tag.
+    pub fn flow_rate_up(&self, component: u32, flow: u32) -> Option<&(Tag, u32)>
+        ensures { entry_by Number (option_copied result)
+            ≡ shown self.now (OfFlow component flow places.FlowRateUp) }
+    {
+        match self.flow(component, flow) {
+            Some(found) => found.rates.up.get(),
+            None => None,
+        }
+    }
+
+    /// The Max-Requested-Bandwidth-DL of a flow, with its tag.
+    pub fn flow_rate_down(&self, component: u32, flow: u32) -> Option<&(Tag, u32)>
+        ensures { entry_by Number (option_copied result)
+            ≡ shown self.now (OfFlow component flow places.FlowRateDown) }
+    {
+        match self.flow(component, flow) {
+            Some(found) => found.rates.down.get(),
+            None => None,
+        }
+    }
+
+    // The flow shows that it is RTCP.
+    fn is_rtcp(&self, component: u32, flow: u32) -> bool
+        ensures { result ≡ words.is_rtcp (shown self.now) component flow }
+    {
+        match self.flow_usage(component, flow) {
+            Some(told) => told.1.get() == RTCP,
+            None => false,
+        }
+    }
+
+    /// The Flow-Status of a flow: its own, else its component's, else ENABLED.
+    pub fn flow_status(&self, component: u32, flow: u32) -> FlowStatus
+        ensures { flow_status_number result ≡ words.flow_status (shown self.now) component flow }
+    {
+        let own = self.flow_own_status(component, flow);
+        status_of(own, self.component_status(component))
+    }
+
+    /// The bit rates that requests gave a flow: in each direction its own, else, unless it is RTCP, its component's.
+    pub fn flow_rates(&self, component: u32, flow: u32) -> GivenRates
+        ensures up { result.up
+            ≡ words.given_rate (shown self.now) component flow places.FlowRateUp places.ComponentRateUp }
+        ensures down { result.down
+            ≡ words.given_rate (shown self.now) component flow places.FlowRateDown places.ComponentRateDown }
+    {
+        let is_rtcp = self.is_rtcp(component, flow);
+        let up = self.flow_rate_up(component, flow);
+        let down = self.flow_rate_down(component, flow);
+        GivenRates {
+            up: given_rate(up, is_rtcp, self.component_rate_up(component)),
+            down: given_rate(down, is_rtcp, self.component_rate_down(component)),
+        }
+    }
+
+    /// The flows of which a field shows, ascending.
+    #[tactic(auto, using(crate::proofs::FlowLaws::flows_is))]
+    pub fn flows(&self) -> Flows<'_>
+        ensures { result ≡ words.flows self.now }
+    {
+        self.parts.note_valid();
+        Flows::of(false, components_of(&self.parts))
+    }
+
+    /// The components and flows that are removed, as far as that is kept, components first.
+    #[tactic(auto, using(crate::proofs::RemovedLaws::removed_is))]
+    pub fn removed(&self) -> RemovedParts<'_>
+        ensures { map removable_of result ≡ held_words.removed self.now }
+    {
+        self.parts.note_valid();
+        RemovedParts::of(components_of(&self.parts))
+    }
+}
+
+// The Flow-Status of a flow, by what it and its component say.
+fn status_of(
+    own: Option<&(Tag, OpenStatusNumber)>,
+    whole: Option<&(Tag, OpenStatusNumber)>,
+) -> FlowStatus
+    ensures { flow_status_number result ≡ unwrap_or
+        (words.or_else (held_number (option_copied own.entry)) (held_number (option_copied whole.entry))) 2 }
+{
+    let told = match own {
+        Some(told) => Some(told.1),
+        None => match whole {
+            Some(told) => Some(told.1),
+            None => None,
+        },
+    };
+    match told {
+        Some(number) => FlowStatus::from_number(number.get()).unwrap_or(FlowStatus::Enabled),
+        None => FlowStatus::Enabled,
+    }
+}
+
+// The rate of a flow in one direction, by what it and its component say.
+fn given_rate(own: Option<&(Tag, u32)>, is_rtcp: bool, whole: Option<&(Tag, u32)>) -> Option<u32>
+    ensures { result ≡ words.or_else (held_number (option_copied own.entry))
+        (cond is_rtcp None (held_number (option_copied whole.entry))) }
+{
+    match own {
+        Some(told) => Some(told.1),
+        None => match whole {
+            Some(told) if !is_rtcp => Some(told.1),
+            _ => None,
+        },
+    }
+}
