@@ -1,5 +1,5 @@
 -- Unions and what is kept of them.
-use Rattle.std.proofs.Common.{◌≡◌, ℕ, max, ◌≤◌, List, [], ◌∷◌, ◌++◌, ◌↔◌, inl, inr, refl, sym, ap, ◌∙◌, subst, arith, append_assoc}
+use Rattle.std.proofs.Common.{◌≡◌, ℕ, max, ◌≤◌, List, [], ◌∷◌, ◌++◌, ◌↔◌, inl, inr, refl, sym, ap, ◌∙◌, subst, arith, append_assoc, append-nil}
 use Rattle.ranked.specs.Ascending.{ascending}
 use Rattle.ranked.specs.Sets.{In, Same}
 use Rattle.pcrf_model.specs.Sessions.{Session}
@@ -62,6 +62,12 @@ kept_of_twice h = same_holding (kept_facts (ascending session_fact_cmp (kept_fac
 pub union_twice : (h : Holding) → kept_of (union h h) ≡ kept_of h
 union_twice h = same_holding (kept_facts (ascending session_fact_cmp (h.facts ++ h.facts))) (kept_facts h.facts) _ _
     (kept_facts-Same (ascending session_fact_cmp (h.facts ++ h.facts)) h.facts (Same-through (ascending session_fact_cmp (h.facts ++ h.facts)) (h.facts ++ h.facts) h.facts (sorted-In (h.facts ++ h.facts)) (Same-twice h.facts)))
+    (omega arith)
+
+-- what is kept of a union with nothing
+pub union_nothing : (h : Holding) → kept_of (union h nothing_held) ≡ kept_of h
+union_nothing h = same_holding (kept_facts (ascending session_fact_cmp (h.facts ++ []))) (kept_facts h.facts) _ _
+    (kept_facts-Same (ascending session_fact_cmp (h.facts ++ [])) h.facts (subst (λ (l : List SessionFact). Same (ascending session_fact_cmp l) h.facts) (sym (append-nil h.facts)) (sorted-In h.facts)))
     (omega arith)
 
 -- the view of what is kept
