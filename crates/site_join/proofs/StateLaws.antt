@@ -26,7 +26,7 @@ use Rattle.pcrf_model.specs.Holdings.{SessionFact, session_fact_cmp, is_shaded_t
 use Rattle.pcrf_model.specs.Operations.{Operation, with_operation}
 use Rattle.pcrf_model.proofs.HoldingLaws as holding
 use Rattle.pcrf_model.proofs.HoldingLaws.{session_ranked, session_fact_ranked, there_irr, there_trans, there_strict, kept_facts-append, kept_facts-Same, same_session, shaded_there, shades_there, facts_on-In, In-facts_on, In-under, under-In}
-use Rattle.site_join.specs.States.{Records, facts_under, facts_of, held_by, record_facts, session_of, facts_in, gx_with}
+use Rattle.site_join.specs.States.{Records, facts_under, facts_of, held_by, record_facts, session_of, facts_in, gx_with, af_with}
 use Rattle.site_join.specs.declared.operation.SessionFacts.{SessionFacts}
 use Rattle.site_join.specs.declared.operation.SessionFacts.TheVariants as of
 
@@ -238,12 +238,29 @@ takes_gx gxs afs clock o id is a b =
     (let none = sym (joined_none afs b.0) in λ i. ascending session_fact_cmp (facts_of (gx_put i) (none i))) in
     λ i. record { facts = (same ∙ all) i; clock = max clock o.counter }
 
--- an operation is taken by joining its facts into the record of its session
-pub takes : (gxs : Records) (clock : ℕ) (on : SessionFacts) (o : Operation) → session_of on ≡ o.session → facts_in on ≡ o.facts → AreKept gxs
-    → held_by (gx_with gxs on) [] (max clock o.counter) ≡ kept_of (with_operation (held_by gxs [] clock) o)
-takes gxs clock (of.Gx id facts) o s f a =
-    ap (λ (fs : List Fact). held_by (put text_cmp joined gxs id (held fs)) [] (max clock o.counter)) f
-    ∙ takes_gx gxs [] clock o id (sym s) a no_records
+-- And an AF operation.
+pub takes_af : (gxs afs : Records) (clock : ℕ) (o : Operation) (id : List ℕ) → o.session ≡ af id → AreKept gxs → AreKept afs
+    → held_by gxs (put text_cmp joined afs id (held o.facts)) (max clock o.counter) ≡ kept_of (with_operation (held_by gxs afs clock) o)
+takes_af gxs afs clock o id is a b =
+    let one : Records = (id, held o.facts) ∷ [] in
+    let facts : Same (facts_of [] one) (kept_facts (under o.session o.facts)) =
+    subst (λ (s : Session). Same (facts_of [] one) (kept_facts (under s o.facts))) (sym is)
+    (subst (λ (l : List SessionFact). Same l (kept_facts (under (af id) o.facts))) (sym (append-nil (under (af id) (held o.facts)))) (one_record (af id) o.facts)) in
+    let all = more_records gxs afs [] one clock (under o.session o.facts) a b no_records (one_kept_record id o.facts) facts in
+    let af_put : put text_cmp joined afs id (held o.facts) ≡ map_joined text_cmp joined afs one = sym (joined_single text_cmp joined nat_list_cmp_total text_same joined_comm joined_assoc afs id (held o.facts) b.0) in
+    let same : ascending session_fact_cmp (facts_of gxs (put text_cmp joined afs id (held o.facts))) ≡ ascending session_fact_cmp (facts_of (map_joined text_cmp joined gxs []) (map_joined text_cmp joined afs one)) =
+    (let none = sym (joined_none gxs a.0) in λ i. ascending session_fact_cmp (facts_of (none i) (af_put i))) in
+    λ i. record { facts = (same ∙ all) i; clock = max clock o.counter }
+
+-- An operation is taken by joining its facts into the record of its session.
+pub takes : (gxs afs : Records) (clock : ℕ) (on : SessionFacts) (o : Operation) → session_of on ≡ o.session → facts_in on ≡ o.facts → AreKept gxs → AreKept afs
+    → held_by (gx_with gxs on) (af_with afs on) (max clock o.counter) ≡ kept_of (with_operation (held_by gxs afs clock) o)
+takes gxs afs clock (of.Gx id facts) o s f a b =
+    ap (λ (fs : List Fact). held_by (put text_cmp joined gxs id (held fs)) afs (max clock o.counter)) f
+    ∙ takes_gx gxs afs clock o id (sym s) a b
+takes gxs afs clock (of.Af id facts) o s f a b =
+    ap (λ (fs : List Fact). held_by gxs (put text_cmp joined afs id (held fs)) (max clock o.counter)) f
+    ∙ takes_af gxs afs clock o id (sym s) a b
 
 -- ---- what is read of one session
 
@@ -274,3 +291,30 @@ reads_gx gxs afs clock id a =
     of_part : (f : Fact) → In (gx id, f) (facts_under gx gxs) ⊎ In (gx id, f) (facts_under af afs) → In f (record_facts (value_at text_cmp gxs id))
     of_part f (inl i) = at_id gx gx_named gxs a.0 id f i
     of_part f (inr i) = kinds_differ Gx refl (of_kind af Af (λ _. refl) afs (gx id, f) i)
+
+-- And of an AF session.
+pub reads_af : (gxs afs : Records) (clock : ℕ) (id : List ℕ) → AreKept afs → record_facts (value_at text_cmp afs id) ≡ facts_on (held_by gxs afs clock).facts (af id)
+reads_af gxs afs clock id b =
+    let all : List SessionFact = facts_of gxs afs in
+    same_ascending fact_cmp fact_ranked (record_facts (value_at text_cmp afs id)) (facts_on (ascending session_fact_cmp all) (af id))
+    (record_rises (value_at text_cmp afs id) (valid_at text_ranked (λ facts. held facts ≡ facts) id afs b.1))
+    (filter_map-ascending session_fact_cmp fact_cmp (on_session (af id)) (ascending session_fact_cmp all) (λ x y u w i j l p q. on_one (af id) x y u w l p q) (ascending-ascending session_fact_cmp session_fact_ranked all))
+    (λ f. (
+      λ i. In-facts_on (ascending session_fact_cmp all) (af id) f ((holding.sorted-In all (af id, f)).1 (In-right (af id, f) (facts_under gx gxs) (facts_under af afs) (from_id af af_named afs b.0 id f i))),
+      λ i. of_part f (In-cases (af id, f) (facts_under gx gxs) (facts_under af afs) ((holding.sorted-In all (af id, f)).0 (facts_on-In (ascending session_fact_cmp all) (af id) f i))),
+    ))
+  where
+    of_part : (f : Fact) → In (af id, f) (facts_under gx gxs) ⊎ In (af id, f) (facts_under af afs) → In f (record_facts (value_at text_cmp afs id))
+    of_part f (inl i) = kinds_differ Af (of_kind gx Gx (λ _. refl) gxs (af id, f) i) refl
+    of_part f (inr i) = at_id af af_named afs b.0 id f i
+
+-- What a state holds is what is kept of it.
+pub holds_kept : (gxs afs : Records) (clock : ℕ) → AreKept gxs → AreKept afs → kept_of (held_by gxs afs clock) ≡ held_by gxs afs clock
+holds_kept gxs afs clock a b =
+    let all : List SessionFact = facts_of gxs afs in
+    let same : ascending session_fact_cmp (kept_facts (ascending session_fact_cmp all)) ≡ ascending session_fact_cmp all =
+    holding.sorted-Same (kept_facts (ascending session_fact_cmp all)) all
+    (Same-through (kept_facts (ascending session_fact_cmp all)) (kept_facts all) all
+    (kept_facts-Same (ascending session_fact_cmp all) all (holding.sorted-In all))
+    (Same-back all (kept_facts all) (state_kept gxs afs a b))) in
+    λ i. record { facts = same i; clock = clock }

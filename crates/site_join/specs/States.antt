@@ -10,6 +10,8 @@ use Rattle.pcrf_model.specs.Sessions.{Session, gx, af}
 use Rattle.pcrf_model.specs.Holdings.{SessionFact, session_fact_cmp, under, Holding}
 use Rattle.gx_records.specs.declared.fact.GxFact.{GxFact}
 use Rattle.gx_records.specs.GxFacts as gx_facts
+use Rattle.af_records.specs.declared.fact.AfFact.{AfFact}
+use Rattle.af_records.specs.RecordFacts as af_facts
 use Rattle.site_join.specs.declared.operation.SessionFacts.{SessionFacts}
 use Rattle.site_join.specs.declared.operation.SessionFacts.TheVariants as on
 
@@ -39,11 +41,19 @@ record_facts (Some facts) = facts
 -- the session that facts are on
 abbrev pub session_of : SessionFacts → Session
 session_of (on.Gx id facts) = gx id
+session_of (on.Af id facts) = af id
 
 -- the facts, as the definitions have them
 abbrev pub facts_in : SessionFacts → List Fact
 facts_in (on.Gx id facts) = map gx_facts.fact_of facts.items
+facts_in (on.Af id facts) = map af_facts.fact_of facts.items
 
--- the records of Gx sessions with these facts joined into one
+-- the records of Gx sessions with these facts joined into one, where they are on one of these
 abbrev pub gx_with : Records → SessionFacts → Records
 gx_with gxs (on.Gx id facts) = put text_cmp joined gxs id (held (map gx_facts.fact_of facts.items))
+gx_with gxs (on.Af id facts) = gxs
+
+-- those of AF sessions
+abbrev pub af_with : Records → SessionFacts → Records
+af_with afs (on.Gx id facts) = afs
+af_with afs (on.Af id facts) = put text_cmp joined afs id (held (map af_facts.fact_of facts.items))

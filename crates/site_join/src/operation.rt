@@ -3,6 +3,7 @@ ghost use Rattle.std.specs.Prelude.{◌≡◌, ◌≤◌, IfOk, map};
 ghost use Rattle.pcrf_model.specs.Limits.{last_counter};
 ghost use Rattle.site_join.specs.States.{session_of, facts_in};
 
+use af_records::AfFact;
 use gx_records::GxFact;
 use pcrf_values::SessionId;
 use ranked::Ranked;
@@ -14,6 +15,8 @@ use std::marker::Model;
 pub enum SessionFacts {
     /// A gateway's session (TS 29.212).
     Gx(SessionId, Vec<GxFact>),
+    /// An AF session (TS 29.214).
+    Af(SessionId, Vec<AfFact>),
 }
 
 /// What one accepted request or push adds to what its site knows: the counter and the site that it is stamped with, the

@@ -1,22 +1,26 @@
 //! The records of all sessions, with the clock.
-ghost use Rattle.std.specs.Prelude.{◌≡◌, ◌≤◌, map, IfOk, OnOk, OnErr};
+ghost use Rattle.std.specs.Prelude.{◌≡◌, ℕ, List, ◌≤◌, map, IfOk, OnOk, OnErr};
 ghost use Rattle.std.specs.Option.{option_copied};
 ghost use Rattle.pcrf_model.specs.Limits.{last_counter};
-ghost use Rattle.pcrf_model.specs.Sessions.{gx};
+ghost use Rattle.pcrf_model.specs.Sessions.{gx, af};
 ghost use Rattle.pcrf_model.specs.Holdings.{nothing_held, facts_on, kept_of};
 ghost use Rattle.pcrf_model.specs.Operations.{with_operation};
 ghost use Rattle.ranked.specs.Orders.{text_cmp};
 ghost use Rattle.lattice_core.specs.Entries.{put};
 ghost use Rattle.pcrf_facts.specs.Held.{held, joined};
-ghost use Rattle.gx_records.specs.GxFacts.{fact_of};
-ghost use Rattle.site_join.specs.States.{record_facts, gx_with};
+ghost use Rattle.lattice_core.specs.Entries.{IsAscending, value_at};
+ghost use Rattle.gx_records.specs.GxFacts as gx_facts;
+ghost use Rattle.af_records.specs.RecordFacts as af_facts;
+ghost use Rattle.site_join.specs.States.{record_facts, gx_with, af_with};
 
 use crate::operation::{Operation, SessionFacts};
+use af_records::{AfFact, AfRec};
 use gx_records::{GxFact, GxRec};
 use lattice_core::{Join, JoinTree};
 use pcrf_values::SessionId;
 use ranked::Ranked;
 use std::alloc::{AllocError, Global};
+use std::collections::btree_map::Iter;
 use std::marker::Model;
 
 /// What a site holds: a record of each session of which it knows a fact, by Session-Id, and the greatest counter of the
@@ -25,18 +29,19 @@ use std::marker::Model;
 pub struct State {
     alloc: Global,
     gx: JoinTree<SessionId, GxRec>,
+    af: JoinTree<SessionId, AfRec>,
     clock: u64,
 }
 
 impl Model for State {
-    ghost use Rattle.std.specs.Prelude.{[], ◌≤◌};
+    ghost use Rattle.std.specs.Prelude.{◌≤◌};
     ghost use Rattle.pcrf_model.specs.Limits.{last_counter};
     ghost use Rattle.pcrf_model.specs.Holdings.{Holding};
     ghost use Rattle.site_join.specs.States.{held_by};
 
     ghost Value = { Holding };
 
-    ghost view = { λ s. held_by s.gx [] s.clock };
+    ghost view = { λ s. held_by s.gx s.af s.clock };
 
     ghost invariant = { λ s. s.clock ≤ last_counter };
 }
@@ -49,6 +54,7 @@ impl State {
         State {
             alloc,
             gx: JoinTree::start(alloc),
+            af: JoinTree::start(alloc),
             clock: 0,
         }
     }
@@ -69,13 +75,50 @@ impl State {
         self.gx.get(id)
     }
 
+    /// The record of an application function's session, if a fact of it is known.
+    pub fn af(&self, id: &SessionId) -> Option<&AfRec>
+        ensures { record_facts (option_copied result) ≡ facts_on self.now.facts (af id.now) }
+    {
+        self.af.note_valid();
+        self.af.get(id)
+    }
+
+    /// All records of gateways' sessions, in the order of their Session-Ids.
+    pub fn all_gx(&self) -> Iter<'_, SessionId, GxRec>
+        ensures ascending { IsAscending text_cmp result }
+        ensures facts { (id : List ℕ) → record_facts (value_at text_cmp result id)
+            ≡ facts_on self.now.facts (gx id) }
+    {
+        self.gx.note_valid();
+        self.gx.iter()
+    }
+
+    /// All records of application functions' sessions, in the order of their Session-Ids.
+    pub fn all_af(&self) -> Iter<'_, SessionId, AfRec>
+        ensures ascending { IsAscending text_cmp result }
+        ensures facts { (id : List ℕ) → record_facts (value_at text_cmp result id)
+            ≡ facts_on self.now.facts (af id) }
+    {
+        self.af.note_valid();
+        self.af.iter()
+    }
+
+    /// Does nothing: its contract tells a proof that no fact that is held overshadows another.
+    pub fn note_kept(&self)
+        ensures { kept_of self.now ≡ self.now }
+    {
+        self.gx.note_valid();
+        self.af.note_valid();
+    }
+
     /// Takes an operation, wherever it was made, once or again; a refusal changes nothing.
     pub fn take(&mut self, operation: &Operation) -> Result<(), AllocError>
         ensures ok { OnOk result (self.new ≡ kept_of (with_operation self.old operation.now)) }
         ensures err { OnErr result (self.new ≡ self.old) }
     {
         self.gx.note_valid();
-        join_facts(self.alloc, &mut self.gx, operation.facts())?;
+        self.af.note_valid();
+        join_facts(self.alloc, &mut self.gx, &mut self.af, operation.facts())?;
         self.clock = self.clock.max(operation.counter());
         Ok(())
     }
@@ -85,13 +128,17 @@ impl State {
 fn join_facts(
     alloc: Global,
     gx: &mut JoinTree<SessionId, GxRec>,
+    af: &mut JoinTree<SessionId, AfRec>,
     facts: &SessionFacts,
 ) -> Result<(), AllocError>
     ensures gx { OnOk result (gx.new ≡ gx_with gx.old facts.now) }
+    ensures af { OnOk result (af.new ≡ af_with af.old facts.now) }
     ensures gx_unchanged { OnErr result (gx.new ≡ gx.old) }
+    ensures af_unchanged { OnErr result (af.new ≡ af.old) }
 {
     match facts {
         SessionFacts::Gx(id, facts) => join_gx(alloc, gx, id, facts.as_slice()),
+        SessionFacts::Af(id, facts) => join_af(alloc, af, id, facts.as_slice()),
     }
 }
 
@@ -102,11 +149,30 @@ fn join_gx(
     id: &SessionId,
     facts: &[GxFact],
 ) -> Result<(), AllocError>
-    ensures ok { OnOk result
-        (records.new ≡ put text_cmp joined records.old id.now (held (map fact_of facts.now))) }
+    ensures ok { OnOk result (records.new
+        ≡ put text_cmp joined records.old id.now (held (map gx_facts.fact_of facts.now))) }
     ensures err { OnErr result (records.new ≡ records.old) }
 {
     let record = GxRec::of_facts(alloc, facts)?;
+    let id = id.try_copy()?;
+    if let Err((refused, _)) = records.join_at(id, record) {
+        return Err(refused);
+    }
+    Ok(())
+}
+
+/// Joins facts into the record of an application function's session.
+fn join_af(
+    alloc: Global,
+    records: &mut JoinTree<SessionId, AfRec>,
+    id: &SessionId,
+    facts: &[AfFact],
+) -> Result<(), AllocError>
+    ensures ok { OnOk result (records.new
+        ≡ put text_cmp joined records.old id.now (held (map af_facts.fact_of facts.now))) }
+    ensures err { OnErr result (records.new ≡ records.old) }
+{
+    let record = AfRec::of_facts(alloc, facts)?;
     let id = id.try_copy()?;
     if let Err((refused, _)) = records.join_at(id, record) {
         return Err(refused);

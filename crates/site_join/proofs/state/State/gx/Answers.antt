@@ -1,4 +1,4 @@
-use Rattle.std.proofs.Common.{[], ap, ◌∙◌}
+use Rattle.std.proofs.Common.{ap, ◌∙◌}
 use Rattle.pcrf_model.specs.Sessions.{gx}
 use Rattle.pcrf_model.specs.Holdings.{Holding, facts_on}
 use Rattle.site_join.specs.States.{record_facts}
@@ -8,5 +8,5 @@ use Rattle.site_join.proofs.state.State.gx.Goals as goal
 pub returns : goal.returns
 returns c =
     ap record_facts c.get.ensures
-    ∙ reads_gx c.self.inside.gx [] c.self.inside.clock c.args.id.now c.note_valid.ensures
+    ∙ reads_gx c.self.inside.gx c.self.inside.af c.self.inside.clock c.args.id.now c.note_valid.ensures
     ∙ ap (λ (h : Holding). facts_on h.facts (gx c.args.id.now)) c.self.view_is

@@ -1,0 +1,14 @@
+use Rattle.std.proofs.Common.{◌≡◌, List, ap, ◌∙◌, subst}
+use Rattle.ranked.specs.Orders.{text_cmp}
+use Rattle.lattice_core.specs.Entries.{value_at}
+use Rattle.pcrf_model.specs.Sessions.{af}
+use Rattle.pcrf_model.specs.Holdings.{Holding, facts_on}
+use Rattle.site_join.specs.States.{Records, record_facts}
+use Rattle.site_join.proofs.StateLaws.{reads_af}
+use Rattle.site_join.proofs.state.State.all_af.Goals as goal
+
+pub returns-clause-facts : goal.returns-clause-facts
+returns-clause-facts c = λ id.
+    ap (λ (es : Records). record_facts (value_at text_cmp es id)) c.iter.ensures.all
+    ∙ reads_af c.self.inside.gx c.self.inside.af c.self.inside.clock id c.note_valid.ensures
+    ∙ ap (λ (h : Holding). facts_on h.facts (af id)) c.self.view_is
