@@ -1,5 +1,5 @@
 -- A record put in the place of another replaces the facts of its session.
-use Rattle.std.proofs.Common.{◌≡◌, ℕ, Bool, true, false, not, List, [], ◌∷◌, ◌++◌, Option, Some, None, if◌then◌else◌, inl, inr, refl, sym, ap, ◌∙◌, subst}
+use Rattle.std.proofs.Common.{◌≡◌, ℕ, Bool, true, false, not, List, [], ◌∷◌, ◌++◌, Option, Some, None, Result, Ok, Err, OnErr, if◌then◌else◌, inl, inr, refl, sym, ap, ◌∙◌, subst}
 use Rattle.std.specs.Ordering.{is_eq}
 use Rattle.std.specs.List.{filter}
 use Rattle.ranked.specs.Ascending.{ascending}
@@ -20,6 +20,11 @@ use Rattle.pcrf_model.proofs.HoldingLaws as holding
 use Rattle.pcrf_model.proofs.HoldingLaws.{session_ranked, there_strict, under-In}
 use Rattle.site_join.specs.States.{Records, facts_under, facts_of, held_by, record_facts}
 use Rattle.site_join.proofs.StateLaws.{its_id, id_rises, keyed, under_keeps, of_kind, kinds_differ, gx_named, af_named}
+
+-- what holds, holds where there is an error
+pub where_refused : {T E P : Type 0} (r : Result T E) → P → OnErr r P
+where_refused (Ok x) p = tt
+where_refused (Err e) p = p
 
 -- the fact is of another session
 abbrev is_elsewhere : Session → SessionFact → Bool

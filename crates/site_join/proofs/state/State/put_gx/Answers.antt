@@ -5,7 +5,7 @@ use Rattle.pcrf_model.specs.Sessions.{gx}
 use Rattle.pcrf_model.specs.Holdings.{Holding, facts_on, replaced}
 use Rattle.site_join.specs.States.{Records, record_facts, held_by}
 use Rattle.site_join.proofs.StateLaws.{reads_gx}
-use Rattle.site_join.proofs.PlacedRecords.{puts_gx}
+use Rattle.site_join.proofs.PlacedRecords.{where_refused, puts_gx}
 use Rattle.site_join.proofs.state.State.put_gx.Goals as goal
 
 pub returns-clause-stood : goal.returns-clause-stood
@@ -22,7 +22,7 @@ returns-clause-placed c =
     ∙ ap (λ (h : Holding). replaced h (gx c.args.id.now) (record_facts c.args.given) c.args.clock) c.self.view_is
 
 pub returns-in_err-stood-clause-refused_new : goal.returns-in_err-stood-clause-refused_new
-returns-in_err-stood-clause-refused_new c =
+returns-in_err-stood-clause-refused_new c = where_refused c.from_residual.result (
     sym (ap (λ (h : Holding). facts_on h.facts (gx c.args.id.now)) c.self.view_is)
     ∙ sym (reads_gx c.self.inside.gx c.self.inside.af c.self.inside.clock c.args.id.now c.note_valid.ensures)
-    ∙ ap record_facts c.in_err-stood.ensures.refused_new
+    ∙ ap record_facts c.in_err-stood.ensures.refused_new)
