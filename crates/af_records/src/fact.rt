@@ -1,7 +1,10 @@
 //! The facts of AF sessions.
-use lattice_core::Tag;
+ghost use Rattle.std.specs.Prelude.{◌≡◌, IfOk};
+
+use lattice_core::{Ranked, Tag};
 use pcrf_values::{BoundedNumber, Filters};
 use record_levels::SessionValue;
+use std::alloc::AllocError;
 
 /// The number of a Flow-Status that isn't REMOVED, 0 to 3 (TS 29.214, 5.3.11). Values of one tag are ranked by it.
 pub type OpenStatusNumber = BoundedNumber<0, 3>;
@@ -13,7 +16,7 @@ pub type FlowUsageNumber = BoundedNumber<0, 2>;
 pub type AfRequestType = BoundedNumber<0, 0>;
 
 /// What a fact says of a media component (TS 29.214, 5.3.16). Rates are in bit/s.
-#[derive(Drop)]
+#[derive(Clone, Copy)]
 pub enum ComponentValue {
     /// Media-Type.
     MediaType(u32),
@@ -55,4 +58,39 @@ pub enum AfFact {
     Component(u32, Tag, ComponentValue),
     /// A field of a flow of a component.
     Flow(u32, u32, Tag, FlowValue),
+}
+
+impl FlowValue {
+    /// An equal value.
+    pub fn try_copy(&self) -> Result<FlowValue, AllocError>
+        ensures { IfOk result (λ r. r ≡ self.now) }
+    {
+        match self {
+            FlowValue::Descriptions(filters) => Ok(FlowValue::Descriptions(filters.try_copy()?)),
+            FlowValue::Usage(usage) => Ok(FlowValue::Usage(*usage)),
+            FlowValue::Status(status) => Ok(FlowValue::Status(*status)),
+            FlowValue::RateUp(rate) => Ok(FlowValue::RateUp(*rate)),
+            FlowValue::RateDown(rate) => Ok(FlowValue::RateDown(*rate)),
+        }
+    }
+}
+
+impl AfFact {
+    /// An equal fact.
+    pub fn try_copy(&self) -> Result<AfFact, AllocError>
+        ensures { IfOk result (λ r. r ≡ self.now) }
+    {
+        match self {
+            AfFact::End => Ok(AfFact::End),
+            AfFact::ComponentRemoved(component) => Ok(AfFact::ComponentRemoved(*component)),
+            AfFact::FlowRemoved(component, flow) => Ok(AfFact::FlowRemoved(*component, *flow)),
+            AfFact::Session(tag, value) => Ok(AfFact::Session(*tag, value.try_copy()?)),
+            AfFact::Component(component, tag, value) => {
+                Ok(AfFact::Component(*component, *tag, *value))
+            }
+            AfFact::Flow(component, flow, tag, value) => {
+                Ok(AfFact::Flow(*component, *flow, *tag, value.try_copy()?))
+            }
+        }
+    }
 }

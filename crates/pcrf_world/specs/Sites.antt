@@ -2,7 +2,7 @@
 use Rattle.std.specs.Prelude.{ℕ, ◌+◌, List, [], ◌∷◌, ◌++◌, Option, Some, None}
 use Rattle.pcrf_model.specs.Holdings.{nothing_held, union, kept_of}
 use Rattle.pcrf_model.specs.Operations.{Operation, with_operation, holding_of}
-use Rattle.pcrf_model.specs.Requests.{RequestValue}
+use Rattle.pcrf_model.specs.Requests.{CcrValue, RequestValue, Ccr}
 use Rattle.pcrf_model.specs.Replies.{Outcome}
 use Rattle.pcrf_model.specs.Serving.{serve}
 use Rattle.pcrf_model.specs.Letters.{LetterValue, Range}
@@ -16,6 +16,14 @@ new_site number = record { number = number; epoch = 1; state = record { holding 
 -- what the definitions give on what the site holds
 abbrev pub served : SiteView → RequestValue → Outcome
 served s q = serve setting.most setting.tables s.number s.state.holding q
+
+-- the same of a credit control request
+abbrev pub ccr_served : SiteView → CcrValue → Outcome
+ccr_served s q = served s (Ccr q)
+
+-- with one operation: what is kept of it is held
+abbrev pub with_one : SiteView → Operation → SiteView
+with_one s o = record s { state = record { holding = kept_of (with_operation s.state.holding o); log = s.state.log } }
 
 -- with an operation of its own, if there is one: what is kept of it is held, and its log has it last
 abbrev pub with_made : SiteView → Option Operation → SiteView

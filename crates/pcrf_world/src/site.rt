@@ -1,12 +1,12 @@
 //! One site: what it holds, and the operations that it made itself in its present epoch.
-ghost use Rattle.std.specs.Prelude.{◌≡◌, ◌≤◌, ◌+◌, [], ◌∷◌, None, Some, false, true, length, take, cond, IfOk, OnOk, OnErr, IfErr, IfSome};
+ghost use Rattle.std.specs.Prelude.{◌≡◌, ◌<◌, ◌≤◌, ◌+◌, [], ◌∷◌, None, Some, false, true, length, take, cond, IfOk, OnOk, OnErr, IfErr, IfSome};
 ghost use Rattle.std.specs.Option.{option_copied};
 ghost use Rattle.pcrf_values.specs.Results.{unable_to_comply};
 ghost use Rattle.pcrf_facts.specs.Held.{is_ended};
 ghost use Rattle.pcrf_facts.specs.Live.{gx_is_live};
 ghost use Rattle.pcrf_model.specs.Limits.{last_counter, last_epoch};
 ghost use Rattle.pcrf_model.specs.Tables.{open_tables};
-ghost use Rattle.pcrf_model.specs.Requests.{Ccr};
+ghost use Rattle.pcrf_model.specs.Holdings.{kept_of};
 ghost use Rattle.pcrf_model.specs.Refusals.{is_clock_full, ccr_refusal, lacks_parameters};
 ghost use Rattle.pcrf_model.specs.Flows.{or_else};
 ghost use Rattle.gx_profile.specs.Requests.{ccr_view};
@@ -59,7 +59,7 @@ impl Model for PlainSite {
 
 impl PlainSite {
     ghost use Rattle.pcrf_world.specs.Identities.{identity_of};
-    ghost use Rattle.pcrf_world.specs.Sites.{new_site, served, with_made, with_taken, started_again};
+    ghost use Rattle.pcrf_world.specs.Sites.{new_site, served, ccr_served, with_made, with_one, with_taken, started_again};
 
     /// A site that took nothing, in its first epoch.
     pub fn start(alloc: Global, number: u8) -> Result<PlainSite, AllocError>
@@ -107,12 +107,7 @@ impl PlainSite {
     pub fn copy_of_log(&self) -> Result<Vec<Operation>, AllocError>
         ensures { IfOk result (λ log. log.items ≡ self.now.state.log) }
     {
-        let mut copies = Vec::new(self.alloc);
-        for operation in &self.log {
-            let _ = operation;
-            return Err(AllocError);
-        }
-        Ok(copies)
+        copy_all(self.alloc, self.log.as_slice())
     }
 
     /// Serves a request. An error changes nothing.
@@ -130,9 +125,9 @@ impl PlainSite {
     /// Replies to a credit control request.
     fn reply_to_ccr(&mut self, ccr: &Ccr) -> Result<GxReply, AllocError>
         ensures reply { IfOk result (λ reply.
-            gx_reply_value reply ≡ (served self.old (Ccr (ccr_view ccr.now))).reply) }
+            gx_reply_value reply ≡ (ccr_served self.old (ccr_view ccr.now)).reply) }
         ensures ok { OnOk result
-            (self.new ≡ with_made self.old (served self.old (Ccr (ccr_view ccr.now))).added) }
+            (self.new ≡ with_made self.old (ccr_served self.old (ccr_view ccr.now)).added) }
         ensures err { OnErr result (self.new ≡ self.old) }
     {
         if let Some(refusal) = self.standing_refusal(ccr) {
@@ -201,13 +196,28 @@ impl PlainSite {
         ensures part { IfErr result (λ e. e.0 < length operations.now) }
         ensures err { IfErr result (λ e. self.new ≡ with_taken self.old (take e.0 operations.now)) }
     {
-        self.state.note_kept();
+        self.note_kept();
         for (count, operation) in operations.iter().enumerate() {
-            if self.state.take(operation).is_err() {
+            if self.take(operation).is_err() {
                 return Err((count, AllocError));
             }
         }
         Ok(())
+    }
+
+    /// Does nothing: its contract tells a proof that what is held is kept.
+    fn note_kept(&self)
+        ensures { kept_of self.now.state.holding ≡ self.now.state.holding }
+    {
+        self.state.note_kept();
+    }
+
+    /// Takes one operation, or changes nothing.
+    fn take(&mut self, operation: &Operation) -> Result<(), AllocError>
+        ensures ok { OnOk result (self.new ≡ with_one self.old operation.now) }
+        ensures err { OnErr result (self.new ≡ self.old) }
+    {
+        self.state.take(operation)
     }
 
     /// Begins again in the next epoch, empty; tells that epoch, or None in the last one, which changes nothing.
@@ -229,7 +239,7 @@ impl PlainSite {
 
 /// The session has ended, as far as is known.
 fn has_ended(known: Option<&GxRec>) -> bool
-    ensures { result ≡ is_ended (record_facts (option_copied known)) }
+    ensures { result ≡ is_ended (record_facts (option_copied known.entry)) }
 {
     match known {
         Some(session) => session.ended(),
@@ -239,7 +249,7 @@ fn has_ended(known: Option<&GxRec>) -> bool
 
 /// The session is live.
 fn is_live(known: Option<&GxRec>) -> bool
-    ensures { result ≡ gx_is_live (record_facts (option_copied known)) }
+    ensures { result ≡ gx_is_live (record_facts (option_copied known.entry)) }
 {
     match known {
         Some(session) => session.live(),
@@ -252,4 +262,15 @@ fn lacks(ccr: &Ccr) -> bool
     ensures { result ≡ lacks_parameters (ccr_view ccr.now) }
 {
     ccr.address.is_none() || ccr.apn.is_none() || ccr.subscribers.is_none()
+}
+
+/// Equal operations, in order.
+fn copy_all(alloc: Global, operations: &[Operation]) -> Result<Vec<Operation>, AllocError>
+    ensures { IfOk result (λ copies. copies.items ≡ operations.now) }
+{
+    let mut copies = Vec::new(alloc);
+    for operation in operations {
+        copies.push(operation.try_copy()?)?;
+    }
+    Ok(copies)
 }

@@ -25,6 +25,22 @@ pub enum SessionValue<L> {
     Last(L),
 }
 
+impl<L: Ranked> SessionValue<L> {
+    /// An equal value.
+    pub fn try_copy(&self) -> Result<SessionValue<L>, AllocError>
+        ensures { IfOk result (λ r. r ≡ self.now) }
+    {
+        match self {
+            SessionValue::Address(address) => Ok(SessionValue::Address(*address)),
+            SessionValue::Apn(apn) => Ok(SessionValue::Apn(apn.try_copy()?)),
+            SessionValue::Subscribers(ids) => Ok(SessionValue::Subscribers(ids.try_copy()?)),
+            SessionValue::Host(host) => Ok(SessionValue::Host(host.try_copy()?)),
+            SessionValue::Realm(realm) => Ok(SessionValue::Realm(realm.try_copy()?)),
+            SessionValue::Last(last) => Ok(SessionValue::Last(last.try_copy()?)),
+        }
+    }
+}
+
 /// What is known of the user of a session.
 #[derive(Drop)]
 pub struct UserFields {

@@ -1,1 +1,3 @@
+pub mod MergeLaws
+pub mod PlacedRecords
 pub mod StateLaws

@@ -22,7 +22,7 @@ use Rattle.pcrf_facts.specs.Held.{kept, held, joined}
 use Rattle.pcrf_facts.proofs.FactLaws.{fact_ranked}
 use Rattle.pcrf_facts.proofs.JoinedLaws.{kept-In, In-kept, sorted-In, joined_comm, joined_assoc, held_twice}
 use Rattle.pcrf_model.specs.Sessions.{Session, Kind, Gx, Af, gx, af, session_cmp}
-use Rattle.pcrf_model.specs.Holdings.{SessionFact, session_fact_cmp, is_shaded_there_by, kept_facts, under, on_session, facts_on, Holding, kept_of}
+use Rattle.pcrf_model.specs.Holdings.{SessionFact, session_fact_cmp, is_shaded_there_by, kept_facts, under, on_session, facts_on, Holding, union, kept_of}
 use Rattle.pcrf_model.specs.Operations.{Operation, with_operation}
 use Rattle.pcrf_model.proofs.HoldingLaws as holding
 use Rattle.pcrf_model.proofs.HoldingLaws.{session_ranked, session_fact_ranked, there_irr, there_trans, there_strict, kept_facts-append, kept_facts-Same, same_session, shaded_there, shades_there, facts_on-In, In-facts_on, In-under, under-In}
@@ -57,7 +57,7 @@ under_kept s xs x = (there, back)
         clash (is_shaded_there_by x (s, g)) (subst (λ (u : Session). is_shaded_there_by (u, x.1) (s, g) ≡ true) (sym r.0) (shades_there s x.1 g t)) (m.1 (s, g) (In-under s g xs j))))))
 
 -- a record keeps, under its session
-under_keeps : (s : Session) → Keeps is_shaded_there_by (λ xs. held xs ≡ xs) joined (under s)
+pub under_keeps : (s : Session) → Keeps is_shaded_there_by (λ xs. held xs ≡ xs) joined (under s)
 under_keeps s = record {
   both = λ v w _ _. subst (λ (z : List SessionFact). Same (under s (joined v w)) (kept_facts z)) (map-append (λ (f : Fact). (s, f)) v w)
       (Same-through (under s (joined v w)) (under s (kept (v ++ w))) (kept_facts (under s (v ++ w)))
@@ -71,16 +71,16 @@ under_keeps s = record {
 -- ---- the records of one kind
 
 -- the Session-Id of a fact's session
-abbrev its_id : SessionFact → Option (List ℕ)
+abbrev pub its_id : SessionFact → Option (List ℕ)
 its_id x = Some x.0.id
 
 -- what overshadows is of the same session
-id_rises : IsRising is_shaded_there_by its_id
+pub id_rises : IsRising is_shaded_there_by its_id
 id_rises = record { rise = λ x y k h e. ap (λ (s : Session). Some s.id) (same_session x y h) ∙ e }
 
 module _ (kind : List ℕ → Session) (named : (id : List ℕ) → (kind id).id ≡ id) where
   -- a fact under a session is of its Session-Id
-  keyed : (id : List ℕ) (v : List Fact) (x : SessionFact) → In x (under (kind id) v) → its_id x ≡ Some id
+  pub keyed : (id : List ℕ) (v : List Fact) (x : SessionFact) → In x (under (kind id) v) → its_id x ≡ Some id
   keyed id v x i = ap (λ (s : Session). Some s.id) (under-In (kind id) x v i).0 ∙ ap Some (named id)
 
   -- joined maps of records keep
@@ -115,21 +115,21 @@ module _ (kind : List ℕ → Session) (named : (id : List ℕ) → (kind id).id
 -- ---- the records of both kinds
 
 -- Gx sessions are named by their Session-Ids
-gx_named : (id : List ℕ) → (gx id).id ≡ id
+pub gx_named : (id : List ℕ) → (gx id).id ≡ id
 gx_named id = refl
 
 -- and AF sessions
-af_named : (id : List ℕ) → (af id).id ≡ id
+pub af_named : (id : List ℕ) → (af id).id ≡ id
 af_named id = refl
 
 -- the kind of a session of that kind
-of_kind : (kind : List ℕ → Session) (k : Kind) → ((id : List ℕ) → (kind id).kind ≡ k) → (es : Records) (x : SessionFact) → In x (facts_under kind es) → x.0.kind ≡ k
+pub of_kind : (kind : List ℕ → Session) (k : Kind) → ((id : List ℕ) → (kind id).kind ≡ k) → (es : Records) (x : SessionFact) → In x (facts_under kind es) → x.0.kind ≡ k
 of_kind kind k is es x i =
     let r = flat_map-In (λ (e : List ℕ × List Fact). under (kind e.0) e.1) x es i in
     ap (λ (s : Session). s.kind) (under-In (kind r.0.0) x r.0.1 r.2).0 ∙ is r.0.0
 
 -- the kinds differ
-kinds_differ : {P : Type 0} (k : Kind) → k ≡ Gx → k ≡ Af → P
+pub kinds_differ : {P : Type 0} (k : Kind) → k ≡ Gx → k ≡ Af → P
 kinds_differ Gx a b = absurd (cc)
 kinds_differ Af a b = absurd (cc)
 
@@ -318,3 +318,14 @@ holds_kept gxs afs clock a b =
     (kept_facts-Same (ascending session_fact_cmp all) all (holding.sorted-In all))
     (Same-back all (kept_facts all) (state_kept gxs afs a b))) in
     λ i. record { facts = same i; clock = clock }
+
+-- Joined records of two states are what is kept of both.
+pub merges : (gxs afs hxs bfs : Records) (c d : ℕ) → AreKept gxs → AreKept afs → AreKept hxs → AreKept bfs
+    → held_by (map_joined text_cmp joined gxs hxs) (map_joined text_cmp joined afs bfs) (max c d) ≡ kept_of (union (held_by gxs afs c) (held_by hxs bfs d))
+merges gxs afs hxs bfs c d ours_gx ours_af theirs_gx theirs_af =
+    let theirs : List SessionFact = facts_of hxs bfs in
+    let kept_theirs : Same theirs (kept_facts (ascending session_fact_cmp theirs)) =
+    Same-through theirs (kept_facts theirs) (kept_facts (ascending session_fact_cmp theirs)) (state_kept hxs bfs theirs_gx theirs_af)
+    (kept_facts-Same theirs (ascending session_fact_cmp theirs) (Same-back (ascending session_fact_cmp theirs) theirs (holding.sorted-In theirs))) in
+    let same = more_records gxs afs hxs bfs c (ascending session_fact_cmp theirs) ours_gx ours_af theirs_gx theirs_af kept_theirs in
+    λ i. record { facts = same i; clock = max c d }

@@ -7,7 +7,7 @@ use Rattle.lattice_core.specs.Entries.{put}
 use Rattle.pcrf_facts.specs.Facts.{Fact}
 use Rattle.pcrf_facts.specs.Held.{held, joined}
 use Rattle.pcrf_model.specs.Sessions.{Session, gx, af}
-use Rattle.pcrf_model.specs.Holdings.{SessionFact, session_fact_cmp, under, Holding}
+use Rattle.pcrf_model.specs.Holdings.{SessionFact, session_fact_cmp, under, Holding, union, kept_of}
 use Rattle.gx_records.specs.declared.fact.GxFact.{GxFact}
 use Rattle.gx_records.specs.GxFacts as gx_facts
 use Rattle.af_records.specs.declared.fact.AfFact.{AfFact}
@@ -57,3 +57,9 @@ gx_with gxs (on.Af id facts) = gxs
 abbrev pub af_with : Records → SessionFacts → Records
 af_with afs (on.Gx id facts) = afs
 af_with afs (on.Af id facts) = put text_cmp joined afs id (held (map af_facts.fact_of facts.items))
+
+-- ---- merging
+
+-- what is kept of both
+abbrev pub merged : Holding → Holding → Holding
+merged h k = kept_of (union h k)

@@ -1,6 +1,7 @@
 //! What a site holds: the records of all sessions, joined from operations in any order.
 #![tactic(auto)]
 
+pub mod laws;
 mod operation;
 mod state;
 

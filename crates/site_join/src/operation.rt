@@ -7,7 +7,7 @@ use af_records::AfFact;
 use gx_records::GxFact;
 use pcrf_values::SessionId;
 use ranked::Ranked;
-use std::alloc::{AllocError, Global};
+use std::alloc::AllocError;
 use std::marker::Model;
 
 /// A session with facts on it.
@@ -17,6 +17,47 @@ pub enum SessionFacts {
     Gx(SessionId, Vec<GxFact>),
     /// An AF session (TS 29.214).
     Af(SessionId, Vec<AfFact>),
+}
+
+impl SessionFacts {
+    /// Equal facts on the same session.
+    pub fn try_copy(&self) -> Result<SessionFacts, AllocError>
+        ensures session { IfOk result (λ r. session_of r ≡ session_of self.now) }
+        ensures facts { IfOk result (λ r. facts_in r ≡ facts_in self.now) }
+    {
+        match self {
+            SessionFacts::Gx(id, facts) => {
+                let facts = copy_gx(facts)?;
+                Ok(SessionFacts::Gx(id.try_copy()?, facts))
+            }
+            SessionFacts::Af(id, facts) => {
+                let facts = copy_af(facts)?;
+                Ok(SessionFacts::Af(id.try_copy()?, facts))
+            }
+        }
+    }
+}
+
+// Equal facts of a gateway's session, in order.
+fn copy_gx(facts: &Vec<GxFact>) -> Result<Vec<GxFact>, AllocError>
+    ensures { IfOk result (λ r. r.items ≡ facts.now.items) }
+{
+    let mut copies = Vec::new(*facts.allocator());
+    for fact in facts.as_slice() {
+        copies.push(fact.try_copy()?)?;
+    }
+    Ok(copies)
+}
+
+// Equal facts of an application function's session, in order.
+fn copy_af(facts: &Vec<AfFact>) -> Result<Vec<AfFact>, AllocError>
+    ensures { IfOk result (λ r. r.items ≡ facts.now.items) }
+{
+    let mut copies = Vec::new(*facts.allocator());
+    for fact in facts.as_slice() {
+        copies.push(fact.try_copy()?)?;
+    }
+    Ok(copies)
 }
 
 /// What one accepted request or push adds to what its site knows: the counter and the site that it is stamped with, the
@@ -96,5 +137,18 @@ impl Operation {
         ensures facts { facts_in result.now ≡ self.now.facts }
     {
         &self.facts
+    }
+
+    /// An equal operation.
+    pub fn try_copy(&self) -> Result<Operation, AllocError>
+        ensures { IfOk result (λ r. r ≡ self.now) }
+    {
+        let facts = self.facts.try_copy()?;
+        Ok(Operation {
+            counter: self.counter,
+            site: self.site,
+            number: self.number,
+            facts,
+        })
     }
 }

@@ -1,9 +1,9 @@
 //! The records of all sessions, with the clock.
-ghost use Rattle.std.specs.Prelude.{◌≡◌, ℕ, List, ◌≤◌, map, IfOk, OnOk, OnErr};
+ghost use Rattle.std.specs.Prelude.{◌≡◌, ℕ, List, ◌≤◌, map, [], IfOk, IfErr, OnOk, OnErr, IsSome};
 ghost use Rattle.std.specs.Option.{option_copied};
 ghost use Rattle.pcrf_model.specs.Limits.{last_counter};
 ghost use Rattle.pcrf_model.specs.Sessions.{gx, af};
-ghost use Rattle.pcrf_model.specs.Holdings.{nothing_held, facts_on, kept_of};
+ghost use Rattle.pcrf_model.specs.Holdings.{nothing_held, facts_on, union, kept_of, replaced};
 ghost use Rattle.pcrf_model.specs.Operations.{with_operation};
 ghost use Rattle.ranked.specs.Orders.{text_cmp};
 ghost use Rattle.lattice_core.specs.Entries.{put};
@@ -109,6 +109,97 @@ impl State {
     {
         self.gx.note_valid();
         self.af.note_valid();
+    }
+
+    /// An equal state.
+    pub fn try_copy(&self) -> Result<State, AllocError>
+        ensures { IfOk result (λ r. r ≡ self.now) }
+    {
+        let gx = self.gx.try_copy()?;
+        let af = self.af.try_copy()?;
+        Ok(State {
+            alloc: self.alloc,
+            gx,
+            af,
+            clock: self.clock,
+        })
+    }
+
+    /// What is kept of both states; a refusal gives both back.
+    pub fn merge(self, other: State) -> Result<State, (AllocError, State, State)>
+        ensures merged { IfOk result (λ r. r ≡ kept_of (union self other)) }
+        ensures ours_back { IfErr result (λ e. e.1 ≡ self) }
+        ensures theirs_back { IfErr result (λ e. e.2 ≡ other) }
+    {
+        match self.merged_copy(&other) {
+            Ok(both) => Ok(both),
+            Err(refused) => Err((refused, self, other)),
+        }
+    }
+
+    // What is kept of both states, which stay as they are.
+    fn merged_copy(&self, other: &State) -> Result<State, AllocError>
+        ensures { IfOk result (λ r. r ≡ kept_of (union self.now other.now)) }
+    {
+        self.gx.note_valid();
+        self.af.note_valid();
+        other.gx.note_valid();
+        other.af.note_valid();
+        let gx = self.gx.joined_copy(&other.gx)?;
+        let af = self.af.joined_copy(&other.af)?;
+        Ok(State {
+            alloc: self.alloc,
+            gx,
+            af,
+            clock: self.clock.max(other.clock),
+        })
+    }
+
+    /// Puts a record, or none, in the place of that of a gateway's session, sets the clock, and hands back the record that
+    /// stood. Only a record at a session that has none is refused, which changes nothing.
+    pub fn put_gx(
+        &mut self,
+        id: &SessionId,
+        given: Option<GxRec>,
+        clock: u64,
+    ) -> Result<Option<GxRec>, AllocError>
+        requires { clock ≤ last_counter }
+        ensures stood { IfOk result (λ stood.
+            record_facts stood ≡ facts_on self.old.facts (gx id.now)) }
+        ensures placed { OnOk result
+            (self.new ≡ replaced self.old (gx id.now) (record_facts given) clock) }
+        ensures unchanged { OnErr result (self.new ≡ self.old) }
+        ensures refused_record { OnErr result (IsSome given) }
+        ensures refused_new { OnErr result (facts_on self.old.facts (gx id.now) ≡ []) }
+    {
+        self.gx.note_valid();
+        let stood = self.gx.place_at(id, given)?;
+        self.gx.note_valid();
+        self.clock = clock;
+        Ok(stood)
+    }
+
+    /// Puts a record, or none, in the place of that of an application function's session, as `put_gx` does.
+    pub fn put_af(
+        &mut self,
+        id: &SessionId,
+        given: Option<AfRec>,
+        clock: u64,
+    ) -> Result<Option<AfRec>, AllocError>
+        requires { clock ≤ last_counter }
+        ensures stood { IfOk result (λ stood.
+            record_facts stood ≡ facts_on self.old.facts (af id.now)) }
+        ensures placed { OnOk result
+            (self.new ≡ replaced self.old (af id.now) (record_facts given) clock) }
+        ensures unchanged { OnErr result (self.new ≡ self.old) }
+        ensures refused_record { OnErr result (IsSome given) }
+        ensures refused_new { OnErr result (facts_on self.old.facts (af id.now) ≡ []) }
+    {
+        self.af.note_valid();
+        let stood = self.af.place_at(id, given)?;
+        self.af.note_valid();
+        self.clock = clock;
+        Ok(stood)
     }
 
     /// Takes an operation, wherever it was made, once or again; a refusal changes nothing.

@@ -1,0 +1,86 @@
+//! Operations for tests.
+use af_records::{AfFact, ComponentValue};
+use gx_records::{GxFact, SessionValue};
+use lattice_core::Tag;
+use pcrf_values::{BoundedNumber, BoundedText, DiameterIdentity, SessionId};
+use site_join::{Operation, SessionFacts};
+use std::alloc::AllocGlobal;
+use std::process::Abort;
+
+/// A Session-Id.
+pub fn session_id(rt: &(impl AllocGlobal + Abort), text: &str) -> SessionId {
+    let read = BoundedText::read(rt.alloc(), text.as_bytes()).expect(rt, "memory");
+    read.expect(rt, "a Session-Id")
+}
+
+fn identity(rt: &(impl AllocGlobal + Abort), text: &str) -> DiameterIdentity {
+    let read = BoundedText::read(rt.alloc(), text.as_bytes()).expect(rt, "memory");
+    read.expect(rt, "a name")
+}
+
+/// What an update of this host says.
+pub fn update_facts(rt: &(impl AllocGlobal + Abort), at: Tag, host: &str) -> Vec<GxFact> {
+    let mut facts = Vec::new(rt.alloc());
+    let host = SessionValue::Host(identity(rt, host));
+    facts.push(GxFact::Field(at, host)).expect(rt, "memory");
+    let last = BoundedNumber::of(2).expect(rt, "an update");
+    let last = SessionValue::Last(last);
+    facts.push(GxFact::Field(at, last)).expect(rt, "memory");
+    facts
+}
+
+/// What a call of this Media-Type says.
+pub fn call_facts(rt: &(impl AllocGlobal + Abort), at: Tag, media: u32) -> Vec<AfFact> {
+    let mut facts = Vec::new(rt.alloc());
+    let host = SessionValue::Host(identity(rt, "af"));
+    facts.push(AfFact::Session(at, host)).expect(rt, "memory");
+    let media = ComponentValue::MediaType(media);
+    facts.push(AfFact::Component(1, at, media)).expect(rt, "memory");
+    facts
+}
+
+/// An update of a gateway's session, with its CC-Request-Number.
+pub fn update(
+    rt: &(impl AllocGlobal + Abort),
+    id: &str,
+    (number, counter, site): (u32, u64, u8),
+    host: &str,
+) -> Operation {
+    let at = Tag {
+        number,
+        counter,
+        site,
+    };
+    let facts = SessionFacts::Gx(session_id(rt, id), update_facts(rt, at, host));
+    Operation::stamped(counter, site, number, facts)
+}
+
+/// A call, by its Media-Type.
+pub fn call(
+    rt: &(impl AllocGlobal + Abort),
+    id: &str,
+    (counter, site): (u64, u8),
+    media: u32,
+) -> Operation {
+    let at = Tag {
+        number: 0,
+        counter,
+        site,
+    };
+    let facts = SessionFacts::Af(session_id(rt, id), call_facts(rt, at, media));
+    Operation::stamped(counter, site, 0, facts)
+}
+
+/// The end of a gateway's session.
+pub fn gateway_end(rt: &(impl AllocGlobal + Abort), id: &str, counter: u64, site: u8) -> Operation {
+    let mut facts = Vec::new(rt.alloc());
+    facts.push(GxFact::End).expect(rt, "memory");
+    Operation::stamped(counter, site, 0, SessionFacts::Gx(session_id(rt, id), facts))
+}
+
+/// The end of a call.
+pub fn call_end(rt: &(impl AllocGlobal + Abort), id: &str, counter: u64, site: u8) -> Operation {
+    let mut facts = Vec::new(rt.alloc());
+    facts.push(AfFact::End).expect(rt, "memory");
+    Operation::stamped(counter, site, 0, SessionFacts::Af(session_id(rt, id), facts))
+}

@@ -1,0 +1,190 @@
+//! What a state shows of the operations that it took.
+use crate::building::{
+    call, call_end, call_facts, gateway_end, session_id, update, update_facts,
+};
+use crate::text::state_text;
+use af_records::AfRec;
+use gx_records::GxRec;
+use lattice_core::Tag;
+use site_join::{Operation, State};
+use std::alloc::AllocGlobal;
+use std::process::Abort;
+
+/// Each order of four letters.
+const ORDERS: [[usize; 4]; 24] = [
+    [0, 1, 2, 3],
+    [0, 1, 3, 2],
+    [0, 2, 1, 3],
+    [0, 2, 3, 1],
+    [0, 3, 1, 2],
+    [0, 3, 2, 1],
+    [1, 0, 2, 3],
+    [1, 0, 3, 2],
+    [1, 2, 0, 3],
+    [1, 2, 3, 0],
+    [1, 3, 0, 2],
+    [1, 3, 2, 0],
+    [2, 0, 1, 3],
+    [2, 0, 3, 1],
+    [2, 1, 0, 3],
+    [2, 1, 3, 0],
+    [2, 3, 0, 1],
+    [2, 3, 1, 0],
+    [3, 0, 1, 2],
+    [3, 0, 2, 1],
+    [3, 1, 0, 2],
+    [3, 1, 2, 0],
+    [3, 2, 0, 1],
+    [3, 2, 1, 0],
+];
+
+/// What the four letters lead to.
+const SHOWN: &str = "clock 7, gx g1 host b@3.2.1 last 2@3.2.1, gx g2 ended, \
+    af a1 host af@0.4.2 media 1@0.4.2, af a2 ended";
+
+/// The operations of four letters; the third comes from a request with a lower number.
+fn letters(rt: &(impl AllocGlobal + Abort)) -> [[Operation; 2]; 4] {
+    [
+        [update(rt, "g1", (0, 1, 0), "a"), call(rt, "a1", (2, 0), 0)],
+        [update(rt, "g1", (3, 2, 1), "b"), gateway_end(rt, "g2", 3, 1)],
+        [update(rt, "g1", (1, 5, 2), "c"), call(rt, "a1", (4, 2), 1)],
+        [update(rt, "g2", (0, 6, 3), "d"), call_end(rt, "a2", 7, 3)],
+    ]
+}
+
+fn take_all(rt: &(impl AllocGlobal + Abort), state: &mut State, operations: &[Operation]) {
+    for operation in operations {
+        state.take(operation).expect(rt, "memory");
+    }
+}
+
+fn state_of(rt: &(impl AllocGlobal + Abort), operations: &[Operation]) -> State {
+    let mut state = State::start(rt.alloc());
+    take_all(rt, &mut state, operations);
+    state
+}
+
+fn compare(rt: &(impl AllocGlobal + Abort), state: &State, want: &str) {
+    let text = state_text(rt.alloc(), state).expect(rt, "memory");
+    assert_eq!(rt; text.as_str(), want);
+}
+
+/// Whether two operations show this in either order.
+fn check(rt: &(impl AllocGlobal + Abort), first: &Operation, second: &Operation, want: &str) {
+    for [one, other] in [[first, second], [second, first]] {
+        let mut state = State::start(rt.alloc());
+        state.take(one).expect(rt, "memory");
+        state.take(other).expect(rt, "memory");
+        compare(rt, &state, want);
+    }
+}
+
+#[test]
+fn letters_lead_to_the_same_in_any_order(rt: HostRuntime) {
+    let letters = letters(&rt);
+    for order in ORDERS {
+        let mut state = State::start(rt.alloc());
+        for at in order {
+            take_all(&rt, &mut state, &letters[at]);
+        }
+        compare(&rt, &state, SHOWN);
+        for at in order {
+            take_all(&rt, &mut state, &letters[at]);
+        }
+        compare(&rt, &state, SHOWN);
+    }
+}
+
+#[test]
+fn merged_states_show_both(rt: HostRuntime) {
+    let letters = letters(&rt);
+    for [first, second, third, fourth] in ORDERS {
+        let mut ours = state_of(&rt, &letters[first]);
+        take_all(&rt, &mut ours, &letters[second]);
+        let mut theirs = state_of(&rt, &letters[third]);
+        take_all(&rt, &mut theirs, &letters[fourth]);
+        let Ok(both) = ours.merge(theirs) else {
+            panic!(&rt; "memory");
+        };
+        compare(&rt, &both, SHOWN);
+        let again = both.try_copy().expect(&rt, "memory");
+        let Ok(both) = both.merge(again) else {
+            panic!(&rt; "memory");
+        };
+        compare(&rt, &both, SHOWN);
+    }
+}
+
+#[test]
+fn an_ended_session_stays_ended(rt: HostRuntime) {
+    let late = update(&rt, "g1", (9, 9, 1), "a");
+    check(&rt, &gateway_end(&rt, "g1", 2, 0), &late, "clock 9, gx g1 ended");
+    let late = call(&rt, "a1", (9, 1), 0);
+    check(&rt, &call_end(&rt, "a1", 2, 0), &late, "clock 9, af a1 ended");
+}
+
+#[test]
+fn equal_stamps_with_different_contents(rt: HostRuntime) {
+    let first = update(&rt, "g1", (0, 1, 0), "a");
+    let same = update(&rt, "g1", (0, 1, 0), "b");
+    check(&rt, &first, &same, "clock 1, gx g1 host b@0.1.0 last 2@0.1.0");
+    let other = update(&rt, "g2", (0, 1, 0), "b");
+    check(
+        &rt,
+        &first,
+        &other,
+        "clock 1, gx g1 host a@0.1.0 last 2@0.1.0, gx g2 host b@0.1.0 last 2@0.1.0",
+    );
+}
+
+#[test]
+fn copies_of_operations_are_taken_as_they_are(rt: HostRuntime) {
+    let mut state = State::start(rt.alloc());
+    for letter in letters(&rt) {
+        for operation in letter {
+            let copy = operation.try_copy().expect(&rt, "memory");
+            state.take(&copy).expect(&rt, "memory");
+        }
+    }
+    compare(&rt, &state, SHOWN);
+}
+
+#[test]
+fn records_are_put_and_handed_back(rt: HostRuntime) {
+    let mut state = state_of(&rt, &[update(&rt, "g1", (0, 3, 0), "a")]);
+    let id = session_id(&rt, "g1");
+    let at = Tag {
+        number: 0,
+        counter: 2,
+        site: 0,
+    };
+    let facts = update_facts(&rt, at, "b");
+    let record = GxRec::of_facts(rt.alloc(), facts.as_slice()).expect(&rt, "memory");
+    let stood = state.put_gx(&id, Some(record), 2).expect(&rt, "memory");
+    compare(&rt, &state, "clock 2, gx g1 host b@0.2.0 last 2@0.2.0");
+    let put = state.put_gx(&id, stood, 3).expect(&rt, "memory");
+    assert!(&rt; put.is_some());
+    compare(&rt, &state, "clock 3, gx g1 host a@0.3.0 last 2@0.3.0");
+    let gone = state.put_gx(&id, None, 0).expect(&rt, "memory");
+    assert!(&rt; gone.is_some());
+    compare(&rt, &state, "clock 0");
+}
+
+#[test]
+fn calls_are_put_and_handed_back(rt: HostRuntime) {
+    let mut state = State::start(rt.alloc());
+    let id = session_id(&rt, "a1");
+    let at = Tag {
+        number: 0,
+        counter: 2,
+        site: 0,
+    };
+    let facts = call_facts(&rt, at, 4);
+    let record = AfRec::of_facts(rt.alloc(), facts.as_slice()).expect(&rt, "memory");
+    let stood = state.put_af(&id, Some(record), 2).expect(&rt, "memory");
+    assert!(&rt; stood.is_none());
+    compare(&rt, &state, "clock 2, af a1 host af@0.2.0 media 4@0.2.0");
+    let gone = state.put_af(&id, None, 0).expect(&rt, "memory");
+    assert!(&rt; gone.is_some());
+    compare(&rt, &state, "clock 0");
+}
