@@ -4,7 +4,7 @@ ghost use Rattle.pcrf_script.specs.Limits.{read_limit};
 
 use crate::lines::{Line, LineFault, read_line};
 use crate::messages::put_stream;
-use crate::printing::{put_outcome, put_restart, put_site};
+use crate::printing::{put_outcome, put_site};
 use dia_codec::Counted;
 use pcrf_world::{World, WorldEvent};
 use std::alloc::Global;
@@ -61,7 +61,6 @@ impl Script {
             Line::Message(i, bytes) => self.give(*i, bytes.as_slice()),
             Line::Letter(i, j) => self.happen(&WorldEvent::Letter(*i, *j)),
             Line::Merge(j, k) => self.happen(&WorldEvent::Merge(*j, *k)),
-            Line::Restart(i) => self.restart(*i),
             Line::Show(i) => self.show(*i),
         }
     }
@@ -89,15 +88,6 @@ impl Script {
             return Err(LineFault::Bad);
         };
         Ok(put_outcome(&mut self.out, world.step(event))?)
-    }
-
-    /// Has a site start again.
-    fn restart(&mut self, i: usize) -> Result<(), LineFault> {
-        let Some(world) = &mut self.world else {
-            return Err(LineFault::Bad);
-        };
-        let answer = world.step(&WorldEvent::Restart(i));
-        Ok(put_restart(&mut self.out, i, answer)?)
     }
 
     /// Shows a site.

@@ -1,4 +1,7 @@
-pub mod Facts
 pub mod Identities
+pub mod Operations
+pub mod Shown
+pub mod GxSessions
 pub mod Sites
-pub mod Values
+pub mod Worlds
+pub mod Steps

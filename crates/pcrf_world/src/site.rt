@@ -1,57 +1,49 @@
-//! One site: what it holds, and the operations that it made itself in its present epoch.
-ghost use Rattle.std.specs.Prelude.{◌≡◌, ◌<◌, ◌≤◌, ◌+◌, [], ◌∷◌, None, Some, false, true, length, take, cond, IfOk, OnOk, OnErr, IfErr, IfSome};
-ghost use Rattle.std.specs.Option.{option_copied};
-ghost use Rattle.pcrf_values.specs.Results.{unable_to_comply};
-ghost use Rattle.pcrf_facts.specs.Held.{is_ended};
-ghost use Rattle.pcrf_facts.specs.Live.{gx_is_live};
-ghost use Rattle.pcrf_model.specs.Limits.{last_counter, last_epoch};
-ghost use Rattle.pcrf_model.specs.Tables.{open_tables};
-ghost use Rattle.pcrf_model.specs.Holdings.{kept_of};
-ghost use Rattle.pcrf_model.specs.Refusals.{is_clock_full, ccr_refusal, lacks_parameters};
-ghost use Rattle.pcrf_model.specs.Flows.{or_else};
+//! One site, which keeps a plain list of the operations that it took.
+ghost use Rattle.std.specs.Prelude.{◌≡◌, ◌<◌, [], ◌∷◌, length, take, map, IfOk, OnOk, OnErr, IfErr};
 ghost use Rattle.gx_profile.specs.Requests.{ccr_view};
-ghost use Rattle.site_join.specs.States.{record_facts};
-ghost use Rattle.pcrf_world.specs.Values.{request_value, gx_reply_value, reply_value};
+ghost use Rattle.pcrf_model.specs.Operations.{holding_of};
+ghost use Rattle.pcrf_world.specs.GxSessions.{gx_session_value};
+ghost use Rattle.pcrf_world.specs.Operations.{operation_of, counter_bound, AreFields};
+ghost use Rattle.pcrf_world.specs.Shown.{shown_sessions};
 
-use crate::facts::facts_made;
 use crate::identity::identity_of;
+use crate::operation::{GxFields, GxOperation, copy_all};
+use crate::shown::{GxSession, named_in, sessions_of};
 use dia_base::Identity;
-use dia_base::codes::results::{INITIAL_PARAMETERS, UNABLE_TO_COMPLY, UNKNOWN_SESSION_ID};
+use dia_base::codes::results::{INITIAL_PARAMETERS, UNABLE_TO_COMPLY};
 use gx_profile::{Ccr, GxReply};
-use gx_records::GxRec;
 use pcrf_values::{Refusal, RequestKind};
 use pcrf_wire::{Reply, Request};
 use ranked::{Ranked, Tag};
-use site_join::{Operation, SessionFacts, State};
 use std::alloc::{AllocError, Global};
 use std::marker::Model;
 
 /// The last counter of any operation: this project's own limit.
 const LAST_COUNTER: u64 = (1 << 63) - 1;
 
-/// A site of a world: its number, epoch and identity, what it holds, and the operations that it made itself in this epoch,
-/// in order.
+/// A site of a world: its number and its identity, the operations that it took, and those that it made itself, each in
+/// order.
 #[derive(Drop)]
 pub struct PlainSite {
     alloc: Global,
     number: u8,
-    epoch: u16,
     identity: Identity,
-    state: State,
-    log: Vec<Operation>,
+    taken: Vec<GxOperation>,
+    log: Vec<GxOperation>,
 }
 
 impl Model for PlainSite {
-    ghost use Rattle.std.specs.Prelude.{◌≡◌};
-    ghost use Rattle.pcrf_model.specs.Worlds.{SiteView};
+    ghost use Rattle.std.specs.Prelude.{◌≡◌, map};
+    ghost use Rattle.pcrf_world.specs.Operations.{operation_of};
     ghost use Rattle.pcrf_world.specs.Identities.{identity_of};
+    ghost use Rattle.pcrf_world.specs.Sites.{SiteValue};
 
-    ghost Value = { SiteView };
+    ghost Value = { SiteValue };
 
     ghost view = { λ s. record {
       number = s.number;
-      epoch = s.epoch;
-      state = record { holding = s.state; log = s.log.items };
+      taken = map operation_of s.taken.items;
+      log = map operation_of s.log.items;
     } };
 
     ghost invariant = { λ s. s.identity ≡ identity_of s.number };
@@ -59,18 +51,17 @@ impl Model for PlainSite {
 
 impl PlainSite {
     ghost use Rattle.pcrf_world.specs.Identities.{identity_of};
-    ghost use Rattle.pcrf_world.specs.Sites.{new_site, served, ccr_served, with_made, with_one, with_taken, started_again};
+    ghost use Rattle.pcrf_world.specs.Sites.{new_site, site_holding, reply_of, ccr_reply, served, ccr_served, with_made, with_taken};
 
-    /// A site that took nothing, in its first epoch.
+    /// A site that took nothing.
     pub fn start(alloc: Global, number: u8) -> Result<PlainSite, AllocError>
         ensures { IfOk result (λ site. site ≡ new_site number) }
     {
         Ok(PlainSite {
             alloc,
             number,
-            epoch: 1,
             identity: identity_of(alloc, number)?,
-            state: State::start(alloc),
+            taken: Vec::new(alloc),
             log: Vec::new(alloc),
         })
     }
@@ -82,30 +73,27 @@ impl PlainSite {
         &self.identity
     }
 
-    /// The number of the site.
-    pub fn number(&self) -> u8
-        ensures { result ≡ self.now.number }
+    /// The greatest counter of the operations that were taken, 0 at first.
+    pub fn clock(&self) -> u64
+        ensures clock { result ≡ (site_holding self.now).clock }
+        ensures bounded { result < counter_bound }
     {
-        self.number
+        clock_of(self.taken.as_slice())
     }
 
-    /// How often the site began, from 1.
-    pub fn epoch(&self) -> u16
-        ensures { result ≡ self.now.epoch }
+    /// The gateways' sessions with what they show, ascending by Session-Id.
+    pub fn shown_sessions(&self) -> Result<Vec<GxSession>, AllocError>
+        ensures { IfOk result (λ sessions.
+            map gx_session_value sessions.items ≡ shown_sessions (site_holding self.now)) }
     {
-        self.epoch
+        let taken = self.taken.as_slice();
+        let named = named_in(self.alloc, taken)?;
+        sessions_of(self.alloc, named.as_slice(), taken)
     }
 
-    /// What the site holds.
-    pub fn state(&self) -> &State
-        ensures { result.now ≡ self.now.state.holding }
-    {
-        &self.state
-    }
-
-    /// The operations that the site made itself in its present epoch, in order.
-    pub fn copy_of_log(&self) -> Result<Vec<Operation>, AllocError>
-        ensures { IfOk result (λ log. log.items ≡ self.now.state.log) }
+    /// The operations that the site made itself, in order.
+    pub fn copy_of_log(&self) -> Result<Vec<GxOperation>, AllocError>
+        ensures { IfOk result (λ log. map operation_of log.items ≡ self.now.log) }
     {
         copy_all(self.alloc, self.log.as_slice())
     }
@@ -113,90 +101,76 @@ impl PlainSite {
     /// Serves a request. An error changes nothing.
     pub fn serve(&mut self, request: &Request) -> Result<Reply, AllocError>
         ensures reply { IfOk result (λ reply.
-            reply_value reply ≡ (served self.old (request_value request.now)).reply) }
-        ensures ok { OnOk result
-            (self.new ≡ with_made self.old (served self.old (request_value request.now)).added) }
+            reply ≡ reply_of (site_holding self.old) request.now) }
+        ensures ok { IfOk result (λ reply. self.new ≡ served self.old request.now reply) }
         ensures err { OnErr result (self.new ≡ self.old) }
     {
         let Request::Ccr(ccr) = request;
         Ok(Reply::Gx(self.reply_to_ccr(ccr)?))
     }
 
-    /// Replies to a credit control request.
+    /// Replies to a credit control request: updates and terminations are not served yet.
     fn reply_to_ccr(&mut self, ccr: &Ccr) -> Result<GxReply, AllocError>
         ensures reply { IfOk result (λ reply.
-            gx_reply_value reply ≡ (ccr_served self.old (ccr_view ccr.now)).reply) }
-        ensures ok { OnOk result
-            (self.new ≡ with_made self.old (ccr_served self.old (ccr_view ccr.now)).added) }
+            reply ≡ ccr_reply (site_holding self.old) (ccr_view ccr.now)) }
+        ensures ok { IfOk result (λ reply.
+            self.new ≡ ccr_served self.old (ccr_view ccr.now) reply) }
         ensures err { OnErr result (self.new ≡ self.old) }
     {
-        if let Some(refusal) = self.standing_refusal(ccr) {
-            return Ok(GxReply::Refused(refusal));
+        match ccr.kind {
+            RequestKind::Initial => self.open_session(ccr),
+            RequestKind::Update | RequestKind::Termination => {
+                Ok(GxReply::Refused(Refusal::base(UNABLE_TO_COMPLY)))
+            }
         }
-        let Some(counter) = self.next_counter() else {
-            return Ok(GxReply::Refused(Refusal::base(UNABLE_TO_COMPLY)));
+    }
+
+    /// Opens a session, where its initial request is accepted.
+    fn open_session(&mut self, ccr: &Ccr) -> Result<GxReply, AllocError>
+        requires { ccr.now.kind ≡ RequestKind.Initial }
+        ensures reply { IfOk result (λ reply.
+            reply ≡ ccr_reply (site_holding self.old) (ccr_view ccr.now)) }
+        ensures ok { IfOk result (λ reply.
+            self.new ≡ ccr_served self.old (ccr_view ccr.now) reply) }
+        ensures err { OnErr result (self.new ≡ self.old) }
+    {
+        let site = self.number;
+        let Some(fields) = initial_fields(ccr)? else {
+            return Ok(GxReply::Refused(Refusal::experimental(INITIAL_PARAMETERS)));
         };
+        let clock = self.clock();
+        if clock >= LAST_COUNTER {
+            return Ok(GxReply::Refused(Refusal::base(UNABLE_TO_COMPLY)));
+        }
         let tag = Tag {
             number: ccr.number,
-            counter,
-            site: self.number,
+            counter: clock + 1,
+            site,
         };
-        let session = ccr.session.try_copy()?;
-        let facts = SessionFacts::Gx(session, facts_made(self.alloc, ccr, tag)?);
-        self.add(Operation::stamped(counter, self.number, ccr.number, facts))?;
+        self.add(GxOperation::of(tag, ccr.session.try_copy()?, fields))?;
         Ok(GxReply::Granted)
     }
 
-    /// The refusal by what is known of the session and given by the request; the end of the clock comes after it.
-    fn standing_refusal(&self, ccr: &Ccr) -> Option<Refusal>
-        ensures { ccr_refusal open_tables self.now.state.holding (ccr_view ccr.now)
-            ≡ or_else result
-            (cond (is_clock_full self.now.state.holding) (Some unable_to_comply) None) }
-    {
-        let known = self.state.gx(&ccr.session);
-        match ccr.kind {
-            RequestKind::Initial if has_ended(known) => Some(Refusal::base(UNKNOWN_SESSION_ID)),
-            RequestKind::Initial if lacks(ccr) => Some(Refusal::experimental(INITIAL_PARAMETERS)),
-            RequestKind::Initial => None,
-            RequestKind::Update | RequestKind::Termination => match is_live(known) {
-                true => None,
-                false => Some(Refusal::base(UNKNOWN_SESSION_ID)),
-            },
-        }
-    }
-
-    /// The counter of the next operation, if there is one left.
-    fn next_counter(&self) -> Option<u64>
-        ensures some { IfSome result (λ counter. counter ≡ self.now.state.holding.clock + 1) }
-        ensures within { IfSome result (λ counter. counter ≤ last_counter) }
-        ensures open { IfSome result (λ _. is_clock_full self.now.state.holding ≡ false) }
-        ensures full { result ≡ None → is_clock_full self.now.state.holding ≡ true }
-    {
-        let clock = self.state.clock();
-        if clock >= LAST_COUNTER {
-            return None;
-        }
-        Some(clock + 1)
-    }
-
     /// Adds an operation of the site's own, or changes nothing.
-    fn add(&mut self, operation: Operation) -> Result<(), AllocError>
-        ensures ok { OnOk result (self.new ≡ with_made self.old (Some operation)) }
+    fn add(&mut self, operation: GxOperation) -> Result<(), AllocError>
+        ensures ok { OnOk result (self.new ≡ with_made (operation_of operation ∷ []) self.old) }
         ensures err { OnErr result (self.new ≡ self.old) }
     {
+        let copy = operation.try_copy()?;
         self.log.try_reserve(1)?;
-        self.state.take(&operation)?;
+        self.taken.push(copy)?;
         self.log.push(operation).unwrap();
         Ok(())
     }
 
     /// Takes operations in order. An error tells how many stand taken.
-    pub fn take_all(&mut self, operations: &[Operation]) -> Result<(), (usize, AllocError)>
-        ensures ok { OnOk result (self.new ≡ with_taken self.old operations.now) }
+    pub fn take_all(&mut self, operations: &[GxOperation]) -> Result<(), (usize, AllocError)>
+        ensures ok { OnOk result
+            (self.new ≡ with_taken (map operation_of operations.now) self.old) }
         ensures part { IfErr result (λ e. e.0 < length operations.now) }
-        ensures err { IfErr result (λ e. self.new ≡ with_taken self.old (take e.0 operations.now)) }
+        ensures err { IfErr result (λ e.
+            self.new ≡ with_taken (take e.0 (map operation_of operations.now)) self.old) }
     {
-        self.note_kept();
         for (count, operation) in operations.iter().enumerate() {
             if self.take(operation).is_err() {
                 return Err((count, AllocError));
@@ -205,72 +179,43 @@ impl PlainSite {
         Ok(())
     }
 
-    /// Does nothing: its contract tells a proof that what is held is kept.
-    fn note_kept(&self)
-        ensures { kept_of self.now.state.holding ≡ self.now.state.holding }
-    {
-        self.state.note_kept();
-    }
-
     /// Takes one operation, or changes nothing.
-    fn take(&mut self, operation: &Operation) -> Result<(), AllocError>
-        ensures ok { OnOk result (self.new ≡ with_one self.old operation.now) }
+    fn take(&mut self, operation: &GxOperation) -> Result<(), AllocError>
+        ensures ok { OnOk result
+            (self.new ≡ with_taken (operation_of operation.now ∷ []) self.old) }
         ensures err { OnErr result (self.new ≡ self.old) }
     {
-        self.state.take(operation)
-    }
-
-    /// Begins again in the next epoch, empty; tells that epoch, or None in the last one, which changes nothing.
-    pub fn restart(&mut self) -> Option<u16>
-        ensures epoch { IfSome result (λ epoch. epoch ≡ self.old.epoch + 1) }
-        ensures again { IfSome result (λ _. self.new ≡ started_again self.old) }
-        ensures last { result ≡ None → self.old.epoch ≡ last_epoch }
-        ensures unchanged { result ≡ None → self.new ≡ self.old }
-    {
-        let Some(epoch) = self.epoch.checked_add(1) else {
-            return None;
-        };
-        self.epoch = epoch;
-        self.state = State::start(self.alloc);
-        self.log = Vec::new(self.alloc);
-        Some(epoch)
+        let copy = operation.try_copy()?;
+        self.taken.push(copy)?;
+        Ok(())
     }
 }
 
-/// The session has ended, as far as is known.
-fn has_ended(known: Option<&GxRec>) -> bool
-    ensures { result ≡ is_ended (record_facts (option_copied known.entry)) }
+/// The greatest counter of operations, 0 where there is none.
+fn clock_of(operations: &[GxOperation]) -> u64
+    ensures clock { result ≡ (holding_of (map operation_of operations.now)).clock }
+    ensures bounded { result < counter_bound }
 {
-    match known {
-        Some(session) => session.ended(),
-        None => false,
-    }
-}
-
-/// The session is live.
-fn is_live(known: Option<&GxRec>) -> bool
-    ensures { result ≡ gx_is_live (record_facts (option_copied known.entry)) }
-{
-    match known {
-        Some(session) => session.live(),
-        None => false,
-    }
-}
-
-/// The request lacks what an initial one must give (TS 29.212, 4.5.1).
-fn lacks(ccr: &Ccr) -> bool
-    ensures { result ≡ lacks_parameters (ccr_view ccr.now) }
-{
-    ccr.address.is_none() || ccr.apn.is_none() || ccr.subscribers.is_none()
-}
-
-/// Equal operations, in order.
-fn copy_all(alloc: Global, operations: &[Operation]) -> Result<Vec<Operation>, AllocError>
-    ensures { IfOk result (λ copies. copies.items ≡ operations.now) }
-{
-    let mut copies = Vec::new(alloc);
+    let mut clock = 0;
     for operation in operations {
-        copies.push(operation.try_copy()?)?;
+        clock = operation.tag().counter.max(clock);
     }
-    Ok(copies)
+    clock
+}
+
+/// The fields that an initial request sets, None where it lacks one that it must have (TS 29.212, 4.5.1).
+fn initial_fields(ccr: &Ccr) -> Result<Option<GxFields>, AllocError>
+    ensures { IfOk result (λ found. AreFields (ccr_view ccr.now) found) }
+{
+    let (Some(address), Some(apn), Some(subscribers)) = (ccr.address, &ccr.apn, &ccr.subscribers)
+    else {
+        return Ok(None);
+    };
+    Ok(Some(GxFields {
+        address,
+        apn: apn.try_copy()?,
+        subscribers: subscribers.try_copy()?,
+        host: ccr.origin.host.try_copy()?,
+        realm: ccr.origin.realm.try_copy()?,
+    }))
 }

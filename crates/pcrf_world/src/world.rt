@@ -1,12 +1,9 @@
 //! A world of sites, which serve requests, make letters and take them.
 ghost use Rattle.std.specs.Prelude.{◌≡◌, length, slice_get, IfOk};
 ghost use Rattle.std.specs.Option.{option_copied};
-ghost use Rattle.pcrf_model.specs.Worlds.{WorldTook, start, world_view, after, after_all, Gives, GivesAll, HoldAlike};
-ghost use Rattle.pcrf_world.specs.Sites.{letter_of_log};
-ghost use Rattle.pcrf_world.specs.Values.{event_value, answer_value, events_value, answers_value, setting};
 
+use crate::operation::GxOperation;
 use crate::site::PlainSite;
-use site_join::Operation;
 use pcrf_wire::{Reply, Request};
 use std::alloc::{AllocError, Global};
 use std::marker::Model;
@@ -21,8 +18,6 @@ pub enum WorldEvent {
     Letter(usize, usize),
     /// A site takes a letter.
     Merge(usize, usize),
-    /// A site starts again, empty.
-    Restart(usize),
 }
 
 /// What an event gave.
@@ -34,8 +29,6 @@ pub enum WorldOutcome {
     Lettered(usize),
     /// The letter was taken.
     Merged,
-    /// The site began this epoch.
-    Restarted(u16),
 }
 
 /// Why an event gave nothing.
@@ -45,8 +38,6 @@ pub enum WorldFault {
     NoSuchSite,
     #[error("there is no letter of that number")]
     NoSuchLetter,
-    #[error("the site is in its last epoch")]
-    EpochFull,
     /// Memory ran out; of the letter's operations so many stand taken.
     #[error("no memory, with {taken} operations of the letter taken")]
     NoMemory {
@@ -55,26 +46,20 @@ pub enum WorldFault {
     },
 }
 
-/// What a site wrote for its peers: the operations that it made itself in an epoch, in order.
+/// What a site wrote for a peer.
 #[derive(Drop)]
 struct Letter {
-    site: u8,
-    epoch: u16,
-    operations: Vec<Operation>,
+    operations: Vec<GxOperation>,
 }
 
 impl Model for Letter {
-    ghost use Rattle.pcrf_model.specs.Letters.{LetterValue, Range};
-    ghost use Rattle.pcrf_world.specs.Values.{setting};
+    ghost use Rattle.std.specs.Prelude.{List, map};
+    ghost use Rattle.pcrf_model.specs.Operations.{Operation};
+    ghost use Rattle.pcrf_world.specs.Operations.{operation_of};
 
-    ghost Value = { LetterValue };
+    ghost Value = { List Operation };
 
-    ghost view = { λ l. record {
-      edition = setting.tables.edition;
-      site = l.site;
-      epoch = l.epoch;
-      body = Range 0 l.operations.items;
-    } };
+    ghost view = { λ l. map operation_of l.operations.items };
 }
 
 /// Sites, and the letters that they made.
@@ -86,17 +71,20 @@ pub struct World {
 }
 
 impl Model for World {
-    ghost use Rattle.pcrf_model.specs.Worlds.{WorldView};
+    ghost use Rattle.pcrf_world.specs.Worlds.{WorldValue};
 
-    ghost Value = { WorldView };
+    ghost Value = { WorldValue };
 
     ghost view = { λ w. record { sites = w.sites.items; letters = w.letters.items } };
 }
 
 impl World {
+    ghost use Rattle.pcrf_world.specs.Worlds.{new_world, Agree};
+    ghost use Rattle.pcrf_world.specs.Steps.{MayGive, MayGiveAll, world_after, world_after_all};
+
     /// Sites 0 to n - 1, each of which took nothing, and no letter.
     pub fn start(alloc: Global, n: u8) -> Result<World, AllocError>
-        ensures { IfOk result (λ world. world ≡ world_view (start n)) }
+        ensures { IfOk result (λ world. world ≡ new_world n) }
     {
         let mut sites = Vec::new(alloc);
         for number in 0..n {
@@ -116,29 +104,23 @@ impl World {
         self.sites.get(i)
     }
 
-    /// Makes one event happen. Whatever the sites took before that shows as this world, after the event it shows what they
-    /// then took.
+    /// Makes one event happen.
     pub fn step(&mut self, event: &WorldEvent) -> Result<WorldOutcome, WorldFault>
-        ensures answer { Gives setting self.old (event_value event.now) (answer_value result) }
-        ensures after { (w : WorldTook) → world_view w ≡ self.old →
-            self.new ≡ world_view (after setting w (event_value event.now) (answer_value result)) }
+        ensures answer { MayGive self.old event.now result }
+        ensures after { self.new ≡ world_after self.old event.now result }
         ensures sites { length self.new.sites ≡ length self.old.sites }
     {
         match event {
             WorldEvent::Serve(i, request) => self.reply_at(*i, request),
             WorldEvent::Letter(i, j) => self.make_letter(*i, *j),
             WorldEvent::Merge(j, k) => self.take_letter(*j, *k),
-            WorldEvent::Restart(i) => self.restart(*i),
         }
     }
 
     /// Has a site reply to a request.
     fn reply_at(&mut self, i: usize, request: &Request) -> Result<WorldOutcome, WorldFault>
-        ensures answer { Gives setting self.old
-            (event_value (WorldEvent.Serve i request.now)) (answer_value result) }
-        ensures after { (w : WorldTook) → world_view w ≡ self.old → self.new ≡ world_view
-            (after setting w (event_value (WorldEvent.Serve i request.now)) (answer_value result)) }
-        ensures sites { length self.new.sites ≡ length self.old.sites }
+        ensures answer { MayGive self.old (WorldEvent.Serve i request.now) result }
+        ensures after { self.new ≡ world_after self.old (WorldEvent.Serve i request.now) result }
     {
         if i >= self.sites.len() {
             return Err(WorldFault::NoSuchSite);
@@ -152,20 +134,17 @@ impl World {
 
     /// Has the first site make a letter for the second.
     fn make_letter(&mut self, i: usize, j: usize) -> Result<WorldOutcome, WorldFault>
-        ensures answer { Gives setting self.old
-            (event_value (WorldEvent.Letter i j)) (answer_value result) }
-        ensures after { (w : WorldTook) → world_view w ≡ self.old → self.new ≡ world_view
-            (after setting w (event_value (WorldEvent.Letter i j)) (answer_value result)) }
-        ensures sites { length self.new.sites ≡ length self.old.sites }
+        ensures answer { MayGive self.old (WorldEvent.Letter i j) result }
+        ensures after { self.new ≡ world_after self.old (WorldEvent.Letter i j) result }
     {
         if i >= self.sites.len() || j >= self.sites.len() {
             return Err(WorldFault::NoSuchSite);
         }
         let k = self.letters.len();
-        let Ok(letter) = letter_of(&self.sites[i]) else {
+        let Ok(operations) = self.sites[i].copy_of_log() else {
             return Err(WorldFault::NoMemory { taken: 0 });
         };
-        match self.letters.push(letter) {
+        match self.letters.push(Letter { operations }) {
             Ok(()) => Ok(WorldOutcome::Lettered(k)),
             Err(_) => Err(WorldFault::NoMemory { taken: 0 }),
         }
@@ -173,11 +152,8 @@ impl World {
 
     /// Has a site take a letter.
     fn take_letter(&mut self, j: usize, k: usize) -> Result<WorldOutcome, WorldFault>
-        ensures answer { Gives setting self.old
-            (event_value (WorldEvent.Merge j k)) (answer_value result) }
-        ensures after { (w : WorldTook) → world_view w ≡ self.old → self.new ≡ world_view
-            (after setting w (event_value (WorldEvent.Merge j k)) (answer_value result)) }
-        ensures sites { length self.new.sites ≡ length self.old.sites }
+        ensures answer { MayGive self.old (WorldEvent.Merge j k) result }
+        ensures after { self.new ≡ world_after self.old (WorldEvent.Merge j k) result }
     {
         if j >= self.sites.len() {
             return Err(WorldFault::NoSuchSite);
@@ -193,39 +169,19 @@ impl World {
         }
     }
 
-    /// Has a site start again.
-    fn restart(&mut self, i: usize) -> Result<WorldOutcome, WorldFault>
-        ensures answer { Gives setting self.old
-            (event_value (WorldEvent.Restart i)) (answer_value result) }
-        ensures after { (w : WorldTook) → world_view w ≡ self.old → self.new ≡ world_view
-            (after setting w (event_value (WorldEvent.Restart i)) (answer_value result)) }
-        ensures sites { length self.new.sites ≡ length self.old.sites }
-    {
-        if i >= self.sites.len() {
-            return Err(WorldFault::NoSuchSite);
-        }
-        let site = &mut self.sites[i];
-        let Some(epoch) = site.restart() else {
-            return Err(WorldFault::EpochFull);
-        };
-        Ok(WorldOutcome::Restarted(epoch))
-    }
-
     /// A world of n sites after these events, with the answer to each; a fault is an answer and doesn't stop it.
     pub fn run(
         alloc: Global,
         n: u8,
         events: &[WorldEvent],
     ) -> Result<(World, Vec<Result<WorldOutcome, WorldFault>>), AllocError>
-        // Each answer is one that the definitions give on what the sites took before.
-        ensures answers { IfOk result (λ r.
-            GivesAll setting (start n) (events_value events.now) (answers_value r.1.items)) }
-        // Each site holds what is kept of what the events and the answers say that it took.
-        ensures holds { IfOk result (λ r. r.0 ≡ world_view
-            (after_all setting (start n) (events_value events.now) (answers_value r.1.items))) }
+        // Each answer is one that the definitions give on what the sites took.
+        ensures answers { IfOk result (λ r. MayGiveAll (new_world n) events.now r.1.items) }
+        // Each site took what the events and the answers say.
+        ensures taken { IfOk result (λ r.
+            r.0 ≡ world_after_all (new_world n) events.now r.1.items) }
         // Any two sites that took the same operations hold the same.
-        ensures same { IfOk result (λ r. HoldAlike
-            (after_all setting (start n) (events_value events.now) (answers_value r.1.items)).sites) }
+        ensures same { IfOk result (λ r. Agree r.0) }
     {
         let mut world = World::start(alloc, n)?;
         let mut answers = Vec::with_capacity(alloc, events.len())?;
@@ -235,15 +191,4 @@ impl World {
         }
         Ok((world, answers))
     }
-}
-
-/// The letter of a site's whole log.
-fn letter_of(site: &PlainSite) -> Result<Letter, AllocError>
-    ensures { IfOk result (λ letter. letter ≡ letter_of_log site.now) }
-{
-    Ok(Letter {
-        site: site.number(),
-        epoch: site.epoch(),
-        operations: site.copy_of_log()?,
-    })
 }

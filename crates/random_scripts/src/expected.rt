@@ -13,14 +13,8 @@ pub struct Counts {
     pub granted: u64,
     /// Initial requests that lack a part.
     pub lacking: u64,
-    /// Requests of sessions that ended, or that can't be changed.
-    pub unknown: u64,
-    /// Sites that started again.
-    pub restarts: u64,
-    /// Sessions shown as ended.
-    pub ended: u64,
-    /// Sessions shown of which only some facts are known.
-    pub partial: u64,
+    /// Updates and terminations.
+    pub not_served: u64,
     /// Letters made.
     pub letters: u64,
     /// Letters taken that brought an operation that was new there.
@@ -83,13 +77,6 @@ fn put_event(
             }
             Err(missing) => put_refused(text, missing, counts),
         },
-        Event::Restart(i) => match world.restart(*i) {
-            Ok(epoch) => {
-                count(&mut counts.restarts);
-                writeln!(text, "restart {i} epoch {epoch}")
-            }
-            Err(missing) => put_refused(text, missing, counts),
-        },
         Event::Show(i) => match world.sites.get(*i) {
             Some(site) => put_site(alloc, text, site, counts),
             None => put_refused(text, Missing::Site, counts),
@@ -127,7 +114,7 @@ fn put_answer(
     match reply {
         Reply::Granted => count(&mut counts.granted),
         Reply::LacksParameters => count(&mut counts.lacking),
-        Reply::Unknown => count(&mut counts.unknown),
+        Reply::NotServed => count(&mut counts.not_served),
     }
     let bytes = answer_bytes(alloc, i, request, reply)?;
     text.push_str("answer ")?;
@@ -146,7 +133,7 @@ fn put_site(
     writeln!(text, "clock {clock}")?;
     let sessions = site.sessions(alloc)?;
     for session in &sessions {
-        put_session(text, site, session, counts)?;
+        put_session(text, site, session)?;
         let tags = site.tags(alloc, session)?;
         count_deciders(tags.as_slice(), counts);
     }
@@ -154,34 +141,17 @@ fn put_site(
 }
 
 /// Writes the line of a session.
-fn put_session(
-    text: &mut String,
-    site: &Site,
-    session: &[u8],
-    counts: &mut Counts,
-) -> Result<(), AllocError> {
-    text.push_str("gx ")?;
-    put_text(text, session)?;
-    if site.is_live(session) {
-        return put_live(text, site, session);
-    }
-    if site.is_ended(session) {
-        count(&mut counts.ended);
-        return text.push_str(" ended\n");
-    }
-    count(&mut counts.partial);
-    text.push_str(" partial\n")
-}
-
-/// Writes what a live session shows.
-fn put_live(text: &mut String, site: &Site, session: &[u8]) -> Result<(), AllocError> {
-    let (Some([a, b, c, d]), Some(apn), Some(home)) = (
+fn put_session(text: &mut String, site: &Site, session: &[u8]) -> Result<(), AllocError> {
+    let (Some(address), Some(apn), Some(home)) = (
         site.address(session),
         site.apn(session),
         site.home(session),
     ) else {
         return Ok(());
     };
+    let [a, b, c, d] = address;
+    text.push_str("gx ")?;
+    put_text(text, session)?;
     write!(text, " live {a}.{b}.{c}.{d} ")?;
     put_text(text, apn)?;
     writeln!(text, " home {home}")

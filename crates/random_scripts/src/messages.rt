@@ -77,7 +77,7 @@ pub fn answer_bytes(
         code: match reply {
             Reply::Granted => Code::Base(2001),
             Reply::LacksParameters => Code::Tgpp(5140),
-            Reply::Unknown => Code::Base(5002),
+            Reply::NotServed => Code::Base(5012),
         },
         served: Some(ServedRequest {
             kind: kind_number(request.kind),

@@ -10,16 +10,14 @@ pub struct Tag {
     pub site: usize,
 }
 
-/// What an accepted request added: the end of its session, or the fields that it gives.
-#[derive(Clone, Drop, PartialEq, Eq)]
+/// What an accepted initial request added.
+#[derive(Clone, Drop)]
 pub struct Operation {
     pub tag: Tag,
     pub session: &'static [u8],
-    pub ends: bool,
-    pub address: Option<[u8; 4]>,
+    pub address: [u8; 4],
     /// The access point name in small letters.
-    pub apn: Option<Vec<u8>>,
-    pub subscribers: bool,
+    pub apn: Vec<u8>,
 }
 
 /// What a site replies.
@@ -29,16 +27,15 @@ pub enum Reply {
     Granted,
     /// An initial request lacks its address, its access point name or its subscribers.
     LacksParameters,
-    /// The session has ended, or isn't one that can be changed.
-    Unknown,
+    /// The kind of request is not served.
+    NotServed,
 }
 
-/// The operations that a site took, and those that it made, each in order, and how often it began.
+/// The operations that a site took, and those that it made, each in order.
 #[derive(Drop)]
 pub struct Site {
     pub taken: Vec<Operation>,
     pub log: Vec<Operation>,
-    pub epoch: u64,
 }
 
 /// Texts are folded from ASCII capitals to small letters.
@@ -58,22 +55,7 @@ impl Site {
         Site {
             taken: Vec::new(alloc),
             log: Vec::new(alloc),
-            epoch: 1,
         }
-    }
-
-    /// Whether a session has ended.
-    pub fn is_ended(&self, session: &[u8]) -> bool {
-        self.taken.iter().any(|operation| operation.ends && operation.session == session)
-    }
-
-    /// Whether a session is live: not ended, and showing an address, an access point name and subscribers.
-    pub fn is_live(&self, session: &[u8]) -> bool {
-        let of = |operation: &Operation| operation.subscribers && operation.session == session;
-        !self.is_ended(session)
-            && self.address(session).is_some()
-            && self.apn(session).is_some()
-            && self.taken.iter().any(of)
     }
 
     /// The greatest counter of the operations taken, 0 if there is none.
@@ -101,7 +83,7 @@ impl Site {
     pub fn tags(&self, alloc: Global, session: &[u8]) -> Result<Vec<Tag>, AllocError> {
         let mut tags = Vec::new(alloc);
         for operation in &self.taken {
-            if operation.session == session && !operation.ends {
+            if operation.session == session {
                 tags.push(operation.tag)?;
             }
         }
@@ -112,10 +94,8 @@ impl Site {
     pub fn address(&self, session: &[u8]) -> Option<[u8; 4]> {
         let mut shown: Option<(Tag, [u8; 4])> = None;
         for operation in &self.taken {
-            if let Some(address) = operation.address
-                && operation.session == session
-            {
-                shown = shown.max(Some((operation.tag, address)));
+            if operation.session == session {
+                shown = shown.max(Some((operation.tag, operation.address)));
             }
         }
         Some(shown?.1)
@@ -125,10 +105,8 @@ impl Site {
     pub fn apn(&self, session: &[u8]) -> Option<&[u8]> {
         let mut shown: Option<(Tag, &[u8])> = None;
         for operation in &self.taken {
-            if let Some(apn) = &operation.apn
-                && operation.session == session
-            {
-                shown = shown.max(Some((operation.tag, apn.as_slice())));
+            if operation.session == session {
+                shown = shown.max(Some((operation.tag, operation.apn.as_slice())));
             }
         }
         Some(shown?.1)
@@ -138,54 +116,37 @@ impl Site {
     pub fn home(&self, session: &[u8]) -> Option<usize> {
         let mut shown: Option<Tag> = None;
         for operation in &self.taken {
-            if operation.session == session && !operation.ends {
+            if operation.session == session {
                 shown = shown.max(Some(operation.tag));
             }
         }
         Some(shown?.site)
     }
 
-    /// Whether the operation was taken.
-    fn has(&self, operation: &Operation) -> bool {
-        self.taken.iter().any(|taken| taken == operation)
+    /// Whether an operation of this tag was taken.
+    fn has(&self, tag: Tag) -> bool {
+        self.taken.iter().any(|operation| operation.tag == tag)
     }
 
-    /// The refusal of a request, if it is refused.
-    fn refusal(&self, request: &Request) -> Option<Reply> {
-        if request.kind != Kind::Initial {
-            return match self.is_live(request.session) {
-                true => None,
-                false => Some(Reply::Unknown),
-            };
-        }
-        if self.is_ended(request.session) {
-            return Some(Reply::Unknown);
-        }
-        match request.address.is_none() || request.apn.is_none() || request.subscribers == 0 {
-            true => Some(Reply::LacksParameters),
-            false => None,
-        }
-    }
-
-    /// Makes the operation of an accepted request.
-    fn make(&mut self, alloc: Global, site: usize, request: &Request) -> Result<(), AllocError> {
+    /// Makes an operation of an initial request that has these parts.
+    fn make(
+        &mut self,
+        alloc: Global,
+        site: usize,
+        request: &Request,
+        address: [u8; 4],
+        apn: &[u8],
+    ) -> Result<(), AllocError> {
         let tag = Tag {
             number: request.number,
             counter: self.clock().saturating_add(1),
             site,
         };
-        let ends = request.kind == Kind::Termination;
-        let apn = match request.apn {
-            Some(apn) if !ends => Some(folded(alloc, apn)?),
-            _ => None,
-        };
         let operation = Operation {
             tag,
             session: request.session,
-            ends,
-            address: if ends { None } else { request.address },
-            apn,
-            subscribers: !ends && request.subscribers > 0,
+            address,
+            apn: folded(alloc, apn)?,
         };
         self.log.push(operation.clone()?)?;
         self.taken.push(operation)?;
@@ -231,22 +192,17 @@ impl World {
         let Some(site) = self.sites.get_mut(i) else {
             return Ok(Err(Missing::Site));
         };
-        if let Some(refusal) = site.refusal(request) {
-            return Ok(Ok(refusal));
+        if request.kind != Kind::Initial {
+            return Ok(Ok(Reply::NotServed));
         }
-        site.make(self.alloc, i, request)?;
-        Ok(Ok(Reply::Granted))
-    }
-
-    /// A site starts again, empty: the new epoch.
-    pub fn restart(&mut self, i: usize) -> Result<u64, Missing> {
-        let Some(site) = self.sites.get_mut(i) else {
-            return Err(Missing::Site);
+        let (Some(address), Some(apn)) = (request.address, request.apn) else {
+            return Ok(Ok(Reply::LacksParameters));
         };
-        site.taken = Vec::new(self.alloc);
-        site.log = Vec::new(self.alloc);
-        site.epoch = site.epoch.saturating_add(1);
-        Ok(site.epoch)
+        if request.subscribers == 0 {
+            return Ok(Ok(Reply::LacksParameters));
+        }
+        site.make(self.alloc, i, request, address, apn)?;
+        Ok(Ok(Reply::Granted))
     }
 
     /// A site makes a letter for another, which carries its own operations: the letter's number.
@@ -273,7 +229,7 @@ impl World {
         };
         let mut new = 0usize;
         for operation in letter {
-            if !site.has(operation) {
+            if !site.has(operation.tag) {
                 new = new.saturating_add(1);
             }
             site.taken.push(operation.clone()?)?;

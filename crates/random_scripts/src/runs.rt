@@ -5,10 +5,9 @@ use crate::messages::request_bytes;
 use crate::model;
 use dia_codec::HEADER_BYTES;
 use gx_profile::GxReply;
-use gx_records::GxRec;
-use pcrf_values::{Refusal, SessionId};
+use pcrf_values::Refusal;
 use pcrf_wire::{Asked, Reply, Request, read_request};
-use pcrf_world::{PlainSite, World, WorldEvent, WorldFault, WorldOutcome};
+use pcrf_world::{GxSession, PlainSite, World, WorldEvent, WorldFault, WorldOutcome};
 use std::alloc::{AllocError, Global};
 use std::process::Abort;
 use std::test::Fail;
@@ -35,7 +34,6 @@ fn world_events(alloc: Global, script: &Script) -> Result<Vec<WorldEvent>, Fail>
             Event::Send(i, sent) => events.push(WorldEvent::Serve(*i, request(alloc, sent)?))?,
             Event::Letter(i, j) => events.push(WorldEvent::Letter(*i, *j))?,
             Event::Merge(j, k) => events.push(WorldEvent::Merge(*j, *k))?,
-            Event::Restart(i) => events.push(WorldEvent::Restart(*i))?,
             Event::Show(_) => {}
         }
     }
@@ -47,7 +45,7 @@ fn replied(reply: model::Reply) -> WorldOutcome {
     WorldOutcome::Replied(Reply::Gx(match reply {
         model::Reply::Granted => GxReply::Granted,
         model::Reply::LacksParameters => GxReply::Refused(Refusal::experimental(5140)),
-        model::Reply::Unknown => GxReply::Refused(Refusal::base(5002)),
+        model::Reply::NotServed => GxReply::Refused(Refusal::base(5012)),
     }))
 }
 
@@ -71,10 +69,6 @@ fn answer(world: &mut model::World, event: &Event) -> Result<Option<Answer>, All
             let taken = world.merge(*j, *k)?;
             Some(taken.map(|_| WorldOutcome::Merged).map_err(missing))
         }
-        Event::Restart(i) => {
-            let began = world.restart(*i);
-            Some(began.map(|epoch| WorldOutcome::Restarted(epoch as u16)).map_err(missing))
-        }
         Event::Show(_) => None,
     })
 }
@@ -94,39 +88,23 @@ fn model_answers(
     Ok(answers)
 }
 
-/// Whether a session is held as the model has it.
-fn is_held(id: &SessionId, held: &GxRec, site: &model::Site, session: &[u8]) -> bool {
-    if id.as_slice() != session || held.ended() != site.is_ended(session) {
-        return false;
-    }
-    if held.live() != site.is_live(session) {
-        return false;
-    }
-    held.ended() || shows(held, site, session)
-}
-
-/// Whether a session that isn't ended shows what the model has of it.
-fn shows(held: &GxRec, site: &model::Site, session: &[u8]) -> bool {
-    held.address().map(|told| told.1.octets()) == site.address(session)
-        && held.apn().map(|told| told.1.as_slice()) == site.apn(session)
-        && held.home().map(usize::from) == site.home(session)
+/// Whether a session is shown as the model has it.
+fn is_shown(shown: &GxSession, site: &model::Site, session: &[u8]) -> bool {
+    shown.session().as_slice() == session
+        && shown.address().map(|address| address.octets()) == site.address(session)
+        && shown.apn().map(|apn| apn.as_slice()) == site.apn(session)
+        && shown.home().map(usize::from) == site.home(session)
 }
 
 /// Whether a site holds what the model has of it.
 fn holds(alloc: Global, site: &PlainSite, wanted: &model::Site) -> Result<bool, AllocError> {
-    let state = site.state();
+    let shown = site.shown_sessions()?;
     let sessions = wanted.sessions(alloc)?;
-    let mut count = 0usize;
-    for (id, held) in state.all_gx() {
-        let Some(session) = sessions.get(count) else {
-            return Ok(false);
-        };
-        if !is_held(id, held, wanted, session) {
-            return Ok(false);
-        }
-        count = count.saturating_add(1);
+    if site.clock() != wanted.clock() || shown.len() != sessions.len() {
+        return Ok(false);
     }
-    Ok(state.clock() == wanted.clock() && count == sessions.len())
+    let mut pairs = shown.iter().zip(sessions.iter());
+    Ok(pairs.all(|(shown, session)| is_shown(shown, wanted, session)))
 }
 
 /// Runs the world of a script, and compares it with the model's.
@@ -151,7 +129,6 @@ fn runs_of_worlds_give_what_the_model_gives(rt: HostRuntime) -> Result<(), Fail>
     let plan = Plan {
         sites: [1, 2, 3, 16],
         exchanges: true,
-        restarts: true,
     };
     for seed in 3001..3101 {
         run_one(&rt, seed, plan)?;

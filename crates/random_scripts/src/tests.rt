@@ -68,15 +68,14 @@ fn run_hundred(rt: &(impl Abort + AllocGlobal), first: u64, plan: Plan) -> Resul
 }
 
 /// Asks that much has happened in a hundred scripts. They draw 2,000 events or more, and much less is asked for than is
-/// to be expected of 2,000: of 48 events 14 are whole requests, two are requests that lack a part, six are updates, one is
-/// a termination, nine make a letter, 13 take one, two show a site, and one has it start again. One of 32 sites that are
-/// named is not there, and one of 16 letters. Each site is shown at the end. That the number or the site of a tag
-/// decides what shows has to happen, however rarely, and so have an ended session and one of which only some facts are
-/// known.
+/// to be expected of 2,000: of twenty events eight are whole requests, one is a request that lacks a part, one is an
+/// update or a termination, four make a letter, five take one, and one shows a site. One of 32 sites that are named is
+/// not there, and one of 16 letters. Each site is shown at the end. That the number or the site of a tag decides what
+/// shows has to happen, however rarely.
 fn assert_busy(rt: &impl Abort, counts: &Counts) {
     assert!(rt; counts.granted >= 500, "{counts:?}");
     assert!(rt; counts.lacking >= 50, "{counts:?}");
-    assert!(rt; counts.unknown >= 50, "{counts:?}");
+    assert!(rt; counts.not_served >= 50, "{counts:?}");
     assert!(rt; counts.letters >= 200, "{counts:?}");
     assert!(rt; counts.news >= 50, "{counts:?}");
     assert!(rt; counts.repeats >= 50, "{counts:?}");
@@ -85,8 +84,6 @@ fn assert_busy(rt: &impl Abort, counts: &Counts) {
     assert!(rt; counts.shown >= 300, "{counts:?}");
     assert!(rt; counts.by_number >= 10, "{counts:?}");
     assert!(rt; counts.by_site >= 1, "{counts:?}");
-    assert!(rt; counts.ended >= 1, "{counts:?}");
-    assert!(rt; counts.partial >= 1, "{counts:?}");
 }
 
 #[test]
@@ -94,11 +91,9 @@ fn few_sites_print_what_the_model_gives(rt: HostRuntime) -> Result<(), Fail> {
     let plan = Plan {
         sites: [1, 2, 3, 4],
         exchanges: false,
-        restarts: true,
     };
     let counts = run_hundred(&rt, 1, plan)?;
     assert_busy(&rt, &counts);
-    assert!(rt; counts.restarts >= 20, "{counts:?}");
     Ok(())
 }
 
@@ -107,11 +102,9 @@ fn sixteen_sites_print_what_the_model_gives(rt: HostRuntime) -> Result<(), Fail>
     let plan = Plan {
         sites: [16, 16, 16, 16],
         exchanges: false,
-        restarts: true,
     };
     let counts = run_hundred(&rt, 1001, plan)?;
     assert_busy(&rt, &counts);
-    assert!(rt; counts.restarts >= 20, "{counts:?}");
     Ok(())
 }
 
@@ -120,7 +113,6 @@ fn sites_that_took_all_letters_show_the_same(rt: HostRuntime) -> Result<(), Fail
     let plan = Plan {
         sites: [2, 3, 5, 16],
         exchanges: true,
-        restarts: false,
     };
     let counts = run_hundred(&rt, 2001, plan)?;
     assert_busy(&rt, &counts);

@@ -8,7 +8,7 @@ ghost use Rattle.gx_records.specs.GxFacts.{fact_of};
 ghost use Rattle.pcrf_facts.specs.Facts.{End, Field};
 ghost use Rattle.pcrf_model.specs.Making.{given};
 ghost use Rattle.gx_profile.specs.Requests.{ccr_view};
-ghost use Rattle.pcrf_world.specs.Facts.{fields_set, made_facts};
+ghost use Rattle.site_core.specs.Facts.{fields_set, made_facts};
 
 use dia_base::Origin;
 use gx_profile::Ccr;

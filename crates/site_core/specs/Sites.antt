@@ -1,0 +1,34 @@
+-- What serving, letters and restarts make of a site, as it is seen.
+use Rattle.std.specs.Prelude.{ℕ, ◌+◌, List, [], ◌∷◌, ◌++◌, Option, Some, None}
+use Rattle.pcrf_model.specs.Holdings.{nothing_held, union, kept_of}
+use Rattle.pcrf_model.specs.Operations.{Operation, with_operation, holding_of}
+use Rattle.pcrf_model.specs.Requests.{CcrValue}
+use Rattle.pcrf_model.specs.Replies.{Outcome}
+use Rattle.pcrf_model.specs.Serving.{serve_ccr}
+use Rattle.pcrf_model.specs.Tables.{open_tables}
+use Rattle.pcrf_model.specs.Worlds.{SiteView}
+
+-- a site that took nothing, in its first epoch
+abbrev pub new_site : ℕ → SiteView
+new_site number = record { number = number; epoch = 1; state = record { holding = nothing_held; log = [] } }
+
+-- What the definitions give on what the site holds: without operator tables, and with nothing told as yet.
+abbrev pub ccr_served : SiteView → CcrValue → Outcome
+ccr_served s q = serve_ccr 0 open_tables s.number s.state.holding q
+
+-- with one operation: what is kept of it is held
+abbrev pub with_one : SiteView → Operation → SiteView
+with_one s o = record s { state = record { holding = kept_of (with_operation s.state.holding o); log = s.state.log } }
+
+-- with an operation of its own, if there is one: what is kept of it is held, and its log has it last
+abbrev pub with_made : SiteView → Option Operation → SiteView
+with_made s None = s
+with_made s (Some o) = record s { state = record { holding = kept_of (with_operation s.state.holding o); log = s.state.log ++ o ∷ [] } }
+
+-- with operations of a letter: what is kept of them is held
+abbrev pub with_taken : SiteView → List Operation → SiteView
+with_taken s os = record s { state = record { holding = kept_of (union s.state.holding (holding_of os)); log = s.state.log } }
+
+-- empty, in the next epoch
+abbrev pub started_again : SiteView → SiteView
+started_again s = record { number = s.number; epoch = s.epoch + 1; state = record { holding = nothing_held; log = [] } }
