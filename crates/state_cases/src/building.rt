@@ -35,7 +35,9 @@ pub fn call_facts(rt: &(impl AllocGlobal + Abort), at: Tag, media: u32) -> Vec<A
     let host = SessionValue::Host(identity(rt, "af"));
     facts.push(AfFact::Session(at, host)).expect(rt, "memory");
     let media = ComponentValue::MediaType(media);
-    facts.push(AfFact::Component(1, at, media)).expect(rt, "memory");
+    facts
+        .push(AfFact::Component(1, at, media))
+        .expect(rt, "memory");
     facts
 }
 
@@ -75,12 +77,22 @@ pub fn call(
 pub fn gateway_end(rt: &(impl AllocGlobal + Abort), id: &str, counter: u64, site: u8) -> Operation {
     let mut facts = Vec::new(rt.alloc());
     facts.push(GxFact::End).expect(rt, "memory");
-    Operation::stamped(counter, site, 0, SessionFacts::Gx(session_id(rt, id), facts))
+    Operation::stamped(
+        counter,
+        site,
+        0,
+        SessionFacts::Gx(session_id(rt, id), facts),
+    )
 }
 
 /// The end of a call.
 pub fn call_end(rt: &(impl AllocGlobal + Abort), id: &str, counter: u64, site: u8) -> Operation {
     let mut facts = Vec::new(rt.alloc());
     facts.push(AfFact::End).expect(rt, "memory");
-    Operation::stamped(counter, site, 0, SessionFacts::Af(session_id(rt, id), facts))
+    Operation::stamped(
+        counter,
+        site,
+        0,
+        SessionFacts::Af(session_id(rt, id), facts),
+    )
 }

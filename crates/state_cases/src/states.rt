@@ -1,7 +1,5 @@
 //! What a state shows of the operations that it took.
-use crate::building::{
-    call, call_end, call_facts, gateway_end, session_id, update, update_facts,
-};
+use crate::building::{call, call_end, call_facts, gateway_end, session_id, update, update_facts};
 use crate::text::state_text;
 use af_records::AfRec;
 use gx_records::GxRec;
@@ -46,7 +44,10 @@ const SHOWN: &str = "clock 7, gx g1 host b@3.2.1 last 2@3.2.1, gx g2 ended, \
 fn letters(rt: &(impl AllocGlobal + Abort)) -> [[Operation; 2]; 4] {
     [
         [update(rt, "g1", (0, 1, 0), "a"), call(rt, "a1", (2, 0), 0)],
-        [update(rt, "g1", (3, 2, 1), "b"), gateway_end(rt, "g2", 3, 1)],
+        [
+            update(rt, "g1", (3, 2, 1), "b"),
+            gateway_end(rt, "g2", 3, 1),
+        ],
         [update(rt, "g1", (1, 5, 2), "c"), call(rt, "a1", (4, 2), 1)],
         [update(rt, "g2", (0, 6, 3), "d"), call_end(rt, "a2", 7, 3)],
     ]
@@ -69,14 +70,17 @@ fn compare(rt: &(impl AllocGlobal + Abort), state: &State, want: &str) {
     assert_eq!(rt; text.as_str(), want);
 }
 
+fn compare_taken(rt: &(impl AllocGlobal + Abort), one: &Operation, other: &Operation, want: &str) {
+    let mut state = State::start(rt.alloc());
+    state.take(one).expect(rt, "memory");
+    state.take(other).expect(rt, "memory");
+    compare(rt, &state, want);
+}
+
 /// Whether two operations show this in either order.
 fn check(rt: &(impl AllocGlobal + Abort), first: &Operation, second: &Operation, want: &str) {
-    for [one, other] in [[first, second], [second, first]] {
-        let mut state = State::start(rt.alloc());
-        state.take(one).expect(rt, "memory");
-        state.take(other).expect(rt, "memory");
-        compare(rt, &state, want);
-    }
+    compare_taken(rt, first, second, want);
+    compare_taken(rt, second, first, want);
 }
 
 #[test]
@@ -118,16 +122,31 @@ fn merged_states_show_both(rt: HostRuntime) {
 #[test]
 fn an_ended_session_stays_ended(rt: HostRuntime) {
     let late = update(&rt, "g1", (9, 9, 1), "a");
-    check(&rt, &gateway_end(&rt, "g1", 2, 0), &late, "clock 9, gx g1 ended");
+    check(
+        &rt,
+        &gateway_end(&rt, "g1", 2, 0),
+        &late,
+        "clock 9, gx g1 ended",
+    );
     let late = call(&rt, "a1", (9, 1), 0);
-    check(&rt, &call_end(&rt, "a1", 2, 0), &late, "clock 9, af a1 ended");
+    check(
+        &rt,
+        &call_end(&rt, "a1", 2, 0),
+        &late,
+        "clock 9, af a1 ended",
+    );
 }
 
 #[test]
 fn equal_stamps_with_different_contents(rt: HostRuntime) {
     let first = update(&rt, "g1", (0, 1, 0), "a");
     let same = update(&rt, "g1", (0, 1, 0), "b");
-    check(&rt, &first, &same, "clock 1, gx g1 host b@0.1.0 last 2@0.1.0");
+    check(
+        &rt,
+        &first,
+        &same,
+        "clock 1, gx g1 host b@0.1.0 last 2@0.1.0",
+    );
     let other = update(&rt, "g2", (0, 1, 0), "b");
     check(
         &rt,
