@@ -1,21 +1,17 @@
 //! The records of all sessions, with the clock.
-ghost use Rattle.std.specs.Prelude.{◌≡◌, ℕ, List, ◌≤◌, map, [], IfOk, IfErr, OnOk, OnErr, IsSome};
+ghost use Rattle.std.specs.Prelude.{◌≡◌, ℕ, List, ◌≤◌, [], IfOk, IfErr, OnOk, OnErr, IsSome};
 ghost use Rattle.std.specs.Option.{option_copied};
 ghost use Rattle.pcrf_model.specs.Limits.{last_counter};
 ghost use Rattle.pcrf_model.specs.Sessions.{gx, af};
 ghost use Rattle.pcrf_model.specs.Holdings.{nothing_held, facts_on, union, kept_of, replaced};
 ghost use Rattle.pcrf_model.specs.Operations.{with_operation};
 ghost use Rattle.ranked.specs.Orders.{text_cmp};
-ghost use Rattle.lattice_core.specs.Entries.{put};
-ghost use Rattle.pcrf_facts.specs.Held.{held, joined};
-ghost use Rattle.lattice_core.specs.Entries.{IsAscending, value_at};
-ghost use Rattle.gx_records.specs.GxFacts as gx_facts;
-ghost use Rattle.af_records.specs.RecordFacts as af_facts;
+ghost use Rattle.lattice_core.specs.Entries.{IsAscending, put, value_at};
 ghost use Rattle.site_join.specs.States.{record_facts, gx_with, af_with};
 
 use crate::operation::{Operation, SessionFacts};
-use af_records::{AfFact, AfRec};
-use gx_records::{GxFact, GxRec};
+use af_records::AfRec;
+use gx_records::GxRec;
 use lattice_core::{Join, JoinTree};
 use pcrf_values::SessionId;
 use ranked::Ranked;
@@ -228,44 +224,28 @@ fn join_facts(
     ensures af_unchanged { OnErr result (af.new ≡ af.old) }
 {
     match facts {
-        SessionFacts::Gx(id, facts) => join_gx(alloc, gx, id, facts.as_slice()),
-        SessionFacts::Af(id, facts) => join_af(alloc, af, id, facts.as_slice()),
+        SessionFacts::Gx(id, facts) => {
+            let record = GxRec::of_facts(alloc, facts.as_slice())?;
+            join_record(gx, id, record)
+        }
+        SessionFacts::Af(id, facts) => {
+            let record = AfRec::of_facts(alloc, facts.as_slice())?;
+            join_record(af, id, record)
+        }
     }
 }
 
-/// Joins facts into the record of a gateway's session.
-fn join_gx(
-    alloc: Global,
-    records: &mut JoinTree<SessionId, GxRec>,
+/// Joins a record into that of its session.
+fn join_record<V: Join>(
+    records: &mut JoinTree<SessionId, V>,
     id: &SessionId,
-    facts: &[GxFact],
+    given: V,
 ) -> Result<(), AllocError>
-    ensures ok { OnOk result (records.new
-        ≡ put text_cmp joined records.old id.now (held (map gx_facts.fact_of facts.now))) }
+    ensures ok { OnOk result (records.new ≡ put text_cmp V.joined records.old id.now given) }
     ensures err { OnErr result (records.new ≡ records.old) }
 {
-    let record = GxRec::of_facts(alloc, facts)?;
     let id = id.try_copy()?;
-    if let Err((refused, _)) = records.join_at(id, record) {
-        return Err(refused);
-    }
-    Ok(())
-}
-
-/// Joins facts into the record of an application function's session.
-fn join_af(
-    alloc: Global,
-    records: &mut JoinTree<SessionId, AfRec>,
-    id: &SessionId,
-    facts: &[AfFact],
-) -> Result<(), AllocError>
-    ensures ok { OnOk result (records.new
-        ≡ put text_cmp joined records.old id.now (held (map af_facts.fact_of facts.now))) }
-    ensures err { OnErr result (records.new ≡ records.old) }
-{
-    let record = AfRec::of_facts(alloc, facts)?;
-    let id = id.try_copy()?;
-    if let Err((refused, _)) = records.join_at(id, record) {
+    if let Err((refused, _)) = records.join_at(id, given) {
         return Err(refused);
     }
     Ok(())

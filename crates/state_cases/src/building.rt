@@ -1,4 +1,7 @@
 //! Operations for tests.
+ghost use Rattle.std.specs.Prelude.{◌≤◌};
+ghost use Rattle.pcrf_model.specs.Limits.{last_counter};
+
 use af_records::{AfFact, ComponentValue};
 use gx_records::{GxFact, SessionValue};
 use lattice_core::Tag;
@@ -35,7 +38,9 @@ pub fn call_facts(rt: &(impl AllocGlobal + Abort), at: Tag, media: u32) -> Vec<A
     let host = SessionValue::Host(identity(rt, "af"));
     facts.push(AfFact::Session(at, host)).expect(rt, "memory");
     let media = ComponentValue::MediaType(media);
-    facts.push(AfFact::Component(1, at, media)).expect(rt, "memory");
+    facts
+        .push(AfFact::Component(1, at, media))
+        .expect(rt, "memory");
     facts
 }
 
@@ -43,9 +48,13 @@ pub fn call_facts(rt: &(impl AllocGlobal + Abort), at: Tag, media: u32) -> Vec<A
 pub fn update(
     rt: &(impl AllocGlobal + Abort),
     id: &str,
-    (number, counter, site): (u32, u64, u8),
+    number: u32,
+    counter: u64,
+    site: u8,
     host: &str,
-) -> Operation {
+) -> Operation
+    requires { counter ≤ last_counter }
+{
     let at = Tag {
         number,
         counter,
@@ -59,9 +68,12 @@ pub fn update(
 pub fn call(
     rt: &(impl AllocGlobal + Abort),
     id: &str,
-    (counter, site): (u64, u8),
+    counter: u64,
+    site: u8,
     media: u32,
-) -> Operation {
+) -> Operation
+    requires { counter ≤ last_counter }
+{
     let at = Tag {
         number: 0,
         counter,
@@ -72,15 +84,21 @@ pub fn call(
 }
 
 /// The end of a gateway's session.
-pub fn gateway_end(rt: &(impl AllocGlobal + Abort), id: &str, counter: u64, site: u8) -> Operation {
+pub fn gateway_end(rt: &(impl AllocGlobal + Abort), id: &str, counter: u64, site: u8) -> Operation
+    requires { counter ≤ last_counter }
+{
     let mut facts = Vec::new(rt.alloc());
     facts.push(GxFact::End).expect(rt, "memory");
-    Operation::stamped(counter, site, 0, SessionFacts::Gx(session_id(rt, id), facts))
+    let facts = SessionFacts::Gx(session_id(rt, id), facts);
+    Operation::stamped(counter, site, 0, facts)
 }
 
 /// The end of a call.
-pub fn call_end(rt: &(impl AllocGlobal + Abort), id: &str, counter: u64, site: u8) -> Operation {
+pub fn call_end(rt: &(impl AllocGlobal + Abort), id: &str, counter: u64, site: u8) -> Operation
+    requires { counter ≤ last_counter }
+{
     let mut facts = Vec::new(rt.alloc());
     facts.push(AfFact::End).expect(rt, "memory");
-    Operation::stamped(counter, site, 0, SessionFacts::Af(session_id(rt, id), facts))
+    let facts = SessionFacts::Af(session_id(rt, id), facts);
+    Operation::stamped(counter, site, 0, facts)
 }

@@ -1,7 +1,5 @@
 //! What a state shows of the operations that it took.
-use crate::building::{
-    call, call_end, call_facts, gateway_end, session_id, update, update_facts,
-};
+use crate::building::{call, call_end, call_facts, gateway_end, session_id, update, update_facts};
 use crate::text::state_text;
 use af_records::AfRec;
 use gx_records::GxRec;
@@ -11,7 +9,7 @@ use std::alloc::AllocGlobal;
 use std::process::Abort;
 
 /// Each order of four letters.
-const ORDERS: [[usize; 4]; 24] = [
+const ORDERS: [[u8; 4]; 24] = [
     [0, 1, 2, 3],
     [0, 1, 3, 2],
     [0, 2, 1, 3],
@@ -42,26 +40,44 @@ const ORDERS: [[usize; 4]; 24] = [
 const SHOWN: &str = "clock 7, gx g1 host b@3.2.1 last 2@3.2.1, gx g2 ended, \
     af a1 host af@0.4.2 media 1@0.4.2, af a2 ended";
 
-/// The operations of four letters; the third comes from a request with a lower number.
-fn letters(rt: &(impl AllocGlobal + Abort)) -> [[Operation; 2]; 4] {
-    [
-        [update(rt, "g1", (0, 1, 0), "a"), call(rt, "a1", (2, 0), 0)],
-        [update(rt, "g1", (3, 2, 1), "b"), gateway_end(rt, "g2", 3, 1)],
-        [update(rt, "g1", (1, 5, 2), "c"), call(rt, "a1", (4, 2), 1)],
-        [update(rt, "g2", (0, 6, 3), "d"), call_end(rt, "a2", 7, 3)],
-    ]
+fn take_both(
+    rt: &(impl AllocGlobal + Abort),
+    state: &mut State,
+    first: &Operation,
+    second: &Operation,
+) {
+    state.take(first).expect(rt, "memory");
+    state.take(second).expect(rt, "memory");
 }
 
-fn take_all(rt: &(impl AllocGlobal + Abort), state: &mut State, operations: &[Operation]) {
-    for operation in operations {
-        state.take(operation).expect(rt, "memory");
+fn take_first_letter(rt: &(impl AllocGlobal + Abort), state: &mut State) {
+    let moved = update(rt, "g1", 0, 1, 0, "a");
+    take_both(rt, state, &moved, &call(rt, "a1", 2, 0, 0));
+}
+
+fn take_second_letter(rt: &(impl AllocGlobal + Abort), state: &mut State) {
+    let moved = update(rt, "g1", 3, 2, 1, "b");
+    take_both(rt, state, &moved, &gateway_end(rt, "g2", 3, 1));
+}
+
+/// The update has a lower number than that of the second letter.
+fn take_third_letter(rt: &(impl AllocGlobal + Abort), state: &mut State) {
+    let late = update(rt, "g1", 1, 5, 2, "c");
+    take_both(rt, state, &late, &call(rt, "a1", 4, 2, 1));
+}
+
+fn take_fourth_letter(rt: &(impl AllocGlobal + Abort), state: &mut State) {
+    let late = update(rt, "g2", 0, 6, 3, "d");
+    take_both(rt, state, &late, &call_end(rt, "a2", 7, 3));
+}
+
+fn take_letter(rt: &(impl AllocGlobal + Abort), state: &mut State, at: u8) {
+    match at {
+        0 => take_first_letter(rt, state),
+        1 => take_second_letter(rt, state),
+        2 => take_third_letter(rt, state),
+        _ => take_fourth_letter(rt, state),
     }
-}
-
-fn state_of(rt: &(impl AllocGlobal + Abort), operations: &[Operation]) -> State {
-    let mut state = State::start(rt.alloc());
-    take_all(rt, &mut state, operations);
-    state
 }
 
 fn compare(rt: &(impl AllocGlobal + Abort), state: &State, want: &str) {
@@ -69,27 +85,36 @@ fn compare(rt: &(impl AllocGlobal + Abort), state: &State, want: &str) {
     assert_eq!(rt; text.as_str(), want);
 }
 
+/// What two states merge to.
+fn merged(rt: &(impl AllocGlobal + Abort), ours: State, theirs: State) -> State {
+    let Ok(both) = ours.merge(theirs) else {
+        panic!(rt; "memory");
+    };
+    both
+}
+
+fn compare_taken(rt: &(impl AllocGlobal + Abort), one: &Operation, other: &Operation, want: &str) {
+    let mut state = State::start(rt.alloc());
+    take_both(rt, &mut state, one, other);
+    compare(rt, &state, want);
+}
+
 /// Whether two operations show this in either order.
 fn check(rt: &(impl AllocGlobal + Abort), first: &Operation, second: &Operation, want: &str) {
-    for [one, other] in [[first, second], [second, first]] {
-        let mut state = State::start(rt.alloc());
-        state.take(one).expect(rt, "memory");
-        state.take(other).expect(rt, "memory");
-        compare(rt, &state, want);
-    }
+    compare_taken(rt, first, second, want);
+    compare_taken(rt, second, first, want);
 }
 
 #[test]
 fn letters_lead_to_the_same_in_any_order(rt: HostRuntime) {
-    let letters = letters(&rt);
     for order in ORDERS {
         let mut state = State::start(rt.alloc());
         for at in order {
-            take_all(&rt, &mut state, &letters[at]);
+            take_letter(&rt, &mut state, at);
         }
         compare(&rt, &state, SHOWN);
         for at in order {
-            take_all(&rt, &mut state, &letters[at]);
+            take_letter(&rt, &mut state, at);
         }
         compare(&rt, &state, SHOWN);
     }
@@ -97,38 +122,41 @@ fn letters_lead_to_the_same_in_any_order(rt: HostRuntime) {
 
 #[test]
 fn merged_states_show_both(rt: HostRuntime) {
-    let letters = letters(&rt);
     for [first, second, third, fourth] in ORDERS {
-        let mut ours = state_of(&rt, &letters[first]);
-        take_all(&rt, &mut ours, &letters[second]);
-        let mut theirs = state_of(&rt, &letters[third]);
-        take_all(&rt, &mut theirs, &letters[fourth]);
-        let Ok(both) = ours.merge(theirs) else {
-            panic!(&rt; "memory");
-        };
+        let mut ours = State::start(rt.alloc());
+        take_letter(&rt, &mut ours, first);
+        take_letter(&rt, &mut ours, second);
+        let mut theirs = State::start(rt.alloc());
+        take_letter(&rt, &mut theirs, third);
+        take_letter(&rt, &mut theirs, fourth);
+        let both = merged(&rt, ours, theirs);
         compare(&rt, &both, SHOWN);
         let again = both.try_copy().expect(&rt, "memory");
-        let Ok(both) = both.merge(again) else {
-            panic!(&rt; "memory");
-        };
-        compare(&rt, &both, SHOWN);
+        compare(&rt, &merged(&rt, both, again), SHOWN);
     }
 }
 
 #[test]
 fn an_ended_session_stays_ended(rt: HostRuntime) {
-    let late = update(&rt, "g1", (9, 9, 1), "a");
-    check(&rt, &gateway_end(&rt, "g1", 2, 0), &late, "clock 9, gx g1 ended");
-    let late = call(&rt, "a1", (9, 1), 0);
-    check(&rt, &call_end(&rt, "a1", 2, 0), &late, "clock 9, af a1 ended");
+    let late = update(&rt, "g1", 9, 9, 1, "a");
+    let end = gateway_end(&rt, "g1", 2, 0);
+    check(&rt, &end, &late, "clock 9, gx g1 ended");
+    let late = call(&rt, "a1", 9, 1, 0);
+    let end = call_end(&rt, "a1", 2, 0);
+    check(&rt, &end, &late, "clock 9, af a1 ended");
 }
 
 #[test]
 fn equal_stamps_with_different_contents(rt: HostRuntime) {
-    let first = update(&rt, "g1", (0, 1, 0), "a");
-    let same = update(&rt, "g1", (0, 1, 0), "b");
-    check(&rt, &first, &same, "clock 1, gx g1 host b@0.1.0 last 2@0.1.0");
-    let other = update(&rt, "g2", (0, 1, 0), "b");
+    let first = update(&rt, "g1", 0, 1, 0, "a");
+    let same = update(&rt, "g1", 0, 1, 0, "b");
+    check(
+        &rt,
+        &first,
+        &same,
+        "clock 1, gx g1 host b@0.1.0 last 2@0.1.0",
+    );
+    let other = update(&rt, "g2", 0, 1, 0, "b");
     check(
         &rt,
         &first,
@@ -140,18 +168,23 @@ fn equal_stamps_with_different_contents(rt: HostRuntime) {
 #[test]
 fn copies_of_operations_are_taken_as_they_are(rt: HostRuntime) {
     let mut state = State::start(rt.alloc());
-    for letter in letters(&rt) {
-        for operation in letter {
-            let copy = operation.try_copy().expect(&rt, "memory");
-            state.take(&copy).expect(&rt, "memory");
-        }
-    }
-    compare(&rt, &state, SHOWN);
+    let moved = update(&rt, "g1", 0, 1, 0, "a");
+    let moved = moved.try_copy().expect(&rt, "memory");
+    let made = call(&rt, "a1", 2, 0, 4);
+    let made = made.try_copy().expect(&rt, "memory");
+    take_both(&rt, &mut state, &moved, &made);
+    compare(
+        &rt,
+        &state,
+        "clock 2, gx g1 host a@0.1.0 last 2@0.1.0, af a1 host af@0.2.0 media 4@0.2.0",
+    );
 }
 
 #[test]
 fn records_are_put_and_handed_back(rt: HostRuntime) {
-    let mut state = state_of(&rt, &[update(&rt, "g1", (0, 3, 0), "a")]);
+    let mut state = State::start(rt.alloc());
+    let made = update(&rt, "g1", 0, 3, 0, "a");
+    state.take(&made).expect(&rt, "memory");
     let id = session_id(&rt, "g1");
     let at = Tag {
         number: 0,
