@@ -88,13 +88,24 @@ pub fn rule(rt: &(impl AllocGlobal + Abort), name: &str, precedence: u32) -> Rul
     )
 }
 
+/// The host of the gateway.
+pub fn gx_host(rt: &(impl AllocGlobal + Abort), at: Tag) -> GxFact {
+    GxFact::Field(at, SessionValue::Host(identity(rt, "gw")))
+}
+
+/// The type of the last request.
+pub fn gx_last(rt: &(impl AllocGlobal + Abort), at: Tag, kind: u32) -> GxFact {
+    let last = BoundedNumber::of(kind).expect(rt, "1 or 2");
+    GxFact::Field(at, SessionValue::Last(last))
+}
+
 /// The fields that every credit control request gives.
 pub fn of_each_request(rt: &(impl AllocGlobal + Abort), at: Tag, kind: u32) -> [GxFact; 3] {
-    let last = BoundedNumber::of(kind).expect(rt, "1 or 2");
+    let realm = SessionValue::Realm(identity(rt, "r"));
     [
-        GxFact::Field(at, SessionValue::Host(identity(rt, "gw"))),
-        GxFact::Field(at, SessionValue::Realm(identity(rt, "r"))),
-        GxFact::Field(at, SessionValue::Last(last)),
+        gx_host(rt, at),
+        GxFact::Field(at, realm),
+        gx_last(rt, at, kind),
     ]
 }
 
