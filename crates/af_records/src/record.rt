@@ -242,7 +242,8 @@ impl AfRec {
 
     // The fields, where they show.
     fn fields(&self) -> Option<&SessionFields<AfRequestType>>
-        ensures { (f : SessionField) → session_says (option_copied result) f ≡ shown self.now (OfSession f) }
+        ensures { (f : SessionField) →
+            session_says (option_copied result) f ≡ shown self.now (OfSession f) }
     {
         self.parts.note_valid();
         fields_at(&self.parts)
@@ -250,7 +251,8 @@ impl AfRec {
 
     // The component, whose fields say what shows at its places.
     fn component(&self, number: u32) -> Option<&ComponentParts>
-        ensures { (f : ComponentField) → component_says (option_copied result) f ≡ shown self.now (OfComponent number f) }
+        ensures { (f : ComponentField) →
+            component_says (option_copied result) f ≡ shown self.now (OfComponent number f) }
     {
         self.parts.note_valid();
         component_at(&self.parts, number)
@@ -258,7 +260,8 @@ impl AfRec {
 
     // The flow, whose fields say what shows at its places.
     fn flow(&self, component: u32, number: u32) -> Option<&FlowParts>
-        ensures { (f : FlowField) → flow_says (option_copied result) f ≡ shown self.now (OfFlow component number f) }
+        ensures { (f : FlowField) →
+            flow_says (option_copied result) f ≡ shown self.now (OfFlow component number f) }
     {
         self.parts.note_valid();
         flow_at(&self.parts, component, number)
@@ -286,7 +289,8 @@ impl AfRec {
 
     /// The subscribers, with its tag.
     pub fn subscribers(&self) -> Option<&(Tag, Subscribers)>
-        ensures { entry_by values.Subscribers (option_copied result) ≡ shown self.now places.subscribers }
+        ensures { entry_by values.Subscribers (option_copied result)
+            ≡ shown self.now places.subscribers }
     {
         match self.fields() {
             Some(found) => found.user.subscribers.get(),
@@ -444,9 +448,11 @@ impl AfRec {
     /// The bit rates that requests gave a flow: in each direction its own, else, unless it is RTCP, its component's.
     pub fn flow_rates(&self, component: u32, flow: u32) -> GivenRates
         ensures up { result.up
-            ≡ words.given_rate (shown self.now) component flow places.FlowRateUp places.ComponentRateUp }
+            ≡ words.given_rate (shown self.now) component flow
+            places.FlowRateUp places.ComponentRateUp }
         ensures down { result.down
-            ≡ words.given_rate (shown self.now) component flow places.FlowRateDown places.ComponentRateDown }
+            ≡ words.given_rate (shown self.now) component flow
+            places.FlowRateDown places.ComponentRateDown }
     {
         let is_rtcp = self.is_rtcp(component, flow);
         let up = self.flow_rate_up(component, flow);

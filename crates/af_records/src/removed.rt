@@ -40,7 +40,8 @@ impl<'a> Model for RemovedParts<'a> {
 impl<'a> RemovedParts<'a> {
     /// What of these components is removed.
     pub(crate) fn of(components: &'a [(u32, Tombed<ComponentParts>)]) -> RemovedParts<'a>
-        ensures { result ≡ removed_left components.now (flat_map (component_flows true) components.now) }
+        ensures { result
+            ≡ removed_left components.now (flat_map (component_flows true) components.now) }
     {
         RemovedParts {
             components,

@@ -160,7 +160,8 @@ impl GxRec {
 
     // The fields, where they show.
     fn fields(&self) -> Option<&SessionFields<OpenRequestType>>
-        ensures { (f : SessionField) → session_says (option_copied result) f ≡ shown self.now (OfSession f) }
+        ensures { (f : SessionField) →
+            session_says (option_copied result) f ≡ shown self.now (OfSession f) }
     {
         self.parts.note_valid();
         fields_at(&self.parts)
@@ -188,7 +189,8 @@ impl GxRec {
 
     /// The subscribers, with their tag.
     pub fn subscribers(&self) -> Option<&(Tag, Subscribers)>
-        ensures { entry_by values.Subscribers (option_copied result) ≡ shown self.now places.subscribers }
+        ensures { entry_by values.Subscribers (option_copied result)
+            ≡ shown self.now places.subscribers }
     {
         match self.fields() {
             Some(found) => found.user.subscribers.get(),

@@ -4,6 +4,7 @@
 #![tactic(auto)]
 
 mod map;
+mod records;
 mod report;
 mod rx;
 
@@ -16,6 +17,8 @@ use std::time::Clock;
 fn measure(rt: &(impl AllocGlobal + Clock + Print), name: &str, size: u32) -> anyhow::Result<()> {
     match name {
         "map" => map::measure(rt, size),
+        "records" => records::measure(rt, size),
+        "records_kept" => records::keep(rt, size),
         "rx" => rx::measure(rt, size),
         "rx_kept" => rx::keep(rt, size),
         _ => anyhow::bail!("there is no measure {name}"),

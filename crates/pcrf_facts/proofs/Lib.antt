@@ -2,3 +2,4 @@ pub mod FactLaws
 pub mod JoinedLaws
 pub mod KeyLaws
 pub mod ShownLaws
+pub mod WordLaws

@@ -1,9 +1,12 @@
 -- What holds of the facts of one session.
-use Rattle.std.specs.Prelude.{◌≡◌, false, List, Some}
+use Rattle.std.specs.Prelude.{◌≡◌, ℕ, false, List, Some}
 use Rattle.std.specs.Ordering.{is_lt}
 use Rattle.ranked.specs.declared.tag.Tag.{Tag}
 use Rattle.ranked.specs.Sets.{In, Same}
-use Rattle.pcrf_facts.specs.Places.{Place}
+use Rattle.pcrf_facts.specs.FlowWords.{flows, flow_status, given_rate}
+use Rattle.pcrf_facts.specs.Live.{gx_is_live, af_is_live, home}
+use Rattle.pcrf_facts.specs.Places.{Place, ComponentField, FlowField}
+use Rattle.pcrf_facts.specs.ToldWords.{told_entries}
 use Rattle.pcrf_facts.specs.Values.{Value, Entry, entry_cmp}
 use Rattle.pcrf_facts.specs.Facts.{Fact, Field}
 use Rattle.pcrf_facts.specs.Held.{held, joined, is_ended, value_at, shown, removed}
@@ -42,3 +45,13 @@ ValueIsTheGreatest = (facts : List Fact) (p : Place) (e : Entry) → value_at fa
 -- there is one where there is a fact
 abbrev pub FactGivesAValue : Type 0
 FactGivesAValue = (facts : List Fact) (p : Place) (t : Tag) (x : Value) → In (Field p t x) facts → (e : Entry) × (value_at facts p ≡ Some e)
+
+-- what is said of live sessions, flows and told rules is the same on what is kept
+pub record HeldSaysTheSame : Type 0 where
+  pub gx_live : (facts : List Fact) → gx_is_live (held facts) ≡ gx_is_live facts
+  pub af_live : (facts : List Fact) → af_is_live (held facts) ≡ af_is_live facts
+  pub homes : (facts : List Fact) → home (held facts) ≡ home facts
+  pub flow_numbers : (facts : List Fact) → flows (held facts) ≡ flows facts
+  pub statuses : (facts : List Fact) (c n : ℕ) → flow_status (shown (held facts)) c n ≡ flow_status (shown facts) c n
+  pub rates : (facts : List Fact) (c n : ℕ) (own : FlowField) (whole : ComponentField) → given_rate (shown (held facts)) c n own whole ≡ given_rate (shown facts) c n own whole
+  pub told_names : (facts : List Fact) → told_entries (held facts) ≡ told_entries facts

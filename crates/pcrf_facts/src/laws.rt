@@ -1,6 +1,6 @@
 //! The laws of the facts of one session, each the contract of a function without a body.
 
-ghost use Rattle.pcrf_facts.specs.Laws.{JoinsHeld, HeldShowsTheSame, MembersShowTheSame, ValueIsTheGreatest, FactGivesAValue};
+ghost use Rattle.pcrf_facts.specs.Laws.{JoinsHeld, HeldShowsTheSame, MembersShowTheSame, HeldSaysTheSame, ValueIsTheGreatest, FactGivesAValue};
 
 /// What is kept of a union is commutative, associative and idempotent, whether or not its parts were kept before.
 pub fn kept_facts_join()
@@ -17,4 +17,10 @@ pub fn kept_facts_show_the_same()
 pub fn value_is_the_greatest_fact()
     ensures greatest { ValueIsTheGreatest }
     ensures some { FactGivesAValue }
+{}
+
+/// Whether a session is live, its home, its flows with status and rates, and what was told: kept facts say of them what all
+/// facts say.
+pub fn kept_facts_say_the_same()
+    ensures { HeldSaysTheSame }
 {}

@@ -1,0 +1,139 @@
+//! What a record holds of a Gx session.
+use crate::building::{
+    gx_address, gx_host, gx_last, initial_request, of_each_request, rule, rule_name, tag,
+};
+use crate::text::gx_text;
+use gx_records::{GxFact, GxRec};
+use lattice_core::Join;
+use std::alloc::AllocGlobal;
+use std::process::Abort;
+
+/// Joins the record of these facts in.
+fn join_part(rt: &(impl AllocGlobal + Abort), record: &mut GxRec, facts: &[GxFact]) {
+    let part = GxRec::of_facts(rt.alloc(), facts).expect(rt, "memory");
+    assert!(rt; record.join_in(part).is_ok());
+}
+
+/// Whether a record shows this.
+fn compare(rt: &(impl AllocGlobal + Abort), record: &GxRec, want: &str) {
+    let text = gx_text(rt.alloc(), record).expect(rt, "memory");
+    assert_eq!(rt; text.as_str(), want);
+}
+
+/// Whether records of two parts, each joined twice, show this.
+fn compare_joined(
+    rt: &(impl AllocGlobal + Abort),
+    first: &[GxFact],
+    second: &[GxFact],
+    want: &str,
+) {
+    let mut record = GxRec::start(rt.alloc());
+    join_part(rt, &mut record, first);
+    join_part(rt, &mut record, second);
+    compare(rt, &record, want);
+    join_part(rt, &mut record, first);
+    join_part(rt, &mut record, second);
+    compare(rt, &record, want);
+}
+
+/// Whether they do so in either order.
+fn check(rt: &(impl AllocGlobal + Abort), first: &[GxFact], second: &[GxFact], want: &str) {
+    compare_joined(rt, first, second, want);
+    compare_joined(rt, second, first, want);
+}
+
+#[test]
+fn an_initial_request_is_live(rt: HostRuntime) {
+    let facts = initial_request(&rt, tag(0, 1, 0), 1);
+    check(
+        &rt,
+        &facts,
+        &[],
+        "live address 10.0.0.1@0.1.0 apn ims@0.1.0 subscribers 0:15550001 1:001010000000001@0.1.0 \
+         host gw@0.1.0 realm r@0.1.0 last 1@0.1.0 home 0 told op/sip@0.1.0:40 rule op/sip:40",
+    );
+}
+
+#[test]
+fn a_session_without_a_realm_is_partial(rt: HostRuntime) {
+    let at = tag(0, 1, 0);
+    let first = [gx_host(&rt, at)];
+    let second = [gx_last(&rt, at, 1), gx_address(at, 1)];
+    check(
+        &rt,
+        &first,
+        &second,
+        "partial address 10.0.0.1@0.1.0 host gw@0.1.0 last 1@0.1.0 home 0",
+    );
+}
+
+// An update of a lower number comes last: the address, the host and the home of the greater number stay.
+#[test]
+fn the_greatest_request_number_gives_the_address(rt: HostRuntime) {
+    let [host, realm, last] = of_each_request(&rt, tag(2, 2, 0), 2);
+    let second_update = [gx_address(tag(2, 2, 0), 2), host, realm, last];
+    let [host, realm, last] = of_each_request(&rt, tag(1, 3, 1), 2);
+    let late_update = [host, realm, last, gx_address(tag(1, 3, 1), 3)];
+    check(
+        &rt,
+        &second_update,
+        &late_update,
+        "partial address 10.0.0.2@2.2.0 host gw@2.2.0 realm r@2.2.0 last 2@2.2.0 home 0",
+    );
+}
+
+#[test]
+fn nothing_revives_an_ended_session(rt: HostRuntime) {
+    let update = of_each_request(&rt, tag(9, 2, 1), 2);
+    check(&rt, &[GxFact::End], &update, "ended");
+    let initial = initial_request(&rt, tag(0, 1, 0), 1);
+    check(&rt, &initial, &[GxFact::End], "ended");
+}
+
+// Two lives of one site made their first operations under equal stamps.
+#[test]
+fn of_equal_tags_the_greater_value_counts(rt: HostRuntime) {
+    let at = tag(0, 1, 0);
+    check(
+        &rt,
+        &[gx_address(at, 1)],
+        &[gx_address(at, 9)],
+        "partial address 10.0.0.9@0.1.0",
+    );
+    let told = Some(rule(&rt, "op/sip", 40));
+    check(
+        &rt,
+        &[GxFact::Told(at, rule_name(&rt, "op/sip"), told)],
+        &[GxFact::Told(at, rule_name(&rt, "op/sip"), None)],
+        "partial told op/sip@0.1.0:40 rule op/sip:40",
+    );
+}
+
+#[test]
+fn a_rule_that_was_removed_is_told_no_more(rt: HostRuntime) {
+    let told = Some(rule(&rt, "op/sip", 40));
+    let other = Some(rule(&rt, "af/1", 100));
+    let first = [
+        GxFact::Told(tag(0, 1, 0), rule_name(&rt, "op/sip"), told),
+        GxFact::Told(tag(0, 1, 0), rule_name(&rt, "af/1"), other),
+    ];
+    let second = [GxFact::Told(tag(0, 2, 1), rule_name(&rt, "op/sip"), None)];
+    check(
+        &rt,
+        &first,
+        &second,
+        "partial told af/1@0.1.0:100 told op/sip@0.2.1:- rule af/1:100",
+    );
+}
+
+#[test]
+fn a_copy_and_a_joined_copy_show_the_same(rt: HostRuntime) {
+    let initial = initial_request(&rt, tag(0, 1, 0), 1);
+    let mut record = GxRec::start(rt.alloc());
+    join_part(&rt, &mut record, &initial);
+    let copy = record.try_copy().expect(&rt, "memory");
+    let both = record.joined_copy(&copy).expect(&rt, "memory");
+    let want = gx_text(rt.alloc(), &record).expect(&rt, "memory");
+    compare(&rt, &copy, want.as_str());
+    compare(&rt, &both, want.as_str());
+}

@@ -1,0 +1,204 @@
+//! What a record shows, as a line of text.
+use af_records::{AfRec, RemovedPart};
+use gx_records::GxRec;
+use lattice_core::Tag;
+use pcrf_values::{Filters, Subscribers};
+use std::alloc::{AllocError, Global};
+use std::fmt::Write as _;
+
+/// Bytes of ASCII.
+fn put_text(out: &mut String, bytes: &[u8]) -> Result<(), AllocError> {
+    for &byte in bytes {
+        out.push(char::from(byte))?;
+    }
+    Ok(())
+}
+
+fn put_tag(out: &mut String, tag: Tag) -> Result<(), AllocError> {
+    write!(out, "@{}.{}.{}", tag.number, tag.counter, tag.site)
+}
+
+/// A text with its tag, under a name.
+fn put_named(out: &mut String, name: &str, tag: Tag, bytes: &[u8]) -> Result<(), AllocError> {
+    write!(out, " {name} ")?;
+    put_text(out, bytes)?;
+    put_tag(out, tag)
+}
+
+/// A number with its tag, under a name.
+fn put_number(out: &mut String, name: &str, tag: Tag, number: u32) -> Result<(), AllocError> {
+    write!(out, " {name} {number}")?;
+    put_tag(out, tag)
+}
+
+fn put_subscribers(out: &mut String, tag: Tag, ids: &Subscribers) -> Result<(), AllocError> {
+    out.push_str(" subscribers")?;
+    for id in ids.as_slice() {
+        write!(out, " {}:", id.kind().number())?;
+        put_text(out, id.name().as_slice())?;
+    }
+    put_tag(out, tag)
+}
+
+fn put_filters(out: &mut String, tag: Tag, filters: &Filters) -> Result<(), AllocError> {
+    for filter in filters.as_slice() {
+        put_named(out, "filter", tag, filter.as_slice())?;
+    }
+    Ok(())
+}
+
+fn put_state(out: &mut String, live: bool, ended: bool) -> Result<(), AllocError> {
+    out.push_str(if live {
+        "live"
+    } else if ended {
+        "ended"
+    } else {
+        "partial"
+    })
+}
+
+fn put_gx_fields(out: &mut String, record: &GxRec) -> Result<(), AllocError> {
+    if let Some((tag, address)) = record.address() {
+        write!(out, " address {address}")?;
+        put_tag(out, *tag)?;
+    }
+    if let Some((tag, apn)) = record.apn() {
+        put_named(out, "apn", *tag, apn.as_slice())?;
+    }
+    if let Some((tag, ids)) = record.subscribers() {
+        put_subscribers(out, *tag, ids)?;
+    }
+    if let Some((tag, host)) = record.host() {
+        put_named(out, "host", *tag, host.as_slice())?;
+    }
+    if let Some((tag, realm)) = record.realm() {
+        put_named(out, "realm", *tag, realm.as_slice())?;
+    }
+    if let Some((tag, last)) = record.last() {
+        put_number(out, "last", *tag, last.get())?;
+    }
+    if let Some(home) = record.home() {
+        write!(out, " home {home}")?;
+    }
+    Ok(())
+}
+
+fn put_told(out: &mut String, record: &GxRec) -> Result<(), AllocError> {
+    for (name, told) in record.told_facts() {
+        if let Some((tag, rule)) = told.get() {
+            put_named(out, "told", *tag, name.as_slice())?;
+            match rule {
+                Some(rule) => write!(out, ":{}", rule.precedence())?,
+                None => out.push_str(":-")?,
+            }
+        }
+    }
+    Ok(())
+}
+
+/// What a Gx record shows.
+pub fn gx_text(alloc: Global, record: &GxRec) -> Result<String, AllocError> {
+    let mut out = String::new(alloc);
+    put_state(&mut out, record.live(), record.ended())?;
+    put_gx_fields(&mut out, record)?;
+    put_told(&mut out, record)?;
+    let told = record.told(alloc)?;
+    for (name, rule) in told.as_slice() {
+        out.push_str(" rule ")?;
+        put_text(&mut out, name.as_slice())?;
+        write!(out, ":{}", rule.precedence())?;
+    }
+    Ok(out)
+}
+
+fn put_af_fields(out: &mut String, record: &AfRec) -> Result<(), AllocError> {
+    if let Some((tag, address)) = record.address() {
+        write!(out, " address {address}")?;
+        put_tag(out, *tag)?;
+    }
+    if let Some((tag, apn)) = record.apn() {
+        put_named(out, "apn", *tag, apn.as_slice())?;
+    }
+    if let Some((tag, ids)) = record.subscribers() {
+        put_subscribers(out, *tag, ids)?;
+    }
+    if let Some((tag, host)) = record.host() {
+        put_named(out, "host", *tag, host.as_slice())?;
+    }
+    if let Some((tag, realm)) = record.realm() {
+        put_named(out, "realm", *tag, realm.as_slice())?;
+    }
+    if let Some((tag, last)) = record.last() {
+        put_number(out, "last", *tag, last.get())?;
+    }
+    Ok(())
+}
+
+fn put_component(out: &mut String, record: &AfRec, number: u32) -> Result<(), AllocError> {
+    write!(out, "; component {number}")?;
+    if let Some((tag, kind)) = record.component_media_type(number) {
+        put_number(out, "type", *tag, *kind)?;
+    }
+    if let Some((tag, status)) = record.component_status(number) {
+        put_number(out, "status", *tag, status.get())?;
+    }
+    if let Some((tag, rate)) = record.component_rate_up(number) {
+        put_number(out, "up", *tag, *rate)?;
+    }
+    if let Some((tag, rate)) = record.component_rate_down(number) {
+        put_number(out, "down", *tag, *rate)?;
+    }
+    Ok(())
+}
+
+fn put_flow(out: &mut String, record: &AfRec, component: u32, flow: u32) -> Result<(), AllocError> {
+    write!(out, "; flow {component}/{flow}")?;
+    if let Some((tag, filters)) = record.flow_descriptions(component, flow) {
+        put_filters(out, *tag, filters)?;
+    }
+    if let Some((tag, usage)) = record.flow_usage(component, flow) {
+        put_number(out, "usage", *tag, usage.get())?;
+    }
+    if let Some((tag, status)) = record.flow_own_status(component, flow) {
+        put_number(out, "status", *tag, status.get())?;
+    }
+    if let Some((tag, rate)) = record.flow_rate_up(component, flow) {
+        put_number(out, "up", *tag, *rate)?;
+    }
+    if let Some((tag, rate)) = record.flow_rate_down(component, flow) {
+        put_number(out, "down", *tag, *rate)?;
+    }
+    let rates = record.flow_rates(component, flow);
+    let status = record.flow_status(component, flow).number();
+    write!(out, " shows {status}")?;
+    put_rate(out, rates.up)?;
+    put_rate(out, rates.down)
+}
+
+/// A rate, or `-` for none.
+fn put_rate(out: &mut String, rate: Option<u32>) -> Result<(), AllocError> {
+    match rate {
+        Some(rate) => write!(out, " {rate}"),
+        None => out.push_str(" -"),
+    }
+}
+
+/// What an AF record shows, of its components those of these numbers.
+pub fn af_text(alloc: Global, record: &AfRec, components: &[u32]) -> Result<String, AllocError> {
+    let mut out = String::new(alloc);
+    put_state(&mut out, record.live(), record.ended())?;
+    put_af_fields(&mut out, record)?;
+    for number in components {
+        put_component(&mut out, record, *number)?;
+    }
+    for (component, flow) in record.flows() {
+        put_flow(&mut out, record, component, flow)?;
+    }
+    for part in record.removed() {
+        match part {
+            RemovedPart::Component(number) => write!(out, "; removed {number}")?,
+            RemovedPart::Flow(number, flow) => write!(out, "; removed {number}/{flow}")?,
+        }
+    }
+    Ok(out)
+}
