@@ -1,0 +1,6 @@
+pub mod Places
+pub mod Values
+pub mod Judgement
+pub mod Meaning
+pub mod Numbers
+pub mod laws
