@@ -94,13 +94,13 @@ row_fault key shape keys above row = row_judged key shape keys (list_any (is_nam
 -- ---- the rows of the three arrays
 
 abbrev pub media_judged : Bool → Data → Option TableFault
-media_judged = row_judged (codes "type") number_32 class_keys
+media_judged is_taken row = row_judged (codes "type") number_32 class_keys is_taken row
 
 abbrev pub rule_judged : Bool → Data → Option TableFault
-rule_judged = row_judged (codes "name") rule_name_shape rule_keys
+rule_judged is_taken row = row_judged (codes "name") rule_name_shape rule_keys is_taken row
 
 abbrev pub apn_judged : Bool → Data → Option TableFault
-apn_judged = row_judged (codes "name") apn_name_shape apn_keys
+apn_judged is_taken row = row_judged (codes "name") apn_name_shape apn_keys is_taken row
 
 abbrev pub media_fault : List Data → Data → Option TableFault
 media_fault = row_fault (codes "type") number_32 class_keys

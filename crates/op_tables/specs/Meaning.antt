@@ -34,8 +34,8 @@ quality_of ms = record {
   ambr_dl = number_at (codes "ambr_dl") ms;
 }
 
-abbrev pub filters_in : Members → List (List ℕ)
-filters_in ms = map text_in (rows_at (codes "filters") ms)
+abbrev pub filters_in : List ℕ → Members → List (List ℕ)
+filters_in key ms = map text_in (rows_at key ms)
 
 abbrev pub rule_name : Data → List ℕ
 rule_name row = text_in (data_at (codes "name") (table_in row))
@@ -45,7 +45,7 @@ rule_of row = record {
   name = rule_name row;
   class = class_of (table_in row);
   status = number_at (codes "status") (table_in row);
-  filters = filters_in (table_in row);
+  filters = filters_in (codes "filters") (table_in row);
 }
 
 abbrev pub default_of : Members → Option Quality
