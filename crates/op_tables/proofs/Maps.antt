@@ -26,12 +26,12 @@ swapped true true x y z apart = absurd (let h = apart refl in cc)
 swapped true false x y z apart = refl
 swapped false b x y z apart = refl
 
-reversed : (o : Ordering) → is_eq (ordering_reverse o) ≡ is_eq o
+pub reversed : (o : Ordering) → is_eq (ordering_reverse o) ≡ is_eq o
 reversed Less = refl
 reversed Equal = refl
 reversed Greater = refl
 
-equal_if : (o : Ordering) → is_eq o ≡ true → o ≡ Equal
+pub equal_if : (o : Ordering) → is_eq o ≡ true → o ≡ Equal
 equal_if Less h = absurd (cc)
 equal_if Equal h = refl
 equal_if Greater h = absurd (cc)

@@ -1,11 +1,11 @@
--- Classes and default qualities of plain numbers, and by their parts.
-use Rattle.std.specs.Prelude.{ℕ, ◌==◌, if◌then◌else◌}
+-- Tables, classes and default qualities as plain values, by their parts.
+use Rattle.std.specs.Prelude.{ℕ, List, ◌==◌, if◌then◌else◌}
 use Rattle.pcrf_values.specs.Numbers.{preemption_number}
 use Rattle.pcrf_values.specs.declared.rule.Preemption.{Preemption}
 use Rattle.pcrf_values.specs.declared.rule.Preemption.TheVariants.{Enabled, Disabled}
 use Rattle.pcrf_values.specs.declared.rule.RetentionPriority.{RetentionPriority}
 use Rattle.pcrf_values.specs.declared.rule.RuleQos.{RuleQos}
-use Rattle.pcrf_model.specs.Tables.{Class, Quality}
+use Rattle.pcrf_model.specs.Tables.{Class, Quality, ApnRow, Tables, Listed}
 
 -- the pre-emption that has this number
 abbrev pub preemption_of : ℕ → Preemption
@@ -46,4 +46,13 @@ qos_of c = record {
   priority = priority_of c.priority c.capability c.vulnerability;
   max_uplink = c.max_ul;
   max_downlink = c.max_dl;
+}
+
+abbrev pub tables_value : ℕ → ℕ → Class → List (ℕ × Class) → List (List ℕ × ApnRow) → Tables
+tables_value edition rtcp_bps signalling media apns = record {
+  edition = edition;
+  rtcp_bps = rtcp_bps;
+  signalling = signalling;
+  media = media;
+  apns = Listed apns;
 }

@@ -2,12 +2,13 @@
 ghost use Rattle.std.specs.Prelude.{◌≡◌, IfOk, IfErr, Some, None};
 ghost use Rattle.pcrf_values.specs.Numbers.{preemption_number};
 ghost use Rattle.toml.specs.View.{table_view};
-ghost use Rattle.op_tables.specs.Places.{class_keys};
-ghost use Rattle.op_tables.specs.Judgement.{keys_fault};
+ghost use Rattle.op_tables.specs.Places.{class_keys, Table as TableShape, required};
+ghost use Rattle.op_tables.specs.Judgement.{key_fault, keys_fault};
 ghost use Rattle.op_tables.specs.Meaning.{class_of};
+ghost use Rattle.op_tables.specs.Values.{data_at, table_in};
 
 use crate::fault::TableFault;
-use crate::reading::{bounded_at, number_at, preemption_at};
+use crate::reading::{bounded_at, number_at, preemption_at, table_at};
 use pcrf_values::{RetentionPriority, RuleQos};
 use std::marker::Model;
 use toml::Table;
@@ -80,4 +81,16 @@ pub fn read_class(table: &Table) -> Result<Class, TableFault>
         max_downlink,
     };
     Ok(Class { qos, precedence })
+}
+
+/// Reads the class at a key that has to stand.
+pub fn class_at(table: &Table, key: &str) -> Result<Class, TableFault>
+    ensures judged { IfOk result (λ _. key_fault (required key.now (TableShape class_keys))
+        (table_view table.now) ≡ None) }
+    ensures read { IfOk result (λ class. class
+        ≡ class_of (table_in (data_at key.now (table_view table.now)))) }
+    ensures refused { IfErr result (λ fault. key_fault (required key.now (TableShape class_keys))
+        (table_view table.now) ≡ Some fault) }
+{
+    read_class(table_at(table, key)?)
 }

@@ -1,17 +1,22 @@
 //! The classes of service by Media-Type (TS 29.214, 5.3.19).
-ghost use Rattle.std.specs.Prelude.{◌≡◌, [], IfOk, IfErr, OnOk, None, map};
+ghost use Rattle.std.specs.Prelude.{◌≡◌, [], codes, IfOk, IfErr, OnOk, None, map};
 ghost use Rattle.std.specs.BTreeMap.{insert_entry};
 ghost use Rattle.std.specs.Ordering.{nat_cmp};
-ghost use Rattle.toml.specs.View.{view};
-ghost use Rattle.op_tables.specs.Judgement.{media_judged, media_fault, fault_of_rows, IsFault};
+ghost use Rattle.toml.specs.View.{view, table_view};
+ghost use Rattle.op_tables.specs.Places.{media_key};
+ghost use Rattle.op_tables.specs.Values.{rows_at as rows_of};
+ghost use Rattle.op_tables.specs.Judgement.{key_fault, media_judged, media_fault, fault_of_rows, IsFault};
 ghost use Rattle.op_tables.specs.Meaning.{media_of, media_type, row_class, is_media_taken};
 
 use crate::class::{Class, read_class};
 use crate::fault::TableFault;
-use crate::reading::{number_at, table};
+use crate::reading::{number_at, rows_at, table};
 use std::alloc::Global;
 use std::collections::BTreeMap;
-use toml::Value;
+use toml::{Table, Value};
+
+/// The most kinds of media that tables may have.
+const MOST_MEDIA: usize = 64;
 
 /// Adds the class of one row to those above it.
 #[tactic(auto, using(crate::proofs::Faults::is_fault), unfolding(crate::specs::Judgement::row_judged))]
@@ -34,7 +39,7 @@ fn add_media(media: &mut BTreeMap<u32, Class>, row: &Value) -> Result<(), TableF
 }
 
 /// Reads the classes of all rows.
-pub fn read_media(alloc: Global, rows: &[Value]) -> Result<BTreeMap<u32, Class>, TableFault>
+fn read_media(alloc: Global, rows: &[Value]) -> Result<BTreeMap<u32, Class>, TableFault>
     ensures judged { IfOk result (λ _. fault_of_rows media_fault [] (map view rows.now) ≡ None) }
     ensures read { IfOk result (λ media. media.entries ≡ media_of (map view rows.now)) }
     ensures refused { IfErr result (λ fault. IsFault fault
@@ -45,4 +50,15 @@ pub fn read_media(alloc: Global, rows: &[Value]) -> Result<BTreeMap<u32, Class>,
         add_media(&mut media, row)?;
     }
     Ok(media)
+}
+
+/// Reads the classes by Media-Type, if there are any.
+pub fn media_at(alloc: Global, document: &Table) -> Result<BTreeMap<u32, Class>, TableFault>
+    ensures judged { IfOk result (λ _. key_fault media_key (table_view document.now) ≡ None) }
+    ensures read { IfOk result (λ media. media.entries
+        ≡ media_of (rows_of (codes "media") (table_view document.now))) }
+    ensures refused { IfErr result (λ fault. IsFault fault
+        (key_fault media_key (table_view document.now))) }
+{
+    read_media(alloc, rows_at(document, "media", MOST_MEDIA)?)
 }

@@ -4,14 +4,14 @@ ghost use Rattle.std.specs.Ordering.{is_eq};
 ghost use Rattle.ranked.specs.Orders.{text_cmp};
 ghost use Rattle.pcrf_values.specs.Numbers.{flow_status_number};
 ghost use Rattle.toml.specs.View.{view, table_view};
-ghost use Rattle.op_tables.specs.Places.{flow_keys, rule_keys};
-ghost use Rattle.op_tables.specs.Judgement.{keys_fault, rule_judged, rule_fault, fault_of_rows, IsFault};
-ghost use Rattle.op_tables.specs.Values.{number_at as number_of};
+ghost use Rattle.op_tables.specs.Places.{flow_keys, rule_keys, rules_key};
+ghost use Rattle.op_tables.specs.Judgement.{key_fault, keys_fault, rule_judged, rule_fault, fault_of_rows, IsFault};
+ghost use Rattle.op_tables.specs.Values.{number_at as number_of, rows_at as rows_of};
 ghost use Rattle.op_tables.specs.Meaning.{class_of, filters_in, rule_of, rule_name, has_rule};
 
 use crate::class::{Class, read_class};
 use crate::fault::TableFault;
-use crate::reading::{status_at, table};
+use crate::reading::{rows_at, status_at, table};
 use crate::texts::{filters_at, word_at};
 use crate::word::Word;
 use pcrf_values::{FlowStatus, PermitFilters};
@@ -22,6 +22,9 @@ use toml::{Table, Value};
 
 /// The name that the operator gives a rule. Gateways know it with `op/` in front.
 pub type OperatorRuleName = Word<64>;
+
+/// The most rules that an access point may have.
+const MOST_RULES: usize = 64;
 
 /// Which packets a rule picks, and the directions that are open to them.
 #[derive(Drop)]
@@ -175,7 +178,7 @@ fn add_rule(
 }
 
 /// Reads the rules of all rows, in their order.
-pub fn read_rules(alloc: Global, rows: &[Value]) -> Result<Vec<OperatorRule>, TableFault>
+fn read_rules(alloc: Global, rows: &[Value]) -> Result<Vec<OperatorRule>, TableFault>
     ensures judged { IfOk result (λ _. fault_of_rows rule_fault [] (map view rows.now) ≡ None) }
     ensures read { IfOk result (λ rules. rules.items ≡ map rule_of (map view rows.now)) }
     ensures refused { IfErr result (λ fault. IsFault fault
@@ -186,4 +189,15 @@ pub fn read_rules(alloc: Global, rows: &[Value]) -> Result<Vec<OperatorRule>, Ta
         add_rule(alloc, &mut rules, row)?;
     }
     Ok(rules)
+}
+
+/// Reads the rules of an access point, if it has any.
+pub fn rules_at(alloc: Global, point: &Table) -> Result<Vec<OperatorRule>, TableFault>
+    ensures judged { IfOk result (λ _. key_fault rules_key (table_view point.now) ≡ None) }
+    ensures read { IfOk result (λ rules. rules.items
+        ≡ map rule_of (rows_of (codes "rule") (table_view point.now))) }
+    ensures refused { IfErr result (λ fault. IsFault fault
+        (key_fault rules_key (table_view point.now))) }
+{
+    read_rules(alloc, rows_at(point, "rule", MOST_RULES)?)
 }
