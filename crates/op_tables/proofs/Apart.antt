@@ -64,9 +64,10 @@ module _ (key : Data → List ℕ) where
   pub distinct : (above rows : List Data) → Differ text_cmp key above rows → Distinct (map key rows)
   distinct above [] apart = tt
   distinct above (row ∷ rows) apart =
-      let itself : is_eq (text_cmp (key row) (key row)) ≡ true = ap is_eq (tied_itself nat_list_cmp_total (key row)) in
-      ((λ again. let here = fresh (above ++ row ∷ []) rows (key row) apart.1 again in let there = any_last (λ other. is_eq (text_cmp (key row) (key other))) above row itself in absurd (cc)),
-      distinct (above ++ row ∷ []) rows apart.1)
+      let itself : is_eq (text_cmp (key row) (key row)) ≡ true = ap is_eq (tied_itself nat_list_cmp_total (key row)) in (
+        (λ again. let here = fresh (above ++ row ∷ []) rows (key row) apart.1 again in let there = any_last (λ other. is_eq (text_cmp (key row) (key other))) above row itself in absurd (cc)),
+        distinct (above ++ row ∷ []) rows apart.1,
+      )
 
 names_of : (rows : List Data) → map (λ (r : OperatorRule). r.name) (map rule_of rows) ≡ map rule_name rows
 names_of [] = refl

@@ -156,11 +156,7 @@ fn read_body(alloc: Global, table: &Table) -> Result<RuleBody, TableFault>
 
 /// Adds the rule of one row to those above it.
 #[tactic(auto, using(crate::proofs::Faults::is_fault), unfolding(crate::specs::Judgement::row_judged))]
-fn add_rule(
-    alloc: Global,
-    rules: &mut Vec<OperatorRule>,
-    row: &Value,
-) -> Result<(), TableFault>
+fn add_rule(alloc: Global, rules: &mut Vec<OperatorRule>, row: &Value) -> Result<(), TableFault>
     ensures judged { OnOk result (rule_judged
         (has_rule rules.old.items (rule_name (view row.now))) (view row.now) ≡ None) }
     ensures added { OnOk result (rules.new.items ≡ rules.old.items ++ rule_of (view row.now) ∷ []) }
