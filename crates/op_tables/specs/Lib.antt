@@ -1,7 +1,7 @@
 pub mod Places
 pub mod Values
 pub mod Judgement
-pub mod Statements
 pub mod Meaning
-pub mod Numbers
+pub mod Statements
+pub mod TableViews
 pub mod laws

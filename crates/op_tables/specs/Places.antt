@@ -46,7 +46,7 @@ rules_limit = 64
 abbrev pub rule_name_limit : ℕ
 rule_name_limit = 64
 
--- filters of a rule: one for each direction (TS 29.212, 5.3.54 Flow-Information)
+-- filters of a rule: one for each direction (Flow-Description, TS 29.214, 5.3.8)
 abbrev pub filters_limit : ℕ
 filters_limit = 2
 

@@ -1,2 +1,2 @@
 -- Laws of the views that models cite.
-pub mod Numbers
+pub mod TableViews

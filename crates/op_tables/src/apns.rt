@@ -8,6 +8,7 @@ ghost use Rattle.op_tables.specs.Values.{rows_at as rows_of};
 ghost use Rattle.op_tables.specs.Judgement.{key_fault, keys_fault, apn_judged, apn_fault, fault_of_rows, IsFault};
 ghost use Rattle.op_tables.specs.Meaning.{apn_of, apn_name, apns_of, row_apn, is_apn_taken};
 
+use crate::copies::TryCopy;
 use crate::fault::TableFault;
 use crate::quality::{Quality, read_default};
 use crate::reading::{rows_at, table};
@@ -51,13 +52,12 @@ impl AccessPoint {
     {
         self.rules.as_slice()
     }
+}
 
-    /// An equal access point.
-    pub fn copied(&self, alloc: Global) -> Result<AccessPoint, AllocError>
-        ensures { IfOk result (λ point. point ≡ self.now) }
-    {
+impl TryCopy for AccessPoint {
+    fn try_copy(&self, alloc: Global) -> Result<AccessPoint, AllocError> {
         let mut rules = Vec::with_capacity(alloc, self.rules.len())?;
-        for rule in self.rules.as_slice() {
+        for rule in self.rules() {
             rules.push(rule.try_copy()?)?;
         }
         Ok(AccessPoint {

@@ -7,9 +7,11 @@ ghost use Rattle.op_tables.specs.Judgement.{key_fault, keys_fault};
 ghost use Rattle.op_tables.specs.Meaning.{class_of};
 ghost use Rattle.op_tables.specs.Values.{data_at, table_in};
 
+use crate::copies::TryCopy;
 use crate::fault::TableFault;
 use crate::reading::{bounded_at, number_at, preemption_at, table_at};
 use pcrf_values::{RetentionPriority, RuleQos};
+use std::alloc::{AllocError, Global};
 use std::marker::Model;
 use toml::Table;
 
@@ -23,8 +25,8 @@ pub struct Class {
 
 impl Model for Class {
     ghost use Rattle.pcrf_model.specs.Tables.{Class as ClassValue};
-    ghost use Rattle.op_tables.specs.Numbers.{class_value, qos_of};
-    ghost use Rattle.op_tables.specs.laws.Numbers.{qos_of-class_value};
+    ghost use Rattle.op_tables.specs.TableViews.{class_value, qos_of};
+    ghost use Rattle.op_tables.specs.laws.TableViews.{qos_of-class_value};
 
     ghost Value = { ClassValue };
 
@@ -54,6 +56,12 @@ impl Class {
         ensures { result ≡ self.precedence }
     {
         self.precedence
+    }
+}
+
+impl TryCopy for Class {
+    fn try_copy(&self, _alloc: Global) -> Result<Class, AllocError> {
+        Ok(*self)
     }
 }
 

@@ -1,8 +1,6 @@
-//! Equal values and equal maps.
+//! Equal maps.
 ghost use Rattle.std.specs.Prelude.{◌≡◌, IfOk};
 
-use crate::apns::AccessPoint;
-use crate::class::Class;
 use ranked::Ranked;
 use std::alloc::{AllocError, Global};
 use std::collections::BTreeMap;
@@ -12,18 +10,6 @@ pub trait TryCopy: Drop {
     /// An equal value.
     fn try_copy(&self, alloc: Global) -> Result<Self, AllocError>
         ensures { IfOk result (λ copy. copy ≡ self.now) };
-}
-
-impl TryCopy for Class {
-    fn try_copy(&self, _alloc: Global) -> Result<Class, AllocError> {
-        Ok(*self)
-    }
-}
-
-impl TryCopy for AccessPoint {
-    fn try_copy(&self, alloc: Global) -> Result<AccessPoint, AllocError> {
-        self.copied(alloc)
-    }
 }
 
 /// A map with equal keys and values.

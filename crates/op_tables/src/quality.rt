@@ -28,8 +28,8 @@ pub struct Quality {
 
 impl Model for Quality {
     ghost use Rattle.pcrf_model.specs.Tables.{Quality as QualityValue};
-    ghost use Rattle.op_tables.specs.Numbers.{quality_value, priority_of};
-    ghost use Rattle.op_tables.specs.laws.Numbers.{priority_of-numbers};
+    ghost use Rattle.op_tables.specs.TableViews.{quality_value, priority_of};
+    ghost use Rattle.op_tables.specs.laws.TableViews.{priority_of-numbers};
 
     ghost Value = { QualityValue };
 

@@ -22,7 +22,8 @@ pub fn value_at<'a>(table: &'a Table, key: &str) -> Option<&'a Value>
 
 /// The value at a key that has to stand.
 pub fn required_at<'a>(table: &'a Table, key: &str) -> Result<&'a Value, TableFault>
-    ensures found { IfOk result (λ v. get_member key.now (table_view table.now) ≡ Some (view v.now)) }
+    ensures found { IfOk result (λ v. get_member key.now (table_view table.now)
+        ≡ Some (view v.now)) }
     ensures fault { IfErr result (λ fault. fault ≡ MissingKey) }
     ensures absent { IfErr result (λ _. get_member key.now (table_view table.now) ≡ None) }
 {

@@ -34,7 +34,7 @@ pub struct Tables {
 impl Model for Tables {
     ghost use Rattle.pcrf_model.specs.Laws.{NamesRulesApart};
     ghost use Rattle.pcrf_model.specs.Tables.{Tables as TablesValue, Listed};
-    ghost use Rattle.op_tables.specs.Numbers.{tables_value};
+    ghost use Rattle.op_tables.specs.TableViews.{tables_value};
 
     ghost Value = { TablesValue };
 
@@ -51,7 +51,7 @@ impl Tables {
         self.edition
     }
 
-    /// The bit rate of an RTCP flow (TS 29.213, 6.2: Flow-Usage RTCP), in bit/s, where the flow has none of its own.
+    /// The bit rate of an RTCP flow (TS 29.213, 6.3), in bit/s, where the flow asks for none of its own.
     pub fn rtcp(&self) -> u32
         ensures { result ≡ self.now.rtcp_bps }
     {
@@ -99,6 +99,7 @@ impl Tables {
     }
 }
 
+/// Reads the tables of a document.
 #[tactic(auto, using(crate::proofs::Faults::is_fault), unfolding(crate::specs::Judgement::keys_fault, crate::specs::Meaning::tables_of))]
 fn of_document(alloc: Global, document: &Table) -> Result<Tables, TableFault>
     ensures judged { IfOk result (λ _. keys_fault top_keys (table_view document.now) ≡ None) }

@@ -6,6 +6,7 @@
 mod map;
 mod report;
 mod rx;
+mod tables;
 
 use std::alloc::AllocGlobal;
 use std::env;
@@ -18,6 +19,7 @@ fn measure(rt: &(impl AllocGlobal + Clock + Print), name: &str, size: u32) -> an
         "map" => map::measure(rt, size),
         "rx" => rx::measure(rt, size),
         "rx_kept" => rx::keep(rt, size),
+        "tables" => tables::measure(rt, size),
         _ => anyhow::bail!("there is no measure {name}"),
     }
 }

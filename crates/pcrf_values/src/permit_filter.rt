@@ -1,10 +1,10 @@
 //! Filters that permit.
-ghost use Rattle.std.specs.Prelude.{◌≡◌, true, IfOk};
+ghost use Rattle.std.specs.Prelude.{◌≡◌, true, false, IfOk, IfSome, IfNone};
 ghost use Rattle.std.specs.List.{list_all};
 ghost use Rattle.pcrf_values.specs.Filters.{begins_as_filter, filter_of, is_filter, is_printable};
 
 use crate::bounded_list::{BoundedList, FilterText};
-use ranked::Ranked;
+use ranked::{Ranked, Text};
 use std::alloc::{AllocError, Global};
 use std::marker::Model;
 
@@ -74,6 +74,21 @@ impl PermitFilter {
             unreachable!()
         };
         Ok(Some(PermitFilter { text }))
+    }
+
+    /// The filter of this text; `None` where it is none.
+    pub fn of(text: Text) -> Option<PermitFilter>
+        ensures text { IfSome result (λ filter. filter ≡ text) }
+        ensures filter { IfSome result (λ _. is_filter text ≡ true) }
+        ensures none { IfNone result (is_filter text ≡ false) }
+    {
+        if !is_filter(text.as_slice()) {
+            return None;
+        }
+        let Some(text) = FilterText::of(text.into_vec()) else {
+            unreachable!()
+        };
+        Some(PermitFilter { text })
     }
 
     /// The text.

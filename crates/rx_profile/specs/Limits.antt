@@ -12,7 +12,3 @@ flows_limit = 64
 -- how many filters a flow may have: one for each direction (TS 29.214, 5.3.8)
 abbrev pub filters_limit : ℕ
 filters_limit = 2
-
--- bytes of a filter
-abbrev pub filter_limit : ℕ
-filter_limit = 255

@@ -5,7 +5,7 @@ use Rattle.pcrf_values.specs.declared.rule.Preemption.{Preemption}
 use Rattle.pcrf_values.specs.declared.rule.Preemption.TheVariants.{Enabled, Disabled}
 use Rattle.pcrf_values.specs.declared.rule.RetentionPriority.{RetentionPriority}
 use Rattle.pcrf_values.specs.declared.rule.RuleQos.{RuleQos}
-use Rattle.op_tables.specs.Numbers.{preemption_of, priority_of, class_value, qos_of}
+use Rattle.op_tables.specs.TableViews.{preemption_of, priority_of, class_value, qos_of}
 
 -- a pre-emption is that of its number
 pub preemption_of-number : (p : Preemption) → preemption_of (preemption_number p) ≡ p

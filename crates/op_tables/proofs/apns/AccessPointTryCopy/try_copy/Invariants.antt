@@ -1,5 +1,5 @@
 use Rattle.std.proofs.Common.{◌≡◌, take}
-use Rattle.op_tables.proofs.apns.AccessPoint.copied.Given as goal
+use Rattle.op_tables.proofs.apns.AccessPointTryCopy.try_copy.Given as goal
 
 -- the rules so far
 abbrev pub invariant-loop-rule : goal.invariant-loop-rule
