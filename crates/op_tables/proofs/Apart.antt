@@ -1,16 +1,16 @@
 -- Look-ups in the tables of a document, and the names of their rules.
-use Rattle.std.proofs.Common.{◌≡◌, ℕ, Bool, true, false, ◌||◌, List, [], ◌∷◌, ◌++◌, map, Option, Some, None, unwrap_or, refl, ap, sym, subst, ◌∙◌, Ordering, Equal, is_eq, codes, nat_cmp, inl, inr, ◌⊎◌}
-use Rattle.std.specs.Prelude.{◌==◌, find, option_map}
+use Rattle.std.proofs.Common.{◌≡◌, ℕ, Bool, true, false, ◌||◌, List, [], ◌∷◌, ◌++◌, map, Option, Some, None, unwrap_or, refl, ap, sym, subst, ◌∙◌, is_eq, codes, nat_cmp, inl, inr}
+use Rattle.std.specs.Prelude.{find, option_map}
 use Rattle.std.specs.List.{list_any}
-use Rattle.std.specs.Cmp.{IsTotalOrder, nat_cmp_total, tied_itself}
+use Rattle.std.specs.Cmp.{nat_cmp_total, tied_itself}
 use Rattle.std.proofs.lemmas.Cmp.{nat_list_cmp_total}
 use Rattle.ranked.specs.Orders.{text_cmp}
 use Rattle.ranked.specs.Sets.{In, Distinct}
 use Rattle.pcrf_model.specs.Laws.{NamesRulesApart}
-use Rattle.pcrf_model.specs.Tables.{Class, OperatorRule, ApnRow, media_class, apn_row}
+use Rattle.pcrf_model.specs.Tables.{Class, OperatorRule, ApnRow}
 use Rattle.toml.specs.Data.{Data, Members}
 use Rattle.op_tables.specs.Places.{top_keys, apn_keys}
-use Rattle.op_tables.specs.Judgement.{keys_fault, fault_of_rows, apn_fault, rule_fault}
+use Rattle.op_tables.specs.Judgement.{keys_fault}
 use Rattle.op_tables.specs.Values.{rows_at, table_in}
 use Rattle.op_tables.specs.Meaning.{by_key, media_of, media_type, row_class, apns_of, apn_name, row_apn, rule_name, rule_of, tables_of}
 use Rattle.op_tables.specs.TableViews.{tables_value}

@@ -1,7 +1,6 @@
 -- What is known of a document in which nothing is at fault.
-use Rattle.std.proofs.Common.{◌≡◌, ℕ, Bool, true, false, cond, nat_lt, length, List, [], ◌∷◌, ◌++◌, Option, Some, None, unwrap_or, refl, ap, sym, ◌∙◌, Ordering, is_eq, codes}
-use Rattle.std.specs.Prelude.{⊤, find, option_map}
-use Rattle.std.specs.List.{list_any}
+use Rattle.std.proofs.Common.{◌≡◌, ℕ, Bool, true, false, cond, nat_lt, length, List, [], ◌∷◌, ◌++◌, Option, Some, None, unwrap_or, refl, ap, sym, ◌∙◌, codes}
+use Rattle.std.specs.Prelude.{find}
 use Rattle.toml.specs.Data.{Data, Members, no_members, boolean, get_member, as_table}
 use Rattle.std.specs.Ordering.{nat_cmp}
 use Rattle.ranked.specs.Orders.{text_cmp}

@@ -9,7 +9,7 @@ use Rattle.ranked.specs.Orders.{text_cmp}
 use Rattle.pcrf_values.specs.Texts.{folded}
 use Rattle.pcrf_model.specs.Tables.{Class, Quality, OperatorRule, ApnRow, Listed, Tables}
 use Rattle.toml.specs.Data.{Data, Members, get_member}
-use Rattle.op_tables.specs.Values.{number_in, text_in, table_in, list_in, data_at, number_at, rows_at}
+use Rattle.op_tables.specs.Values.{text_in, table_in, data_at, number_at, rows_at}
 
 -- ---- tables and rows
 

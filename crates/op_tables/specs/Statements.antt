@@ -1,5 +1,5 @@
 -- The laws of the definitions.
-use Rattle.std.specs.Prelude.{◌≡◌, ℕ, List, Some, None, ◌==◌, codes, find, option_map}
+use Rattle.std.specs.Prelude.{◌≡◌, ℕ, List, None, ◌==◌, codes, find, option_map}
 use Rattle.std.specs.Ordering.{is_eq}
 use Rattle.ranked.specs.Orders.{text_cmp}
 use Rattle.pcrf_model.specs.Laws.{NamesRulesApart}

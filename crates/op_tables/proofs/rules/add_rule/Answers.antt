@@ -1,4 +1,4 @@
-use Rattle.std.proofs.Common.{◌≡◌, Option, List, ℕ, false, unwrap_or, codes, ◌∙◌, ap, rules}
+use Rattle.std.proofs.Common.{◌≡◌, Option, false, unwrap_or, codes, ◌∙◌, ap, rules}
 use Rattle.std.proofs.lemmas.Result.{err_from_is_err_and}
 use Rattle.toml.specs.Data.{Members, no_members}
 use Rattle.toml.specs.View.{view, table_view}

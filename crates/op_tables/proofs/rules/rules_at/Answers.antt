@@ -1,6 +1,5 @@
-use Rattle.std.proofs.Common.{◌≡◌, [], Option, codes, map, subst, sym}
+use Rattle.std.proofs.Common.{Option, codes, subst, sym}
 use Rattle.std.specs.Prelude.{IfErr}
-use Rattle.toml.specs.View.{view}
 use Rattle.op_tables.specs.Places.{rule_name_shape, rule_keys}
 use Rattle.op_tables.specs.Judgement.{IsFault}
 use Rattle.op_tables.specs.declared.fault.TableFault.{TableFault}

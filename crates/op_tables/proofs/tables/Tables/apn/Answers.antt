@@ -1,4 +1,4 @@
-use Rattle.std.proofs.Common.{List, ℕ, ap, ◌∙◌}
+use Rattle.std.proofs.Common.{ap, ◌∙◌}
 use Rattle.std.proofs.lemmas.Cmp.{nat_list_cmp_total}
 use Rattle.pcrf_model.specs.Tables.{Tables, apn_row}
 use Rattle.op_tables.proofs.Lookups.{lookup_find}

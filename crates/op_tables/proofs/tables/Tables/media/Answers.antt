@@ -1,6 +1,5 @@
-use Rattle.std.proofs.Common.{◌≡◌, ℕ, Option, Some, None, ap, sym, ◌∙◌}
-use Rattle.std.specs.Option.{option_copied}
-use Rattle.pcrf_model.specs.Tables.{Class, Tables, media_class}
+use Rattle.std.proofs.Common.{ap, ◌∙◌}
+use Rattle.pcrf_model.specs.Tables.{Tables, media_class}
 use Rattle.op_tables.proofs.Lookups.{class_found}
 use Rattle.op_tables.proofs.tables.Tables.media.Goals as goal
 
