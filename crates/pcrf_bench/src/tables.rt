@@ -7,11 +7,8 @@ use std::fmt::Write as _;
 use std::io::Print;
 use std::time::{Clock, Instant};
 
-/// How often a text is read, and tables are copied.
+/// How often a text is read, tables are copied, and each access point is looked up.
 const ROUNDS: u32 = 10;
-
-/// How often an access point is looked up.
-const LOOK_UPS: u32 = 10_000;
 
 /// What stands before the access points.
 const HEAD: &str = "edition = 1
@@ -72,12 +69,27 @@ fn copy_again(alloc: Global, tables: &Tables) -> Result<(), AllocError> {
     Ok(())
 }
 
-/// Looks an access point up again and again, and counts how often it was there.
-fn look_again(tables: &Tables, name: &Apn) -> u32 {
+/// The names of so many access points.
+fn names_of(alloc: Global, points: u32) -> Result<Vec<Apn>, AllocError> {
+    let mut names = Vec::new(alloc);
+    for place in 0..points {
+        let text = format!(in alloc; "apn{place}")?;
+        if let Some(name) = Apn::folded(alloc, text.as_bytes())? {
+            names.push(name)?;
+        }
+    }
+    Ok(names)
+}
+
+/// Looks all access points up again and again, and counts how many of them have rules.
+fn look_again(tables: &Tables, names: &[Apn]) -> u32 {
     let mut found = 0_u32;
-    for _ in 0..LOOK_UPS {
-        if tables.apn(name).is_some() {
-            found = found.saturating_add(1);
+    for _ in 0..ROUNDS {
+        for name in names {
+            let rules = tables.apn(name).map_or(0, |point| point.rules().len());
+            if rules > 0 {
+                found = found.saturating_add(1);
+            }
         }
     }
     found
@@ -95,13 +107,11 @@ pub fn measure(rt: &(impl AllocGlobal + Clock + Print), points: u32) -> anyhow::
     let start = Instant::now(rt)?;
     copy_again(alloc, &tables)?;
     print_each(rt, "tables: copying the tables", ROUNDS, start.elapsed(rt)?)?;
-    let Some(name) = Apn::folded(alloc, b"apn0")? else {
-        anyhow::bail!("the name is none of an access point");
-    };
+    let names = names_of(alloc, points)?;
     let start = Instant::now(rt)?;
-    let found = look_again(&tables, &name);
+    let found = look_again(&tables, names.as_slice());
     let time = start.elapsed(rt)?;
-    println!(rt; "tables: found {found} times")?;
-    print_each(rt, "tables: looking an access point up", LOOK_UPS, time)?;
+    println!(rt; "tables: {found} found")?;
+    print_each(rt, "tables: looking an access point up", found, time)?;
     Ok(())
 }
