@@ -7,6 +7,7 @@ mod map;
 mod records;
 mod report;
 mod rx;
+mod tables;
 
 use std::alloc::AllocGlobal;
 use std::env;
@@ -21,6 +22,7 @@ fn measure(rt: &(impl AllocGlobal + Clock + Print), name: &str, size: u32) -> an
         "records_kept" => records::keep(rt, size),
         "rx" => rx::measure(rt, size),
         "rx_kept" => rx::keep(rt, size),
+        "tables" => tables::measure(rt, size),
         _ => anyhow::bail!("there is no measure {name}"),
     }
 }

@@ -1,4 +1,5 @@
 pub mod Applications
+pub mod Filters
 pub mod Limits
 pub mod Numbers
 pub mod Results

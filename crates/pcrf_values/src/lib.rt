@@ -5,6 +5,7 @@ mod apn;
 mod bounded_list;
 mod bounded_number;
 mod delta;
+mod permit_filter;
 mod refusal;
 mod request_kind;
 mod rule;
@@ -18,6 +19,7 @@ pub use bounded_list::{
 };
 pub use bounded_number::{BoundedNumber, PriorityLevel, QosClass};
 pub use delta::Delta;
+pub use permit_filter::{PermitFilter, PermitFilters};
 pub use refusal::Refusal;
 pub use request_kind::RequestKind;
 pub use rule::{FlowStatus, Preemption, RetentionPriority, Rule, RuleQos};

@@ -1,3 +1,2 @@
-pub mod FilterLengths
 pub mod RefusedBehind
 pub mod ServiceFaults

@@ -1,11 +1,11 @@
 -- What the components of a request have to keep among themselves (TS 29.214, 5.5), besides their rows.
-use Rattle.std.specs.Prelude.{ℕ, Bool, false, ◌&&◌, ◌||◌, ◌==◌, nat_le, nat_eq, if◌then◌else◌, codes, List, [], ◌∷◌, length, map, Option, Some, None, unwrap_or}
-use Rattle.std.specs.List.{list_any, list_all, starts_with}
+use Rattle.std.specs.Prelude.{ℕ, Bool, false, ◌||◌, ◌==◌, if◌then◌else◌, List, [], ◌∷◌, length, map, Option, Some, None, unwrap_or}
+use Rattle.std.specs.List.{list_any}
+use Rattle.pcrf_values.specs.Filters.{is_filter}
 use Rattle.pcrf_values.specs.Results.{invalid_service_information, filter_restrictions}
 use Rattle.pcrf_values.specs.declared.refusal.Refusal.{Refusal}
 use Rattle.pcrf_model.specs.Requests.{FlowValue, ComponentValue}
 use Rattle.dia_base.specs.Rows.{or_else, refusal_among}
-use Rattle.pcrf_values.specs.Limits.{filter_limit}
 
 -- ---- numbers
 
@@ -36,19 +36,6 @@ numbers_refusal components =
     or_else (repeat_refusal (component_numbers components)) (refusal_among flow_numbers_refusal components)
 
 -- ---- filters
-
--- a printable character of ASCII, or a space
-abbrev pub is_printable : ℕ → Bool
-is_printable byte = nat_le 0x20 byte && nat_le byte 0x7E
-
--- an IPFilterRule (RFC 6733, 4.3.1) permits, in one direction
-abbrev pub begins_as_filter : List ℕ → Bool
-begins_as_filter text =
-    starts_with nat_eq text (codes "permit in ") || starts_with nat_eq text (codes "permit out ")
-
--- what this project's profile takes as a filter
-abbrev pub is_filter : List ℕ → Bool
-is_filter text = nat_le (length text) filter_limit && begins_as_filter text && list_all is_printable text
 
 abbrev pub filter_refusal : List ℕ → Option Refusal
 filter_refusal text = if is_filter text then None else Some filter_restrictions

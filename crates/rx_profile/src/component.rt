@@ -5,13 +5,13 @@ ghost use Rattle.pcrf_values.specs.Limits.{components_limit, flows_limit};
 ghost use Rattle.rx_profile.specs.Services.{component_numbers, flow_numbers, repeats, services_refusal};
 ghost use Rattle.rx_profile.specs.Values.{component_value, flow_value};
 
-use crate::filter::{PermitFilter, PermitFilters};
 use crate::judging::{FromRaw, each_from};
 use crate::media::{ComponentParts, FlowParts};
 use crate::numbers::repeats;
 use crate::raw::{RawComponent, RawFlow};
 use dia_base::codes::results::INVALID_SERVICE_INFORMATION;
 use dia_base::{ReadFault, Refusal};
+use pcrf_values::{PermitFilter, PermitFilters};
 use ranked::Text;
 use std::alloc::Global;
 use std::marker::Model;

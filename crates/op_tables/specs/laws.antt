@@ -1,0 +1,2 @@
+-- Laws of the views that models cite.
+pub mod TableViews

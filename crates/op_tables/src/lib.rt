@@ -1,0 +1,24 @@
+//! Operator tables (this project's profile), read from TOML: which access points there are and with which default quality
+//! of service, which rules each of their sessions has, and which class of service each kind of media has.
+#![tactic(auto)]
+
+mod apns;
+mod class;
+mod copies;
+mod fault;
+pub mod laws;
+mod media;
+mod quality;
+mod reading;
+mod rules;
+mod tables;
+mod texts;
+mod word;
+
+pub use apns::AccessPoint;
+pub use class::Class;
+pub use fault::TableFault;
+pub use quality::{DefaultClass, Quality};
+pub use rules::{OperatorRule, OperatorRuleName};
+pub use tables::{Tables, read_tables};
+pub use word::Word;

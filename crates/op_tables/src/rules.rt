@@ -1,0 +1,199 @@
+//! The operator's rules of an access point.
+ghost use Rattle.std.specs.Prelude.{◌≡◌, ◌++◌, ◌∷◌, [], codes, IfOk, IfErr, OnOk, None, map};
+ghost use Rattle.std.specs.Ordering.{is_eq};
+ghost use Rattle.ranked.specs.Orders.{text_cmp};
+ghost use Rattle.pcrf_values.specs.Numbers.{flow_status_number};
+ghost use Rattle.toml.specs.View.{view, table_view};
+ghost use Rattle.op_tables.specs.Places.{flow_keys, rule_keys, rules_key};
+ghost use Rattle.op_tables.specs.Judgement.{key_fault, keys_fault, rule_judged, rule_fault, fault_of_rows, IsFault};
+ghost use Rattle.op_tables.specs.Values.{number_at as number_of, rows_at as rows_of};
+ghost use Rattle.op_tables.specs.Meaning.{class_of, filters_in, rule_of, rule_name, has_rule};
+
+use crate::class::{Class, read_class};
+use crate::fault::TableFault;
+use crate::reading::{rows_at, status_at, table};
+use crate::texts::{filters_at, word_at};
+use crate::word::Word;
+use pcrf_values::{FlowStatus, PermitFilters};
+use ranked::Ranked;
+use std::alloc::{AllocError, Global};
+use std::marker::Model;
+use toml::{Table, Value};
+
+/// The name that the operator gives a rule. Gateways know it with `op/` in front.
+pub type OperatorRuleName = Word<64>;
+
+/// The most rules that an access point may have.
+const MOST_RULES: usize = 64;
+
+/// Which packets a rule picks, and the directions that are open to them.
+#[derive(Drop)]
+struct RuleFlow {
+    status: FlowStatus,
+    filters: PermitFilters,
+}
+
+/// What a rule has beside its name.
+#[derive(Drop)]
+struct RuleBody {
+    class: Class,
+    flow: RuleFlow,
+}
+
+/// A rule that each session of an access point has.
+#[derive(Drop)]
+pub struct OperatorRule {
+    name: OperatorRuleName,
+    body: RuleBody,
+}
+
+impl Model for OperatorRule {
+    ghost use Rattle.pcrf_values.specs.Numbers.{flow_status_number};
+    ghost use Rattle.pcrf_model.specs.Tables.{OperatorRule as RuleValue};
+
+    ghost Value = { RuleValue };
+
+    ghost view = { λ r. record { name = r.name; class = r.body.class; status = flow_status_number r.body.flow.status; filters = r.body.flow.filters } };
+}
+
+impl OperatorRule {
+    /// The name.
+    pub fn name(&self) -> &OperatorRuleName
+        ensures { result.now ≡ self.now.name }
+    {
+        &self.name
+    }
+
+    /// The class of service.
+    pub fn class(&self) -> Class
+        ensures { result ≡ self.now.class }
+    {
+        self.body.class
+    }
+
+    /// Which directions are open.
+    pub fn status(&self) -> FlowStatus
+        ensures { flow_status_number result ≡ self.now.status }
+    {
+        self.body.flow.status
+    }
+
+    /// The filters that pick the packets.
+    pub fn filters(&self) -> &PermitFilters
+        ensures { result.now ≡ self.now.filters }
+    {
+        &self.body.flow.filters
+    }
+
+    /// An equal rule.
+    pub fn try_copy(&self) -> Result<OperatorRule, AllocError>
+        ensures { IfOk result (λ rule. rule ≡ self.now) }
+    {
+        let name = self.name.try_copy()?;
+        let flow = RuleFlow {
+            status: self.body.flow.status,
+            filters: self.body.flow.filters.try_copy()?,
+        };
+        let body = RuleBody {
+            class: self.body.class,
+            flow,
+        };
+        Ok(OperatorRule { name, body })
+    }
+
+    /// Whether the rule has this name.
+    fn is_named(&self, name: &OperatorRuleName) -> bool
+        ensures { result ≡ is_eq (text_cmp name.now self.now.name) }
+    {
+        name.text().as_slice() == self.name.text().as_slice()
+    }
+}
+
+/// Whether one of the rules has this name.
+fn has_rule(rules: &[OperatorRule], name: &OperatorRuleName) -> bool
+    ensures { result ≡ has_rule rules.now name.now }
+{
+    for rule in rules {
+        if rule.is_named(name) {
+            return true;
+        }
+    }
+    false
+}
+
+/// Reads what picks the packets of a rule.
+#[tactic(auto, using(crate::proofs::Faults::is_fault), unfolding(crate::specs::Judgement::keys_fault))]
+fn read_flow(alloc: Global, table: &Table) -> Result<RuleFlow, TableFault>
+    ensures judged { IfOk result (λ _. keys_fault flow_keys (table_view table.now) ≡ None) }
+    ensures status { IfOk result (λ flow. flow_status_number flow.status
+        ≡ number_of (codes "status") (table_view table.now)) }
+    ensures filters { IfOk result (λ flow. flow.filters
+        ≡ filters_in (codes "filters") (table_view table.now)) }
+    ensures refused { IfErr result (λ fault. IsFault fault
+        (keys_fault flow_keys (table_view table.now))) }
+{
+    let status = status_at(table, "status")?;
+    let filters = filters_at(alloc, table, "filters")?;
+    Ok(RuleFlow { status, filters })
+}
+
+/// Reads a rule's class, and what picks its packets.
+#[tactic(auto, using(crate::proofs::Faults::is_fault, crate::proofs::Faults::class_goes_on, crate::proofs::Faults::class_stops))]
+fn read_body(alloc: Global, table: &Table) -> Result<RuleBody, TableFault>
+    ensures judged { IfOk result (λ _. keys_fault rule_keys (table_view table.now) ≡ None) }
+    ensures class { IfOk result (λ body. body.class ≡ class_of (table_view table.now)) }
+    ensures status { IfOk result (λ body. flow_status_number body.flow.status
+        ≡ number_of (codes "status") (table_view table.now)) }
+    ensures filters { IfOk result (λ body. body.flow.filters
+        ≡ filters_in (codes "filters") (table_view table.now)) }
+    ensures refused { IfErr result (λ fault. IsFault fault
+        (keys_fault rule_keys (table_view table.now))) }
+{
+    let class = read_class(table)?;
+    let flow = read_flow(alloc, table)?;
+    Ok(RuleBody { class, flow })
+}
+
+/// Adds the rule of one row to those above it.
+#[tactic(auto, using(crate::proofs::Faults::is_fault), unfolding(crate::specs::Judgement::row_judged))]
+fn add_rule(alloc: Global, rules: &mut Vec<OperatorRule>, row: &Value) -> Result<(), TableFault>
+    ensures judged { OnOk result (rule_judged
+        (has_rule rules.old.items (rule_name (view row.now))) (view row.now) ≡ None) }
+    ensures added { OnOk result (rules.new.items ≡ rules.old.items ++ rule_of (view row.now) ∷ []) }
+    ensures refused { IfErr result (λ fault. IsFault fault (rule_judged
+        (has_rule rules.old.items (rule_name (view row.now))) (view row.now))) }
+{
+    let table = table(row)?;
+    let name = word_at(alloc, table, "name")?;
+    if has_rule(rules.as_slice(), &name) {
+        return Err(TableFault::DuplicateRow);
+    }
+    let body = read_body(alloc, table)?;
+    rules.push(OperatorRule { name, body })?;
+    Ok(())
+}
+
+/// Reads the rules of all rows, in their order.
+fn read_rules(alloc: Global, rows: &[Value]) -> Result<Vec<OperatorRule>, TableFault>
+    ensures judged { IfOk result (λ _. fault_of_rows rule_fault [] (map view rows.now) ≡ None) }
+    ensures read { IfOk result (λ rules. rules.items ≡ map rule_of (map view rows.now)) }
+    ensures refused { IfErr result (λ fault. IsFault fault
+        (fault_of_rows rule_fault [] (map view rows.now))) }
+{
+    let mut rules = Vec::new(alloc);
+    for row in rows {
+        add_rule(alloc, &mut rules, row)?;
+    }
+    Ok(rules)
+}
+
+/// Reads the rules of an access point, if it has any.
+pub fn rules_at(alloc: Global, point: &Table) -> Result<Vec<OperatorRule>, TableFault>
+    ensures judged { IfOk result (λ _. key_fault rules_key (table_view point.now) ≡ None) }
+    ensures read { IfOk result (λ rules. rules.items
+        ≡ map rule_of (rows_of (codes "rule") (table_view point.now))) }
+    ensures refused { IfErr result (λ fault. IsFault fault
+        (key_fault rules_key (table_view point.now))) }
+{
+    read_rules(alloc, rows_at(point, "rule", MOST_RULES)?)
+}

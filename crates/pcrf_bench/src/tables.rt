@@ -1,0 +1,117 @@
+//! Operator tables (`read_tables`): a text of so many access points, each with a default quality and a rule.
+use crate::report::print_each;
+use op_tables::{Tables, read_tables};
+use pcrf_values::Apn;
+use std::alloc::{AllocError, AllocGlobal, Global};
+use std::fmt::Write as _;
+use std::io::Print;
+use std::time::{Clock, Instant};
+
+/// How often a text is read, tables are copied, and each access point is looked up.
+const ROUNDS: u32 = 10;
+
+/// What stands before the access points.
+const HEAD: &str = "edition = 1
+rtcp_bps = 5000
+[signalling]
+qci = 5
+priority = 9
+capability = 1
+vulnerability = 0
+max_ul = 32000
+max_dl = 32000
+precedence = 50
+";
+
+/// What an access point has behind its name.
+const POINT: &str = "default.qci = 5
+default.priority = 9
+default.capability = 1
+default.vulnerability = 0
+default.ambr_ul = 1000000
+default.ambr_dl = 2000000
+[[apn.rule]]
+name = \"sip\"
+qci = 5
+priority = 9
+capability = 1
+vulnerability = 0
+max_ul = 32000
+max_dl = 32000
+precedence = 40
+status = 2
+filters = [\"permit out ip from any to any\"]
+";
+
+/// The text of so many access points.
+fn text_of(alloc: Global, points: u32) -> Result<String, AllocError> {
+    let mut text = String::from_str(alloc, HEAD)?;
+    for place in 0..points {
+        write!(text, "[[apn]]\nname = \"apn{place}\"\n{POINT}")?;
+    }
+    Ok(text)
+}
+
+/// Reads the text again and again, and gives the tables that it read last.
+fn read_again(alloc: Global, text: &str) -> anyhow::Result<Tables> {
+    let mut last = read_tables(alloc, text)?;
+    for _ in 1..ROUNDS {
+        last = read_tables(alloc, text)?;
+    }
+    Ok(last)
+}
+
+/// Copies the tables again and again.
+fn copy_again(alloc: Global, tables: &Tables) -> Result<(), AllocError> {
+    for _ in 0..ROUNDS {
+        tables.try_copy(alloc)?;
+    }
+    Ok(())
+}
+
+/// The names of so many access points.
+fn names_of(alloc: Global, points: u32) -> Result<Vec<Apn>, AllocError> {
+    let mut names = Vec::new(alloc);
+    for place in 0..points {
+        let text = format!(in alloc; "apn{place}")?;
+        if let Some(name) = Apn::folded(alloc, text.as_bytes())? {
+            names.push(name)?;
+        }
+    }
+    Ok(names)
+}
+
+/// Looks all access points up again and again, and counts how many of them have rules.
+fn look_again(tables: &Tables, names: &[Apn]) -> u32 {
+    let mut found = 0_u32;
+    for _ in 0..ROUNDS {
+        for name in names {
+            let rules = tables.apn(name).map_or(0, |point| point.rules().len());
+            if rules > 0 {
+                found = found.saturating_add(1);
+            }
+        }
+    }
+    found
+}
+
+/// Prints how long a text of so many access points is, and the microseconds that its reading, a copy of the tables and a
+/// look-up take.
+pub fn measure(rt: &(impl AllocGlobal + Clock + Print), points: u32) -> anyhow::Result<()> {
+    let alloc = rt.alloc();
+    let text = text_of(alloc, points)?;
+    println!(rt; "tables: {points} access points: {} bytes", text.len())?;
+    let start = Instant::now(rt)?;
+    let tables = read_again(alloc, text.as_str())?;
+    print_each(rt, "tables: reading the text", ROUNDS, start.elapsed(rt)?)?;
+    let start = Instant::now(rt)?;
+    copy_again(alloc, &tables)?;
+    print_each(rt, "tables: copying the tables", ROUNDS, start.elapsed(rt)?)?;
+    let names = names_of(alloc, points)?;
+    let start = Instant::now(rt)?;
+    let found = look_again(&tables, names.as_slice());
+    let time = start.elapsed(rt)?;
+    println!(rt; "tables: {found} found")?;
+    print_each(rt, "tables: looking an access point up", found, time)?;
+    Ok(())
+}

@@ -1,0 +1,120 @@
+//! Reads operator tables with the faults that its standard input asks for, and writes what comes of each: the cases on which
+//! `op_tables` is tested, line by line. What `stdout` has comes from the profile of the tables, not from the program.
+//!
+//! `read FILE EDITS` reads the tables of the file with these edits (`edits`), and `text TEXT` reads the text; in both `\n`
+//! ends a line. They write `read`, or the fault. `look FILE WORDS` writes what the look-ups of the file's tables answer: of a
+//! Media-Type at a number, of an access point at another word. Lines that begin with `#` are written again.
+#![tactic(auto)]
+
+mod edits;
+mod told;
+
+use crate::edits::{edited, put_lines};
+use crate::told::put_tables;
+use op_tables::read_tables;
+use std::alloc::{AllocError, Global};
+use std::fmt::Write as _;
+use std::process::ExitCode;
+use std::{fs, io};
+
+/// The file of tables with everything that they may have.
+const OPERATOR: &str = "operator.toml";
+
+/// The file of tables with little more than they have to have.
+const SMALL: &str = "small.toml";
+
+/// The texts of the two files.
+#[derive(Drop)]
+struct Files {
+    operator: String,
+    small: String,
+}
+
+impl Files {
+    /// The text of the file that the words name first.
+    fn named(&self, words: &str) -> &str {
+        if words.starts_with("small") {
+            return self.small.as_str();
+        }
+        self.operator.as_str()
+    }
+}
+
+/// What comes of reading a text.
+fn put_read(alloc: Global, text: &str, out: &mut String) -> Result<(), AllocError> {
+    match read_tables(alloc, text) {
+        Ok(_) => out.push_str("read"),
+        Err(fault) => write!(out, "{fault}"),
+    }
+}
+
+/// What the look-ups of the tables answer, and those of a copy.
+fn put_look(alloc: Global, text: &str, words: &str, out: &mut String) -> Result<(), AllocError> {
+    let Ok(tables) = read_tables(alloc, text) else {
+        return out.push_str("no tables");
+    };
+    put_tables(alloc, &tables, words, out)?;
+    let copy = tables.try_copy(alloc)?;
+    let mut again = String::new(alloc);
+    put_tables(alloc, &copy, words, &mut again)?;
+    if again.as_str() != out.as_str() {
+        out.push_str(", and a copy answers otherwise")?;
+    }
+    Ok(())
+}
+
+/// What comes of reading the tables of a file after edits.
+fn put_edited(
+    alloc: Global,
+    files: &Files,
+    edits: &str,
+    out: &mut String,
+) -> Result<(), AllocError> {
+    match edited(alloc, files.named(edits), edits)? {
+        Some(text) => put_read(alloc, text.as_str(), out),
+        None => out.push_str("no such key"),
+    }
+}
+
+/// What comes of reading a text.
+fn put_text(alloc: Global, text: &str, out: &mut String) -> Result<(), AllocError> {
+    let mut lines = String::new(alloc);
+    put_lines(&mut lines, text)?;
+    put_read(alloc, lines.as_str(), out)
+}
+
+/// What a line makes.
+fn line_of(alloc: Global, files: &Files, line: &str) -> Result<String, AllocError> {
+    let mut out = String::new(alloc);
+    if let Some(text) = line.strip_prefix("text ") {
+        put_text(alloc, text, &mut out)?;
+    } else if let Some(edits) = line.strip_prefix("read ") {
+        put_edited(alloc, files, edits, &mut out)?;
+    } else if let Some(words) = line.strip_prefix("look ") {
+        put_look(alloc, files.named(words), words, &mut out)?;
+    } else {
+        out.push_str(line)?;
+    }
+    Ok(out)
+}
+
+/// Reads the lines, and writes what each makes.
+fn run(rt: &HostRuntime) -> io::Result<()> {
+    let files = Files {
+        operator: fs::read_to_string(rt, OPERATOR)?,
+        small: fs::read_to_string(rt, SMALL)?,
+    };
+    for line in rt.lines(rt.alloc()) {
+        let line = line?;
+        let out = line_of(rt.alloc(), &files, line.as_str())?;
+        println!(rt; "{out}")?;
+    }
+    Ok(())
+}
+
+fn main(rt: HostRuntime) -> ExitCode {
+    match run(&rt) {
+        Ok(()) => ExitCode::SUCCESS,
+        Err(_) => ExitCode::FAILURE,
+    }
+}
