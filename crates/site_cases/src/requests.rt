@@ -1,0 +1,53 @@
+//! Credit control requests of one gateway.
+use gx_profile::Ccr;
+use pcrf_wire::{Asked, Request, read_request};
+use std::alloc::AllocGlobal;
+use std::process::Abort;
+use test_messages::{Avps, GX, Head, message};
+
+/// A request: its Session-Id, CC-Request-Type and CC-Request-Number, and the last octet of its address, where it gives
+/// one; then it gives an access point name and a subscriber too.
+#[derive(Clone, Copy)]
+pub struct Sent {
+    pub session: &'static [u8],
+    pub kind: u32,
+    pub number: u32,
+    pub address: Option<u8>,
+}
+
+/// What a request carries.
+fn avps(rt: &(impl AllocGlobal + Abort), sent: Sent) -> Avps {
+    let mut avps = Avps::start(rt.alloc());
+    avps.text(263, sent.session).expect(rt, "memory");
+    avps.text(264, b"gw").expect(rt, "memory");
+    avps.text(296, b"r").expect(rt, "memory");
+    avps.number(416, sent.kind).expect(rt, "memory");
+    avps.number(415, sent.number).expect(rt, "memory");
+    if let Some(last) = sent.address {
+        let mut group = Avps::start(rt.alloc());
+        group.number(450, 1).expect(rt, "memory");
+        group.text(444, b"001010000000001").expect(rt, "memory");
+        avps.group(443, &group).expect(rt, "memory");
+        avps.text(8, &[10, 0, 0, last]).expect(rt, "memory");
+        avps.text(30, b"IMS").expect(rt, "memory");
+    }
+    avps
+}
+
+/// The request as it is read.
+pub fn request(rt: &(impl AllocGlobal + Abort), sent: Sent) -> Ccr {
+    let head = Head {
+        flags: 0xc0,
+        command: 272,
+        application: GX,
+        hop_id: 1,
+        end_id: 2,
+    };
+    let avps = avps(rt, sent);
+    let bytes = message(rt.alloc(), &head, &avps).expect(rt, "memory");
+    assert!(rt; bytes.len() >= 20, "a whole header");
+    match read_request(rt.alloc(), bytes.as_slice()).expect(rt, "memory") {
+        Asked::Request(_, Request::Ccr(ccr)) => ccr,
+        _ => rt.abort(),
+    }
+}
