@@ -1,7 +1,7 @@
 -- Merging is commutative, associative, and idempotent on what is kept.
 use Rattle.std.proofs.Common.{◌≡◌, sym, ap, ◌∙◌}
 use Rattle.pcrf_model.specs.Holdings.{Holding, union, kept_of}
-use Rattle.pcrf_model.proofs.UnionLaws.{union_comm, union_assoc, kept_of-union, kept_of_twice, union_twice}
+use Rattle.pcrf_model.proofs.UnionLaws.{union_comm, union_assoc, kept_of-union, union_twice}
 use Rattle.site_join.specs.States.{merged}
 
 -- in the other order

@@ -1,5 +1,5 @@
 -- A record put in the place of another replaces the facts of its session.
-use Rattle.std.proofs.Common.{◌≡◌, ℕ, Bool, true, false, not, List, [], ◌∷◌, ◌++◌, Option, Some, None, Result, Ok, Err, OnErr, if◌then◌else◌, inl, inr, refl, sym, ap, ◌∙◌, subst}
+use Rattle.std.proofs.Common.{◌≡◌, ℕ, Bool, true, false, not, List, ◌++◌, Option, Some, None, Result, Ok, Err, OnErr, if◌then◌else◌, inl, inr, refl, sym, ap, ◌∙◌, subst}
 use Rattle.std.specs.Ordering.{is_eq}
 use Rattle.std.specs.List.{filter}
 use Rattle.ranked.specs.Ascending.{ascending}
@@ -8,14 +8,14 @@ use Rattle.ranked.specs.Sets.{In, Same}
 use Rattle.ranked.proofs.Plain.{clash, is_false, not_true}
 use Rattle.ranked.proofs.OrderLaws.{text_ranked, eq_is, eq_itself}
 use Rattle.ranked.proofs.PartLaws.{IsMadeOf}
-use Rattle.ranked.proofs.SetLaws.{In-left, In-right, In-cases, In-filter, filter-In, Same-itself, Same-through, Same-turn}
+use Rattle.ranked.proofs.SetLaws.{In-left, In-right, In-cases, In-filter, filter-In, Same-through, Same-turn}
 use Rattle.lattice_core.specs.Entries.{IsAscending, value_at}
 use Rattle.lattice_core.specs.Placed.{placed}
 use Rattle.lattice_core.proofs.MapParts.{option_facts, map_made}
 use Rattle.lattice_core.proofs.PlacedValues.{value_placed}
 use Rattle.pcrf_facts.specs.Facts.{Fact}
-use Rattle.pcrf_model.specs.Sessions.{Session, Kind, Gx, Af, gx, af, session_cmp}
-use Rattle.pcrf_model.specs.Holdings.{SessionFact, session_fact_cmp, under, Holding, replaced}
+use Rattle.pcrf_model.specs.Sessions.{Session, Gx, Af, gx, af, session_cmp}
+use Rattle.pcrf_model.specs.Holdings.{SessionFact, session_fact_cmp, under, replaced}
 use Rattle.pcrf_model.proofs.HoldingLaws as holding
 use Rattle.pcrf_model.proofs.HoldingLaws.{session_ranked, there_strict, under-In}
 use Rattle.site_join.specs.States.{Records, facts_under, facts_of, held_by, record_facts}

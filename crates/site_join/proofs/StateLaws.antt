@@ -1,19 +1,18 @@
 -- A state holds what is kept of the facts of its records, and maps of records join as their facts do.
-use Rattle.std.proofs.Common.{◌≡◌, ℕ, max, true, false, List, [], ◌∷◌, ◌++◌, map, ◌⊎◌, Option, Some, None, inl, inr, refl, sym, ap, ◌∙◌, subst, append-nil, Less}
-use Rattle.std.specs.Ordering.{is_eq, ordering_then}
-use Rattle.std.specs.Cmp.{first_so, tied_itself}
+use Rattle.std.proofs.Common.{◌≡◌, ℕ, max, true, List, [], ◌∷◌, ◌++◌, ◌⊎◌, Option, Some, None, inl, inr, refl, sym, ap, ◌∙◌, subst, append-nil, Less}
+use Rattle.std.specs.Ordering.{ordering_then}
+use Rattle.std.specs.Cmp.{tied_itself}
 use Rattle.std.proofs.lemmas.Cmp.{nat_list_cmp_total}
 use Rattle.ranked.specs.laws.Exact.{text_same}
-use Rattle.std.specs.List.{flat_map}
 use Rattle.std.proofs.lemmas.List.{map-append}
 use Rattle.ranked.specs.Ascending.{ascending, Rises}
 use Rattle.ranked.specs.Orders.{text_cmp}
-use Rattle.ranked.specs.Sets.{In, Same, maximal}
+use Rattle.ranked.specs.Sets.{In, Same}
 use Rattle.ranked.proofs.Plain.{clash, is_false}
-use Rattle.ranked.proofs.OrderLaws.{text_ranked, nat_ranked}
-use Rattle.ranked.proofs.PartLaws.{IsStrict, Keeps, IsRising, flat_map-In, In-flat_map}
+use Rattle.ranked.proofs.OrderLaws.{text_ranked}
+use Rattle.ranked.proofs.PartLaws.{Keeps, IsRising, flat_map-In}
 use Rattle.ranked.proofs.SetLaws.{In-left, In-right, In-cases, Same-itself, Same-back, Same-through, Same-append, Same-turn, map-Same, Apart, maximal-apart}
-use Rattle.ranked.proofs.AscendingLaws.{ascending-In, ascending-ascending, same_ascending, filter_map-ascending}
+use Rattle.ranked.proofs.AscendingLaws.{ascending-ascending, same_ascending, filter_map-ascending}
 use Rattle.lattice_core.specs.Entries.{IsAscending, AllValues, value_at, put, map_joined}
 use Rattle.lattice_core.specs.laws.Maps.{put_all_itself, joined_single}
 use Rattle.lattice_core.proofs.MapParts.{option_facts, option_valid, valid_at, map_keeps, map_made}
@@ -22,7 +21,7 @@ use Rattle.pcrf_facts.specs.Held.{kept, held, joined}
 use Rattle.pcrf_facts.proofs.FactLaws.{fact_ranked}
 use Rattle.pcrf_facts.proofs.JoinedLaws.{kept-In, In-kept, sorted-In, joined_comm, joined_assoc, held_twice}
 use Rattle.pcrf_model.specs.Sessions.{Session, Kind, Gx, Af, gx, af, session_cmp}
-use Rattle.pcrf_model.specs.Holdings.{SessionFact, session_fact_cmp, is_shaded_there_by, kept_facts, under, on_session, facts_on, Holding, union, kept_of}
+use Rattle.pcrf_model.specs.Holdings.{SessionFact, session_fact_cmp, is_shaded_there_by, kept_facts, under, on_session, facts_on, union, kept_of}
 use Rattle.pcrf_model.specs.Operations.{Operation, with_operation}
 use Rattle.pcrf_model.proofs.HoldingLaws as holding
 use Rattle.pcrf_model.proofs.HoldingLaws.{session_ranked, session_fact_ranked, there_irr, there_trans, there_strict, kept_facts-append, kept_facts-Same, same_session, shaded_there, shades_there, facts_on-In, In-facts_on, In-under, under-In}

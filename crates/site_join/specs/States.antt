@@ -8,9 +8,7 @@ use Rattle.pcrf_facts.specs.Facts.{Fact}
 use Rattle.pcrf_facts.specs.Held.{held, joined}
 use Rattle.pcrf_model.specs.Sessions.{Session, gx, af}
 use Rattle.pcrf_model.specs.Holdings.{SessionFact, session_fact_cmp, under, Holding, union, kept_of}
-use Rattle.gx_records.specs.declared.fact.GxFact.{GxFact}
 use Rattle.gx_records.specs.GxFacts as gx_facts
-use Rattle.af_records.specs.declared.fact.AfFact.{AfFact}
 use Rattle.af_records.specs.RecordFacts as af_facts
 use Rattle.site_join.specs.declared.operation.SessionFacts.{SessionFacts}
 use Rattle.site_join.specs.declared.operation.SessionFacts.TheVariants as on

@@ -1,4 +1,4 @@
-use Rattle.std.proofs.Common.{◌≡◌, List, ap, ◌∙◌, subst}
+use Rattle.std.proofs.Common.{ap, ◌∙◌}
 use Rattle.ranked.specs.Orders.{text_cmp}
 use Rattle.lattice_core.specs.Entries.{value_at}
 use Rattle.pcrf_model.specs.Sessions.{gx}

@@ -1,4 +1,4 @@
-use Rattle.std.proofs.Common.{List, [], ap, sym, subst, ◌∙◌}
+use Rattle.std.proofs.Common.{ap, sym, subst, ◌∙◌}
 use Rattle.ranked.specs.Orders.{text_cmp}
 use Rattle.lattice_core.specs.Entries.{IsAscending}
 use Rattle.pcrf_model.specs.Sessions.{gx}

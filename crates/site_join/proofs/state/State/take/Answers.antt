@@ -1,4 +1,4 @@
-use Rattle.std.proofs.Common.{ap, sym, ◌∙◌, max}
+use Rattle.std.proofs.Common.{ap, ◌∙◌, max}
 use Rattle.pcrf_model.specs.Holdings.{Holding, kept_of}
 use Rattle.pcrf_model.specs.Operations.{with_operation}
 use Rattle.site_join.specs.States.{held_by}
