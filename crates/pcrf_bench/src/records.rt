@@ -82,18 +82,17 @@ fn af_facts(alloc: Global, size: u32, counter: u64) -> Result<Vec<AfFact>, Alloc
     let mut facts = Vec::new(alloc);
     for place in 0..size {
         let value = FlowValue::RateUp(place);
-        facts.push(AfFact::Flow(
-            place / FLOWS,
-            place % FLOWS,
-            tag(counter),
-            value,
-        ))?;
+        facts.push(AfFact::Flow(place / FLOWS, place % FLOWS, tag(counter), value))?;
     }
     Ok(facts)
 }
 
 /// Makes records of the facts, and the time that one takes.
-fn make_gx(rt: &(impl AllocGlobal + Clock), facts: &[GxFact], rounds: u32) -> anyhow::Result<Duration> {
+fn make_gx(
+    rt: &(impl AllocGlobal + Clock),
+    facts: &[GxFact],
+    rounds: u32,
+) -> anyhow::Result<Duration> {
     let start = Instant::now(rt)?;
     for _ in 0..rounds {
         let _ = GxRec::of_facts(rt.alloc(), facts)?;
@@ -111,7 +110,11 @@ fn join_gx(rt: &impl Clock, ours: &GxRec, theirs: &GxRec, rounds: u32) -> anyhow
 }
 
 /// Makes records of the facts.
-fn make_af(rt: &(impl AllocGlobal + Clock), facts: &[AfFact], rounds: u32) -> anyhow::Result<Duration> {
+fn make_af(
+    rt: &(impl AllocGlobal + Clock),
+    facts: &[AfFact],
+    rounds: u32,
+) -> anyhow::Result<Duration> {
     let start = Instant::now(rt)?;
     for _ in 0..rounds {
         let _ = AfRec::of_facts(rt.alloc(), facts)?;
@@ -128,7 +131,11 @@ fn join_af(rt: &impl Clock, ours: &AfRec, theirs: &AfRec, rounds: u32) -> anyhow
     Ok(start.elapsed(rt)?)
 }
 
-fn measure_gx(rt: &(impl AllocGlobal + Clock + Print), size: u32, rounds: u32) -> anyhow::Result<()> {
+fn measure_gx(
+    rt: &(impl AllocGlobal + Clock + Print),
+    size: u32,
+    rounds: u32,
+) -> anyhow::Result<()> {
     let facts = gx_facts(rt.alloc(), size, 1)?;
     let later = gx_facts(rt.alloc(), size, 2)?;
     let made = make_gx(rt, facts.as_slice(), rounds)?;
@@ -140,7 +147,11 @@ fn measure_gx(rt: &(impl AllocGlobal + Clock + Print), size: u32, rounds: u32) -
     Ok(())
 }
 
-fn measure_af(rt: &(impl AllocGlobal + Clock + Print), size: u32, rounds: u32) -> anyhow::Result<()> {
+fn measure_af(
+    rt: &(impl AllocGlobal + Clock + Print),
+    size: u32,
+    rounds: u32,
+) -> anyhow::Result<()> {
     let facts = af_facts(rt.alloc(), size, 1)?;
     let later = af_facts(rt.alloc(), size, 2)?;
     let made = make_af(rt, facts.as_slice(), rounds)?;
