@@ -9,21 +9,17 @@ mod fingerprint;
 mod joins;
 mod makings;
 mod places;
-mod records;
 mod samples;
 mod tally;
 mod trial;
 mod values;
 
-use af_records::AfRec;
-use gx_records::GxRec;
 use joins::{Form, Joining};
 use lattice_core::{JoinMap, JoinTree, Reg, Tombed};
 use makings::{Copy, FoldApn, GatherSubscribers, ReadText};
 use pcrf_values::{Apn, Delta, Filters, Rule, RuleName, Subscriber, Subscribers};
 use places::{JoinAt, Place, PlaceAt};
 use ranked::Text;
-use records::ReadTold;
 use samples::Sample;
 use std::alloc::Global;
 use std::io::Read;
@@ -114,16 +110,8 @@ fn try_copies(alloc: Global, tally: &mut Tally) {
     try_copy::<Delta>(alloc, tally);
 }
 
-/// Records of sessions, each made of facts one by one.
-fn try_sessions(alloc: Global, tally: &mut Tally) {
-    try_joins::<GxRec>(alloc, tally, "Gx record");
-    try_joins::<AfRec>(alloc, tally, "AF record");
-    tally.count(outcome_of::<ReadTold>(alloc, ()), "read", "told rules");
-}
-
 fn try_all(alloc: Global) -> Tally {
     let mut tally = Tally::start();
-    try_sessions(alloc, &mut tally);
     try_records::<Reg<Text>>(alloc, &mut tally);
     try_makings(alloc, &mut tally);
     try_copies(alloc, &mut tally);
