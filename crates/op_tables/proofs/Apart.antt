@@ -6,7 +6,6 @@ use Rattle.std.specs.Cmp.{nat_cmp_total, tied_itself}
 use Rattle.std.proofs.lemmas.Cmp.{nat_list_cmp_total}
 use Rattle.ranked.specs.Orders.{text_cmp}
 use Rattle.ranked.specs.Sets.{In, Distinct}
-use Rattle.pcrf_model.specs.Laws.{NamesRulesApart}
 use Rattle.pcrf_model.specs.Tables.{Class, OperatorRule, ApnRow}
 use Rattle.toml.specs.Data.{Data, Members}
 use Rattle.op_tables.specs.Places.{top_keys, apn_keys}
@@ -14,7 +13,7 @@ use Rattle.op_tables.specs.Judgement.{keys_fault}
 use Rattle.op_tables.specs.Values.{rows_at, table_in}
 use Rattle.op_tables.specs.Meaning.{by_key, media_of, media_type, row_class, apns_of, apn_name, row_apn, rule_name, rule_of, tables_of}
 use Rattle.op_tables.specs.TableViews.{tables_value}
-use Rattle.op_tables.specs.Statements.{FindsTheMediaRow, FindsTheApnRow, NamesRulesOnce}
+use Rattle.op_tables.specs.Statements.{NamesRulesApart, FindsTheMediaRow, FindsTheApnRow, NamesRulesOnce}
 use Rattle.op_tables.proofs.Lookups.{Differ, lookup-from, lookup_find, find_turned, nat_cmp_eq}
 use Rattle.op_tables.proofs.Good.{media_good, apns_good, rules_good, media_differ, apns_differ, rules_differ, found_good}
 

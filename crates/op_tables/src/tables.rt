@@ -3,11 +3,11 @@ ghost use Rattle.std.specs.Prelude.{◌≡◌, IfOk, IfErr, Some, None, option_m
 ghost use Rattle.std.specs.Option.{option_copied};
 ghost use Rattle.toml.specs.View.{table_view};
 ghost use Rattle.toml.specs.Parse.{parse_document};
-ghost use Rattle.pcrf_model.specs.Laws.{NamesRulesApart};
 ghost use Rattle.pcrf_model.specs.Tables.{media_class, apn_row};
 ghost use Rattle.op_tables.specs.Places.{top_keys};
 ghost use Rattle.op_tables.specs.Judgement.{keys_fault, document_fault, IsFault};
 ghost use Rattle.op_tables.specs.Meaning.{tables_of};
+ghost use Rattle.op_tables.specs.Statements.{NamesRulesApart};
 
 use crate::apns::{AccessPoint, apns_at};
 use crate::class::{Class, class_at};
@@ -32,8 +32,8 @@ pub struct Tables {
 }
 
 impl Model for Tables {
-    ghost use Rattle.pcrf_model.specs.Laws.{NamesRulesApart};
     ghost use Rattle.pcrf_model.specs.Tables.{Tables as TablesValue, Listed};
+    ghost use Rattle.op_tables.specs.Statements.{NamesRulesApart};
     ghost use Rattle.op_tables.specs.TableViews.{tables_value};
 
     ghost Value = { TablesValue };
