@@ -3,3 +3,4 @@ pub mod FlowOrder
 pub mod ReaderLaws
 pub mod RecordLaws
 pub mod RemovedLaws
+pub mod SubsetLaws

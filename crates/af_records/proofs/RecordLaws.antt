@@ -57,7 +57,7 @@ flow_keeps : (c n : ℕ) → Keeps is_shaded_by flow_valid flow_joined (flow_fac
 flow_keeps c n = level_keeps (flow_level c n) nat_ranked (λ _. nothing_keeps) flow_entry (λ _. []) flow_told (λ _ _. refl) (λ _ _. (tt, tt))
 
 -- the facts of a flow are gone with it
-flow_gone : (c n : ℕ) (x : FlowParts) (a : Fact) → In a (flow_facts c n x) → is_shaded_by a (Removed (places.Flow c n)) ≡ true
+pub flow_gone : (c n : ℕ) (x : FlowParts) (a : Fact) → In a (flow_facts c n x) → is_shaded_by a (Removed (places.Flow c n)) ≡ true
 flow_gone c n x = level_all (OfFlow c n) flow_fields nothing_beneath (λ (a : Fact). is_shaded_by a (Removed (places.Flow c n)) ≡ true) (flow_entry x) [] (λ f e. both (nat_eq c c) (nat_eq n n) (number_itself c) (number_itself n)) (λ _ _ _ i. absurd i)
 
 -- a flow that may be removed keeps
@@ -98,7 +98,7 @@ component_keeps : (c : ℕ) → Keeps is_shaded_by component_valid component_joi
 component_keeps c = level_keeps (component_level c) nat_ranked (flows_keep c) component_entry (λ x. x.flows) component_told (λ _ _. refl) (λ _ v. v)
 
 -- the facts of a component are gone with it
-component_gone : (c : ℕ) (x : ComponentParts) (a : Fact) → In a (component_facts c x) → is_shaded_by a (Removed (places.Component c)) ≡ true
+pub component_gone : (c : ℕ) (x : ComponentParts) (a : Fact) → In a (component_facts c x) → is_shaded_by a (Removed (places.Component c)) ≡ true
 component_gone c x = level_all (OfComponent c) component_fields (flow_or_removed c) (λ (a : Fact). is_shaded_by a (Removed (places.Component c)) ≡ true) (component_entry x) x.flows
     (λ f e. number_itself c)
     (λ n. flow_all c n (λ (a : Fact). is_shaded_by a (Removed (places.Component c)) ≡ true) (number_itself c) (λ f e. number_itself c))

@@ -4,3 +4,4 @@ pub mod Parts
 pub mod RecordFacts
 pub mod RemovedLists
 pub mod Singles
+pub mod Subsets

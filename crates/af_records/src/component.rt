@@ -4,8 +4,9 @@ ghost use Rattle.af_records.specs.Singles.{no_component, one_component_field, wi
 
 use crate::fact::{ComponentValue, OpenStatusNumber};
 use crate::flow::FlowParts;
+use crate::joining::map_of;
 use crate::rates::Rates;
-use lattice_core::{Join, JoinMap, Reg, Tag, Tombed};
+use lattice_core::{FactSet, Join, JoinMap, Reg, Tag, Tombed};
 use std::alloc::{AllocError, Global};
 
 /// The fields of a component, and its flows.
@@ -52,11 +53,13 @@ impl ComponentParts {
     ) -> Result<ComponentParts, AllocError>
         ensures { IfOk result (λ r. r ≡ with_flow number flow) }
     {
-        let mut component = ComponentParts::start(alloc);
-        if let Err((refused, _)) = component.flows.join_at(number, flow) {
-            return Err(refused);
-        }
-        Ok(component)
+        let flows = map_of(alloc, number, flow)?;
+        Ok(ComponentParts {
+            media_type: Reg::start(),
+            status: Reg::start(),
+            rates: Rates::start(),
+            flows,
+        })
     }
 }
 
@@ -127,5 +130,27 @@ impl Join for ComponentParts {
 
     fn note_valid(&self) {
         self.flows.note_valid();
+    }
+}
+
+impl FactSet for ComponentParts {
+    ghost use Rattle.af_records.specs.Subsets.{component_subset, component_empty};
+
+    ghost subset = { component_subset };
+
+    ghost empty = { component_empty };
+
+    fn is_subset(&self, other: &ComponentParts) -> bool {
+        self.media_type.is_subset(&other.media_type)
+            && self.status.is_subset(&other.status)
+            && self.rates.is_subset(&other.rates)
+            && self.flows.is_subset(&other.flows)
+    }
+
+    fn is_empty(&self) -> bool {
+        self.media_type.is_empty()
+            && self.status.is_empty()
+            && self.rates.is_empty()
+            && self.flows.is_empty()
     }
 }

@@ -5,7 +5,7 @@ ghost use Rattle.af_records.specs.Singles.{no_flow, one_flow_field};
 
 use crate::fact::{FlowUsageNumber, FlowValue, OpenStatusNumber};
 use crate::rates::Rates;
-use lattice_core::{Join, Ranked, Reg, Tag};
+use lattice_core::{FactSet, Join, Ranked, Reg, Tag};
 use pcrf_values::Filters;
 use std::alloc::AllocError;
 
@@ -74,10 +74,10 @@ impl Join for FlowParts {
     ghost closed = { λ _ _ _ _. tt };
 
     fn joined_copy(&self, other: &FlowParts) -> Result<FlowParts, AllocError> {
-        let descriptions = self.descriptions.joined_copy(&other.descriptions)?;
         let usage = self.usage.joined_copy(&other.usage)?;
         let status = self.status.joined_copy(&other.status)?;
         let rates = self.rates.joined_copy(&other.rates)?;
+        let descriptions = self.descriptions.joined_copy(&other.descriptions)?;
         Ok(FlowParts {
             descriptions,
             usage,
@@ -95,10 +95,10 @@ impl Join for FlowParts {
     }
 
     fn try_copy(&self) -> Result<FlowParts, AllocError> {
-        let descriptions = self.descriptions.try_copy()?;
         let usage = self.usage.try_copy()?;
         let status = self.status.try_copy()?;
         let rates = self.rates.try_copy()?;
+        let descriptions = self.descriptions.try_copy()?;
         Ok(FlowParts {
             descriptions,
             usage,
@@ -108,4 +108,26 @@ impl Join for FlowParts {
     }
 
     fn note_valid(&self) {}
+}
+
+impl FactSet for FlowParts {
+    ghost use Rattle.af_records.specs.Subsets.{flow_subset, flow_empty};
+
+    ghost subset = { flow_subset };
+
+    ghost empty = { flow_empty };
+
+    fn is_subset(&self, other: &FlowParts) -> bool {
+        self.descriptions.is_subset(&other.descriptions)
+            && self.usage.is_subset(&other.usage)
+            && self.status.is_subset(&other.status)
+            && self.rates.is_subset(&other.rates)
+    }
+
+    fn is_empty(&self) -> bool {
+        self.descriptions.is_empty()
+            && self.usage.is_empty()
+            && self.status.is_empty()
+            && self.rates.is_empty()
+    }
 }

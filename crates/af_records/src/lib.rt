@@ -5,6 +5,7 @@ mod component;
 mod fact;
 mod flow;
 mod flows;
+mod joining;
 mod rates;
 mod record;
 mod removed;

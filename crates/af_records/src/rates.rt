@@ -3,7 +3,7 @@ ghost use Rattle.std.specs.Prelude.{◌≡◌};
 ghost use Rattle.af_records.specs.Joins.{rates_joined};
 ghost use Rattle.af_records.specs.Singles.{no_rates};
 
-use lattice_core::{Join, Reg};
+use lattice_core::{FactSet, Join, Reg};
 use std::alloc::AllocError;
 
 /// The bit rates that requests gave a flow, in bit/s.
@@ -73,4 +73,20 @@ impl Join for Rates {
     }
 
     fn note_valid(&self) {}
+}
+
+impl FactSet for Rates {
+    ghost use Rattle.af_records.specs.Subsets.{rates_subset, rates_empty};
+
+    ghost subset = { rates_subset };
+
+    ghost empty = { rates_empty };
+
+    fn is_subset(&self, other: &Rates) -> bool {
+        self.up.is_subset(&other.up) && self.down.is_subset(&other.down)
+    }
+
+    fn is_empty(&self) -> bool {
+        self.up.is_empty() && self.down.is_empty()
+    }
 }

@@ -16,17 +16,18 @@ ghost use Rattle.record_levels.specs.SessionFacts.{address_value, session_says};
 ghost use Rattle.af_records.specs.RemovedLists.{removable_of};
 ghost use Rattle.af_records.specs.Parts.{fields_at, components_of, component_at, flow_at, component_says, flow_says, held_number};
 ghost use Rattle.af_records.specs.RecordFacts.{fact_of};
-ghost use Rattle.af_records.specs.Singles.{single, with_component};
+ghost use Rattle.af_records.specs.Singles.{single, with_component, with_flow};
 ghost use Rattle.lattice_core.specs.declared.tombed.Tombed.TheVariants.{Live};
 
 use crate::component::ComponentParts;
 use crate::fact::{AfFact, AfRequestType, FlowUsageNumber, OpenStatusNumber};
 use crate::flow::FlowParts;
 use crate::flows::Flows;
+use crate::joining::join_into;
 use crate::rates::GivenRates;
 use crate::removed::RemovedParts;
 use crate::session::SessionParts;
-use lattice_core::{Join, Tag, Tombed};
+use lattice_core::{FactSet, Join, Tag, Tombed};
 use pcrf_values::{Apn, DiameterIdentity, Filters, FlowStatus, Subscribers};
 use record_levels::SessionFields;
 use std::alloc::{AllocError, Global};
@@ -100,6 +101,27 @@ impl Join for AfRec {
     }
 }
 
+impl FactSet for AfRec {
+    ghost use Rattle.record_levels.specs.Subsets.{facts_subset, facts_empty};
+
+    ghost subset = { facts_subset };
+
+    ghost empty = { facts_empty };
+
+    #[tactic(auto, using(crate::proofs::SubsetLaws::record_subset_is))]
+    fn is_subset(&self, other: &AfRec) -> bool {
+        self.parts.note_valid();
+        other.parts.note_valid();
+        self.parts.is_subset(&other.parts)
+    }
+
+    #[tactic(auto, using(crate::proofs::SubsetLaws::record_empty_is))]
+    fn is_empty(&self) -> bool {
+        self.parts.note_valid();
+        self.parts.is_empty()
+    }
+}
+
 // The record of one fact.
 fn single(alloc: Global, fact: &AfFact) -> Result<Tombed<SessionParts>, AllocError>
     ensures { IfOk result (λ r. r ≡ single fact.now) }
@@ -108,8 +130,7 @@ fn single(alloc: Global, fact: &AfFact) -> Result<Tombed<SessionParts>, AllocErr
         AfFact::End => Ok(Tombed::Ended),
         AfFact::ComponentRemoved(component) => with_component(alloc, *component, Tombed::Ended),
         AfFact::FlowRemoved(component, flow) => {
-            let parts = ComponentParts::with_flow(alloc, *flow, Tombed::Ended)?;
-            with_component(alloc, *component, Tombed::Live(parts))
+            with_flow(alloc, *component, *flow, Tombed::Ended)
         }
         AfFact::Session(tag, value) => Ok(Tombed::Live(SessionParts::of(alloc, *tag, value)?)),
         AfFact::Component(component, tag, value) => {
@@ -118,8 +139,7 @@ fn single(alloc: Global, fact: &AfFact) -> Result<Tombed<SessionParts>, AllocErr
         }
         AfFact::Flow(component, flow, tag, value) => {
             let fields = FlowParts::of(*tag, value)?;
-            let parts = ComponentParts::with_flow(alloc, *flow, Tombed::Live(fields))?;
-            with_component(alloc, *component, Tombed::Live(parts))
+            with_flow(alloc, *component, *flow, Tombed::Live(fields))
         }
     }
 }
@@ -134,6 +154,20 @@ fn with_component(
 {
     let session = SessionParts::with_component(alloc, number, component)?;
     Ok(Tombed::Live(session))
+}
+
+// A record of one flow.
+fn with_flow(
+    alloc: Global,
+    component: u32,
+    number: u32,
+    flow: Tombed<FlowParts>,
+) -> Result<Tombed<SessionParts>, AllocError>
+    ensures { IfOk result (λ r. r
+        ≡ Live (with_component component (Live (with_flow number flow)))) }
+{
+    let parts = ComponentParts::with_flow(alloc, number, flow)?;
+    with_component(alloc, component, Tombed::Live(parts))
 }
 
 // The fields, where the session isn't ended.
@@ -200,10 +234,7 @@ impl AfRec {
     {
         self.parts.note_valid();
         let one = single(alloc, fact)?;
-        if let Err((refused, _)) = self.parts.join_in(one) {
-            return Err(refused);
-        }
-        Ok(())
+        join_into(&mut self.parts, one)
     }
 
     /// The record of these facts.

@@ -4,7 +4,8 @@ ghost use Rattle.af_records.specs.Singles.{no_session, one_session_field, with_c
 
 use crate::component::ComponentParts;
 use crate::fact::AfRequestType;
-use lattice_core::{Join, JoinMap, Tag, Tombed};
+use crate::joining::map_of;
+use lattice_core::{FactSet, Join, JoinMap, Tag, Tombed};
 use record_levels::{SessionFields, SessionValue};
 use std::alloc::{AllocError, Global};
 
@@ -49,11 +50,11 @@ impl SessionParts {
     ) -> Result<SessionParts, AllocError>
         ensures { IfOk result (λ r. r ≡ with_component number component) }
     {
-        let mut session = SessionParts::start(alloc);
-        if let Err((refused, _)) = session.components.join_at(number, component) {
-            return Err(refused);
-        }
-        Ok(session)
+        let components = map_of(alloc, number, component)?;
+        Ok(SessionParts {
+            fields: SessionFields::start(),
+            components,
+        })
     }
 }
 
@@ -95,5 +96,21 @@ impl Join for SessionParts {
 
     fn note_valid(&self) {
         self.components.note_valid();
+    }
+}
+
+impl FactSet for SessionParts {
+    ghost use Rattle.af_records.specs.Subsets.{session_subset, session_empty};
+
+    ghost subset = { session_subset };
+
+    ghost empty = { session_empty };
+
+    fn is_subset(&self, other: &SessionParts) -> bool {
+        self.fields.is_subset(&other.fields) && self.components.is_subset(&other.components)
+    }
+
+    fn is_empty(&self) -> bool {
+        self.fields.is_empty() && self.components.is_empty()
     }
 }

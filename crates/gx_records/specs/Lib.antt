@@ -1,2 +1,3 @@
 pub mod GxFacts
 pub mod GxJoins
+pub mod Subsets

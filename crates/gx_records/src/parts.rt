@@ -3,7 +3,7 @@ ghost use Rattle.std.specs.Prelude.{◌≡◌, IfOk};
 ghost use Rattle.gx_records.specs.GxFacts.{no_parts, one_field_of, one_told};
 
 use crate::fact::OpenRequestType;
-use lattice_core::{Join, JoinMap, Ranked, Reg, Tag};
+use lattice_core::{FactSet, Join, JoinMap, Ranked, Reg, Tag};
 use pcrf_values::{Rule, RuleName};
 use record_levels::{SessionFields, SessionValue};
 use std::alloc::{AllocError, Global};
@@ -99,5 +99,21 @@ impl Join for GxParts {
 
     fn note_valid(&self) {
         self.told.note_valid();
+    }
+}
+
+impl FactSet for GxParts {
+    ghost use Rattle.gx_records.specs.Subsets.{parts_subset, parts_empty};
+
+    ghost subset = { parts_subset };
+
+    ghost empty = { parts_empty };
+
+    fn is_subset(&self, other: &GxParts) -> bool {
+        self.fields.is_subset(&other.fields) && self.told.is_subset(&other.told)
+    }
+
+    fn is_empty(&self) -> bool {
+        self.fields.is_empty() && self.told.is_empty()
     }
 }

@@ -16,7 +16,7 @@ ghost use Rattle.gx_records.specs.GxFacts.{fact_of, fields_at, rule_under, singl
 use crate::fact::{GxFact, OpenRequestType};
 use crate::parts::GxParts;
 use crate::told::Told;
-use lattice_core::{Join, Ranked, Reg, Tag, Tombed};
+use lattice_core::{FactSet, Join, Ranked, Reg, Tag, Tombed};
 use pcrf_values::{Apn, DiameterIdentity, Rule, RuleName, Subscribers};
 use record_levels::SessionFields;
 use std::alloc::{AllocError, Global};
@@ -84,6 +84,27 @@ impl Join for GxRec {
     #[tactic(auto, using(crate::proofs::RecordLaws::record_held))]
     fn note_valid(&self) {
         self.parts.note_valid();
+    }
+}
+
+impl FactSet for GxRec {
+    ghost use Rattle.record_levels.specs.Subsets.{facts_subset, facts_empty};
+
+    ghost subset = { facts_subset };
+
+    ghost empty = { facts_empty };
+
+    #[tactic(auto, using(crate::proofs::SubsetLaws::record_subset_is))]
+    fn is_subset(&self, other: &GxRec) -> bool {
+        self.parts.note_valid();
+        other.parts.note_valid();
+        self.parts.is_subset(&other.parts)
+    }
+
+    #[tactic(auto, using(crate::proofs::SubsetLaws::record_empty_is))]
+    fn is_empty(&self) -> bool {
+        self.parts.note_valid();
+        self.parts.is_empty()
     }
 }
 

@@ -3,5 +3,6 @@ pub mod Lookups
 pub mod Pages
 pub mod Placed
 pub mod Registers
+pub mod Subsets
 pub mod Tombs
 pub mod laws

@@ -4,6 +4,7 @@
 //! order in which facts arrive, and how often, makes no difference.
 #![tactic(auto)]
 
+mod fact_set;
 mod join;
 pub mod laws;
 mod map;
@@ -11,6 +12,7 @@ mod reg;
 mod tombed;
 mod tree;
 
+pub use fact_set::{FactSet, same_facts};
 pub use join::Join;
 pub use map::JoinMap;
 pub use pcrf_values::{Delta, Rule};

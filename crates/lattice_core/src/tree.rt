@@ -5,6 +5,7 @@ ghost use Rattle.lattice_core.specs.Entries.{value_at, IsAscending, AllValues, p
 ghost use Rattle.lattice_core.specs.Pages.{entries_after};
 ghost use Rattle.lattice_core.specs.Placed.{placed};
 
+use crate::fact_set::{FactSet, is_subset_at};
 use crate::join::Join;
 use ranked::Ranked;
 use std::alloc::{AllocError, Global};
@@ -165,5 +166,31 @@ impl<K: Ranked, V: Join> Join for JoinTree<K, V> {
 
     fn note_valid(&self) {
         let _ = self.iter();
+    }
+}
+
+impl<K: Ranked, V: FactSet> FactSet for JoinTree<K, V> {
+    ghost use Rattle.lattice_core.specs.Subsets.{map_subset, map_empty};
+
+    ghost subset = { map_subset K.cmp V.subset V.empty };
+
+    ghost empty = { map_empty V.empty };
+
+    fn is_subset(&self, other: &JoinTree<K, V>) -> bool {
+        for (key, value) in self.iter() {
+            if !is_subset_at(value, other.get(key)) {
+                return false;
+            }
+        }
+        true
+    }
+
+    fn is_empty(&self) -> bool {
+        for (_, value) in self.iter() {
+            if !value.is_empty() {
+                return false;
+            }
+        }
+        true
     }
 }

@@ -38,18 +38,26 @@ as_number (Filters f) = None
 as_number Untold = None
 as_number (Told r) = None
 
+-- the value that shows at the place
+abbrev pub value_at : Shows → Place → Option Value
+value_at shows p = option_map (λ (e : Entry). e.1) (shows p)
+
 -- the number that shows at the place
 abbrev pub number_at : Shows → Place → Option ℕ
-number_at shows p = option_and_then (λ (e : Entry). as_number e.1) (shows p)
+number_at shows p = option_and_then as_number (value_at shows p)
 
 -- the first, where it is there, else the second
 abbrev pub or_else : {A : Type 0} → Option A → Option A → Option A
 or_else None y = y
 or_else (Some x) y = Some x
 
--- the flow shows Flow-Usage RTCP
+-- the flow shows that Flow-Usage
+abbrev pub has_usage : Shows → ℕ → ℕ → ℕ → Bool
+has_usage shows c n usage = unwrap_or (option_map (λ u. u == usage) (number_at shows (OfFlow c n FlowUsage))) false
+
+-- Flow-Usage RTCP
 abbrev pub is_rtcp : Shows → ℕ → ℕ → Bool
-is_rtcp shows c n = unwrap_or (option_map (λ u. u == 1) (number_at shows (OfFlow c n FlowUsage))) false
+is_rtcp shows c n = has_usage shows c n 1
 
 -- the flow's Flow-Status, else its component's, else ENABLED
 abbrev pub flow_status : Shows → ℕ → ℕ → ℕ

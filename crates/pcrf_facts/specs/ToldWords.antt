@@ -1,5 +1,6 @@
 -- What a gateway was told of rules.
 use Rattle.std.specs.Prelude.{ℕ, List, Option, Some, None}
+use Rattle.std.proofs.Common.{option_and_then}
 use Rattle.std.specs.List.{filter_map}
 use Rattle.pcrf_values.specs.RuleValues.{RuleValue}
 use Rattle.ranked.specs.declared.tag.Tag.{Tag}
@@ -44,11 +45,19 @@ told_entry (Field p t v) = told_at_place p t v
 abbrev pub told_entries : List Fact → List ToldEntry
 told_entries facts = filter_map told_entry (held facts)
 
+-- a name, and the rule that was told under it
+abbrev pub ToldRule : Type 0
+ToldRule = List ℕ × RuleValue
+
 -- the name with its rule, where there is one
-abbrev pub told_rule : ToldEntry → Option (List ℕ × RuleValue)
+abbrev pub told_rule : ToldEntry → Option ToldRule
 told_rule (name, (t, None)) = None
 told_rule (name, (t, Some r)) = Some (name, r)
 
+-- the name and the rule that a place tells of by its tag and value, if it does
+abbrev pub told_rule_at : Place → Tag → Value → Option ToldRule
+told_rule_at p t v = option_and_then told_rule (told_at_place p t v)
+
 -- the names that show a rule, each with its rule, ascending by name
-abbrev pub told : List Fact → List (List ℕ × RuleValue)
+abbrev pub told : List Fact → List ToldRule
 told facts = filter_map told_rule (told_entries facts)

@@ -4,6 +4,7 @@
 mod apn;
 mod bounded_list;
 mod bounded_number;
+mod default_quality;
 mod delta;
 mod permit_filter;
 mod refusal;
@@ -18,6 +19,7 @@ pub use bounded_list::{
     SubscriptionData,
 };
 pub use bounded_number::{BoundedNumber, PriorityLevel, QosClass};
+pub use default_quality::{DefaultClass, DefaultQuality};
 pub use delta::Delta;
 pub use permit_filter::{PermitFilter, PermitFilters};
 pub use refusal::Refusal;

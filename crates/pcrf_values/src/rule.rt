@@ -89,7 +89,7 @@ impl Preemption {
 }
 
 /// The priority of allocation and retention of a bearer (Allocation-Retention-Priority, TS 29.212, 5.3.32).
-#[derive(Clone, Copy)]
+#[derive(Clone, Copy, Debug, PartialEq, Eq)]
 pub struct RetentionPriority {
     pub level: PriorityLevel,
     /// Whether it may take resources from bearers of a lower priority.

@@ -1,3 +1,4 @@
 pub mod LevelLaws
 pub mod Ordered
 pub mod SessionLaws
+pub mod SubsetLaws

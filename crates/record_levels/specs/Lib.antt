@@ -1,3 +1,4 @@
 pub mod Levels
 pub mod SessionFacts
 pub mod SessionJoins
+pub mod Subsets

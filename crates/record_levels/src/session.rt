@@ -3,7 +3,7 @@ ghost use Rattle.std.specs.Prelude.{◌≡◌, IfOk};
 ghost use Rattle.record_levels.specs.SessionFacts.{no_user, no_client, no_fields, one_field, has_all};
 ghost use Rattle.record_levels.specs.SessionJoins.{fields_joined};
 
-use lattice_core::{Join, Ranked, Reg, Tag};
+use lattice_core::{FactSet, Join, Ranked, Reg, Tag};
 use pcrf_values::{Apn, DiameterIdentity, Subscribers};
 use std::alloc::AllocError;
 use std::net::Ipv4Addr;
@@ -268,4 +268,56 @@ impl<L: Ranked> Join for SessionFields<L> {
     }
 
     fn note_valid(&self) {}
+}
+
+impl FactSet for UserFields {
+    ghost use Rattle.record_levels.specs.Subsets.{user_subset, user_empty};
+
+    ghost subset = { user_subset };
+
+    ghost empty = { user_empty };
+
+    fn is_subset(&self, other: &UserFields) -> bool {
+        self.address.is_subset(&other.address)
+            && self.apn.is_subset(&other.apn)
+            && self.subscribers.is_subset(&other.subscribers)
+    }
+
+    fn is_empty(&self) -> bool {
+        self.address.is_empty() && self.apn.is_empty() && self.subscribers.is_empty()
+    }
+}
+
+impl<L: Ranked> FactSet for ClientFields<L> {
+    ghost use Rattle.record_levels.specs.Subsets.{client_subset, client_empty};
+
+    ghost subset = { client_subset L.cmp };
+
+    ghost empty = { client_empty };
+
+    fn is_subset(&self, other: &ClientFields<L>) -> bool {
+        self.host.is_subset(&other.host)
+            && self.realm.is_subset(&other.realm)
+            && self.last.is_subset(&other.last)
+    }
+
+    fn is_empty(&self) -> bool {
+        self.host.is_empty() && self.realm.is_empty() && self.last.is_empty()
+    }
+}
+
+impl<L: Ranked> FactSet for SessionFields<L> {
+    ghost use Rattle.record_levels.specs.Subsets.{fields_subset, fields_empty};
+
+    ghost subset = { fields_subset L.cmp };
+
+    ghost empty = { fields_empty };
+
+    fn is_subset(&self, other: &SessionFields<L>) -> bool {
+        self.user.is_subset(&other.user) && self.client.is_subset(&other.client)
+    }
+
+    fn is_empty(&self) -> bool {
+        self.user.is_empty() && self.client.is_empty()
+    }
 }
