@@ -8,7 +8,8 @@ use Rattle.ranked.specs.Ascending.{ascending}
 use Rattle.pcrf_values.specs.RuleValues.{RuleValue, DeltaValue, rule_cmp}
 use Rattle.ranked.proofs.Plain.{clash, is_false, split, not_true, both}
 use Rattle.ranked.specs.Sets.{In, Same, Distinct}
-use Rattle.pcrf_model.specs.Differences.{ToldRule, told_cmp, told_name_of, rule_name_of, has_name, holds, difference, as_told, stays, apply}
+use Rattle.pcrf_facts.specs.ToldWords.{ToldRule}
+use Rattle.pcrf_model.specs.Differences.{told_cmp, told_name_of, rule_name_of, has_name, holds, difference, as_told, stays, apply}
 use Rattle.ranked.proofs.SetLaws.{In-left, In-right, In-cases, In-filter, filter-In, In-any, any-In, any-none, In-map, map-In}
 use Rattle.ranked.proofs.DistinctLaws.{one_of_key}
 use Rattle.ranked.proofs.OrderLaws.{IsRanked, text_ranked, pair_ranked}

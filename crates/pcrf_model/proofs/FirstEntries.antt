@@ -6,7 +6,8 @@ use Rattle.ranked.specs.Orders.{text_cmp}
 use Rattle.pcrf_values.specs.RuleValues.{RuleValue, DeltaValue, rule_cmp}
 use Rattle.ranked.proofs.Plain.{clash, is_false, split, not_true}
 use Rattle.ranked.specs.Sets.{In, Same, Distinct}
-use Rattle.pcrf_model.specs.Differences.{ToldRule, told_cmp, told_name_of, rule_name_of, IsTold, holds, difference, first, rest, as_told, stays, apply}
+use Rattle.pcrf_facts.specs.ToldWords.{ToldRule}
+use Rattle.pcrf_model.specs.Differences.{told_cmp, told_name_of, rule_name_of, IsTold, holds, difference, first, rest, as_told, stays, apply}
 use Rattle.ranked.proofs.SetLaws.{In-filter, filter-In, In-map, map-In}
 use Rattle.ranked.proofs.DistinctLaws.{take_or_drop, take-In, drop-In, not_in_both, Distinct-of_map, filter_past}
 use Rattle.ranked.proofs.OrderLaws.{text_ranked}

@@ -22,12 +22,14 @@ use Rattle.pcrf_facts.specs.Facts.{Field}
 use Rattle.pcrf_facts.proofs.ShownLaws.{fact_there}
 use Rattle.pcrf_model.specs.Sessions.{Kind, Gx, Af, Session}
 use Rattle.pcrf_model.specs.Holdings.{facts_on, Holding}
-use Rattle.pcrf_model.specs.Views.{View, view, value, text, as_number, as_filters}
+use Rattle.pcrf_facts.specs.FlowWords.{or_else, as_number, number_at}
+use Rattle.pcrf_model.specs.Views.{View, view, value, text, as_filters}
 use Rattle.pcrf_model.specs.Live.{is_live}
 use Rattle.pcrf_model.specs.Tables.{Class, OperatorRule, ApnRow, Tables, media_class}
-use Rattle.pcrf_model.specs.Flows.{FlowId, or_else, of_flow, of_component, filters, flow_status, is_signalling, media_type, class_of, Uplink, Downlink, asked_rate, flow_rule_name, flow_rule}
+use Rattle.pcrf_model.specs.Flows.{FlowId, of_component, filters, flow_status, is_signalling, media_type, class_of, Uplink, Downlink, asked_rate, flow_rule_name, flow_rule}
 use Rattle.pcrf_model.specs.Rules.{rule_of, apn_of, operator_rule, operator_rules, flow_rules, listed_cmp, rules}
-use Rattle.pcrf_model.specs.Differences.{ToldRule, told, told_name_of, difference}
+use Rattle.pcrf_facts.specs.ToldWords.{ToldRule}
+use Rattle.pcrf_model.specs.Differences.{told, told_name_of, difference}
 use Rattle.pcrf_model.specs.Serving.{delta_of}
 use Rattle.pcrf_model.specs.Forms.{is_byte, is_text, is_unsigned, is_class, is_status, are_filters, is_rule, is_operator_rule, is_session, fits_place, is_holding, are_tables}
 use Rattle.pcrf_model.proofs.HoldingLaws.{facts_on-In}
@@ -206,7 +208,7 @@ module _ (t : Tables) (h : Holding) (tables : are_tables t ≡ true) (form : is_
       let e = of_value as_filters (v.shows i.session (OfFlow i.component i.flow FlowDescriptions)) m.shown m.of_filters in
       let known = first_so _ _ (first_so _ _ (held_fact h form (i.session, Field (OfFlow i.component i.flow FlowDescriptions) e.0.0 e.0.1) (shown_fact i.session (OfFlow i.component i.flow FlowDescriptions) e.0 e.1))) in
       let fs = second_so _ _ (value_fits as_filters Filters filters_of Af i.session (OfFlow i.component i.flow FlowDescriptions) m.shown o.kind m.of_filters) in
-      let status = status_of (of_flow v i FlowStatus) (of_component v i ComponentStatus)
+      let status = status_of (number_at (v.shows i.session) (OfFlow i.component i.flow FlowStatus)) (of_component v i ComponentStatus)
       (λ n q. second_so _ _ (value_fits as_number Number number_of Af i.session (OfFlow i.component i.flow FlowStatus) n o.kind q))
       (λ n q. second_so _ _ (value_fits as_number Number number_of Af i.session (OfComponent i.component ComponentStatus) n o.kind q)) in
       let c : Class = m.class in

@@ -24,7 +24,8 @@ use Rattle.pcrf_model.specs.Live.{is_live}
 use Rattle.pcrf_model.specs.Bindings.{bind, is_bound_to}
 use Rattle.pcrf_model.specs.Tables.{Tables}
 use Rattle.pcrf_model.specs.Rules.{flow_at, rule_of, rule_at, operator_rules, listed_cmp, rules}
-use Rattle.pcrf_model.specs.Differences.{ToldRule, told_cmp, told, rule_name_of, as_told, stays, apply}
+use Rattle.pcrf_facts.specs.ToldWords.{ToldRule}
+use Rattle.pcrf_model.specs.Differences.{told_cmp, told, rule_name_of, as_told, stays, apply}
 use Rattle.pcrf_model.specs.Making.{told_facts}
 use Rattle.pcrf_model.proofs.HoldingLaws.{session_ranked, facts_on-In, under-In}
 use Rattle.pcrf_model.proofs.ViewLaws.{shown_ranked, its_session, sessions_alone, all-shows, In-all}

@@ -17,15 +17,16 @@ use Rattle.pcrf_facts.specs.Values.{Value, Told, entry_cmp}
 use Rattle.pcrf_model.specs.Sessions.{Session, session_cmp}
 use Rattle.pcrf_model.specs.Holdings.{SessionFact}
 use Rattle.pcrf_model.specs.Views.{View, Shown, shown_cmp, shown_as, shown_on, showing, view}
-use Rattle.pcrf_model.specs.Differences.{ToldRule, told_cmp, told_entry, told, told_name_of, IsTold}
+use Rattle.pcrf_facts.specs.ToldWords.{ToldRule, told_rule_at}
+use Rattle.pcrf_model.specs.Differences.{told_cmp, told, told_name_of, IsTold}
 use Rattle.pcrf_model.proofs.HoldingLaws.{session_ranked}
 use Rattle.pcrf_model.proofs.ViewLaws.{shown_ranked, all-shows, In-all}
 use Rattle.pcrf_model.proofs.DifferenceLaws.{told_ranked}
 
 -- an entry stands at its name, with its rule
-entry_place : (p : Place) (x : Value) (u : ToldRule) → told_entry p x ≡ Some u → (p ≡ OfRuleName u.0) × (x ≡ Told u.1)
-entry_place (OfRuleName n) (Told r) u h = (ap (λ (z : ToldRule). OfRuleName z.0) (some_same (n, r) u h), ap (λ (z : ToldRule). Told z.1) (some_same (n, r) u h))
-entry_place p x u h = absurd (cc)
+entry_place : (p : Place) (t : Tag) (x : Value) (u : ToldRule) → told_rule_at p t x ≡ Some u → (p ≡ OfRuleName u.0) × (x ≡ Told u.1)
+entry_place (OfRuleName n) t (Told r) u h = (ap (λ (z : ToldRule). OfRuleName z.0) (some_same (n, r) u h), ap (λ (z : ToldRule). Told z.1) (some_same (n, r) u h))
+entry_place p t x u h = absurd (cc)
 
 module _ (facts : List SessionFact) (s : Session) where
   -- what is read of the facts
@@ -34,12 +35,12 @@ module _ (facts : List SessionFact) (s : Session) where
 
   -- the told entry of what shows
   abbrev entry : Shown → Option ToldRule
-  entry x = cond (is_eq (session_cmp x.session s)) (told_entry x.place x.value) None
+  entry x = cond (is_eq (session_cmp x.session s)) (told_rule_at x.place x.tag x.value) None
 
   -- it stands at its name of the session, with its rule
   at_name : (x : Shown) (u : ToldRule) → entry x ≡ Some u → (x.session ≡ s) × (x.place ≡ OfRuleName u.0) × (x.value ≡ Told u.1)
-  at_name x u = elim (is_eq (session_cmp x.session s)) as (λ b. is_eq (session_cmp x.session s) ≡ b → cond b (told_entry x.place x.value) None ≡ Some u → (x.session ≡ s) × (x.place ≡ OfRuleName u.0) × (x.value ≡ Told u.1)) [
-    | true ↦ λ e h. let b = entry_place x.place x.value u h in (eq_is session_ranked x.session s e, b.0, b.1)
+  at_name x u = elim (is_eq (session_cmp x.session s)) as (λ b. is_eq (session_cmp x.session s) ≡ b → cond b (told_rule_at x.place x.tag x.value) None ≡ Some u → (x.session ≡ s) × (x.place ≡ OfRuleName u.0) × (x.value ≡ Told u.1)) [
+    | true ↦ λ e h. let b = entry_place x.place x.tag x.value u h in (eq_is session_ranked x.session s e, b.0, b.1)
     | false ↦ λ _ h. absurd (cc)
   ] refl
 

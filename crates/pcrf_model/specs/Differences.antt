@@ -8,26 +8,16 @@ use Rattle.ranked.specs.Ascending.{ascending}
 use Rattle.pcrf_values.specs.RuleValues.{RuleValue, DeltaValue, rule_cmp}
 use Rattle.ranked.specs.Sets.{Distinct}
 use Rattle.pcrf_model.specs.Sessions.{Session, session_cmp}
-use Rattle.pcrf_facts.specs.Places.{Place, OfRuleName}
-use Rattle.pcrf_facts.specs.Values.{Value, Told}
+use Rattle.pcrf_facts.specs.ToldWords.{ToldRule, told_rule_at}
 use Rattle.pcrf_model.specs.Views.{View, Shown}
-
--- a name, and the rule that was told under it
-abbrev pub ToldRule : Type 0
-ToldRule = List ℕ × RuleValue
 
 -- by name, and then by rule
 abbrev pub told_cmp : ToldRule → ToldRule → Ordering
 told_cmp = pair_cmp text_cmp rule_cmp
 
--- the name and the rule that a place and its value tell of, if they do
-abbrev pub told_entry : Place → Value → Option ToldRule
-told_entry (OfRuleName n) (Told r) = Some (n, r)
-told_entry p x = None
-
 -- the names that show a rule, ascending, each with its rule
 unfoldable pub told : View → Session → List ToldRule
-told v s = filter_map (λ (x : Shown). cond (is_eq (session_cmp x.session s)) (told_entry x.place x.value) None) v.all
+told v s = filter_map (λ (x : Shown). cond (is_eq (session_cmp x.session s)) (told_rule_at x.place x.tag x.value) None) v.all
 
 -- the name of a told entry
 abbrev pub told_name_of : ToldRule → List ℕ

@@ -1,14 +1,11 @@
 -- What a flow of an AF session shows: its status, its class and its rates (TS 29.214, 4.4.1, 5.3.11 and 5.3.12; TS 29.213, 6.3), and the rule made of them.
-use Rattle.std.specs.Prelude.{ℕ, Bool, false, cond, ◌==◌, List, ◌++◌, min, Option, Some, None, codes, decimal}
-use Rattle.std.proofs.Common.{option_map, option_and_then, unwrap_or}
-use Rattle.std.specs.Ordering.{is_eq, nat_cmp}
-use Rattle.std.specs.List.{filter_map}
-use Rattle.ranked.specs.Orders.{pair_cmp}
-use Rattle.ranked.specs.Ascending.{ascending}
+use Rattle.std.specs.Prelude.{ℕ, Bool, cond, List, ◌++◌, min, Option, Some, codes, decimal}
+use Rattle.std.proofs.Common.{option_and_then, unwrap_or}
 use Rattle.pcrf_values.specs.RuleValues.{RuleValue}
-use Rattle.pcrf_model.specs.Sessions.{Session, session_cmp}
-use Rattle.pcrf_facts.specs.Places.{ComponentField, MediaType, ComponentStatus, ComponentRateUp, ComponentRateDown, FlowField, FlowDescriptions, FlowUsage, FlowStatus, FlowRateUp, FlowRateDown, Place, OfComponent, OfFlow}
-use Rattle.pcrf_model.specs.Views.{View, Shown, value, number, as_filters}
+use Rattle.pcrf_facts.specs.Places.{ComponentField, MediaType, ComponentRateUp, ComponentRateDown, FlowField, FlowDescriptions, FlowRateUp, FlowRateDown, OfComponent, OfFlow}
+use Rattle.pcrf_facts.specs.FlowWords as words
+use Rattle.pcrf_model.specs.Sessions.{Session}
+use Rattle.pcrf_model.specs.Views.{View, value, number, as_filters}
 use Rattle.pcrf_model.specs.Tables.{Class, Tables, media_class}
 
 -- an AF session, a Media-Component-Number and a Flow-Number
@@ -17,25 +14,7 @@ pub record FlowId : Type 0 where
   pub component : ℕ
   pub flow : ℕ
 
--- the component and the flow of which the place is a field
-abbrev pub flow_of : Place → Option (ℕ × ℕ)
-flow_of (OfFlow c n f) = Some (c, n)
-flow_of p = None
-
--- the flows of which a field shows, each once, ascending by component and flow
-abbrev pub flows : View → Session → List (ℕ × ℕ)
-flows v a = ascending (pair_cmp nat_cmp nat_cmp) (filter_map (λ (x : Shown). cond (is_eq (session_cmp x.session a)) (flow_of x.place) None) v.all)
-
--- the first, where it is there, else the second
-abbrev pub or_else : {A : Type 0} → Option A → Option A → Option A
-or_else None y = y
-or_else (Some x) y = Some x
-
--- what the flow's own field shows, as a number
-abbrev pub of_flow : View → FlowId → FlowField → Option ℕ
-of_flow v i f = number v i.session (OfFlow i.component i.flow f)
-
--- what its component's field shows
+-- what its component's field shows, as a number
 abbrev pub of_component : View → FlowId → ComponentField → Option ℕ
 of_component v i f = number v i.session (OfComponent i.component f)
 
@@ -43,21 +22,17 @@ of_component v i f = number v i.session (OfComponent i.component f)
 abbrev pub filters : View → FlowId → Option (List (List ℕ))
 filters v i = option_and_then as_filters (value v i.session (OfFlow i.component i.flow FlowDescriptions))
 
--- the flow shows that Flow-Usage
-abbrev pub has_usage : View → FlowId → ℕ → Bool
-has_usage v i u = unwrap_or (option_map (λ n. n == u) (of_flow v i FlowUsage)) false
-
 -- Flow-Usage RTCP
 abbrev pub is_rtcp : View → FlowId → Bool
-is_rtcp v i = has_usage v i 1
+is_rtcp v i = words.is_rtcp (v.shows i.session) i.component i.flow
 
 -- Flow-Usage AF_SIGNALLING
 abbrev pub is_signalling : View → FlowId → Bool
-is_signalling v i = has_usage v i 2
+is_signalling v i = words.has_usage (v.shows i.session) i.component i.flow 2
 
--- the flow's, else the component's, else ENABLED
+-- its Flow-Status
 abbrev pub flow_status : View → FlowId → ℕ
-flow_status v i = unwrap_or (or_else (of_flow v i FlowStatus) (of_component v i ComponentStatus)) 2
+flow_status v i = words.flow_status (v.shows i.session) i.component i.flow
 
 -- the Media-Type of its component, where none shows the greatest
 abbrev pub media_type : View → FlowId → ℕ
@@ -81,9 +56,9 @@ abbrev pub component_rate_field : Direction → ComponentField
 component_rate_field Uplink = ComponentRateUp
 component_rate_field Downlink = ComponentRateDown
 
--- the rate that requests gave it: its own, else, unless it is RTCP, its component's
+-- the rate that requests gave it
 abbrev pub given_rate : View → FlowId → Direction → Option ℕ
-given_rate v i d = or_else (of_flow v i (flow_rate_field d)) (cond (is_rtcp v i) None (of_component v i (component_rate_field d)))
+given_rate v i d = words.given_rate (v.shows i.session) i.component i.flow (flow_rate_field d) (component_rate_field d)
 
 -- the rate that is asked: the one given, else for RTCP the operator's, else the cap
 abbrev pub asked_rate : Tables → View → FlowId → Direction → ℕ → ℕ

@@ -16,7 +16,8 @@ use Rattle.pcrf_model.specs.Live.{is_live, is_partial, home}
 use Rattle.pcrf_model.specs.Bindings.{Candidate, candidate_cmp, standing, matches, bind}
 use Rattle.pcrf_model.specs.Tables.{Tables}
 use Rattle.pcrf_model.specs.Rules.{rules}
-use Rattle.pcrf_model.specs.Differences.{ToldRule, told_cmp, told, told_name_of, rule_name_of, IsTold, difference, first, rest, as_told, apply}
+use Rattle.pcrf_facts.specs.ToldWords.{ToldRule}
+use Rattle.pcrf_model.specs.Differences.{told_cmp, told, told_name_of, rule_name_of, IsTold, difference, first, rest, as_told, apply}
 use Rattle.pcrf_model.specs.OperatorValues.{operator_value}
 use Rattle.pcrf_model.specs.Requests.{CcrValue, RequestValue}
 use Rattle.pcrf_model.specs.Making.{ccr_fields, next_tag}

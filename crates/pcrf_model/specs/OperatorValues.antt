@@ -13,7 +13,8 @@ use Rattle.pcrf_model.specs.Live.{is_live, home}
 use Rattle.pcrf_model.specs.Bindings.{bind}
 use Rattle.pcrf_model.specs.Tables.{Tables}
 use Rattle.pcrf_model.specs.Rules.{rules}
-use Rattle.pcrf_model.specs.Differences.{ToldRule, told}
+use Rattle.pcrf_facts.specs.ToldWords.{ToldRule}
+use Rattle.pcrf_model.specs.Differences.{told}
 
 -- a field of a session, a component or a flow, and its value
 abbrev pub FieldShown : Type 0

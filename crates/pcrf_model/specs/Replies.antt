@@ -1,14 +1,14 @@
 -- What a site replies to an event, and what the event adds to it.
 use Rattle.std.specs.Prelude.{ℕ, List, Option}
+use Rattle.pcrf_values.specs.declared.default_quality.DefaultQuality.{DefaultQuality}
 use Rattle.pcrf_values.specs.declared.refusal.Refusal.{Refusal}
 use Rattle.pcrf_values.specs.RuleValues.{DeltaValue}
 use Rattle.pcrf_model.specs.Holdings.{Holding}
 use Rattle.pcrf_model.specs.Operations.{Operation}
-use Rattle.pcrf_model.specs.Tables.{Quality}
 
 -- to a credit control request: granted, with a difference and the default quality of service (TS 29.212, 5.6.3), or rejected
 pub data GxReplyValue : Type 0 where
-  Granted : DeltaValue → Option Quality → GxReplyValue
+  Granted : DeltaValue → Option DefaultQuality → GxReplyValue
   Rejected : Refusal → GxReplyValue
 
 -- What is pushed by a re-authorisation request (TS 29.212, 5.6.4): the Session-Id, the host and the realm of the session, and entries of its difference.

@@ -6,12 +6,13 @@ use Rattle.std.specs.List.{filter_map}
 use Rattle.ranked.specs.Orders.{pair_cmp}
 use Rattle.ranked.specs.Ascending.{ascending}
 use Rattle.pcrf_values.specs.RuleValues.{RuleValue, rule_cmp}
+use Rattle.pcrf_values.specs.declared.default_quality.DefaultQuality.{DefaultQuality}
 use Rattle.pcrf_model.specs.Sessions.{Session}
 use Rattle.pcrf_facts.specs.Places.{FlowDescriptions, Place, OfFlow, apn}
 use Rattle.pcrf_model.specs.Views.{View, Shown, text}
 use Rattle.pcrf_model.specs.Live.{is_live}
 use Rattle.pcrf_model.specs.Bindings.{is_bound_to}
-use Rattle.pcrf_model.specs.Tables.{OperatorRule, ApnRow, Quality, Tables, apn_row}
+use Rattle.pcrf_model.specs.Tables.{OperatorRule, ApnRow, Tables, apn_row}
 use Rattle.pcrf_model.specs.Flows.{FlowId, filters, class_of, flow_rule}
 
 -- the flow whose filters stand at the place
@@ -63,5 +64,5 @@ unfoldable pub rules : Tables → View → Session → List RuleValue
 rules t v s = cond (is_live v s) (ascending listed_cmp (operator_rules t v s ++ flow_rules t v s)) []
 
 -- the default quality of service of the access point that the session shows
-abbrev pub quality_of : Tables → View → Session → Option Quality
+abbrev pub quality_of : Tables → View → Session → Option DefaultQuality
 quality_of t v s = option_and_then (λ (r : ApnRow). r.default) (apn_of t v s)

@@ -1,10 +1,12 @@
 -- The operator tables, the requests and the rules of the worked examples.
 use Rattle.std.specs.Prelude.{ℕ, zero, suc, List, [], ◌∷◌, Option, Some, None, codes}
 use Rattle.pcrf_values.specs.RuleValues.{RuleValue, DeltaValue}
+use Rattle.pcrf_values.specs.declared.default_quality.DefaultQuality.{DefaultQuality}
+use Rattle.pcrf_values.specs.declared.rule.Preemption.TheVariants.{Enabled, Disabled}
 use Rattle.pcrf_values.specs.declared.request_kind.RequestKind.TheVariants.{Initial, Update, Termination}
 use Rattle.pcrf_model.specs.Sessions.{Session, gx, af}
 use Rattle.pcrf_facts.specs.Values.{Subscriber}
-use Rattle.pcrf_model.specs.Tables.{Class, Quality, Listed, Tables}
+use Rattle.pcrf_model.specs.Tables.{Class, Listed, Tables}
 use Rattle.pcrf_model.specs.Requests.{FlowValue, ComponentValue, CapabilitiesExchange, RequestValue, Ccr, Aar, Str, Base}
 
 -- ---- an operator with telephony
@@ -22,8 +24,13 @@ abbrev pub sip_class : Class
 sip_class = record { qci = 5; priority = 9; capability = 1; vulnerability = 0; max_ul = 32000; max_dl = 32000; precedence = 40 }
 
 -- the default quality of service of the telephony access point
-abbrev pub ims_quality : Quality
-ims_quality = record { qci = 5; priority = 9; capability = 1; vulnerability = 0; ambr_ul = 1000000; ambr_dl = 2000000 }
+abbrev pub ims_quality : DefaultQuality
+ims_quality = record {
+  class = 5;
+  priority = record { level = 9; capability = Disabled; vulnerability = Enabled };
+  aggregate_uplink = 1000000;
+  aggregate_downlink = 2000000;
+}
 
 -- a filter downlink
 abbrev pub any_to_any : List ℕ

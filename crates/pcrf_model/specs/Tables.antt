@@ -3,6 +3,7 @@ use Rattle.std.specs.Prelude.{ℕ, List, [], Option, Some, None, ◌==◌, find}
 use Rattle.std.proofs.Common.{option_map}
 use Rattle.std.specs.Ordering.{is_eq}
 use Rattle.ranked.specs.Orders.{text_cmp}
+use Rattle.pcrf_values.specs.declared.default_quality.DefaultQuality.{DefaultQuality}
 
 -- A class of service: QCI and ARP (priority level, pre-emption capability and vulnerability as AVP values; TS 29.212, 5.3.17 and 5.3.45),
 -- the caps on bit rates up and down in bit/s, and the precedence of its rules (TS 29.212, 5.3.11).
@@ -15,16 +16,6 @@ pub record Class : Type 0 where
   pub max_dl : ℕ
   pub precedence : ℕ
 
--- The default bearer's QCI and ARP, and the rates of the whole access point (Default-EPS-Bearer-QoS and APN-Aggregate-Max-Bitrate,
--- TS 29.212, 5.3.48, 5.3.39 and 5.3.40), in bit/s.
-pub record Quality : Type 0 where
-  pub qci : ℕ
-  pub priority : ℕ
-  pub capability : ℕ
-  pub vulnerability : ℕ
-  pub ambr_ul : ℕ
-  pub ambr_dl : ℕ
-
 -- A rule that each session of an access point has: its name in the table, class, Flow-Status and filters.
 pub record OperatorRule : Type 0 where
   pub name : List ℕ
@@ -32,9 +23,9 @@ pub record OperatorRule : Type 0 where
   pub status : ℕ
   pub filters : List (List ℕ)
 
--- what an access point has
+-- what an access point has: the default quality of service of its sessions (TS 29.212, 5.3.48, 5.3.39 and 5.3.40), and rules
 pub record ApnRow : Type 0 where
-  pub default : Option Quality
+  pub default : Option DefaultQuality
   pub rules : List OperatorRule
 
 -- the access points: every name one with a name alone, or those that are listed, by name in small letters

@@ -7,9 +7,10 @@ use Rattle.ranked.specs.Orders.{pair_cmp}
 use Rattle.ranked.specs.Ascending.{ascending}
 use Rattle.ranked.specs.declared.tag.Tag.{Tag}
 use Rattle.pcrf_facts.specs.Places.{Place, Removable, place_cmp}
-use Rattle.pcrf_facts.specs.Values.{Value, Number, Text, Address, Filters, Entry, entry_cmp}
+use Rattle.pcrf_facts.specs.Values.{Value, Text, Address, Filters, Entry, entry_cmp}
 use Rattle.pcrf_facts.specs.Facts.{Fact, End, Removed, Field}
 use Rattle.pcrf_facts.specs.Held.{shown, removed, is_ended}
+use Rattle.pcrf_facts.specs.FlowWords.{value_at, number_at}
 use Rattle.pcrf_model.specs.Sessions.{Session, session_cmp}
 use Rattle.pcrf_model.specs.Holdings.{SessionFact, facts_on}
 
@@ -61,12 +62,7 @@ view facts = record {
 
 -- the value that a place of the session shows
 abbrev pub value : View → Session → Place → Option Value
-value v s p = option_map (λ (e : Entry). e.1) (v.shows s p)
-
--- as a number
-abbrev pub as_number : Value → Option ℕ
-as_number (Number n) = Some n
-as_number x = None
+value v s p = value_at (v.shows s) p
 
 -- as a text
 abbrev pub as_text : Value → Option (List ℕ)
@@ -85,7 +81,7 @@ as_filters x = None
 
 -- the number that a place shows
 abbrev pub number : View → Session → Place → Option ℕ
-number v s p = option_and_then as_number (value v s p)
+number v s p = number_at (v.shows s) p
 
 -- the text that a place shows
 abbrev pub text : View → Session → Place → Option (List ℕ)

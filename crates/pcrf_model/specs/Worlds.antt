@@ -12,7 +12,7 @@ use Rattle.pcrf_model.specs.Serving.{serve}
 use Rattle.pcrf_model.specs.Pushing.{push, lacks_counter}
 use Rattle.pcrf_model.specs.Steps.{SiteState, SiteEvent, AskOwn, own_from}
 use Rattle.pcrf_model.specs.Letters.{LetterBody, Range, Snapshot, Acknowledgement, LetterValue, meaning}
-use Rattle.pcrf_model.specs.Cursors.{CursorsValue, start_cursors, ask, letter_saying, took, ack_of, ack_letter, carried_ack, acked}
+use Rattle.pcrf_model.specs.Cursors.{CursorsValue, start_cursors, ask, took, ack_of, ack_letter, carried_ack, acked}
 
 -- Site i serves a request, or pushes to a host; site i makes a letter for site j; site j takes letter k; site j acknowledges to site i what it took
 -- of it; site i starts again, empty.
@@ -229,7 +229,7 @@ sent s l = record { letter = l; behind = s.taken }
 
 -- the letter that the site writes to a peer
 abbrev pub letter_to : Setting → ℕ → SiteTook → SentLetter
-letter_to g peer s = sent s (letter_saying s.cursors g.tables.edition (g.writes s.cursors (site_view s) peer))
+letter_to g peer s = sent s (record { edition = g.tables.edition; site = s.number; epoch = epoch_of s; body = g.writes s.cursors (site_view s) peer })
 
 -- the acknowledgement that the site writes to a maker
 abbrev pub ack_to : Setting → ℕ → SiteTook → SentLetter

@@ -197,8 +197,8 @@ pub fn capabilities_need_a_common_application()
 
 /// Without operator tables an initial request for any access point is granted, with no rule and no quality of service.
 pub fn without_tables_every_access_point_is_granted()
-    ensures reply { (serve delta_limit open_tables 0 nothing_held (initial_to (codes "anything"))).reply
-        ≡ OnGx (Granted (delta [] []) None) }
+    ensures reply { (serve delta_limit open_tables 0 nothing_held
+        (initial_to (codes "anything"))).reply ≡ OnGx (Granted (delta [] []) None) }
     ensures parameters { (serve delta_limit open_tables 0 nothing_held without_access_point).reply
         ≡ rejected initial_parameters }
 {}
