@@ -25,6 +25,10 @@ number_avp key number = text_avp key (word_bytes number)
 abbrev pub group_avp : AvpKey → List AvpValue → AvpValue
 group_avp key avps = text_avp key (flat_map written_avp avps)
 
+-- an AVP of 3GPP, with M or without it (TS 29.230)
+abbrev pub tgpp_avp : AvpKey → Bool → List ℕ → AvpValue
+tgpp_avp key mandatory bytes = record { code = key.code; vendor = key.vendor; mandatory = mandatory; protected = false; value = bytes }
+
 -- the first of these AVPs were added, none or some of them
 abbrev pub AddsSome : List AvpValue → List AvpValue → List AvpValue → Type 0
 AddsSome added old new = (count : ℕ) × (new ≡ old ++ take count added)

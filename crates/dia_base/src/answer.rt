@@ -9,7 +9,7 @@ ghost use Rattle.dia_base.specs.Answers.{AddsSome, answer_header, is_protocol_er
 use crate::codes::{GX, RX, TGPP, avps, commands, results};
 use crate::identity::Identity;
 use crate::writer::AvpWriter;
-use dia_codec::{Flags, Header, Message, WriteFault, write_group};
+use dia_codec::{Flags, Header, Message};
 use pcrf_values::Refusal;
 use std::alloc::{AllocError, Global};
 
@@ -56,11 +56,7 @@ fn experimental_result(alloc: Global, code: u32) -> Result<Vec<u8>, AllocError>
     let mut group = AvpWriter::start(alloc);
     group.number(avps::VENDOR_ID, TGPP)?;
     group.number(avps::EXPERIMENTAL_RESULT_CODE, code)?;
-    match write_group(alloc, group.as_slice()) {
-        Ok(value) => Ok(value),
-        Err(WriteFault::TooLong) => unreachable!(),
-        Err(WriteFault::NoMemory) => Err(AllocError),
-    }
+    group.into_group()
 }
 
 /// Writes the result: DIAMETER_SUCCESS where there is no refusal, else the refusal's Result-Code, or the

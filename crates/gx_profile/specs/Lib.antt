@@ -1,2 +1,4 @@
-pub mod Requests
 pub mod Answers
+pub mod Avps
+pub mod Qualities
+pub mod Requests

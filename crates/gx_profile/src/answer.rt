@@ -1,19 +1,21 @@
 //! Answers to credit control requests (TS 29.212, 5.6.3).
 ghost use Rattle.std.specs.Prelude.{◌≡◌, IfOk};
 ghost use Rattle.dia_codec.specs.Spelling.{message_view};
-ghost use Rattle.gx_profile.specs.Answers.{cca, reply_refusal};
+ghost use Rattle.gx_profile.specs.Answers.{cca, reply_refusal, reply_quality};
 
 use crate::ccr::Ccr;
+use crate::quality::put_quality;
 use dia_base::codes::{GX, avps};
 use dia_base::{AvpWriter, Identity, Refusal, answer_header, put_origin, put_result};
 use dia_codec::{Header, Message};
+use pcrf_values::DefaultQuality;
 use std::alloc::{AllocError, Global};
 
 /// What a site answers to a credit control request.
 #[derive(Clone, Copy, Debug, PartialEq, Eq)]
 pub enum GxReply {
-    /// The request is accepted.
-    Granted,
+    /// The request is accepted. The default quality of service is that of the session's access point, where it has one.
+    Granted(Option<DefaultQuality>),
     /// The request is refused, and has changed nothing.
     Refused(Refusal),
 }
@@ -24,8 +26,18 @@ impl GxReply {
         ensures { result ≡ reply_refusal self.now }
     {
         match self {
-            GxReply::Granted => None,
+            GxReply::Granted(_) => None,
             GxReply::Refused(refusal) => Some(*refusal),
+        }
+    }
+
+    /// The default quality of service that the reply tells, if it does.
+    pub fn quality(&self) -> Option<DefaultQuality>
+        ensures { result ≡ reply_quality self.now }
+    {
+        match self {
+            GxReply::Granted(quality) => *quality,
+            GxReply::Refused(_) => None,
         }
     }
 }
@@ -50,6 +62,7 @@ pub fn write_cca(
     put_result(alloc, &mut out, refusal)?;
     out.number(avps::CC_REQUEST_TYPE, ccr.kind.number())?;
     out.number(avps::CC_REQUEST_NUMBER, ccr.number)?;
+    put_quality(alloc, &mut out, &reply.quality())?;
     Ok(Message {
         header: answer_header(header, refusal),
         avps: out.into_avps(),

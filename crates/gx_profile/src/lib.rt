@@ -3,7 +3,9 @@
 
 mod answer;
 mod ccr;
+mod codes;
+mod quality;
 
 pub use answer::{GxReply, write_cca};
 pub use ccr::{Ccr, read_ccr};
-pub use pcrf_values::RequestKind;
+pub use pcrf_values::{DefaultQuality, RequestKind};

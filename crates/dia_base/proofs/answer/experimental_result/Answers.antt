@@ -1,6 +1,7 @@
-use Rattle.std.proofs.Common.{◌≡◌, ◌<◌, ◌++◌, ◌∷◌, [], ℕ, List, subst, arith, rules, refl}
+use Rattle.std.proofs.Common.{◌≡◌, ◌≤◌, ◌++◌, ◌∷◌, [], ℕ, List, subst, sym, arith, rules, refl}
 use Rattle.std.specs.List.{sum_by}
 use Rattle.dia_codec.specs.Fields.{AvpValue}
+use Rattle.dia_codec.specs.Limits.{longest_message}
 use Rattle.dia_codec.specs.Written.{word_bytes, padded_len}
 use Rattle.dia_base.specs.Avps.{base_key}
 use Rattle.dia_base.specs.Answers.{number_avp}
@@ -11,9 +12,7 @@ two_numbers : (k l m n : ℕ) {none one two : List AvpValue} → none ≡ [] →
 unfolding word_bytes
 two_numbers k l m n start first second = rw (second, first, start) refl
 
-pub unreachable-requires : goal.unreachable-requires
-unreachable-requires c =
-    let long = c.write_group.ensures.too_long.0 (search rules) in
+pub into_group-requires : goal.into_group-requires
+into_group-requires c =
     let short = two_numbers _ _ _ _ c.start-group.ensures c.in_ok-number.ensures.added c.in_ok-number-2.ensures.added in
-    let P : List AvpValue → Type 0 = λ avps. 65532 < sum_by padded_len avps in
-    omega (arith, short, subst P c.as_slice.ensures long)
+    subst (λ (n : ℕ). n ≤ longest_message) (sym short) (omega arith)
