@@ -7,8 +7,10 @@ use Rattle.std.specs.BTreeMap.{insert_entry, is_at}
 use Rattle.std.specs.Map.{lookup}
 use Rattle.ranked.specs.Orders.{text_cmp}
 use Rattle.pcrf_values.specs.Texts.{folded}
-use Rattle.pcrf_model.specs.Tables.{Class, Quality, OperatorRule, ApnRow, Listed, Tables}
+use Rattle.pcrf_values.specs.declared.default_quality.DefaultQuality.{DefaultQuality}
+use Rattle.pcrf_model.specs.Tables.{Class, OperatorRule, ApnRow, Listed, Tables}
 use Rattle.toml.specs.Data.{Data, Members, get_member}
+use Rattle.op_tables.specs.TableViews.{priority_of}
 use Rattle.op_tables.specs.Values.{text_in, table_in, data_at, number_at, rows_at}
 
 -- ---- tables and rows
@@ -24,14 +26,12 @@ class_of ms = record {
   precedence = number_at (codes "precedence") ms;
 }
 
-abbrev pub quality_of : Members → Quality
+abbrev pub quality_of : Members → DefaultQuality
 quality_of ms = record {
-  qci = number_at (codes "qci") ms;
-  priority = number_at (codes "priority") ms;
-  capability = number_at (codes "capability") ms;
-  vulnerability = number_at (codes "vulnerability") ms;
-  ambr_ul = number_at (codes "ambr_ul") ms;
-  ambr_dl = number_at (codes "ambr_dl") ms;
+  class = number_at (codes "qci") ms;
+  priority = priority_of (number_at (codes "priority") ms) (number_at (codes "capability") ms) (number_at (codes "vulnerability") ms);
+  aggregate_uplink = number_at (codes "ambr_ul") ms;
+  aggregate_downlink = number_at (codes "ambr_dl") ms;
 }
 
 abbrev pub filters_in : List ℕ → Members → List (List ℕ)
@@ -48,7 +48,7 @@ rule_of row = record {
   filters = filters_in (codes "filters") (table_in row);
 }
 
-abbrev pub default_of : Members → Option Quality
+abbrev pub default_of : Members → Option DefaultQuality
 default_of ms = option_map (λ d. quality_of (table_in d)) (get_member (codes "default") ms)
 
 abbrev pub apn_of : Members → ApnRow

@@ -1,11 +1,11 @@
--- Tables, classes and default qualities as plain values, by their parts.
+-- Tables and classes as plain values, by their parts.
 use Rattle.std.specs.Prelude.{ℕ, List, ◌==◌, if◌then◌else◌}
 use Rattle.pcrf_values.specs.Numbers.{preemption_number}
 use Rattle.pcrf_values.specs.declared.rule.Preemption.{Preemption}
 use Rattle.pcrf_values.specs.declared.rule.Preemption.TheVariants.{Enabled, Disabled}
 use Rattle.pcrf_values.specs.declared.rule.RetentionPriority.{RetentionPriority}
 use Rattle.pcrf_values.specs.declared.rule.RuleQos.{RuleQos}
-use Rattle.pcrf_model.specs.Tables.{Class, Quality, ApnRow, Tables, Listed}
+use Rattle.pcrf_model.specs.Tables.{Class, ApnRow, Tables, Listed}
 
 -- the pre-emption that has this number
 abbrev pub preemption_of : ℕ → Preemption
@@ -27,16 +27,6 @@ class_value qos precedence = record {
   max_ul = qos.max_uplink;
   max_dl = qos.max_downlink;
   precedence = precedence;
-}
-
-abbrev pub quality_value : ℕ → RetentionPriority → ℕ → ℕ → Quality
-quality_value class priority uplink downlink = record {
-  qci = class;
-  priority = priority.level;
-  capability = preemption_number priority.capability;
-  vulnerability = preemption_number priority.vulnerability;
-  ambr_ul = uplink;
-  ambr_dl = downlink;
 }
 
 -- the quality of service in a class

@@ -10,11 +10,11 @@ ghost use Rattle.op_tables.specs.Meaning.{apn_of, apn_name, apns_of, row_apn, is
 
 use crate::copies::TryCopy;
 use crate::fault::TableFault;
-use crate::quality::{Quality, read_default};
+use crate::quality::read_default;
 use crate::reading::{rows_at, table};
 use crate::rules::{OperatorRule, rules_at};
 use crate::texts::name_at;
-use pcrf_values::Apn;
+use pcrf_values::{Apn, DefaultQuality};
 use std::alloc::{AllocError, Global};
 use std::collections::BTreeMap;
 use std::marker::Model;
@@ -26,7 +26,7 @@ const MOST_APNS: usize = 1000;
 /// What an access point has beside its name.
 #[derive(Drop)]
 pub struct AccessPoint {
-    default: Option<Quality>,
+    default: Option<DefaultQuality>,
     rules: Vec<OperatorRule>,
 }
 
@@ -40,7 +40,7 @@ impl Model for AccessPoint {
 
 impl AccessPoint {
     /// The default quality of its sessions, where the operator gives one.
-    pub fn default_quality(&self) -> Option<Quality>
+    pub fn default_quality(&self) -> Option<DefaultQuality>
         ensures { result ≡ self.now.default }
     {
         self.default

@@ -18,7 +18,6 @@ mod word;
 pub use apns::AccessPoint;
 pub use class::Class;
 pub use fault::TableFault;
-pub use quality::{DefaultClass, Quality};
 pub use rules::{OperatorRule, OperatorRuleName};
 pub use tables::{Tables, read_tables};
 pub use word::Word;

@@ -5,6 +5,7 @@ ghost use Rattle.toml.specs.Data.{Data, get_member, as_table};
 ghost use Rattle.toml.specs.View.{view, table_view};
 ghost use Rattle.op_tables.specs.Places.{Shape, Number, number_32, Table as TableShape, Rows, Keys, required, optional};
 ghost use Rattle.op_tables.specs.Judgement.{shape_fault, key_fault, keys_fault, row_fault, fault_of_array, fault_of_rows};
+ghost use Rattle.op_tables.specs.TableViews.{preemption_of};
 ghost use Rattle.op_tables.specs.Values.{as_list, number_in, data_at, number_at as number_of, rows_at as rows_of, table_in};
 ghost use Rattle.op_tables.specs.declared.fault.TableFault.{TableFault as Fault};
 ghost use Rattle.op_tables.specs.declared.fault.TableFault.TheVariants.{MissingKey, BadValue};
@@ -99,11 +100,14 @@ pub fn bounded_at<const LEAST: u32, const MOST: u32>(
 }
 
 /// Whether bearers are pre-empted, at a key that has to stand.
+#[tactic(auto, using(crate::proofs::Views::preemption_is))]
 pub fn preemption_at(table: &Table, key: &str) -> Result<Preemption, TableFault>
     ensures judged { IfOk result (λ _. key_fault (required key.now (Number 0 1))
         (table_view table.now) ≡ None) }
     ensures read { IfOk result (λ p. number_of key.now (table_view table.now)
         ≡ preemption_number p) }
+    ensures value { IfOk result (λ p. p
+        ≡ preemption_of (number_of key.now (table_view table.now))) }
     ensures refused { IfErr result (λ fault. key_fault (required key.now (Number 0 1))
         (table_view table.now) ≡ Some fault) }
 {

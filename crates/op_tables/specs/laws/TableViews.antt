@@ -1,4 +1,4 @@
--- Classes and qualities lose nothing when they are seen as plain numbers.
+-- Classes lose nothing when they are seen as plain numbers.
 use Rattle.std.specs.Prelude.{◌≡◌, ℕ, refl}
 use Rattle.pcrf_values.specs.Numbers.{preemption_number}
 use Rattle.pcrf_values.specs.declared.rule.Preemption.{Preemption}
