@@ -1,1 +1,3 @@
+pub mod Beneath
+pub mod Formed
 pub mod States

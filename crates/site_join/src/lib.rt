@@ -1,9 +1,13 @@
 //! What a site holds: the records of all sessions, joined from operations in any order.
 #![tactic(auto)]
 
+mod fact_form;
+mod form;
 pub mod laws;
 mod operation;
+mod ranges;
 mod state;
 
+pub use form::LAST_COUNTER;
 pub use operation::{Operation, SessionFacts};
 pub use state::State;

@@ -1,8 +1,10 @@
 //! Operations: what accepted requests and pushes make, and what sites send each other.
 ghost use Rattle.std.specs.Prelude.{◌≡◌, ◌≤◌, IfOk, map};
 ghost use Rattle.pcrf_model.specs.Limits.{last_counter};
+ghost use Rattle.site_join.specs.Formed.{if_formed, operation_of};
 ghost use Rattle.site_join.specs.States.{session_of, facts_in};
 
+use crate::form::is_operation;
 use af_records::AfFact;
 use gx_records::GxFact;
 use pcrf_values::SessionId;
@@ -90,7 +92,25 @@ impl Model for Operation {
 }
 
 impl Operation {
-    /// The operation of these parts.
+    /// The operation of these parts; `None` where no site may make it. It has a counter of 1 or more and a site that there
+    /// may be; the CC-Request-Number, 0 for an application function's session; and facts on the session, at ascending
+    /// positions, of which none removes another, each with the tag that an operation of that stamp and number gives it, and
+    /// each rule that was told under its own name.
+    pub fn of(counter: u64, site: u8, number: u32, facts: SessionFacts) -> Option<Operation>
+        ensures { result ≡ if_formed (operation_of counter site number facts) }
+    {
+        if !is_operation(counter, site, number, &facts) {
+            return None;
+        }
+        Some(Operation {
+            counter,
+            site,
+            number,
+            facts,
+        })
+    }
+
+    /// The operation of these parts, which the caller makes of the form.
     pub fn stamped(counter: u64, site: u8, number: u32, facts: SessionFacts) -> Operation
         requires { counter ≤ last_counter }
         ensures { result ≡ record {

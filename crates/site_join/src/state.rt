@@ -1,5 +1,5 @@
 //! The records of all sessions, with the clock.
-ghost use Rattle.std.specs.Prelude.{◌≡◌, ℕ, List, ◌≤◌, [], IfOk, IfErr, OnOk, OnErr, IsSome};
+ghost use Rattle.std.specs.Prelude.{◌≡◌, ℕ, List, ◌≤◌, ◌↔◌, [], IsTrue, IfOk, IfErr, OnOk, OnErr, IsSome};
 ghost use Rattle.std.specs.Option.{option_copied};
 ghost use Rattle.pcrf_model.specs.Limits.{last_counter};
 ghost use Rattle.pcrf_model.specs.Sessions.{gx, af};
@@ -12,7 +12,7 @@ ghost use Rattle.site_join.specs.States.{record_facts, gx_with, af_with};
 use crate::operation::{Operation, SessionFacts};
 use af_records::AfRec;
 use gx_records::GxRec;
-use lattice_core::{Join, JoinTree};
+use lattice_core::{Join, JoinTree, same_facts};
 use pcrf_values::SessionId;
 use ranked::Ranked;
 use std::alloc::{AllocError, Global};
@@ -119,6 +119,19 @@ impl State {
             af,
             clock: self.clock,
         })
+    }
+
+    /// Both hold the same facts, and their clocks are equal. It takes no memory.
+    pub fn equal(&self, other: &State) -> bool
+        ensures { IsTrue result ↔ (self.now ≡ other.now) }
+    {
+        self.gx.note_valid();
+        self.af.note_valid();
+        other.gx.note_valid();
+        other.af.note_valid();
+        self.clock == other.clock
+            && same_facts(&self.gx, &other.gx)
+            && same_facts(&self.af, &other.af)
     }
 
     /// What is kept of both states; a refusal gives both back.
