@@ -1,13 +1,10 @@
-//! A world of sites that serve, make letters and take them.
+//! A world of sites that serve, make letters, take them and start again.
 #![tactic(auto)]
 
 mod identity;
-mod operation;
-mod shown;
+mod letter;
 mod site;
 mod world;
 
-pub use operation::{GxFields, GxOperation};
-pub use shown::GxSession;
 pub use site::PlainSite;
 pub use world::{World, WorldEvent, WorldFault, WorldOutcome};

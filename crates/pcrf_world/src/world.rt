@@ -1,9 +1,14 @@
 //! A world of sites, which serve requests, make letters and take them.
 ghost use Rattle.std.specs.Prelude.{◌≡◌, length, slice_get, IfOk};
 ghost use Rattle.std.specs.Option.{option_copied};
+ghost use Rattle.pcrf_model.specs.Worlds.{WorldTook, start, world_view, after, after_all, Gives, GivesAll, HoldAlike};
+ghost use Rattle.pcrf_world.specs.Values.{event_value, answer_value, events_value, answers_value, setting};
 
-use crate::operation::GxOperation;
+use crate::letter::Letter;
 use crate::site::PlainSite;
+use gx_profile::GxReply;
+use op_tables::Tables;
+use pcrf_values::DefaultQuality;
 use pcrf_wire::{Reply, Request};
 use std::alloc::{AllocError, Global};
 use std::marker::Model;
@@ -18,6 +23,8 @@ pub enum WorldEvent {
     Letter(usize, usize),
     /// A site takes a letter.
     Merge(usize, usize),
+    /// A site starts again, empty.
+    Restart(usize),
 }
 
 /// What an event gave.
@@ -29,6 +36,8 @@ pub enum WorldOutcome {
     Lettered(usize),
     /// The letter was taken.
     Merged,
+    /// The site began this epoch.
+    Restarted(u16),
 }
 
 /// Why an event gave nothing.
@@ -38,6 +47,8 @@ pub enum WorldFault {
     NoSuchSite,
     #[error("there is no letter of that number")]
     NoSuchLetter,
+    #[error("the site is in its last epoch")]
+    EpochFull,
     /// Memory ran out; of the letter's operations so many stand taken.
     #[error("no memory, with {taken} operations of the letter taken")]
     NoMemory {
@@ -46,45 +57,31 @@ pub enum WorldFault {
     },
 }
 
-/// What a site wrote for a peer.
-#[derive(Drop)]
-struct Letter {
-    operations: Vec<GxOperation>,
-}
-
-impl Model for Letter {
-    ghost use Rattle.std.specs.Prelude.{List, map};
-    ghost use Rattle.pcrf_model.specs.Operations.{Operation};
-    ghost use Rattle.pcrf_world.specs.Operations.{operation_of};
-
-    ghost Value = { List Operation };
-
-    ghost view = { λ l. map operation_of l.operations.items };
-}
-
-/// Sites, and the letters that they made.
+/// Sites with the same operator tables, and the letters that they made.
 #[derive(Drop)]
 pub struct World {
     alloc: Global,
+    tables: Tables,
     sites: Vec<PlainSite>,
     letters: Vec<Letter>,
 }
 
 impl Model for World {
-    ghost use Rattle.pcrf_world.specs.Worlds.{WorldValue};
+    ghost use Rattle.pcrf_world.specs.Values.{WorldValue};
 
     ghost Value = { WorldValue };
 
-    ghost view = { λ w. record { sites = w.sites.items; letters = w.letters.items } };
+    ghost view = { λ w. record {
+      tables = w.tables;
+      seen = record { sites = w.sites.items; letters = w.letters.items };
+    } };
 }
 
 impl World {
-    ghost use Rattle.pcrf_world.specs.Worlds.{new_world, Agree};
-    ghost use Rattle.pcrf_world.specs.Steps.{MayGive, MayGiveAll, world_after, world_after_all};
-
     /// Sites 0 to n - 1, each of which took nothing, and no letter.
-    pub fn start(alloc: Global, n: u8) -> Result<World, AllocError>
-        ensures { IfOk result (λ world. world ≡ new_world n) }
+    pub fn start(alloc: Global, tables: Tables, n: u8) -> Result<World, AllocError>
+        ensures tables { IfOk result (λ world. world.tables ≡ tables) }
+        ensures seen { IfOk result (λ world. world.seen ≡ world_view (start n)) }
     {
         let mut sites = Vec::new(alloc);
         for number in 0..n {
@@ -92,6 +89,7 @@ impl World {
         }
         Ok(World {
             alloc,
+            tables,
             sites,
             letters: Vec::new(alloc),
         })
@@ -99,34 +97,50 @@ impl World {
 
     /// The site of a number.
     pub fn site(&self, i: usize) -> Option<&PlainSite>
-        ensures { option_copied result ≡ slice_get self.now.sites i }
+        ensures { option_copied result ≡ slice_get self.now.seen.sites i }
     {
         self.sites.get(i)
     }
 
-    /// Makes one event happen.
+    /// The operator tables of all sites.
+    pub fn tables(&self) -> &Tables
+        ensures { result.now ≡ self.now.tables }
+    {
+        &self.tables
+    }
+
+    /// Makes one event happen. Whatever the sites took before that shows as this world, after the event it shows what they
+    /// then took.
     pub fn step(&mut self, event: &WorldEvent) -> Result<WorldOutcome, WorldFault>
-        ensures answer { MayGive self.old event.now result }
-        ensures after { self.new ≡ world_after self.old event.now result }
-        ensures sites { length self.new.sites ≡ length self.old.sites }
+        ensures answer { Gives (setting self.old.tables) self.old.seen
+            (event_value event.now) (answer_value result) }
+        ensures after { (w : WorldTook) → world_view w ≡ self.old.seen → self.new.seen ≡ world_view
+            (after (setting self.old.tables) w (event_value event.now) (answer_value result)) }
+        ensures tables { self.new.tables ≡ self.old.tables }
+        ensures sites { length self.new.seen.sites ≡ length self.old.seen.sites }
     {
         match event {
             WorldEvent::Serve(i, request) => self.reply_at(*i, request),
             WorldEvent::Letter(i, j) => self.make_letter(*i, *j),
             WorldEvent::Merge(j, k) => self.take_letter(*j, *k),
+            WorldEvent::Restart(i) => self.restart(*i),
         }
     }
 
     /// Has a site reply to a request.
     fn reply_at(&mut self, i: usize, request: &Request) -> Result<WorldOutcome, WorldFault>
-        ensures answer { MayGive self.old (WorldEvent.Serve i request.now) result }
-        ensures after { self.new ≡ world_after self.old (WorldEvent.Serve i request.now) result }
+        ensures answer { Gives (setting self.old.tables) self.old.seen
+            (event_value (WorldEvent.Serve i request.now)) (answer_value result) }
+        ensures after { (w : WorldTook) → world_view w ≡ self.old.seen → self.new.seen ≡ world_view
+            (after (setting self.old.tables) w (event_value (WorldEvent.Serve i request.now)) (answer_value result)) }
+        ensures tables { self.new.tables ≡ self.old.tables }
+        ensures sites { length self.new.seen.sites ≡ length self.old.seen.sites }
     {
         if i >= self.sites.len() {
             return Err(WorldFault::NoSuchSite);
         }
         let site = &mut self.sites[i];
-        let Ok(reply) = site.serve(request) else {
+        let Ok(reply) = site.serve(&self.tables, request) else {
             return Err(WorldFault::NoMemory { taken: 0 });
         };
         Ok(WorldOutcome::Replied(reply))
@@ -134,17 +148,21 @@ impl World {
 
     /// Has the first site make a letter for the second.
     fn make_letter(&mut self, i: usize, j: usize) -> Result<WorldOutcome, WorldFault>
-        ensures answer { MayGive self.old (WorldEvent.Letter i j) result }
-        ensures after { self.new ≡ world_after self.old (WorldEvent.Letter i j) result }
+        ensures answer { Gives (setting self.old.tables) self.old.seen
+            (event_value (WorldEvent.Letter i j)) (answer_value result) }
+        ensures after { (w : WorldTook) → world_view w ≡ self.old.seen → self.new.seen ≡ world_view
+            (after (setting self.old.tables) w (event_value (WorldEvent.Letter i j)) (answer_value result)) }
+        ensures tables { self.new.tables ≡ self.old.tables }
+        ensures sites { length self.new.seen.sites ≡ length self.old.seen.sites }
     {
         if i >= self.sites.len() || j >= self.sites.len() {
             return Err(WorldFault::NoSuchSite);
         }
         let k = self.letters.len();
-        let Ok(operations) = self.sites[i].copy_of_log() else {
+        let Ok(letter) = Letter::of_log(self.tables.edition(), &self.sites[i]) else {
             return Err(WorldFault::NoMemory { taken: 0 });
         };
-        match self.letters.push(Letter { operations }) {
+        match self.letters.push(letter) {
             Ok(()) => Ok(WorldOutcome::Lettered(k)),
             Err(_) => Err(WorldFault::NoMemory { taken: 0 }),
         }
@@ -152,8 +170,12 @@ impl World {
 
     /// Has a site take a letter.
     fn take_letter(&mut self, j: usize, k: usize) -> Result<WorldOutcome, WorldFault>
-        ensures answer { MayGive self.old (WorldEvent.Merge j k) result }
-        ensures after { self.new ≡ world_after self.old (WorldEvent.Merge j k) result }
+        ensures answer { Gives (setting self.old.tables) self.old.seen
+            (event_value (WorldEvent.Merge j k)) (answer_value result) }
+        ensures after { (w : WorldTook) → world_view w ≡ self.old.seen → self.new.seen ≡ world_view
+            (after (setting self.old.tables) w (event_value (WorldEvent.Merge j k)) (answer_value result)) }
+        ensures tables { self.new.tables ≡ self.old.tables }
+        ensures sites { length self.new.seen.sites ≡ length self.old.seen.sites }
     {
         if j >= self.sites.len() {
             return Err(WorldFault::NoSuchSite);
@@ -163,28 +185,55 @@ impl World {
         }
         let letter = &self.letters[k];
         let site = &mut self.sites[j];
-        match site.take_all(letter.operations.as_slice()) {
+        match site.take_all(letter.operations()) {
             Ok(()) => Ok(WorldOutcome::Merged),
             Err((taken, _)) => Err(WorldFault::NoMemory { taken }),
         }
     }
 
-    /// A world of n sites after these events, with the answer to each; a fault is an answer and doesn't stop it.
+    /// Has a site start again.
+    fn restart(&mut self, i: usize) -> Result<WorldOutcome, WorldFault>
+        ensures answer { Gives (setting self.old.tables) self.old.seen
+            (event_value (WorldEvent.Restart i)) (answer_value result) }
+        ensures after { (w : WorldTook) → world_view w ≡ self.old.seen → self.new.seen ≡ world_view
+            (after (setting self.old.tables) w (event_value (WorldEvent.Restart i)) (answer_value result)) }
+        ensures tables { self.new.tables ≡ self.old.tables }
+        ensures sites { length self.new.seen.sites ≡ length self.old.seen.sites }
+    {
+        if i >= self.sites.len() {
+            return Err(WorldFault::NoSuchSite);
+        }
+        let site = &mut self.sites[i];
+        let Some(epoch) = site.restart() else {
+            return Err(WorldFault::EpochFull);
+        };
+        Ok(WorldOutcome::Restarted(epoch))
+    }
+
+    /// A world of n sites with these tables after these events, with the answer to each; a fault is an answer and doesn't
+    /// stop it.
     pub fn run(
         alloc: Global,
+        tables: Tables,
         n: u8,
         events: &[WorldEvent],
     ) -> Result<(World, Vec<Result<WorldOutcome, WorldFault>>), AllocError>
-        // Each answer is one that the definitions give on what the sites took.
-        ensures answers { IfOk result (λ r. MayGiveAll (new_world n) events.now r.1.items) }
-        // Each site took what the events and the answers say.
-        ensures taken { IfOk result (λ r.
-            r.0 ≡ world_after_all (new_world n) events.now r.1.items) }
+        // Each answer is one that the definitions give on what the sites took before.
+        ensures answers { IfOk result (λ r.
+            GivesAll (setting tables) (start n) (events_value events.now)
+            (answers_value r.1.items)) }
+        // Each site holds what is kept of what the events and the answers say that it took.
+        ensures holds { IfOk result (λ r. r.0.seen ≡ world_view (after_all (setting tables)
+            (start n) (events_value events.now) (answers_value r.1.items))) }
+        ensures tables { IfOk result (λ r. r.0.tables ≡ tables) }
         // Any two sites that took the same operations hold the same.
-        ensures same { IfOk result (λ r. Agree r.0) }
+        ensures same { IfOk result (λ r. HoldAlike (after_all (setting tables)
+            (start n) (events_value events.now) (answers_value r.1.items)).sites) }
     {
-        let mut world = World::start(alloc, n)?;
+        let mut world = World::start(alloc, tables, n)?;
         let mut answers = Vec::with_capacity(alloc, events.len())?;
+        // What an answer is made of: without a variable of these types the check of the loop does not find them.
+        let _parts: Option<(Reply, GxReply, DefaultQuality)> = None;
         for event in events {
             let answer = world.step(event);
             answers.push(answer).unwrap();

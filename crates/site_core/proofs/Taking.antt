@@ -6,7 +6,7 @@ use Rattle.pcrf_model.specs.Operations.{Operation, with_operation, holding_of}
 use Rattle.pcrf_model.proofs.UnionLaws.{union_assoc, union_nothing, kept_of-union, holding_of-Same}
 
 -- one operation more
-holding_of-one : (os : List Operation) (o : Operation) → holding_of (os ++ o ∷ []) ≡ with_operation (holding_of os) o
+pub holding_of-one : (os : List Operation) (o : Operation) → holding_of (os ++ o ∷ []) ≡ with_operation (holding_of os) o
 holding_of-one os o = holding_of-Same (os ++ o ∷ []) (o ∷ os) (Same-turn os (o ∷ []))
 
 -- ---- what is kept of what was taken, one operation after the other

@@ -1,9 +1,11 @@
--- The facts that an accepted credit control request makes, by its type.
+-- The facts that an accepted credit control request makes, by its type, and its operation.
 use Rattle.std.specs.Prelude.{ℕ, List, [], ◌∷◌}
 use Rattle.ranked.specs.declared.tag.Tag.{Tag}
 use Rattle.pcrf_values.specs.declared.request_kind.RequestKind.{RequestKind}
 use Rattle.pcrf_values.specs.declared.request_kind.RequestKind.TheVariants.{Initial, Update, Termination}
 use Rattle.pcrf_facts.specs.Facts.{Fact, End}
+use Rattle.pcrf_model.specs.Sessions.{gx}
+use Rattle.pcrf_model.specs.Operations.{Operation}
 use Rattle.pcrf_model.specs.Requests.{CcrValue}
 use Rattle.pcrf_model.specs.Making.{session_fields, ccr_fields}
 
@@ -16,3 +18,13 @@ abbrev pub made_facts : CcrValue → RequestKind → Tag → List Fact
 made_facts q Initial t = ccr_fields q t
 made_facts q Update t = ccr_fields q t
 made_facts q Termination t = End ∷ []
+
+-- the operation that it makes at a site, under a counter
+abbrev pub operation_made : ℕ → ℕ → CcrValue → RequestKind → Operation
+operation_made site counter q k = record {
+  counter = counter;
+  site = site;
+  number = q.number;
+  session = gx q.session;
+  facts = made_facts q k (record { number = q.number; counter = counter; site = site });
+}

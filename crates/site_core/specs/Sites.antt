@@ -5,16 +5,16 @@ use Rattle.pcrf_model.specs.Operations.{Operation, with_operation, holding_of}
 use Rattle.pcrf_model.specs.Requests.{CcrValue}
 use Rattle.pcrf_model.specs.Replies.{Outcome}
 use Rattle.pcrf_model.specs.Serving.{serve_ccr}
-use Rattle.pcrf_model.specs.Tables.{open_tables}
+use Rattle.pcrf_model.specs.Tables.{Tables}
 use Rattle.pcrf_model.specs.Worlds.{SiteView}
 
 -- a site that took nothing, in its first epoch
 abbrev pub new_site : ℕ → SiteView
 new_site number = record { number = number; epoch = 1; state = record { holding = nothing_held; log = [] } }
 
--- What the definitions give on what the site holds: without operator tables, and with nothing told as yet.
-abbrev pub ccr_served : SiteView → CcrValue → Outcome
-ccr_served s q = serve_ccr 0 open_tables s.number s.state.holding q
+-- what the definitions give by these tables on what the site holds, with nothing told as yet
+abbrev pub ccr_served : Tables → SiteView → CcrValue → Outcome
+ccr_served t s q = serve_ccr 0 t s.number s.state.holding q
 
 -- with one operation: what is kept of it is held
 abbrev pub with_one : SiteView → Operation → SiteView

@@ -93,7 +93,8 @@ fn fields_of(
     tag: Tag,
     last: OpenRequestType,
 ) -> Result<Vec<GxFact>, AllocError>
-    ensures { IfOk result (λ facts. map fact_of facts.items ≡ fields_set (ccr_view ccr.now) tag last) }
+    ensures { IfOk result (λ facts.
+        map fact_of facts.items ≡ fields_set (ccr_view ccr.now) tag last) }
 {
     let mut facts = Vec::new(alloc);
     put_address(&mut facts, tag, &ccr.address)?;

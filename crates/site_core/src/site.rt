@@ -1,30 +1,32 @@
 //! One site: what it holds, and the operations that it made itself in its present epoch.
 ghost use Rattle.std.specs.Prelude.{◌≡◌, ◌<◌, ◌≤◌, ◌+◌, [], ◌∷◌, None, Some, false, true, length, take, cond, IfOk, OnOk, OnErr, IfErr, IfSome};
 ghost use Rattle.std.specs.Option.{option_copied};
-ghost use Rattle.pcrf_values.specs.Results.{unable_to_comply, unknown_session_id};
+ghost use Rattle.pcrf_values.specs.Results.{authorization_rejected, unable_to_comply};
 ghost use Rattle.pcrf_facts.specs.Held.{is_ended};
 ghost use Rattle.pcrf_facts.specs.Live.{gx_is_live};
 ghost use Rattle.pcrf_model.specs.Limits.{last_counter, last_epoch};
-ghost use Rattle.pcrf_model.specs.Tables.{open_tables};
 ghost use Rattle.pcrf_model.specs.Holdings.{kept_of};
-ghost use Rattle.pcrf_model.specs.Refusals.{is_clock_full, ccr_refusal, lacks_parameters};
-ghost use Rattle.pcrf_model.specs.Flows.{or_else};
+ghost use Rattle.pcrf_model.specs.Sessions.{gx};
+ghost use Rattle.pcrf_model.specs.Views.{view};
+ghost use Rattle.pcrf_model.specs.Rules.{quality_of};
+ghost use Rattle.pcrf_model.specs.Refusals.{is_clock_full, ccr_refusal, lacks_parameters, names_no_row};
+ghost use Rattle.pcrf_facts.specs.FlowWords.{or_else};
 ghost use Rattle.gx_profile.specs.Requests.{ccr_view};
 ghost use Rattle.site_join.specs.States.{record_facts};
 ghost use Rattle.site_core.specs.Replies.{gx_reply_value};
 
 use crate::facts::facts_made;
-use dia_base::codes::results::{INITIAL_PARAMETERS, UNABLE_TO_COMPLY, UNKNOWN_SESSION_ID};
+use dia_base::codes::results::{
+    AUTHORIZATION_REJECTED, INITIAL_PARAMETERS, UNABLE_TO_COMPLY, UNKNOWN_SESSION_ID,
+};
 use gx_profile::{Ccr, GxReply};
 use gx_records::GxRec;
-use pcrf_values::{Refusal, RequestKind};
+use op_tables::Tables;
+use pcrf_values::{Apn, DefaultQuality, Refusal, RequestKind, SessionId};
 use ranked::{Ranked, Tag};
-use site_join::{Operation, SessionFacts, State};
+use site_join::{LAST_COUNTER, Operation, SessionFacts, State};
 use std::alloc::{AllocError, Global};
 use std::marker::Model;
-
-/// The last counter of any operation: this project's own limit.
-const LAST_COUNTER: u64 = (1 << 63) - 1;
 
 /// A site: its number and epoch, what it holds, and the operations that it made itself in this epoch, in order.
 #[derive(Drop)]
@@ -49,6 +51,8 @@ impl Model for Site {
 }
 
 impl Site {
+    ghost use Rattle.site_core.specs.Facts.{operation_made};
+    ghost use Rattle.site_core.specs.Replies.{quality_told};
     ghost use Rattle.site_core.specs.Sites.{new_site, ccr_served, with_made, with_one, with_taken, started_again};
 
     /// A site that took nothing, in its first epoch.
@@ -92,20 +96,31 @@ impl Site {
         copy_all(self.alloc, self.log.as_slice())
     }
 
-    /// Serves a credit control request. An error changes nothing.
-    pub fn serve_ccr(&mut self, ccr: &Ccr) -> Result<GxReply, AllocError>
-        ensures reply { IfOk result (λ reply.
-            gx_reply_value reply ≡ (ccr_served self.old (ccr_view ccr.now)).reply) }
-        ensures ok { OnOk result
-            (self.new ≡ with_made self.old (ccr_served self.old (ccr_view ccr.now)).added) }
+    /// Serves a credit control request by these tables. An error changes nothing.
+    pub fn serve_ccr(&mut self, tables: &Tables, ccr: &Ccr) -> Result<GxReply, AllocError>
+        ensures reply { IfOk result (λ reply. gx_reply_value reply
+            ≡ (ccr_served tables.now self.old (ccr_view ccr.now)).reply) }
+        ensures ok { OnOk result (self.new
+            ≡ with_made self.old (ccr_served tables.now self.old (ccr_view ccr.now)).added) }
         ensures err { OnErr result (self.new ≡ self.old) }
     {
-        if let Some(refusal) = self.standing_refusal(ccr) {
+        if let Some(refusal) = self.standing_refusal(tables, ccr) {
             return Ok(GxReply::Refused(refusal));
         }
         let Some(counter) = self.next_counter() else {
             return Ok(GxReply::Refused(Refusal::base(UNABLE_TO_COMPLY)));
         };
+        self.make(ccr, counter)?;
+        Ok(GxReply::Granted(self.told_quality(tables, ccr)))
+    }
+
+    /// Adds the operation of an accepted request under this counter, or changes nothing.
+    fn make(&mut self, ccr: &Ccr, counter: u64) -> Result<(), AllocError>
+        requires { counter ≤ last_counter }
+        ensures ok { OnOk result (self.new ≡ with_made self.old (Some
+            (operation_made self.old.number counter (ccr_view ccr.now) ccr.now.kind))) }
+        ensures err { OnErr result (self.new ≡ self.old) }
+    {
         let tag = Tag {
             number: ccr.number,
             counter,
@@ -114,12 +129,34 @@ impl Site {
         let session = ccr.session.try_copy()?;
         let facts = SessionFacts::Gx(session, facts_made(self.alloc, ccr, tag)?);
         self.add(Operation::stamped(counter, self.number, ccr.number, facts))?;
-        Ok(GxReply::Granted)
+        Ok(())
     }
 
-    /// The refusal by what is known of the session and given by the request; the end of the clock comes after it.
-    fn standing_refusal(&self, ccr: &Ccr) -> Option<Refusal>
-        ensures { ccr_refusal open_tables self.now.state.holding (ccr_view ccr.now)
+    /// The default quality of service that the reply to an accepted request tells.
+    fn told_quality(&self, tables: &Tables, ccr: &Ccr) -> Option<DefaultQuality>
+        ensures { result ≡ quality_told tables.now (view self.now.state.holding.facts)
+            ccr.now.session ccr.now.kind }
+    {
+        match ccr.kind {
+            RequestKind::Initial => self.quality_of(tables, &ccr.session),
+            RequestKind::Update => self.quality_of(tables, &ccr.session),
+            RequestKind::Termination => None,
+        }
+    }
+
+    /// The default quality of service of the access point that a session shows.
+    fn quality_of(&self, tables: &Tables, session: &SessionId) -> Option<DefaultQuality>
+        ensures { result
+            ≡ quality_of tables.now (view self.now.state.holding.facts) (gx session.now) }
+    {
+        let (_, apn) = self.state.gx(session)?.apn()?;
+        tables.apn(apn)?.default_quality()
+    }
+
+    /// The refusal by what is known of the session, given by the request and stands in the tables; the end of the clock
+    /// comes after it.
+    fn standing_refusal(&self, tables: &Tables, ccr: &Ccr) -> Option<Refusal>
+        ensures { ccr_refusal tables.now self.now.state.holding (ccr_view ccr.now)
             ≡ or_else result
             (cond (is_clock_full self.now.state.holding) (Some unable_to_comply) None) }
     {
@@ -127,9 +164,11 @@ impl Site {
         match ccr.kind {
             RequestKind::Initial if has_ended(known) => Some(Refusal::base(UNKNOWN_SESSION_ID)),
             RequestKind::Initial if lacks(ccr) => Some(Refusal::experimental(INITIAL_PARAMETERS)),
-            RequestKind::Initial => None,
-            RequestKind::Update => unless_live(known),
-            RequestKind::Termination => unless_live(known),
+            RequestKind::Initial => row_refusal(tables, &ccr.apn),
+            RequestKind::Update if !is_live(known) => Some(Refusal::base(UNKNOWN_SESSION_ID)),
+            RequestKind::Update => row_refusal(tables, &ccr.apn),
+            RequestKind::Termination if !is_live(known) => Some(Refusal::base(UNKNOWN_SESSION_ID)),
+            RequestKind::Termination => None,
         }
     }
 
@@ -215,14 +254,23 @@ fn has_ended(known: Option<&GxRec>) -> bool
     }
 }
 
-/// The refusal of a request that needs a live session.
-fn unless_live(known: Option<&GxRec>) -> Option<Refusal>
-    ensures { result ≡ cond (gx_is_live (record_facts (option_copied known.entry)))
-        None (Some unknown_session_id) }
+/// The session is live.
+fn is_live(known: Option<&GxRec>) -> bool
+    ensures { result ≡ gx_is_live (record_facts (option_copied known.entry)) }
 {
     match known {
-        Some(session) if session.live() => None,
-        _ => Some(Refusal::base(UNKNOWN_SESSION_ID)),
+        Some(session) => session.live(),
+        None => false,
+    }
+}
+
+/// The refusal of a request that names an access point without a row in the tables.
+fn row_refusal(tables: &Tables, apn: &Option<Apn>) -> Option<Refusal>
+    ensures { result ≡ cond (names_no_row tables.now apn.now) (Some authorization_rejected) None }
+{
+    match apn {
+        Some(name) if tables.apn(name).is_none() => Some(Refusal::base(AUTHORIZATION_REJECTED)),
+        _ => None,
     }
 }
 

@@ -1,0 +1,39 @@
+-- What is seen of one site after each event is what is seen of what it then took.
+use Rattle.std.proofs.Common.{◌≡◌, ◌+◌, List, [], ◌∷◌, ◌++◌, length, Option, Some, None, refl, sym, ap, ◌∙◌, append-nil}
+use Rattle.std.proofs.lemmas.List.{length-append}
+use Rattle.pcrf_model.specs.Holdings.{Holding, under, union, kept_of}
+use Rattle.pcrf_model.specs.Operations.{Operation, holding_of}
+use Rattle.pcrf_model.specs.Requests.{RequestValue}
+use Rattle.pcrf_model.specs.Replies.{Outcome}
+use Rattle.pcrf_model.specs.Serving.{serve}
+use Rattle.pcrf_model.specs.Tables.{Tables}
+use Rattle.pcrf_model.specs.Worlds.{SiteTook, taken_holding, site_view, made, restarted}
+use Rattle.pcrf_model.proofs.UnionLaws.{kept_of-union, holding_of-append}
+use Rattle.pcrf_model.proofs.ReadingLaws.{serve-kept_of}
+use Rattle.site_core.specs.Sites.{with_made, started_again}
+use Rattle.site_core.proofs.Taking.{holding_of-one}
+use Rattle.pcrf_world.specs.Values.{setting, served}
+
+-- an operation that the site made
+site_made : (s : SiteTook) (o : Option Operation) → site_view (made o s) ≡ with_made (site_view s) o
+site_made s None =
+    let taken = append-nil s.taken in
+    let log = append-nil s.log in
+    λ i. site_view (record s { taken = taken i; log = log i })
+site_made s (Some o) =
+    let held = ap kept_of (holding_of-one s.taken o) ∙ sym (kept_of-union (taken_holding s) (record { facts = under o.session o.facts; clock = o.counter })) in
+    λ i. record (site_view s) { state = record { holding = held i; log = s.log ++ o ∷ [] } }
+
+-- a request that it served
+pub site_serves : (t : Tables) (s : SiteTook) (q : RequestValue) → site_view (made (serve (setting t).most t s.number (taken_holding s) q).added s) ≡ with_made (site_view s) (served t (site_view s) q).added
+site_serves t s q = site_made s (serve (setting t).most t s.number (taken_holding s) q).added ∙ ap (λ (o : Outcome). with_made (site_view s) o.added) (sym (serve-kept_of (setting t).most t s.number (taken_holding s) q))
+
+-- operations of a letter
+pub site_takes : (s : SiteTook) (os : List Operation) → kept_of (holding_of (s.taken ++ os)) ≡ kept_of (union (kept_of (taken_holding s)) (holding_of os))
+site_takes s os = ap kept_of (holding_of-append s.taken os) ∙ sym (kept_of-union (taken_holding s) (holding_of os))
+
+-- a restart
+pub site_starts_again : (s : SiteTook) → site_view (restarted s) ≡ started_again (site_view s)
+site_starts_again s =
+    let epoch = length-append s.past (s.log ∷ []) in
+    λ i. record (started_again (site_view s)) { epoch = epoch i + 1 }

@@ -1,0 +1,53 @@
+//! What sites write to each other.
+ghost use Rattle.std.specs.Prelude.{◌≡◌, IfOk};
+ghost use Rattle.pcrf_world.specs.Letters.{letter_of_log};
+
+use crate::site::PlainSite;
+use site_join::Operation;
+use std::alloc::AllocError;
+use std::marker::Model;
+
+/// The operations that a site made itself in an epoch, in order, and the edition of its operator tables.
+#[derive(Drop)]
+pub(crate) struct Letter {
+    edition: u32,
+    site: u8,
+    epoch: u16,
+    operations: Vec<Operation>,
+}
+
+impl Model for Letter {
+    ghost use Rattle.pcrf_model.specs.Letters.{LetterValue, Range};
+
+    ghost Value = { LetterValue };
+
+    ghost view = { λ l. record {
+      edition = l.edition;
+      site = l.site;
+      epoch = l.epoch;
+      body = Range 0 l.operations.items;
+    } };
+}
+
+impl Letter {
+    ghost use Rattle.pcrf_model.specs.Letters.{Range};
+
+    /// The letter of a site's whole log, under this edition of the operator tables.
+    pub(crate) fn of_log(edition: u32, site: &PlainSite) -> Result<Letter, AllocError>
+        ensures { IfOk result (λ letter. letter ≡ letter_of_log edition site.now) }
+    {
+        Ok(Letter {
+            edition,
+            site: site.number(),
+            epoch: site.epoch(),
+            operations: site.copy_of_log()?,
+        })
+    }
+
+    /// The operations that it carries.
+    pub(crate) fn operations(&self) -> &[Operation]
+        ensures { self.now.body ≡ Range 0 result.now }
+    {
+        self.operations.as_slice()
+    }
+}
