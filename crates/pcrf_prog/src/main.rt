@@ -1,6 +1,7 @@
 //! The program `pcrf`.
 #![tactic(auto)]
 
+mod operator_tables;
 mod run;
 #[cfg(test)]
 mod tests;
@@ -8,9 +9,9 @@ mod tests;
 use std::process::ExitCode;
 
 fn main(rt: HostRuntime) -> ExitCode {
-    let Ok(words) = run::words(&rt) else {
-        return ExitCode::from(run::NO_MEMORY);
+    let status = match run::words(&rt) {
+        Ok(words) => run::run(&rt, words.as_slice(), rt.stdin(), rt.stdout(), rt.stderr()),
+        Err(error) => run::no_words(rt.stderr(), &error),
     };
-    let status = run::run(&rt, words.as_slice(), rt.stdin(), rt.stdout(), rt.stderr());
     ExitCode::from(status)
 }

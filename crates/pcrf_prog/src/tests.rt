@@ -1,7 +1,80 @@
 //! What the program prints on its faults, and its exit status.
-use crate::run::run;
+use crate::run::{no_words, run};
 use std::io::{self, ErrorKind, Read, Write};
 use std::test::Fail;
+use std::{env, fs, process};
+
+/// A script, and what it prints.
+const SCRIPT: &str = "sites 1\n";
+
+/// The operator tables of a network with calls.
+const TELEPHONY: &str = "edition = 7
+rtcp_bps = 5000
+[signalling]
+qci = 5
+priority = 9
+capability = 1
+vulnerability = 0
+max_ul = 32000
+max_dl = 32000
+precedence = 50
+[[media]]
+type = 0
+qci = 1
+priority = 2
+capability = 0
+vulnerability = 1
+max_ul = 64000
+max_dl = 64000
+precedence = 100
+[[apn]]
+name = \"ims\"
+[apn.default]
+qci = 5
+priority = 9
+capability = 1
+vulnerability = 0
+ambr_ul = 1000000
+ambr_dl = 2000000
+[[apn.rule]]
+name = \"sip\"
+qci = 5
+priority = 9
+capability = 1
+vulnerability = 0
+max_ul = 32000
+max_dl = 32000
+precedence = 40
+status = 2
+filters = [\"permit out ip from any to any\"]
+[[apn]]
+name = \"net\"
+";
+
+/// An initial request at the access point `IMS`, then an update that gives one without a row.
+const REQUESTS: &str = "sites 1
+msg 0 010000a4c0000110010000160000000100000002000001074000000e67773b313b310000000001084000000a67770000000001284000000972000000000001024000000c01000016000001a04000000c000000010000019f4000000c00000000000001bb4000002c000001c24000000c00000001000001bc4000001730303130313030303030303030303100000000084000000c0a0000010000001e4000000b494d5300
+msg 0 0100006cc0000110010000160000000100000002000001074000000e67773b313b310000000001084000000a67770000000001284000000972000000000001024000000c01000016000001a04000000c000000020000019f4000000c000000010000001e4000000c6e6f6e65
+show 0
+";
+
+/// What they print with these tables: the quality of service of the row, then DIAMETER_AUTHORIZATION_REJECTED.
+const ANSWERS: &str = "sites 1
+answer 010000f040000110010000160000000100000002000001074000000e67773b313b310000000001024000000c01000016000001084000000a733000000000012840000009720000000000010c4000000c000007d1000001a04000000c000000010000019f4000000c00000000000003f8c000002c000028af0000041180000010000028af000f42400000041080000010000028af001e84800000041980000058000028af00000404c0000010000028af000000050000040a8000003c000028af0000041680000010000028af000000090000041780000010000028af000000010000041880000010000028af00000000
+answer 0100006c40000110010000160000000100000002000001074000000e67773b313b310000000001024000000c01000016000001084000000a733000000000012840000009720000000000010c4000000c0000138b000001a04000000c000000020000019f4000000c00000001
+clock 1
+gx gw;1;1 live 10.0.0.1 ims home 0
+end
+";
+
+/// What they print with the tables that the program holds: no quality of service.
+const HELD_ANSWERS: &str = "sites 1
+answer 0100006c40000110010000160000000100000002000001074000000e67773b313b310000000001024000000c01000016000001084000000a733000000000012840000009720000000000010c4000000c000007d1000001a04000000c000000010000019f4000000c00000000
+answer 0100006c40000110010000160000000100000002000001074000000e67773b313b310000000001024000000c01000016000001084000000a733000000000012840000009720000000000010c4000000c0000138b000001a04000000c000000020000019f4000000c00000001
+clock 1
+gx gw;1;1 live 10.0.0.1 ims home 0
+end
+";
 
 /// A reader and a writer that fail at each call.
 #[derive(Drop)]
@@ -23,11 +96,55 @@ impl Write for Failing {
     }
 }
 
+/// What a run prints, what it tells of faults, and its status.
+#[derive(Drop)]
+struct Ended {
+    printed: Vec<u8>,
+    told: Vec<u8>,
+    status: u8,
+}
+
+/// Runs a script with these words behind the program's name.
+fn run_words(rt: &HostRuntime, words: &[&str], script: &str) -> Result<Ended, Fail> {
+    let mut all = vec![in rt.alloc(); String::from_str(rt.alloc(), "pcrf")?]?;
+    for word in words {
+        all.push(String::from_str(rt.alloc(), word)?)?;
+    }
+    let (mut printed, mut told) = (Vec::new(rt.alloc()), Vec::new(rt.alloc()));
+    let script = script.as_bytes();
+    let status = run(rt, all.as_slice(), script, &mut printed, &mut told);
+    Ok(Ended {
+        printed,
+        told,
+        status,
+    })
+}
+
+/// The path of a file of a test, which no other run has.
+fn path_of(rt: &HostRuntime, name: &str) -> Result<String, Fail> {
+    let id = process::id(rt.process());
+    let folder = env::temp_dir(rt)?;
+    let path = folder.join(
+        rt.alloc(),
+        format!(in rt.alloc(); "pcrf_{name}_{id}")?.as_str(),
+    )?;
+    Ok(String::from_str(rt.alloc(), path.as_str())?)
+}
+
+/// Runs `pcrf world` with a file of these bytes.
+fn run_file(rt: &HostRuntime, name: &str, bytes: &[u8], script: &str) -> Result<Ended, Fail> {
+    let path = path_of(rt, name)?;
+    fs::write(rt, path.as_str(), bytes)?;
+    let ended = run_words(rt, &["world", path.as_str()], script)?;
+    fs::remove_file(rt, path.as_str())?;
+    Ok(ended)
+}
+
 #[test]
 fn scripts_end_with_their_status(rt: HostRuntime) -> Result<(), Fail> {
     let cases = [
         ("", "", 0, ""),
-        ("sites 2\n", "sites 2\n", 0, ""),
+        (SCRIPT, SCRIPT, 0, ""),
         (
             "sites 2\nsites 2\n",
             "sites 2\n",
@@ -36,11 +153,10 @@ fn scripts_end_with_their_status(rt: HostRuntime) -> Result<(), Fail> {
         ),
     ];
     for (script, printed, status, told) in cases {
-        let (mut out, mut faults) = (Vec::new(rt.alloc()), Vec::new(rt.alloc()));
-        let ended = run(&rt, &[], script.as_bytes(), &mut out, &mut faults);
-        assert_eq!(rt; ended, status, "{script:?}");
-        assert_eq!(rt; out.as_slice(), printed.as_bytes(), "{script:?}");
-        assert_eq!(rt; faults.as_slice(), told.as_bytes(), "{script:?}");
+        let ended = run_words(&rt, &[], script)?;
+        assert_eq!(rt; ended.status, status, "{script:?}");
+        assert_eq!(rt; ended.printed.as_slice(), printed.as_bytes(), "{script:?}");
+        assert_eq!(rt; ended.told.as_slice(), told.as_bytes(), "{script:?}");
     }
     Ok(())
 }
@@ -51,7 +167,7 @@ fn failed_input_and_output_are_told(rt: HostRuntime) -> Result<(), Fail> {
     assert_eq!(rt; run(&rt, &[], Failing, &mut out, &mut faults), 3);
     assert_eq!(rt; faults.as_slice(), b"pcrf: input failed\n".as_slice());
     let mut faults = Vec::new(rt.alloc());
-    let script = b"sites 1\n".as_slice();
+    let script = SCRIPT.as_bytes();
     assert_eq!(rt; run(&rt, &[], script, Failing, &mut faults), 3);
     assert_eq!(rt; faults.as_slice(), b"pcrf: output failed\n".as_slice());
     Ok(())
@@ -59,21 +175,123 @@ fn failed_input_and_output_are_told(rt: HostRuntime) -> Result<(), Fail> {
 
 #[test]
 fn words_are_read(rt: HostRuntime) -> Result<(), Fail> {
-    for (word, status, printed) in [
-        ("world", 0, "sites 1\n"),
-        ("bogus", 2, ""),
-        ("--help", 2, ""),
-    ] {
-        let words = vec![in rt.alloc();
-            String::from_str(rt.alloc(), "pcrf")?,
-            String::from_str(rt.alloc(), word)?,
-        ]?;
-        let (mut out, mut faults) = (Vec::new(rt.alloc()), Vec::new(rt.alloc()));
-        let script = b"sites 1\n".as_slice();
-        let ended = run(&rt, words.as_slice(), script, &mut out, &mut faults);
-        assert_eq!(rt; ended, status, "{word}");
-        assert_eq!(rt; out.as_slice(), printed.as_bytes(), "{word}");
-        assert_eq!(rt; faults.is_empty(), status == 0, "{word}");
+    let cases: [(&[&str], &str); 7] = [
+        (&["bogus"], "bogus"),
+        (&["world"], "<TABLES>"),
+        (&["world", "a.toml", "b.toml"], "b.toml"),
+        (&["world", "--bogus"], "--bogus"),
+        (&["--help"], "world"),
+        (&["help"], "world"),
+        (&["world", "--help"], "operator tables, in TOML"),
+    ];
+    for (words, named) in cases {
+        let ended = run_words(&rt, words, SCRIPT)?;
+        assert_eq!(rt; ended.status, 2, "{words:?}");
+        assert!(rt; ended.printed.is_empty(), "{words:?}");
+        let told = String::from_utf8_lossy(rt.alloc(), ended.told.as_slice())?;
+        assert!(rt; told.as_str().contains(named), "{words:?}: {told}");
     }
+    Ok(())
+}
+
+#[test]
+fn words_that_cannot_be_had_are_told(rt: HostRuntime) -> Result<(), Fail> {
+    let cases = [
+        (ErrorKind::InvalidData, 2, "pcrf: command line\n"),
+        (ErrorKind::OutOfMemory, 6, "pcrf: no memory\n"),
+    ];
+    for (kind, status, told) in cases {
+        let mut faults = Vec::new(rt.alloc());
+        let error = io::Error::from(kind);
+        assert_eq!(rt; no_words(&mut faults, &error), status, "{told:?}");
+        assert_eq!(rt; faults.as_slice(), told.as_bytes());
+    }
+    Ok(())
+}
+
+#[test]
+fn faults_of_tables_are_told_before_the_script_runs(rt: HostRuntime) -> Result<(), Fail> {
+    let cases: [(&[u8], &str); 6] = [
+        (b"edition = = 7", "pcrf: tables: syntax\n"),
+        (b"edition = 7", "pcrf: tables: missing key\n"),
+        (b"edition = -1", "pcrf: tables: bad value\n"),
+        (b"", "pcrf: tables: missing key\n"),
+        (b"edition = 7 # \xff", "pcrf: tables: unreadable\n"),
+        (b"\xc3", "pcrf: tables: unreadable\n"),
+    ];
+    for (bytes, told) in cases {
+        let ended = run_file(&rt, "faults", bytes, SCRIPT)?;
+        assert_eq!(rt; ended.status, 1, "{told:?}");
+        assert_eq!(rt; ended.told.as_slice(), told.as_bytes());
+        assert!(rt; ended.printed.is_empty(), "{told:?}");
+    }
+    Ok(())
+}
+
+#[test]
+fn a_row_that_stands_twice_is_told(rt: HostRuntime) -> Result<(), Fail> {
+    let tables = format!(in rt.alloc(); "{TELEPHONY}[[apn]]\nname = \"IMS\"\n")?;
+    let ended = run_file(&rt, "twice", tables.as_bytes(), SCRIPT)?;
+    assert_eq!(rt; ended.status, 1);
+    assert_eq!(rt;
+        ended.told.as_slice(),
+        b"pcrf: tables: duplicate row\n".as_slice()
+    );
+    assert!(rt; ended.printed.is_empty());
+    Ok(())
+}
+
+/// Whether tables at this path are told to be unreadable, before the script runs.
+fn is_unreadable(rt: &HostRuntime, path: &str) -> Result<bool, Fail> {
+    let ended = run_words(rt, &["world", path], SCRIPT)?;
+    Ok(
+        ended.status == 1
+            && ended.told.as_slice() == b"pcrf: tables: unreadable\n".as_slice()
+            && ended.printed.is_empty(),
+    )
+}
+
+#[test]
+fn files_that_cannot_be_read_are_told(rt: HostRuntime) -> Result<(), Fail> {
+    let path = path_of(&rt, "unreadable")?;
+    assert!(rt; is_unreadable(&rt, path.as_str())?, "no such file");
+    assert!(rt; is_unreadable(&rt, "")?, "no name");
+    assert!(rt; is_unreadable(&rt, "/dev/zero")?, "a file without an end");
+    fs::create_dir(&rt, path.as_str())?;
+    assert!(rt; is_unreadable(&rt, path.as_str())?, "a folder");
+    fs::remove_dir_all(&rt, path.as_str())?;
+    Ok(())
+}
+
+#[test]
+fn a_file_has_at_most_64_mebibytes(rt: HostRuntime) -> Result<(), Fail> {
+    let path = path_of(&rt, "large")?;
+    let file = fs::File::create(&rt, path.as_str())?;
+    file.set_len(67_108_865)?;
+    let is_told = is_unreadable(&rt, path.as_str())?;
+    fs::remove_file(&rt, path.as_str())?;
+    assert!(rt; is_told);
+    Ok(())
+}
+
+#[test]
+fn sites_have_the_tables_of_the_file(rt: HostRuntime) -> Result<(), Fail> {
+    let ended = run_file(&rt, "telephony", TELEPHONY.as_bytes(), REQUESTS)?;
+    assert_eq!(rt; ended.status, 0);
+    assert!(rt; ended.told.is_empty());
+    let printed = String::from_utf8_lossy(rt.alloc(), ended.printed.as_slice())?;
+    assert_eq!(rt; printed.as_str(), ANSWERS);
+    Ok(())
+}
+
+#[test]
+fn sites_of_a_run_without_words_have_the_tables_of_the_program(
+    rt: HostRuntime,
+) -> Result<(), Fail> {
+    let ended = run_words(&rt, &[], REQUESTS)?;
+    assert_eq!(rt; ended.status, 0);
+    assert!(rt; ended.told.is_empty());
+    let printed = String::from_utf8_lossy(rt.alloc(), ended.printed.as_slice())?;
+    assert_eq!(rt; printed.as_str(), HELD_ANSWERS);
     Ok(())
 }

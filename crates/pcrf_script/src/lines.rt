@@ -21,6 +21,8 @@ pub(crate) enum Line {
     Letter(Named, Named),
     /// A site takes a letter.
     Merge(Named, Named),
+    /// A site starts again, empty.
+    Restart(Named),
     /// A site shows what it holds.
     Show(Named),
 }
@@ -100,6 +102,7 @@ pub(crate) fn read_line(alloc: Global, line: &[u8]) -> Result<Line, LineFault> {
         (Some("msg"), Some(i), Some(hex)) => Ok(Line::Message(number(i)?, bytes(alloc, hex)?)),
         (Some("letter"), Some(i), Some(j)) => Ok(Line::Letter(number(i)?, number(j)?)),
         (Some("merge"), Some(j), Some(k)) => Ok(Line::Merge(number(j)?, number(k)?)),
+        (Some("restart"), Some(i), None) => Ok(Line::Restart(number(i)?)),
         (Some("show"), Some(i), None) => Ok(Line::Show(number(i)?)),
         _ => Err(LineFault::Bad),
     }

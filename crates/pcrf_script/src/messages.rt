@@ -104,7 +104,7 @@ fn put_served(
     out: &mut String,
 ) -> Result<(), LineFault>
     requires command { header.now.command < command_bound }
-    requires site { i < length world.old.sites }
+    requires site { i < length world.old.seen.sites }
 {
     let event = WorldEvent::Serve(i, request);
     let outcome = world.step(&event);

@@ -4,8 +4,9 @@ ghost use Rattle.pcrf_script.specs.Limits.{read_limit};
 
 use crate::lines::{Line, LineFault, read_line};
 use crate::messages::put_stream;
-use crate::printing::{put_outcome, put_site};
+use crate::printing::{put_outcome, put_restart, put_site};
 use dia_codec::Counted;
+use op_tables::Tables;
 use pcrf_world::{World, WorldEvent};
 use std::alloc::Global;
 use std::io::{Read, Write};
@@ -35,6 +36,7 @@ const LINE_LIMIT: usize = 200_000;
 #[derive(Drop)]
 struct Script {
     alloc: Global,
+    tables: Tables,
     world: Option<World>,
     line: Vec<u8>,
     number: u64,
@@ -42,9 +44,10 @@ struct Script {
 }
 
 impl Script {
-    fn start(alloc: Global) -> Script {
+    fn start(alloc: Global, tables: Tables) -> Script {
         Script {
             alloc,
+            tables,
             world: None,
             line: Vec::new(alloc),
             number: 0,
@@ -61,6 +64,7 @@ impl Script {
             Line::Message(i, bytes) => self.give(*i, bytes.as_slice()),
             Line::Letter(i, j) => self.happen(&WorldEvent::Letter(*i, *j)),
             Line::Merge(j, k) => self.happen(&WorldEvent::Merge(*j, *k)),
+            Line::Restart(i) => self.restart(*i),
             Line::Show(i) => self.show(*i),
         }
     }
@@ -70,7 +74,8 @@ impl Script {
         if self.world.is_some() {
             return Err(LineFault::Bad);
         }
-        self.world = Some(World::start(self.alloc, n)?);
+        let tables = self.tables.try_copy(self.alloc)?;
+        self.world = Some(World::start(self.alloc, tables, n)?);
         Ok(writeln!(self.out, "sites {n}")?)
     }
 
@@ -88,6 +93,15 @@ impl Script {
             return Err(LineFault::Bad);
         };
         Ok(put_outcome(&mut self.out, world.step(event))?)
+    }
+
+    /// Has a site start again.
+    fn restart(&mut self, i: usize) -> Result<(), LineFault> {
+        let Some(world) = &mut self.world else {
+            return Err(LineFault::Bad);
+        };
+        let answer = world.step(&WorldEvent::Restart(i));
+        Ok(put_restart(&mut self.out, i, answer)?)
     }
 
     /// Shows a site.
@@ -158,9 +172,10 @@ impl Script {
     }
 }
 
-/// Runs a script: reads it to its end, obeys line after line, and writes what each prints.
+/// Runs a script whose sites have these tables: reads it to its end, obeys line after line, and writes what each prints.
 pub fn run_script<R: Read, W: Write>(
     alloc: Global,
+    tables: Tables,
     reader: &mut Counted<R>,
     writer: &mut Counted<W>,
 ) -> ScriptEnd
@@ -173,7 +188,7 @@ pub fn run_script<R: Read, W: Write>(
     ensures no_read_failed { result ≡ ScriptEnd.Done → reader.new.failed ≡ reader.old.failed }
     ensures written { result ≡ ScriptEnd.Done → writer.new.failed ≡ writer.old.failed }
 {
-    let mut script = Script::start(alloc);
+    let mut script = Script::start(alloc, tables);
     let mut piece = [0u8; 4096];
     for _turn in 0..READ_LIMIT {
         let Ok(count) = reader.read(&mut piece) else {

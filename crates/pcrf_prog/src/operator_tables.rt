@@ -1,0 +1,83 @@
+//! The operator tables of a run: those of a file, or those that the program holds.
+use op_tables::{TableFault, Tables, read_tables};
+use std::alloc::Global;
+use std::fs::{self, OpenFile};
+use std::io::{self, ErrorKind, Read};
+use std::rt::Files;
+use std::str;
+use thiserror::Error;
+
+/// The most bytes that a file of tables may have: 64 MiB.
+const FILE_LIMIT: u64 = 67_108_864;
+
+/// The tables of a run without words: one access point with a name alone.
+const HELD: &str = "edition = 7
+rtcp_bps = 5000
+[signalling]
+qci = 5
+priority = 9
+capability = 1
+vulnerability = 0
+max_ul = 32000
+max_dl = 32000
+precedence = 50
+[[apn]]
+name = \"ims\"
+";
+
+/// Why a run has no tables.
+#[derive(Clone, Copy, Debug, PartialEq, Eq, Error)]
+pub enum TablesFault {
+    /// There is no such file, it is a folder, it has too many bytes, or they are no text.
+    #[error("unreadable")]
+    Unreadable,
+    /// The file's text is no operator tables, or memory ran out.
+    #[error("{0}")]
+    Refused(TableFault),
+}
+
+/// What a refused call of the system says of the tables.
+fn fault_of(error: &io::Error) -> TablesFault {
+    if error.kind() == ErrorKind::OutOfMemory {
+        return TablesFault::Refused(TableFault::NoMemory);
+    }
+    TablesFault::Unreadable
+}
+
+/// The bytes of a file. They are counted again as they are read, since the file may have grown, or may be a pipe,
+/// which tells no length.
+fn read_file<H: Files + AllocGlobal>(rt: &H, path: &str) -> io::Result<Vec<u8>> {
+    let file = fs::open(rt, path)?;
+    let told = file.metadata()?;
+    if told.is_dir() || told.len() > FILE_LIMIT {
+        return Err(io::Error::from(ErrorKind::InvalidInput));
+    }
+    let mut bytes = Vec::new(rt.alloc());
+    let count = file.take(FILE_LIMIT + 1).read_to_end(&mut bytes)?;
+    if count as u64 > FILE_LIMIT {
+        return Err(io::Error::from(ErrorKind::InvalidInput));
+    }
+    Ok(bytes)
+}
+
+/// The tables of a text.
+fn of_text(alloc: Global, text: &str) -> Result<Tables, TablesFault> {
+    read_tables(alloc, text).map_err(|fault| TablesFault::Refused(fault))
+}
+
+/// The tables of a file.
+pub fn of_file<H: Files + AllocGlobal>(rt: &H, path: &str) -> Result<Tables, TablesFault> {
+    let bytes = match read_file(rt, path) {
+        Ok(bytes) => bytes,
+        Err(error) => return Err(fault_of(&error)),
+    };
+    match str::from_utf8(bytes.as_slice()) {
+        Ok(text) => of_text(rt.alloc(), text),
+        Err(_) => Err(TablesFault::Unreadable),
+    }
+}
+
+/// The tables that the program holds.
+pub fn held(alloc: Global) -> Result<Tables, TablesFault> {
+    of_text(alloc, HELD)
+}
