@@ -7,6 +7,7 @@
 
 mod fingerprint;
 mod joins;
+mod letters;
 mod makings;
 mod places;
 mod samples;
@@ -16,6 +17,7 @@ mod values;
 
 use joins::{Form, Joining};
 use lattice_core::{JoinMap, JoinTree, Reg, Tombed};
+use letters::TakeLetter;
 use makings::{Copy, FoldApn, GatherSubscribers, ReadText};
 use pcrf_values::{Apn, Delta, Filters, Rule, RuleName, Subscriber, Subscribers};
 use places::{JoinAt, Place, PlaceAt};
@@ -115,6 +117,7 @@ fn try_all(alloc: Global) -> Tally {
     try_records::<Reg<Text>>(alloc, &mut tally);
     try_makings(alloc, &mut tally);
     try_copies(alloc, &mut tally);
+    tally.count(outcome_of::<TakeLetter>(alloc, ()), "take", "letter");
     tally
 }
 

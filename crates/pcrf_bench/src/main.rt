@@ -3,38 +3,50 @@
 //! Without an argument it does nothing and prints nothing. Each measure has a module, named as on the command line.
 #![tactic(auto)]
 
+mod gateway;
 mod map;
 mod records;
 mod report;
 mod rx;
+mod states;
 mod tables;
 
 use std::alloc::AllocGlobal;
 use std::env;
-use std::io::Print;
+use std::io::{self, Print};
 use std::time::Clock;
 
 /// Makes the measure of a name at a size.
-fn measure(rt: &(impl AllocGlobal + Clock + Print), name: &str, size: u32) -> anyhow::Result<()> {
+fn measure(rt: &(impl AllocGlobal + Clock + Print), name: &str, size: u32) -> io::Result<()> {
     match name {
         "map" => map::measure(rt, size),
         "records" => records::measure(rt, size),
         "records_kept" => records::keep(rt, size),
         "rx" => rx::measure(rt, size),
         "rx_kept" => rx::keep(rt, size),
+        "states" => states::measure(rt, size),
+        "states_kept" => states::keep(rt, size),
         "tables" => tables::measure(rt, size),
-        _ => anyhow::bail!("there is no measure {name}"),
+        _ => Err(io::Error::other("there is no such measure")),
     }
 }
 
-fn main(rt: HostRuntime) -> anyhow::Result<()> {
+/// Makes the measure of a name at a size, as they are written.
+fn measure_at(rt: &(impl AllocGlobal + Clock + Print), name: &str, size: &str) -> io::Result<()> {
+    match size.parse() {
+        Ok(size) => measure(rt, name, size),
+        Err(_) => Err(io::Error::other("a size is no number")),
+    }
+}
+
+fn main(rt: HostRuntime) -> io::Result<()> {
     let mut arguments = env::args(&rt)?;
     let _program = arguments.next();
     let Some(name) = arguments.next() else {
         return Ok(());
     };
     for size in arguments {
-        measure(&rt, name.as_str(), size.as_str().parse()?)?;
+        measure_at(&rt, name.as_str(), size.as_str())?;
     }
     Ok(())
 }

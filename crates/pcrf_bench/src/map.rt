@@ -1,10 +1,10 @@
 //! The map for many entries (`JoinTree`): an insert, a look-up and a join into a present key.
 use crate::report::print_each;
-use lattice_core::{JoinTree, Reg};
-use ranked::{Listed, Tag, Text};
+use lattice_core::{Join, JoinTree, Reg};
+use ranked::{Listed, Ranked, Tag, Text};
 use std::alloc::{AllocError, AllocGlobal, Global};
-use std::io::Print;
-use std::time::{Clock, Instant};
+use std::io::{self, Print};
+use std::time::{Clock, Duration, Instant};
 
 type Tree = JoinTree<Text, Reg<Text>>;
 
@@ -34,14 +34,23 @@ fn value_at(alloc: Global, counter: u64) -> Result<Reg<Text>, AllocError> {
     Ok(reg)
 }
 
+/// Joins a value in at a key.
+fn join_one<K: Ranked, V: Join>(
+    tree: &mut JoinTree<K, V>,
+    key: K,
+    value: V,
+) -> Result<(), AllocError> {
+    match tree.join_at(key, value) {
+        Ok(()) => Ok(()),
+        Err((refused, _)) => Err(refused),
+    }
+}
+
 /// Joins a value in at each key.
 fn join_all(alloc: Global, tree: &mut Tree, size: u32, counter: u64) -> Result<(), AllocError> {
     for place in 0..size {
         let key = key_at(alloc, place)?;
-        let value = value_at(alloc, counter)?;
-        if let Err((refused, _)) = tree.join_at(key, value) {
-            return Err(refused);
-        }
+        join_one(tree, key, value_at(alloc, counter)?)?;
     }
     Ok(())
 }
@@ -58,21 +67,46 @@ fn count_present(alloc: Global, tree: &Tree, size: u32) -> Result<u32, AllocErro
     Ok(present)
 }
 
-/// Prints the microseconds that each operation takes in a map of so many keys.
-pub fn measure(rt: &(impl AllocGlobal + Clock + Print), size: u32) -> anyhow::Result<()> {
-    let alloc = rt.alloc();
-    let mut tree = JoinTree::start(alloc);
+/// Joins a value in at each key, and tells how long that takes.
+fn time_joins(
+    rt: &(impl AllocGlobal + Clock),
+    tree: &mut Tree,
+    size: u32,
+    counter: u64,
+) -> io::Result<Duration> {
     let start = Instant::now(rt)?;
-    join_all(alloc, &mut tree, size, 1)?;
-    let insert = start.elapsed(rt)?;
+    join_all(rt.alloc(), tree, size, counter)?;
+    start.elapsed(rt)
+}
+
+/// Looks each key up, and prints how long that takes; the result is how many of them are there.
+fn measure_look_up(
+    rt: &(impl AllocGlobal + Clock + Print),
+    tree: &Tree,
+    size: u32,
+) -> io::Result<u32> {
     let start = Instant::now(rt)?;
-    let present = count_present(alloc, &tree, size)?;
+    let present = count_present(rt.alloc(), tree, size)?;
     let look_up = start.elapsed(rt)?;
-    let start = Instant::now(rt)?;
-    join_all(alloc, &mut tree, present, 2)?;
-    let join = start.elapsed(rt)?;
-    print_each(rt, "map: insert", size, insert)?;
     print_each(rt, "map: look-up", size, look_up)?;
-    print_each(rt, "map: join into a present key", size, join)?;
-    Ok(())
+    Ok(present)
+}
+
+/// Measures each operation in a map that is empty.
+fn measure_in(
+    rt: &(impl AllocGlobal + Clock + Print),
+    tree: &mut Tree,
+    size: u32,
+) -> io::Result<()> {
+    let insert = time_joins(rt, tree, size, 1)?;
+    print_each(rt, "map: insert", size, insert)?;
+    let present = measure_look_up(rt, tree, size)?;
+    let join = time_joins(rt, tree, present, 2)?;
+    print_each(rt, "map: join into a present key", size, join)
+}
+
+/// Prints the microseconds that each operation takes in a map of so many keys.
+pub fn measure(rt: &(impl AllocGlobal + Clock + Print), size: u32) -> io::Result<()> {
+    let mut tree = JoinTree::start(rt.alloc());
+    measure_in(rt, &mut tree, size)
 }

@@ -1,16 +1,16 @@
 //! Records of sessions (`gx_records`, `af_records`): made of so many facts, and two such records joined.
-use crate::report::print_each;
+use crate::gateway::initial_request;
+use crate::report::{add, given, only, print_each, text};
 use af_records::{AfFact, AfRec, FlowValue};
-use gx_records::{GxFact, GxRec, SessionValue};
+use gx_records::{GxFact, GxRec};
 use lattice_core::{Join, Tag};
 use pcrf_values::{
-    Apn, BoundedNumber, BoundedText, DiameterIdentity, FilterText, Filters, FlowStatus, Preemption,
-    RetentionPriority, Rule, RuleQos, Subscriber, Subscribers, SubscriptionType,
+    BoundedNumber, FilterText, Filters, FlowStatus, Preemption, RetentionPriority, Rule, RuleName,
+    RuleQos,
 };
 use std::alloc::{AllocError, AllocGlobal, Global};
 use std::fmt::Write as _;
-use std::io::Print;
-use std::net::Ipv4Addr;
+use std::io::{self, Print};
 use std::time::{Clock, Duration, Instant};
 
 /// How many facts are taken for each figure, at least.
@@ -30,208 +30,203 @@ fn tag(counter: u64) -> Tag {
     }
 }
 
-/// A fault of the measure itself.
-fn given<T>(value: Option<T>) -> anyhow::Result<T> {
-    match value {
-        Some(value) => Ok(value),
-        None => anyhow::bail!("a value out of range"),
-    }
+/// One filter.
+fn filters(alloc: Global, bytes: &[u8]) -> io::Result<Filters> {
+    let filter: FilterText = text(alloc, bytes)?;
+    given(Filters::of(only(alloc, filter)?))
 }
 
-/// A rule of one filter.
-fn rule(alloc: Global, name: &str) -> anyhow::Result<Rule> {
-    let name = given(BoundedText::read(alloc, name.as_bytes())?)?;
-    let text: FilterText = given(BoundedText::read(alloc, b"permit out ip from any to any")?)?;
-    let mut filters = Vec::new(alloc);
-    filters.push(text)?;
+/// The quality of service of a rule.
+fn quality() -> io::Result<RuleQos> {
     let priority = RetentionPriority {
         level: given(BoundedNumber::of(9))?,
         capability: Preemption::Disabled,
         vulnerability: Preemption::Enabled,
     };
-    let qos = RuleQos {
+    Ok(RuleQos {
         class: given(BoundedNumber::of(5))?,
         priority,
         max_uplink: 32_000,
         max_downlink: 32_000,
-    };
-    let filters = given(Filters::of(filters))?;
+    })
+}
+
+/// The name of a rule, by its place.
+fn name_at(alloc: Global, place: u32) -> io::Result<RuleName> {
+    let mut name = String::new(alloc);
+    write!(name, "af/af.host;1;{place}/1/1")?;
+    text(alloc, name.as_bytes())
+}
+
+/// A rule of one filter.
+fn rule(alloc: Global, place: u32) -> io::Result<Rule> {
+    let qos = quality()?;
+    let name = name_at(alloc, place)?;
+    let filters = filters(alloc, b"permit out ip from any to any")?;
     Ok(Rule::of(name, FlowStatus::Enabled, filters, qos, 40))
 }
 
 /// What the gateway was told of a rule, by the place of the rule.
-fn told(alloc: Global, place: u32, counter: u64) -> anyhow::Result<GxFact> {
-    let mut name = String::new(alloc);
-    write!(name, "af/af.host;1;{place}/1/1")?;
-    let rule = rule(alloc, name.as_str())?;
-    let name = given(BoundedText::read(alloc, name.as_bytes())?)?;
+fn told(alloc: Global, place: u32, counter: u64) -> io::Result<GxFact> {
+    let name = name_at(alloc, place)?;
+    let rule = rule(alloc, place)?;
     Ok(GxFact::Told(tag(counter), name, Some(rule)))
 }
 
-/// So many facts of a Gx session, each of a rule of its own.
-fn gx_facts(alloc: Global, size: u32, counter: u64) -> anyhow::Result<Vec<GxFact>> {
-    let mut facts = Vec::new(alloc);
-    for place in 0..size {
-        facts.push(told(alloc, place, counter)?)?;
-    }
-    Ok(facts)
+/// The filter of a flow of the first component.
+fn described(alloc: Global, flow: u32) -> io::Result<AfFact> {
+    let filters = filters(alloc, b"permit in ip from any to any")?;
+    Ok(AfFact::Flow(1, flow, tag(1), FlowValue::Descriptions(filters)))
 }
 
-/// So many facts of an AF session, each of a flow of its own.
-fn af_facts(alloc: Global, size: u32, counter: u64) -> Result<Vec<AfFact>, AllocError> {
-    let mut facts = Vec::new(alloc);
-    for place in 0..size {
-        let value = FlowValue::RateUp(place);
-        facts.push(AfFact::Flow(place / FLOWS, place % FLOWS, tag(counter), value))?;
-    }
-    Ok(facts)
+/// The uplink rate of a flow.
+fn rated(component: u32, flow: u32, counter: u64, rate: u32) -> AfFact {
+    AfFact::Flow(component, flow, tag(counter), FlowValue::RateUp(rate))
 }
 
-/// Makes records of the facts, and the time that one takes.
-fn make_gx(
+/// A record of one kind of session, made of facts.
+trait SessionRecord: Join {
+    /// A fact of such a session.
+    type Fact: Drop;
+
+    /// So many facts, each of a place of its own.
+    fn facts(alloc: Global, size: u32, counter: u64) -> io::Result<Vec<Self::Fact>>;
+
+    /// The facts of a typical session.
+    fn typical(alloc: Global) -> io::Result<Vec<Self::Fact>>;
+
+    /// The record of these facts.
+    fn record_of(alloc: Global, facts: &[Self::Fact]) -> Result<Self, AllocError>;
+}
+
+impl SessionRecord for GxRec {
+    type Fact = GxFact;
+
+    /// Each of a rule of its own.
+    fn facts(alloc: Global, size: u32, counter: u64) -> io::Result<Vec<GxFact>> {
+        let mut facts = Vec::new(alloc);
+        for place in 0..size {
+            add(&mut facts, told(alloc, place, counter))?;
+        }
+        Ok(facts)
+    }
+
+    /// As an initial request and its answer make them: one subscriber, one rule.
+    fn typical(alloc: Global) -> io::Result<Vec<GxFact>> {
+        let mut facts = initial_request(alloc, tag(1), 1)?;
+        add(&mut facts, told(alloc, 1, 1))?;
+        Ok(facts)
+    }
+
+    fn record_of(alloc: Global, facts: &[GxFact]) -> Result<GxRec, AllocError> {
+        GxRec::of_facts(alloc, facts)
+    }
+}
+
+impl SessionRecord for AfRec {
+    type Fact = AfFact;
+
+    /// Each of a flow of its own.
+    fn facts(alloc: Global, size: u32, counter: u64) -> io::Result<Vec<AfFact>> {
+        let mut facts = Vec::new(alloc);
+        for place in 0..size {
+            let fact = rated(place / FLOWS, place % FLOWS, counter, place);
+            add(&mut facts, Ok(fact))?;
+        }
+        Ok(facts)
+    }
+
+    /// The filters and the rate of two flows of one component.
+    fn typical(alloc: Global) -> io::Result<Vec<AfFact>> {
+        let mut facts = Vec::new(alloc);
+        for flow in 1..3 {
+            add(&mut facts, described(alloc, flow))?;
+            add(&mut facts, Ok(rated(1, flow, 1, 41_000)))?;
+        }
+        Ok(facts)
+    }
+
+    fn record_of(alloc: Global, facts: &[AfFact]) -> Result<AfRec, AllocError> {
+        AfRec::of_facts(alloc, facts)
+    }
+}
+
+/// Makes records of the facts, and tells how long that takes.
+fn time_making<R: SessionRecord>(
     rt: &(impl AllocGlobal + Clock),
-    facts: &[GxFact],
+    facts: &[R::Fact],
     rounds: u32,
-) -> anyhow::Result<Duration> {
+) -> io::Result<Duration> {
     let start = Instant::now(rt)?;
     for _ in 0..rounds {
-        let _ = GxRec::of_facts(rt.alloc(), facts)?;
+        R::record_of(rt.alloc(), facts)?;
     }
-    Ok(start.elapsed(rt)?)
+    start.elapsed(rt)
 }
 
-/// Makes joins of two records, which stay as they are.
-fn join_gx(rt: &impl Clock, ours: &GxRec, theirs: &GxRec, rounds: u32) -> anyhow::Result<Duration> {
+/// Makes joins of two records, which stay as they are, and tells how long that takes.
+fn time_joins<R: Join>(rt: &impl Clock, ours: &R, theirs: &R, rounds: u32) -> io::Result<Duration> {
     let start = Instant::now(rt)?;
     for _ in 0..rounds {
-        let _ = ours.joined_copy(theirs)?;
+        ours.joined_copy(theirs)?;
     }
-    Ok(start.elapsed(rt)?)
+    start.elapsed(rt)
 }
 
-/// Makes records of the facts.
-fn make_af(
-    rt: &(impl AllocGlobal + Clock),
-    facts: &[AfFact],
+/// A record of so many facts.
+fn record_at<R: SessionRecord>(alloc: Global, size: u32, counter: u64) -> io::Result<R> {
+    let facts = R::facts(alloc, size, counter)?;
+    Ok(R::record_of(alloc, facts.as_slice())?)
+}
+
+/// Prints what a record of so many facts takes.
+fn measure_making<R: SessionRecord>(
+    rt: &(impl AllocGlobal + Clock + Print),
+    what: &str,
+    size: u32,
     rounds: u32,
-) -> anyhow::Result<Duration> {
-    let start = Instant::now(rt)?;
-    for _ in 0..rounds {
-        let _ = AfRec::of_facts(rt.alloc(), facts)?;
-    }
-    Ok(start.elapsed(rt)?)
+) -> io::Result<()> {
+    let facts = R::facts(rt.alloc(), size, 1)?;
+    let made = time_making::<R>(rt, facts.as_slice(), rounds)?;
+    print_each(rt, what, rounds, made)
 }
 
-/// Makes joins of two records, which stay as they are.
-fn join_af(rt: &impl Clock, ours: &AfRec, theirs: &AfRec, rounds: u32) -> anyhow::Result<Duration> {
-    let start = Instant::now(rt)?;
-    for _ in 0..rounds {
-        let _ = ours.joined_copy(theirs)?;
-    }
-    Ok(start.elapsed(rt)?)
-}
-
-fn measure_gx(
+/// Prints what a join of two records of so many facts takes.
+fn measure_joins<R: SessionRecord>(
     rt: &(impl AllocGlobal + Clock + Print),
     size: u32,
     rounds: u32,
-) -> anyhow::Result<()> {
-    let facts = gx_facts(rt.alloc(), size, 1)?;
-    let later = gx_facts(rt.alloc(), size, 2)?;
-    let made = make_gx(rt, facts.as_slice(), rounds)?;
-    print_each(rt, "records: a Gx record of so many facts", rounds, made)?;
-    let ours = GxRec::of_facts(rt.alloc(), facts.as_slice())?;
-    let theirs = GxRec::of_facts(rt.alloc(), later.as_slice())?;
-    let joined = join_gx(rt, &ours, &theirs, rounds)?;
-    print_each(rt, "records: a join of two of them", rounds, joined)?;
-    Ok(())
-}
-
-fn measure_af(
-    rt: &(impl AllocGlobal + Clock + Print),
-    size: u32,
-    rounds: u32,
-) -> anyhow::Result<()> {
-    let facts = af_facts(rt.alloc(), size, 1)?;
-    let later = af_facts(rt.alloc(), size, 2)?;
-    let made = make_af(rt, facts.as_slice(), rounds)?;
-    print_each(rt, "records: an AF record of so many facts", rounds, made)?;
-    let ours = AfRec::of_facts(rt.alloc(), facts.as_slice())?;
-    let theirs = AfRec::of_facts(rt.alloc(), later.as_slice())?;
-    let joined = join_af(rt, &ours, &theirs, rounds)?;
-    print_each(rt, "records: a join of two of them", rounds, joined)?;
-    Ok(())
+) -> io::Result<()> {
+    let ours: R = record_at(rt.alloc(), size, 1)?;
+    let theirs: R = record_at(rt.alloc(), size, 2)?;
+    let joined = time_joins(rt, &ours, &theirs, rounds)?;
+    print_each(rt, "records: a join of two of them", rounds, joined)
 }
 
 /// Prints the microseconds that a record of so many facts takes, and a join of two such records, each the mean of many.
-pub fn measure(rt: &(impl AllocGlobal + Clock + Print), size: u32) -> anyhow::Result<()> {
-    let rounds = FACTS / size.max(1);
+pub fn measure(rt: &(impl AllocGlobal + Clock + Print), size: u32) -> io::Result<()> {
+    let rounds = (FACTS / size.max(1)).max(1);
     println!(rt; "records: {size} facts")?;
-    measure_gx(rt, size, rounds.max(1))?;
-    measure_af(rt, size, rounds.max(1))
+    measure_making::<GxRec>(rt, "records: a Gx record of so many facts", size, rounds)?;
+    measure_joins::<GxRec>(rt, size, rounds)?;
+    measure_making::<AfRec>(rt, "records: an AF record of so many facts", size, rounds)?;
+    measure_joins::<AfRec>(rt, size, rounds)
 }
 
-/// The facts of a Gx session as an initial request and its answer make them: one subscriber, one rule.
-fn initial_request(alloc: Global) -> anyhow::Result<Vec<GxFact>> {
-    let at = tag(1);
-    let mut facts = Vec::new(alloc);
-    let name = given(BoundedText::read(alloc, b"001010000000001")?)?;
-    let mut ids = Vec::new(alloc);
-    ids.push(Subscriber::of(SubscriptionType::EndUserImsi, name))?;
-    let ids = given(Subscribers::of(alloc, ids)?)?;
-    facts.push(GxFact::Field(at, SessionValue::Subscribers(ids)))?;
-    let address = Ipv4Addr::new(10, 0, 0, 1);
-    facts.push(GxFact::Field(at, SessionValue::Address(address)))?;
-    let apn = given(Apn::folded(alloc, b"ims")?)?;
-    facts.push(GxFact::Field(at, SessionValue::Apn(apn)))?;
-    let host: DiameterIdentity = given(BoundedText::read(alloc, b"gw.example")?)?;
-    facts.push(GxFact::Field(at, SessionValue::Host(host)))?;
-    let realm: DiameterIdentity = given(BoundedText::read(alloc, b"example")?)?;
-    facts.push(GxFact::Field(at, SessionValue::Realm(realm)))?;
-    let last = given(BoundedNumber::of(1))?;
-    facts.push(GxFact::Field(at, SessionValue::Last(last)))?;
-    facts.push(told(alloc, 1, 1)?)?;
-    Ok(facts)
-}
-
-/// Keeps as many records of one kind; the process's memory tells their size.
-fn keep_gx(alloc: Global, count: u32) -> anyhow::Result<Vec<GxRec>> {
-    let facts = initial_request(alloc)?;
-    let mut kept = Vec::new(alloc);
+/// Keeps as many records of a typical session, and tells how many.
+fn count_kept<R: SessionRecord>(alloc: Global, count: u32) -> io::Result<usize> {
+    let facts = R::typical(alloc)?;
+    let mut kept: Vec<R> = Vec::new(alloc);
     for _ in 0..count {
-        kept.push(GxRec::of_facts(alloc, facts.as_slice())?)?;
+        let record = R::record_of(alloc, facts.as_slice())?;
+        add(&mut kept, Ok(record))?;
     }
-    Ok(kept)
-}
-
-/// The filters and the rate of two flows of one component.
-fn two_flows(alloc: Global) -> anyhow::Result<Vec<AfFact>> {
-    let mut facts = Vec::new(alloc);
-    for flow in 1..3 {
-        let text: FilterText = given(BoundedText::read(alloc, b"permit in ip from any to any")?)?;
-        let mut list = Vec::new(alloc);
-        list.push(text)?;
-        let filters = given(Filters::of(list))?;
-        let value = FlowValue::Descriptions(filters);
-        facts.push(AfFact::Flow(1, flow, tag(1), value))?;
-        facts.push(AfFact::Flow(1, flow, tag(1), FlowValue::RateUp(41_000)))?;
-    }
-    Ok(facts)
-}
-
-fn keep_af(alloc: Global, count: u32) -> anyhow::Result<Vec<AfRec>> {
-    let facts = two_flows(alloc)?;
-    let mut kept = Vec::new(alloc);
-    for _ in 0..count {
-        kept.push(AfRec::of_facts(alloc, facts.as_slice())?)?;
-    }
-    Ok(kept)
+    Ok(kept.len())
 }
 
 /// Keeps records of one kind, 1 for Gx and 2 for AF, and prints how many; the process's memory tells their size.
-pub fn keep(rt: &(impl AllocGlobal + Print), kind: u32) -> anyhow::Result<()> {
-    let gx = keep_gx(rt.alloc(), if kind == 1 { KEPT } else { 0 })?;
-    let af = keep_af(rt.alloc(), if kind == 2 { KEPT } else { 0 })?;
-    println!(rt; "records: {} of Gx kept, {} of AF kept", gx.len(), af.len())?;
-    Ok(())
+pub fn keep(rt: &(impl AllocGlobal + Print), kind: u32) -> io::Result<()> {
+    let gx = count_kept::<GxRec>(rt.alloc(), if kind == 1 { KEPT } else { 0 })?;
+    let af = count_kept::<AfRec>(rt.alloc(), if kind == 2 { KEPT } else { 0 })?;
+    println!(rt; "records: {gx} of Gx kept, {af} of AF kept")
 }

@@ -1,10 +1,10 @@
 //! Operator tables (`read_tables`): a text of so many access points, each with a default quality and a rule.
-use crate::report::print_each;
+use crate::report::{add, given, print_each};
 use op_tables::{Tables, read_tables};
 use pcrf_values::Apn;
 use std::alloc::{AllocError, AllocGlobal, Global};
 use std::fmt::Write as _;
-use std::io::Print;
+use std::io::{self, Print};
 use std::time::{Clock, Instant};
 
 /// How often a text is read, tables are copied, and each access point is looked up.
@@ -52,13 +52,20 @@ fn text_of(alloc: Global, points: u32) -> Result<String, AllocError> {
     Ok(text)
 }
 
-/// Reads the text again and again, and gives the tables that it read last.
-fn read_again(alloc: Global, text: &str) -> anyhow::Result<Tables> {
-    let mut last = read_tables(alloc, text)?;
-    for _ in 1..ROUNDS {
-        last = read_tables(alloc, text)?;
+/// The tables of the text.
+fn read(alloc: Global, text: &str) -> io::Result<Tables> {
+    match read_tables(alloc, text) {
+        Ok(tables) => Ok(tables),
+        Err(_) => Err(io::Error::other("the text is refused")),
     }
-    Ok(last)
+}
+
+/// Reads the text again and again, and gives the tables that it read last.
+fn read_again(alloc: Global, text: &str) -> io::Result<Tables> {
+    for _ in 1..ROUNDS {
+        read(alloc, text)?;
+    }
+    read(alloc, text)
 }
 
 /// Copies the tables again and again.
@@ -69,14 +76,17 @@ fn copy_again(alloc: Global, tables: &Tables) -> Result<(), AllocError> {
     Ok(())
 }
 
+/// The name of an access point.
+fn name_at(alloc: Global, place: u32) -> io::Result<Apn> {
+    let text = format!(in alloc; "apn{place}")?;
+    given(Apn::folded(alloc, text.as_bytes())?)
+}
+
 /// The names of so many access points.
-fn names_of(alloc: Global, points: u32) -> Result<Vec<Apn>, AllocError> {
+fn names_of(alloc: Global, points: u32) -> io::Result<Vec<Apn>> {
     let mut names = Vec::new(alloc);
     for place in 0..points {
-        let text = format!(in alloc; "apn{place}")?;
-        if let Some(name) = Apn::folded(alloc, text.as_bytes())? {
-            names.push(name)?;
-        }
+        add(&mut names, name_at(alloc, place))?;
     }
     Ok(names)
 }
@@ -95,23 +105,41 @@ fn look_again(tables: &Tables, names: &[Apn]) -> u32 {
     found
 }
 
-/// Prints how long a text of so many access points is, and the microseconds that its reading, a copy of the tables and a
-/// look-up take.
-pub fn measure(rt: &(impl AllocGlobal + Clock + Print), points: u32) -> anyhow::Result<()> {
-    let alloc = rt.alloc();
-    let text = text_of(alloc, points)?;
-    println!(rt; "tables: {points} access points: {} bytes", text.len())?;
+/// Prints what the reading of the text takes, and gives the tables that it has.
+fn measure_reading(rt: &(impl AllocGlobal + Clock + Print), text: &str) -> io::Result<Tables> {
     let start = Instant::now(rt)?;
-    let tables = read_again(alloc, text.as_str())?;
+    let tables = read_again(rt.alloc(), text)?;
     print_each(rt, "tables: reading the text", ROUNDS, start.elapsed(rt)?)?;
+    Ok(tables)
+}
+
+/// Prints what a copy of the tables takes.
+fn measure_copying(rt: &(impl AllocGlobal + Clock + Print), tables: &Tables) -> io::Result<()> {
     let start = Instant::now(rt)?;
-    copy_again(alloc, &tables)?;
-    print_each(rt, "tables: copying the tables", ROUNDS, start.elapsed(rt)?)?;
-    let names = names_of(alloc, points)?;
+    copy_again(rt.alloc(), tables)?;
+    print_each(rt, "tables: copying the tables", ROUNDS, start.elapsed(rt)?)
+}
+
+/// Prints what a look-up takes.
+fn measure_look_up(
+    rt: &(impl AllocGlobal + Clock + Print),
+    tables: &Tables,
+    points: u32,
+) -> io::Result<()> {
+    let names = names_of(rt.alloc(), points)?;
     let start = Instant::now(rt)?;
-    let found = look_again(&tables, names.as_slice());
+    let found = look_again(tables, names.as_slice());
     let time = start.elapsed(rt)?;
     println!(rt; "tables: {found} found")?;
-    print_each(rt, "tables: looking an access point up", found, time)?;
-    Ok(())
+    print_each(rt, "tables: looking an access point up", found, time)
+}
+
+/// Prints how long a text of so many access points is, and the microseconds that its reading, a copy of the tables and a
+/// look-up take.
+pub fn measure(rt: &(impl AllocGlobal + Clock + Print), points: u32) -> io::Result<()> {
+    let text = text_of(rt.alloc(), points)?;
+    println!(rt; "tables: {points} access points: {} bytes", text.len())?;
+    let tables = measure_reading(rt, text.as_str())?;
+    measure_copying(rt, &tables)?;
+    measure_look_up(rt, &tables, points)
 }

@@ -46,6 +46,8 @@ pub enum Event {
     Letter(usize, usize),
     /// A site takes a letter.
     Merge(usize, usize),
+    /// A site starts again.
+    Restart(usize),
     /// A site shows what it holds.
     Show(usize),
 }
@@ -80,6 +82,7 @@ fn put_line(alloc: Global, text: &mut String, event: &Event) -> Result<(), Alloc
         }
         Event::Letter(i, j) => writeln!(text, "letter {i} {j}"),
         Event::Merge(j, k) => writeln!(text, "merge {j} {k}"),
+        Event::Restart(i) => writeln!(text, "restart {i}"),
         Event::Show(i) => writeln!(text, "show {i}"),
     }
 }

@@ -1,5 +1,5 @@
 //! What a script has to print, by the model, and a count of what happened.
-use crate::events::{Event, Request, Script};
+use crate::events::{Event, Kind, Request, Script};
 use crate::messages::answer_bytes;
 use crate::model::{Missing, Reply, Site, Tag, World};
 use std::alloc::{AllocError, Global};
@@ -11,10 +11,24 @@ use test_messages::put_hexadecimal;
 pub struct Counts {
     /// Requests that were accepted.
     pub granted: u64,
+    /// Requests that were accepted and whose answers tell a default quality of service.
+    pub told: u64,
+    /// Updates that were accepted though the session shows another access point than the one that they give.
+    pub late: u64,
+    /// Initial requests whose access point the tables lack.
+    pub initial_without_row: u64,
+    /// Updates whose access point the tables lack.
+    pub update_without_row: u64,
     /// Initial requests that lack a part.
     pub lacking: u64,
-    /// Updates and terminations.
-    pub not_served: u64,
+    /// Requests of sessions that ended, or that can't be changed.
+    pub unknown: u64,
+    /// Sites that started again.
+    pub restarts: u64,
+    /// Sessions shown as ended.
+    pub ended: u64,
+    /// Sessions shown of which only some facts are known.
+    pub partial: u64,
     /// Letters made.
     pub letters: u64,
     /// Letters taken that brought an operation that was new there.
@@ -77,6 +91,13 @@ fn put_event(
             }
             Err(missing) => put_refused(text, missing, counts),
         },
+        Event::Restart(i) => match world.restart(*i) {
+            Ok(epoch) => {
+                count(&mut counts.restarts);
+                writeln!(text, "restart {i} epoch {epoch}")
+            }
+            Err(missing) => put_refused(text, missing, counts),
+        },
         Event::Show(i) => match world.sites.get(*i) {
             Some(site) => put_site(alloc, text, site, counts),
             None => put_refused(text, Missing::Site, counts),
@@ -98,6 +119,31 @@ fn put_refused(text: &mut String, missing: Missing, counts: &mut Counts) -> Resu
     }
 }
 
+/// Counts a reply.
+fn count_reply(reply: Reply, kind: Kind, counts: &mut Counts) {
+    match (reply, kind) {
+        (Reply::Granted(quality), _) => {
+            count(&mut counts.granted);
+            if quality.is_some() {
+                count(&mut counts.told);
+            }
+        }
+        (Reply::LacksParameters, _) => count(&mut counts.lacking),
+        (Reply::NoRow, Kind::Initial) => count(&mut counts.initial_without_row),
+        (Reply::NoRow, _) => count(&mut counts.update_without_row),
+        (Reply::Unknown, _) => count(&mut counts.unknown),
+    }
+}
+
+/// Whether a request is an update that was accepted, and its session shows another access point than it gives.
+fn is_late(site: &Site, request: &Request, reply: Reply) -> bool {
+    let (Reply::Granted(_), Kind::Update, Some(given)) = (reply, request.kind, request.apn) else {
+        return false;
+    };
+    let shown = site.apn(request.session);
+    shown.is_some_and(|shown| !shown.eq_ignore_ascii_case(given))
+}
+
 /// Has a site serve a request, and writes its answer.
 fn put_answer(
     alloc: Global,
@@ -111,10 +157,11 @@ fn put_answer(
         Ok(reply) => reply,
         Err(missing) => return put_refused(text, missing, counts),
     };
-    match reply {
-        Reply::Granted => count(&mut counts.granted),
-        Reply::LacksParameters => count(&mut counts.lacking),
-        Reply::NotServed => count(&mut counts.not_served),
+    count_reply(reply, request.kind, counts);
+    if let Some(site) = world.sites.get(i)
+        && is_late(site, request, reply)
+    {
+        count(&mut counts.late);
     }
     let bytes = answer_bytes(alloc, i, request, reply)?;
     text.push_str("answer ")?;
@@ -133,7 +180,7 @@ fn put_site(
     writeln!(text, "clock {clock}")?;
     let sessions = site.sessions(alloc)?;
     for session in &sessions {
-        put_session(text, site, session)?;
+        put_session(text, site, session, counts)?;
         let tags = site.tags(alloc, session)?;
         count_deciders(tags.as_slice(), counts);
     }
@@ -141,18 +188,44 @@ fn put_site(
 }
 
 /// Writes the line of a session.
-fn put_session(text: &mut String, site: &Site, session: &[u8]) -> Result<(), AllocError> {
-    let (Some(address), Some(apn), Some(home)) = (
-        site.address(session),
-        site.apn(session),
-        site.home(session),
-    ) else {
-        return Ok(());
-    };
-    let [a, b, c, d] = address;
+fn put_session(
+    text: &mut String,
+    site: &Site,
+    session: &[u8],
+    counts: &mut Counts,
+) -> Result<(), AllocError> {
     text.push_str("gx ")?;
     put_text(text, session)?;
-    write!(text, " live {a}.{b}.{c}.{d} ")?;
+    if site.is_live(session) {
+        return put_live(text, site, session);
+    }
+    if site.is_ended(session) {
+        count(&mut counts.ended);
+        return text.push_str(" ended\n");
+    }
+    count(&mut counts.partial);
+    text.push_str(" partial\n")
+}
+
+/// Writes that a session is live, with its address.
+fn put_address(text: &mut String, address: [u8; 4]) -> Result<(), AllocError> {
+    text.push_str(" live ")?;
+    write!(text, "{}.{}.", address[0], address[1])?;
+    write!(text, "{}.{} ", address[2], address[3])
+}
+
+/// Writes what a live session shows.
+fn put_live(text: &mut String, site: &Site, session: &[u8]) -> Result<(), AllocError> {
+    let Some(address) = site.address(session) else {
+        return Ok(());
+    };
+    let Some(apn) = site.apn(session) else {
+        return Ok(());
+    };
+    let Some(home) = site.home(session) else {
+        return Ok(());
+    };
+    put_address(text, address)?;
     put_text(text, apn)?;
     writeln!(text, " home {home}")
 }

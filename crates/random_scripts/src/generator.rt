@@ -9,8 +9,18 @@ use std::alloc::{AllocError, Global};
 /// are printed by their numbers.
 const SESSIONS: [&[u8]; 4] = [b"gw;1;10", b"gw;1;1", b"~\xff", b"GW;\\ \x00\x7f"];
 
-/// Two of these are one, since capital letters count as small ones; a third has a byte that is printed as a number.
-const ACCESS_POINTS: [&[u8]; 4] = [b"IMS", b"ims", b"iNternet", b"Z\\\xc0"];
+/// Capital letters count as small ones, so that these are three access points that the tables have, of which one has
+/// bytes that are printed as numbers, and one that they lack, though its name is the beginning of another's.
+const ACCESS_POINTS: [&[u8]; 8] = [
+    b"IMS",
+    b"ims",
+    b"iNternet",
+    b"INTERNET",
+    b"internet",
+    b"Z\\\xc3\x80",
+    b"z\\\xc3\x80",
+    b"im",
+];
 
 /// Addresses whose order by bytes is not that of their texts.
 const ADDRESSES: [[u8; 4]; 4] = [[10, 0, 0, 1], [10, 0, 0, 2], [9, 255, 0, 1], [200, 1, 1, 1]];
@@ -22,6 +32,8 @@ pub struct Plan {
     pub sites: [usize; 4],
     /// At the end each site takes a letter of each site.
     pub exchanges: bool,
+    /// Sites may start again. What a site made before that is in no letter that it makes later.
+    pub restarts: bool,
 }
 
 /// Which site an event names: mostly one that is there.
@@ -57,14 +69,19 @@ fn whole_request(draws: &mut Draws) -> Request {
         number: draws.below(4) as u32,
         subscribers: 1 + draws.below(2),
         address: Some(ADDRESSES[draws.below(4)]),
-        apn: Some(ACCESS_POINTS[draws.below(4)]),
+        apn: Some(ACCESS_POINTS[draws.below(8)]),
     }
 }
 
 /// An initial request that lacks one or more of the parts that it must have.
 fn lacking_request(draws: &mut Draws) -> Request {
     let mut request = whole_request(draws);
-    let lacks = 1 + draws.below(7);
+    without_parts(&mut request, 1 + draws.below(7));
+    request
+}
+
+/// A request without some of the parts that it may have.
+fn without_parts(request: &mut Request, lacks: usize) {
     if lacks & 1 != 0 {
         request.address = None;
     }
@@ -74,42 +91,60 @@ fn lacking_request(draws: &mut Draws) -> Request {
     if lacks & 4 != 0 {
         request.subscribers = 0;
     }
+}
+
+/// An update, which may change some parts and leave the others.
+fn update(draws: &mut Draws) -> Request {
+    let mut request = whole_request(draws);
+    request.kind = Kind::Update;
+    without_parts(&mut request, draws.below(8));
     request
 }
 
-/// An update or a termination.
-fn later_request(draws: &mut Draws) -> Request {
+/// A termination.
+fn termination(draws: &mut Draws) -> Request {
     let mut request = whole_request(draws);
-    request.kind = if draws.once_in(2) {
-        Kind::Update
-    } else {
-        Kind::Termination
-    };
+    request.kind = Kind::Termination;
     request
+}
+
+/// A site starts again, if sites may; else it shows what it holds.
+fn restart(i: usize, restarts: bool) -> Event {
+    match restarts {
+        true => Event::Restart(i),
+        false => Event::Show(i),
+    }
 }
 
 /// What happens next, where so many letters were made.
-fn event(draws: &mut Draws, sites: usize, letters: usize) -> Event
+fn event(draws: &mut Draws, sites: usize, letters: usize, restarts: bool) -> Event
     requires { 0 < sites }
 {
     let i = site(draws, sites);
-    match draws.below(20) {
-        0..=7 => Event::Send(i, whole_request(draws)),
-        8 => Event::Send(i, lacking_request(draws)),
-        9 => Event::Send(i, later_request(draws)),
-        10..=13 => Event::Letter(i, site(draws, sites)),
-        14..=18 => Event::Merge(i, letter(draws, letters)),
+    match draws.below(48) {
+        0..=9 => Event::Send(i, whole_request(draws)),
+        10..=11 => Event::Send(i, lacking_request(draws)),
+        12..=21 => Event::Send(i, update(draws)),
+        22 => Event::Send(i, termination(draws)),
+        23 => restart(i, restarts),
+        24..=32 => Event::Letter(i, site(draws, sites)),
+        33..=45 => Event::Merge(i, letter(draws, letters)),
         _ => Event::Show(i),
     }
 }
 
 /// Draws what happens, 20 to 60 events: how many letters they make.
-fn put_events(draws: &mut Draws, sites: usize, events: &mut Vec<Event>) -> Result<usize, AllocError>
+fn put_events(
+    draws: &mut Draws,
+    sites: usize,
+    restarts: bool,
+    events: &mut Vec<Event>,
+) -> Result<usize, AllocError>
     requires { 0 < sites }
 {
     let mut letters = 0usize;
     for _ in 0..20 + draws.below(41) {
-        let event = event(draws, sites, letters);
+        let event = event(draws, sites, letters, restarts);
         if let Event::Letter(i, j) = event
             && i < sites
             && j < sites
@@ -157,7 +192,7 @@ pub fn script(alloc: Global, seed: u64, plan: Plan) -> Result<Script, AllocError
     let mut draws = Draws::start(seed);
     let sites = plan.sites[draws.below(4)].max(1);
     let mut events = Vec::new(alloc);
-    let letters = put_events(&mut draws, sites, &mut events)?;
+    let letters = put_events(&mut draws, sites, plan.restarts, &mut events)?;
     if plan.exchanges {
         put_exchange(sites, letters, &mut events)?;
     }

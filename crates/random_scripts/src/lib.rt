@@ -17,4 +17,8 @@ mod model;
 #[cfg(test)]
 mod runs;
 #[cfg(test)]
+mod tables;
+#[cfg(test)]
 mod tests;
+#[cfg(test)]
+mod vector;

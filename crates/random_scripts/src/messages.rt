@@ -70,19 +70,21 @@ pub fn answer_bytes(
     request: &Request,
     reply: Reply,
 ) -> Result<Vec<u8>, AllocError> {
+    let (code, quality) = match reply {
+        Reply::Granted(quality) => (Code::Base(2001), quality),
+        Reply::LacksParameters => (Code::Tgpp(5140), None),
+        Reply::NoRow => (Code::Base(5003), None),
+        Reply::Unknown => (Code::Base(5002), None),
+    };
     let answer = SiteAnswer {
         site,
         request: head(request),
         session: Some(request.session),
-        code: match reply {
-            Reply::Granted => Code::Base(2001),
-            Reply::LacksParameters => Code::Tgpp(5140),
-            Reply::NotServed => Code::Base(5012),
-        },
+        code,
         served: Some(ServedRequest {
             kind: kind_number(request.kind),
             number: request.number,
         }),
     };
-    answer.bytes(alloc)
+    answer.bytes_telling(alloc, quality)
 }

@@ -1,6 +1,8 @@
 //! The definitions, over plain lists: which operations a site took, and what follows from them.
 use crate::events::{Kind, Request};
+use crate::tables::{default_of, has_row};
 use std::alloc::{AllocError, Global};
+use test_messages::Quality;
 
 /// What a field counts by, the first part first.
 #[derive(Clone, Copy, PartialEq, Eq, PartialOrd, Ord)]
@@ -10,32 +12,37 @@ pub struct Tag {
     pub site: usize,
 }
 
-/// What an accepted initial request added.
-#[derive(Clone, Drop)]
+/// What an accepted request added: the end of its session, or the fields that it gives.
+#[derive(Clone, Drop, PartialEq, Eq)]
 pub struct Operation {
     pub tag: Tag,
     pub session: &'static [u8],
-    pub address: [u8; 4],
+    pub ends: bool,
+    pub address: Option<[u8; 4]>,
     /// The access point name in small letters.
-    pub apn: Vec<u8>,
+    pub apn: Option<Vec<u8>>,
+    pub subscribers: bool,
 }
 
 /// What a site replies.
 #[derive(Clone, Copy, PartialEq, Eq)]
 pub enum Reply {
-    /// The request is accepted.
-    Granted,
+    /// The request is accepted, and the default quality of service of the session's access point is told, if any.
+    Granted(Option<Quality>),
     /// An initial request lacks its address, its access point name or its subscribers.
     LacksParameters,
-    /// The kind of request is not served.
-    NotServed,
+    /// The request gives an access point that the tables lack.
+    NoRow,
+    /// The session has ended, or isn't one that can be changed.
+    Unknown,
 }
 
-/// The operations that a site took, and those that it made, each in order.
+/// The operations that a site took, and those that it made, each in order, and how often it began.
 #[derive(Drop)]
 pub struct Site {
     pub taken: Vec<Operation>,
     pub log: Vec<Operation>,
+    pub epoch: u64,
 }
 
 /// Texts are folded from ASCII capitals to small letters.
@@ -50,12 +57,34 @@ fn folded(alloc: Global, text: &[u8]) -> Result<Vec<u8>, AllocError> {
     Ok(small)
 }
 
+/// Whether a request lacks what an initial one has to give.
+fn lacks_parameters(request: &Request) -> bool {
+    request.address.is_none() || request.apn.is_none() || request.subscribers == 0
+}
+
 impl Site {
     fn start(alloc: Global) -> Site {
         Site {
             taken: Vec::new(alloc),
             log: Vec::new(alloc),
+            epoch: 1,
         }
+    }
+
+    /// Whether a session has ended.
+    pub fn is_ended(&self, session: &[u8]) -> bool {
+        self.taken
+            .iter()
+            .any(|operation| operation.ends && operation.session == session)
+    }
+
+    /// Whether a session is live: not ended, and showing an address, an access point name and subscribers.
+    pub fn is_live(&self, session: &[u8]) -> bool {
+        let of = |operation: &Operation| operation.subscribers && operation.session == session;
+        !self.is_ended(session)
+            && self.address(session).is_some()
+            && self.apn(session).is_some()
+            && self.taken.iter().any(of)
     }
 
     /// The greatest counter of the operations taken, 0 if there is none.
@@ -83,7 +112,7 @@ impl Site {
     pub fn tags(&self, alloc: Global, session: &[u8]) -> Result<Vec<Tag>, AllocError> {
         let mut tags = Vec::new(alloc);
         for operation in &self.taken {
-            if operation.session == session {
+            if operation.session == session && !operation.ends {
                 tags.push(operation.tag)?;
             }
         }
@@ -94,8 +123,10 @@ impl Site {
     pub fn address(&self, session: &[u8]) -> Option<[u8; 4]> {
         let mut shown: Option<(Tag, [u8; 4])> = None;
         for operation in &self.taken {
-            if operation.session == session {
-                shown = shown.max(Some((operation.tag, operation.address)));
+            if let Some(address) = operation.address
+                && operation.session == session
+            {
+                shown = shown.max(Some((operation.tag, address)));
             }
         }
         Some(shown?.1)
@@ -105,8 +136,10 @@ impl Site {
     pub fn apn(&self, session: &[u8]) -> Option<&[u8]> {
         let mut shown: Option<(Tag, &[u8])> = None;
         for operation in &self.taken {
-            if operation.session == session {
-                shown = shown.max(Some((operation.tag, operation.apn.as_slice())));
+            if let Some(apn) = &operation.apn
+                && operation.session == session
+            {
+                shown = shown.max(Some((operation.tag, apn.as_slice())));
             }
         }
         Some(shown?.1)
@@ -116,37 +149,63 @@ impl Site {
     pub fn home(&self, session: &[u8]) -> Option<usize> {
         let mut shown: Option<Tag> = None;
         for operation in &self.taken {
-            if operation.session == session {
+            if operation.session == session && !operation.ends {
                 shown = shown.max(Some(operation.tag));
             }
         }
         Some(shown?.site)
     }
 
-    /// Whether an operation of this tag was taken.
-    fn has(&self, tag: Tag) -> bool {
-        self.taken.iter().any(|operation| operation.tag == tag)
+    /// Whether the operation was taken.
+    fn has(&self, operation: &Operation) -> bool {
+        self.taken.iter().any(|taken| taken == operation)
     }
 
-    /// Makes an operation of an initial request that has these parts.
-    fn make(
-        &mut self,
-        alloc: Global,
-        site: usize,
-        request: &Request,
-        address: [u8; 4],
-        apn: &[u8],
-    ) -> Result<(), AllocError> {
+    /// The refusal of a request, if it is refused.
+    fn refusal(&self, request: &Request) -> Option<Reply> {
+        let is_initial = request.kind == Kind::Initial;
+        if is_initial && self.is_ended(request.session)
+            || !is_initial && !self.is_live(request.session)
+        {
+            return Some(Reply::Unknown);
+        }
+        if is_initial && lacks_parameters(request) {
+            return Some(Reply::LacksParameters);
+        }
+        if request.kind != Kind::Termination && request.apn.is_some_and(|apn| !has_row(apn)) {
+            return Some(Reply::NoRow);
+        }
+        None
+    }
+
+    /// What is told of a session after a request of this kind was accepted: of an open one the default of the access point
+    /// that it shows.
+    fn told(&self, kind: Kind, session: &[u8]) -> Option<Quality> {
+        if kind == Kind::Termination {
+            return None;
+        }
+        default_of(self.apn(session)?)
+    }
+
+    /// Makes the operation of an accepted request.
+    fn make(&mut self, alloc: Global, site: usize, request: &Request) -> Result<(), AllocError> {
         let tag = Tag {
             number: request.number,
             counter: self.clock().saturating_add(1),
             site,
         };
+        let ends = request.kind == Kind::Termination;
+        let apn = match request.apn {
+            Some(apn) if !ends => Some(folded(alloc, apn)?),
+            _ => None,
+        };
         let operation = Operation {
             tag,
             session: request.session,
-            address,
-            apn: folded(alloc, apn)?,
+            ends,
+            address: if ends { None } else { request.address },
+            apn,
+            subscribers: !ends && request.subscribers > 0,
         };
         self.log.push(operation.clone()?)?;
         self.taken.push(operation)?;
@@ -192,17 +251,22 @@ impl World {
         let Some(site) = self.sites.get_mut(i) else {
             return Ok(Err(Missing::Site));
         };
-        if request.kind != Kind::Initial {
-            return Ok(Ok(Reply::NotServed));
+        if let Some(refusal) = site.refusal(request) {
+            return Ok(Ok(refusal));
         }
-        let (Some(address), Some(apn)) = (request.address, request.apn) else {
-            return Ok(Ok(Reply::LacksParameters));
+        site.make(self.alloc, i, request)?;
+        Ok(Ok(Reply::Granted(site.told(request.kind, request.session))))
+    }
+
+    /// A site starts again, empty: the new epoch.
+    pub fn restart(&mut self, i: usize) -> Result<u64, Missing> {
+        let Some(site) = self.sites.get_mut(i) else {
+            return Err(Missing::Site);
         };
-        if request.subscribers == 0 {
-            return Ok(Ok(Reply::LacksParameters));
-        }
-        site.make(self.alloc, i, request, address, apn)?;
-        Ok(Ok(Reply::Granted))
+        site.taken = Vec::new(self.alloc);
+        site.log = Vec::new(self.alloc);
+        site.epoch = site.epoch.saturating_add(1);
+        Ok(site.epoch)
     }
 
     /// A site makes a letter for another, which carries its own operations: the letter's number.
@@ -229,7 +293,7 @@ impl World {
         };
         let mut new = 0usize;
         for operation in letter {
-            if !site.has(operation.tag) {
+            if !site.has(operation) {
                 new = new.saturating_add(1);
             }
             site.taken.push(operation.clone()?)?;

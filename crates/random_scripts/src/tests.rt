@@ -1,19 +1,25 @@
 //! Each script is run, and its whole output compared with the model's.
 use crate::expected::{Counts, expected};
 use crate::generator::{Plan, script};
+use crate::tables::tables;
 use dia_codec::Counted;
+use op_tables::Tables;
 use pcrf_script::{ScriptEnd, run_script};
 use std::alloc::{AllocError, Global};
 use std::process::Abort;
 use std::test::Fail;
 
 /// How a script ends, and what it has printed by then.
-fn run(alloc: Global, script: &[u8]) -> Result<(ScriptEnd, Vec<u8>), AllocError> {
+pub fn run(
+    alloc: Global,
+    tables: Tables,
+    script: &[u8],
+) -> Result<(ScriptEnd, Vec<u8>), AllocError> {
     let mut out = Vec::new(alloc);
     let end = {
         let mut reader = Counted::start(script);
         let mut writer = Counted::start(&mut out);
-        run_script(alloc, &mut reader, &mut writer)
+        run_script(alloc, tables, &mut reader, &mut writer)
     };
     Ok((end, out))
 }
@@ -51,7 +57,8 @@ fn run_hundred(rt: &(impl Abort + AllocGlobal), first: u64, plan: Plan) -> Resul
     for seed in first..first.saturating_add(100) {
         let script = script(rt.alloc(), seed, plan)?;
         let text = script.text(rt.alloc())?;
-        let (end, out) = run(rt.alloc(), text.as_bytes())?;
+        let tables = tables(rt.alloc())?;
+        let (end, out) = run(rt.alloc(), tables, text.as_bytes())?;
         assert_eq!(rt; end, ScriptEnd::Done, "script {seed}");
         let wanted = expected(rt.alloc(), &script, &mut counts)?;
         let printed = String::from_utf8(out).ok().ok_or("text")?;
@@ -68,14 +75,20 @@ fn run_hundred(rt: &(impl Abort + AllocGlobal), first: u64, plan: Plan) -> Resul
 }
 
 /// Asks that much has happened in a hundred scripts. They draw 2,000 events or more, and much less is asked for than is
-/// to be expected of 2,000: of twenty events eight are whole requests, one is a request that lacks a part, one is an
-/// update or a termination, four make a letter, five take one, and one shows a site. One of 32 sites that are named is
-/// not there, and one of 16 letters. Each site is shown at the end. That the number or the site of a tag decides what
-/// shows has to happen, however rarely.
+/// to be expected of 2,000: of 48 events ten are whole requests, two are requests that lack a part, ten are updates, one is
+/// a termination, nine make a letter, 13 take one, two show a site, and one has it start again. One of 32 sites that are
+/// named is not there, and one of 16 letters. One of eight names of access points has no row in the tables. Each site is
+/// shown at the end. That the number or the site of a tag decides what shows has to happen, however rarely, and so has an
+/// ended session, an update whose access point has no row and one that leaves the session at another access point: where
+/// there are many sites few updates reach one where their session is live.
 fn assert_busy(rt: &impl Abort, counts: &Counts) {
     assert!(rt; counts.granted >= 500, "{counts:?}");
+    assert!(rt; counts.told >= 300, "{counts:?}");
+    assert!(rt; counts.late >= 1, "{counts:?}");
+    assert!(rt; counts.initial_without_row >= 20, "{counts:?}");
+    assert!(rt; counts.update_without_row >= 1, "{counts:?}");
     assert!(rt; counts.lacking >= 50, "{counts:?}");
-    assert!(rt; counts.not_served >= 50, "{counts:?}");
+    assert!(rt; counts.unknown >= 50, "{counts:?}");
     assert!(rt; counts.letters >= 200, "{counts:?}");
     assert!(rt; counts.news >= 50, "{counts:?}");
     assert!(rt; counts.repeats >= 50, "{counts:?}");
@@ -84,6 +97,7 @@ fn assert_busy(rt: &impl Abort, counts: &Counts) {
     assert!(rt; counts.shown >= 300, "{counts:?}");
     assert!(rt; counts.by_number >= 10, "{counts:?}");
     assert!(rt; counts.by_site >= 1, "{counts:?}");
+    assert!(rt; counts.ended >= 1, "{counts:?}");
 }
 
 #[test]
@@ -91,9 +105,13 @@ fn few_sites_print_what_the_model_gives(rt: HostRuntime) -> Result<(), Fail> {
     let plan = Plan {
         sites: [1, 2, 3, 4],
         exchanges: false,
+        restarts: true,
     };
     let counts = run_hundred(&rt, 1, plan)?;
     assert_busy(&rt, &counts);
+    assert!(rt; counts.late >= 20, "{counts:?}");
+    assert!(rt; counts.update_without_row >= 10, "{counts:?}");
+    assert!(rt; counts.restarts >= 20, "{counts:?}");
     Ok(())
 }
 
@@ -102,9 +120,11 @@ fn sixteen_sites_print_what_the_model_gives(rt: HostRuntime) -> Result<(), Fail>
     let plan = Plan {
         sites: [16, 16, 16, 16],
         exchanges: false,
+        restarts: true,
     };
     let counts = run_hundred(&rt, 1001, plan)?;
     assert_busy(&rt, &counts);
+    assert!(rt; counts.restarts >= 20, "{counts:?}");
     Ok(())
 }
 
@@ -113,6 +133,7 @@ fn sites_that_took_all_letters_show_the_same(rt: HostRuntime) -> Result<(), Fail
     let plan = Plan {
         sites: [2, 3, 5, 16],
         exchanges: true,
+        restarts: false,
     };
     let counts = run_hundred(&rt, 2001, plan)?;
     assert_busy(&rt, &counts);

@@ -3,19 +3,24 @@
 //! the same for each form of answer.
 #![tactic(auto)]
 
-use dia_codec::Counted;
-use pcrf_script::{ScriptEnd, run_script};
-use std::process::ExitCode;
-
+mod operator_tables;
 #[cfg(test)]
 mod stored;
 #[cfg(test)]
 mod tests;
 
+use dia_codec::Counted;
+use op_tables::read_tables;
+use pcrf_script::{ScriptEnd, run_script};
+use std::process::ExitCode;
+
 fn main(rt: HostRuntime) -> ExitCode {
+    let Ok(tables) = read_tables(rt.alloc(), operator_tables::TABLES) else {
+        return ExitCode::FAILURE;
+    };
     let mut reader = Counted::start(rt.stdin());
     let mut writer = Counted::start(rt.stdout());
-    match run_script(rt.alloc(), &mut reader, &mut writer) {
+    match run_script(rt.alloc(), tables, &mut reader, &mut writer) {
         ScriptEnd::Done => ExitCode::SUCCESS,
         _ => ExitCode::FAILURE,
     }

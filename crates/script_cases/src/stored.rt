@@ -15,8 +15,11 @@ const HEAD: Head = Head {
 /// What comes back of an initial request with the number 0.
 const FIRST: ServedRequest = ServedRequest { kind: 1, number: 0 };
 
-/// What comes back of an update with the number 1.
-const UPDATE: ServedRequest = ServedRequest { kind: 2, number: 1 };
+/// What comes back of a termination with the number 14.
+const LATE: ServedRequest = ServedRequest {
+    kind: 3,
+    number: 14,
+};
 
 /// The answer of site 0 to a request with a header.
 fn answer(
@@ -45,6 +48,7 @@ fn digits(alloc: Global, answer: &SiteAnswer) -> Result<String, AllocError> {
 #[test]
 fn stored_answers_are_the_encoders(rt: HostRuntime) -> Result<(), Fail> {
     let id = Some(b"gw;1;1".as_slice());
+    let third = Some(b"gw;1;3".as_slice());
     let other_application = Head {
         application: 5,
         ..HEAD
@@ -82,8 +86,12 @@ fn stored_answers_are_the_encoders(rt: HostRuntime) -> Result<(), Fail> {
             answer(HEAD, id, Code::Tgpp(5140), Some(FIRST)),
         ),
         (
-            "0100006c40000110010000160000000100000002000001074000000e67773b313b310000000001024000000c01000016000001084000000a733000000000012840000009720000000000010c4000000c00001394000001a04000000c000000020000019f4000000c00000001",
-            answer(HEAD, id, Code::Base(5012), Some(UPDATE)),
+            "0100006c40000110010000160000000100000002000001074000000e67773b313b310000000001024000000c01000016000001084000000a733000000000012840000009720000000000010c4000000c0000138a000001a04000000c000000030000019f4000000c0000000e",
+            answer(HEAD, id, Code::Base(5002), Some(LATE)),
+        ),
+        (
+            "0100006c40000110010000160000000100000002000001074000000e67773b313b330000000001024000000c01000016000001084000000a733000000000012840000009720000000000010c4000000c0000138b000001a04000000c000000010000019f4000000c00000000",
+            answer(HEAD, third, Code::Base(5003), Some(FIRST)),
         ),
         (
             "0100005440000110010000160000000100000002000001074000000e67773b313b310000000001024000000c01000016000001084000000a733000000000012840000009720000000000010c4000000c0000138c",

@@ -1,23 +1,26 @@
 //! Scripts that end otherwise than by their end.
+use crate::operator_tables::TABLES;
 use dia_codec::Counted;
+use op_tables::{TableFault, read_tables};
 use pcrf_script::{ScriptEnd, run_script};
 use std::alloc::{AllocError, Global};
 use std::test::Fail;
 
 /// How a script ends, and what it has printed by then.
-fn run(alloc: Global, script: &[u8]) -> Result<(ScriptEnd, Vec<u8>), AllocError> {
+fn run(alloc: Global, script: &[u8]) -> Result<(ScriptEnd, Vec<u8>), TableFault> {
+    let tables = read_tables(alloc, TABLES)?;
     let mut out = Vec::new(alloc);
     let end = {
         let mut reader = Counted::start(script);
         let mut writer = Counted::start(&mut out);
-        run_script(alloc, &mut reader, &mut writer)
+        run_script(alloc, tables, &mut reader, &mut writer)
     };
     Ok((end, out))
 }
 
 #[test]
 fn a_bad_line_stops_the_script(rt: HostRuntime) -> Result<(), Fail> {
-    let cases: [(&str, u64, &str); 25] = [
+    let cases: [(&str, u64, &str); 27] = [
         ("show 0\n", 1, ""),
         ("bogus\nsites 1\n", 1, ""),
         ("sites 0\n", 1, ""),
@@ -45,7 +48,9 @@ fn a_bad_line_stops_the_script(rt: HostRuntime) -> Result<(), Fail> {
         ("sites 1\nmsg 0 0\n", 2, "sites 1\n"),
         ("sites 1\nmsg 0 0g\n", 2, "sites 1\n"),
         ("sites 1\npush 0\n", 2, "sites 1\n"),
-        ("sites 1\nrestart 0\n", 2, "sites 1\n"),
+        ("sites 1\nrestart\n", 2, "sites 1\n"),
+        ("sites 1\nrestart 0 0\n", 2, "sites 1\n"),
+        ("restart 0\n", 1, ""),
         ("sites 1\nack 0 0", 2, "sites 1\n"),
     ];
     for (script, line, printed) in cases {

@@ -1,8 +1,17 @@
 //! Tests of `site_core`, which stand apart so that its proofs are made once: what a site replies to requests and holds
-//! then, after letters and restarts too, and that its calls which allocate succeed.
+//! then, after letters and restarts too, which default quality of service its replies tell by the operator tables, and
+//! that its calls which allocate succeed.
 #![tactic(auto)]
 
+#[cfg(test)]
+mod orders;
+#[cfg(test)]
+mod qualities;
 #[cfg(test)]
 mod requests;
 #[cfg(test)]
 mod sites;
+#[cfg(test)]
+mod tables;
+#[cfg(test)]
+mod text;

@@ -5,14 +5,15 @@ use std::alloc::AllocGlobal;
 use std::process::Abort;
 use test_messages::{Avps, GX, Head, message};
 
-/// A request: its Session-Id, CC-Request-Type and CC-Request-Number, and the last octet of its address, where it gives
-/// one; then it gives an access point name and a subscriber too.
+/// A request: its Session-Id, CC-Request-Type and CC-Request-Number, the last octet of its address, where it gives one,
+/// and its access point name, where it gives one. With an address it gives a subscriber too.
 #[derive(Clone, Copy)]
 pub struct Sent {
     pub session: &'static [u8],
     pub kind: u32,
     pub number: u32,
     pub address: Option<u8>,
+    pub apn: Option<&'static [u8]>,
 }
 
 /// What a request carries.
@@ -29,7 +30,9 @@ fn avps(rt: &(impl AllocGlobal + Abort), sent: Sent) -> Avps {
         group.text(444, b"001010000000001").expect(rt, "memory");
         avps.group(443, &group).expect(rt, "memory");
         avps.text(8, &[10, 0, 0, last]).expect(rt, "memory");
-        avps.text(30, b"IMS").expect(rt, "memory");
+    }
+    if let Some(apn) = sent.apn {
+        avps.text(30, apn).expect(rt, "memory");
     }
     avps
 }

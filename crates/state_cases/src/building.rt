@@ -5,7 +5,7 @@ ghost use Rattle.pcrf_model.specs.Limits.{last_counter};
 use af_records::{AfFact, ComponentValue};
 use gx_records::{GxFact, SessionValue};
 use lattice_core::Tag;
-use pcrf_values::{BoundedNumber, BoundedText, DiameterIdentity, SessionId};
+use pcrf_values::{BoundedNumber, BoundedText, DiameterIdentity, RuleName, SessionId};
 use site_join::{Operation, SessionFacts};
 use std::alloc::AllocGlobal;
 use std::process::Abort;
@@ -101,4 +101,36 @@ pub fn call_end(rt: &(impl AllocGlobal + Abort), id: &str, counter: u64, site: u
     facts.push(AfFact::End).expect(rt, "memory");
     let facts = SessionFacts::Af(session_id(rt, id), facts);
     Operation::stamped(counter, site, 0, facts)
+}
+
+/// An operation of site 0 with one fact on a gateway's session.
+pub fn gateway_fact(
+    rt: &(impl AllocGlobal + Abort),
+    id: &str,
+    counter: u64,
+    fact: GxFact,
+) -> Operation
+    requires { counter ≤ last_counter }
+{
+    let mut facts = Vec::new(rt.alloc());
+    facts.push(fact).expect(rt, "memory");
+    let facts = SessionFacts::Gx(session_id(rt, id), facts);
+    Operation::stamped(counter, 0, 0, facts)
+}
+
+/// An operation of site 0 with one fact on a call.
+pub fn call_fact(rt: &(impl AllocGlobal + Abort), id: &str, counter: u64, fact: AfFact) -> Operation
+    requires { counter ≤ last_counter }
+{
+    let mut facts = Vec::new(rt.alloc());
+    facts.push(fact).expect(rt, "memory");
+    let facts = SessionFacts::Af(session_id(rt, id), facts);
+    Operation::stamped(counter, 0, 0, facts)
+}
+
+/// That a gateway was told to remove the rule of this name.
+pub fn told_nothing(rt: &(impl AllocGlobal + Abort), at: Tag, name: &str) -> GxFact {
+    let read = BoundedText::read(rt.alloc(), name.as_bytes()).expect(rt, "memory");
+    let name: RuleName = read.expect(rt, "the name of a rule");
+    GxFact::Told(at, name, None)
 }

@@ -5,6 +5,10 @@
 #[cfg(test)]
 mod building;
 #[cfg(test)]
+mod equality;
+#[cfg(test)]
+mod formed;
+#[cfg(test)]
 mod states;
 #[cfg(test)]
 mod text;

@@ -85,6 +85,19 @@ fn compare(rt: &(impl AllocGlobal + Abort), state: &State, want: &str) {
     assert_eq!(rt; text.as_str(), want);
 }
 
+fn take_letters(rt: &(impl AllocGlobal + Abort), state: &mut State, order: [u8; 4]) {
+    for at in order {
+        take_letter(rt, state, at);
+    }
+}
+
+/// A state that took all letters.
+fn of_all_letters(rt: &(impl AllocGlobal + Abort), order: [u8; 4]) -> State {
+    let mut state = State::start(rt.alloc());
+    take_letters(rt, &mut state, order);
+    state
+}
+
 /// What two states merge to.
 fn merged(rt: &(impl AllocGlobal + Abort), ours: State, theirs: State) -> State {
     let Ok(both) = ours.merge(theirs) else {
@@ -107,21 +120,19 @@ fn check(rt: &(impl AllocGlobal + Abort), first: &Operation, second: &Operation,
 
 #[test]
 fn letters_lead_to_the_same_in_any_order(rt: HostRuntime) {
+    let first = of_all_letters(&rt, [0, 1, 2, 3]);
+    compare(&rt, &first, SHOWN);
     for order in ORDERS {
-        let mut state = State::start(rt.alloc());
-        for at in order {
-            take_letter(&rt, &mut state, at);
-        }
-        compare(&rt, &state, SHOWN);
-        for at in order {
-            take_letter(&rt, &mut state, at);
-        }
-        compare(&rt, &state, SHOWN);
+        let mut state = of_all_letters(&rt, order);
+        assert!(&rt; state.equal(&first));
+        take_letters(&rt, &mut state, order);
+        assert!(&rt; state.equal(&first));
     }
 }
 
 #[test]
 fn merged_states_show_both(rt: HostRuntime) {
+    let all = of_all_letters(&rt, [0, 1, 2, 3]);
     for [first, second, third, fourth] in ORDERS {
         let mut ours = State::start(rt.alloc());
         take_letter(&rt, &mut ours, first);
@@ -130,9 +141,9 @@ fn merged_states_show_both(rt: HostRuntime) {
         take_letter(&rt, &mut theirs, third);
         take_letter(&rt, &mut theirs, fourth);
         let both = merged(&rt, ours, theirs);
-        compare(&rt, &both, SHOWN);
+        assert!(&rt; both.equal(&all));
         let again = both.try_copy().expect(&rt, "memory");
-        compare(&rt, &merged(&rt, both, again), SHOWN);
+        assert!(&rt; merged(&rt, both, again).equal(&all));
     }
 }
 

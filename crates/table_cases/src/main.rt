@@ -18,10 +18,10 @@ use std::process::ExitCode;
 use std::{fs, io};
 
 /// The file of tables with everything that they may have.
-const OPERATOR: &str = "operator.toml";
+const OPERATOR: &str = "telephony.toml";
 
 /// The file of tables with little more than they have to have.
-const SMALL: &str = "small.toml";
+const SMALL: &str = "single-access-point.toml";
 
 /// The texts of the two files.
 #[derive(Drop)]

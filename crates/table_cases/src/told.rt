@@ -1,6 +1,6 @@
 //! What the look-ups of tables answer, as a line of text.
-use op_tables::{AccessPoint, Class, OperatorRule, Quality, Tables};
-use pcrf_values::{Apn, RetentionPriority};
+use op_tables::{AccessPoint, Class, OperatorRule, Tables};
+use pcrf_values::{Apn, DefaultQuality, RetentionPriority};
 use std::alloc::{AllocError, Global};
 use std::fmt::Write as _;
 
@@ -30,11 +30,11 @@ fn put_class(out: &mut String, class: Class) -> Result<(), AllocError> {
 }
 
 /// The QCI, the priority, and the rates up and down.
-fn put_quality(out: &mut String, quality: Quality) -> Result<(), AllocError> {
-    write!(out, " default {}", quality.class().get())?;
-    put_priority(out, quality.priority())?;
-    let uplink = quality.aggregate_uplink();
-    let downlink = quality.aggregate_downlink();
+fn put_quality(out: &mut String, quality: DefaultQuality) -> Result<(), AllocError> {
+    write!(out, " default {}", quality.class.get())?;
+    put_priority(out, quality.priority)?;
+    let uplink = quality.aggregate_uplink;
+    let downlink = quality.aggregate_downlink;
     write!(out, " {uplink} {downlink}")
 }
 

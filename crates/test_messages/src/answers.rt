@@ -1,5 +1,6 @@
 //! What a site has to answer, by the profile's tables.
 use crate::encoder::{Avps, GX, Head, RX, TGPP, flag, message};
+use crate::quality::Quality;
 use std::alloc::{AllocError, Global};
 
 /// The command of a credit control request (RFC 8506, 3).
@@ -87,8 +88,17 @@ impl SiteAnswer<'_> {
         out.text(296, b"r")
     }
 
-    /// The bytes of the answer.
+    /// The bytes of the answer, which tells no quality of service.
     pub fn bytes(&self, alloc: Global) -> Result<Vec<u8>, AllocError> {
+        self.bytes_telling(alloc, None)
+    }
+
+    /// The bytes of the answer, which at its end tells the default quality of service of an access point, if there is one.
+    pub fn bytes_telling(
+        &self,
+        alloc: Global,
+        quality: Option<Quality>,
+    ) -> Result<Vec<u8>, AllocError> {
         let mut avps = Avps::start(alloc);
         if let Some(session) = self.session {
             avps.text(263, session)?;
@@ -101,6 +111,9 @@ impl SiteAnswer<'_> {
         if let Some(served) = self.served {
             avps.number(416, served.kind)?;
             avps.number(415, served.number)?;
+        }
+        if let Some(quality) = quality {
+            quality.put(alloc, &mut avps)?;
         }
         message(alloc, &self.head(), &avps)
     }

@@ -77,13 +77,34 @@ impl Avps {
         self.put_value(value)
     }
 
-    /// An AVP of a vendor, with the M bit.
-    pub fn vendor_text(&mut self, code: u32, vendor: u32, value: &[u8]) -> Result<(), AllocError> {
+    /// An AVP of a vendor with these flags.
+    fn of_vendor(
+        &mut self,
+        code: u32,
+        flags: u8,
+        vendor: u32,
+        value: &[u8],
+    ) -> Result<(), AllocError> {
         put_word(&mut self.bytes, code)?;
-        self.bytes.push(VENDOR | MANDATORY)?;
+        self.bytes.push(flags)?;
         put_three(&mut self.bytes, value.len().saturating_add(12))?;
         put_word(&mut self.bytes, vendor)?;
         self.put_value(value)
+    }
+
+    /// An AVP of a vendor, with the M bit.
+    pub fn vendor_text(&mut self, code: u32, vendor: u32, value: &[u8]) -> Result<(), AllocError> {
+        self.of_vendor(code, VENDOR | MANDATORY, vendor, value)
+    }
+
+    /// An AVP of a vendor without the M bit, which a receiver that does not know it passes over.
+    pub fn vendor_option(
+        &mut self,
+        code: u32,
+        vendor: u32,
+        value: &[u8],
+    ) -> Result<(), AllocError> {
+        self.of_vendor(code, VENDOR, vendor, value)
     }
 
     /// An AVP without a vendor whose value is a number.

@@ -4,11 +4,14 @@
 //!
 //! A message is made from the inside: fill `Avps`, nest them by `Avps::group`, and put a `Head` before them by
 //! `message`. `put_hexadecimal` writes bytes as a script has them. `SiteAnswer` writes what a site has to answer, as the
-//! `answer` lines of a script's output give it: `script_cases` and `random_scripts` compare with it.
+//! `answer` lines of a script's output give it: `script_cases` and `random_scripts` compare with it. `SiteAnswer::bytes_telling`
+//! adds a `Quality`.
 #![tactic(auto)]
 
 mod answers;
 mod encoder;
+mod quality;
 
 pub use answers::{Code, ServedRequest, SiteAnswer};
 pub use encoder::{Avps, GX, Head, RX, TGPP, flag, message, put_hexadecimal};
+pub use quality::Quality;

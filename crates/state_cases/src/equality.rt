@@ -1,0 +1,133 @@
+//! Which states are equal.
+use crate::building::{call, call_fact, gateway_fact, session_id, told_nothing, update};
+use af_records::{AfFact, AfRec, ComponentValue, FlowValue};
+use gx_records::{GxFact, GxRec};
+use lattice_core::Tag;
+use site_join::{Operation, State};
+use std::alloc::AllocGlobal;
+use std::process::Abort;
+
+/// The stamp of what is told beside the state below.
+const BESIDE: Tag = Tag {
+    number: 0,
+    counter: 1,
+    site: 0,
+};
+
+/// A state of one session of each kind, whose clock is 2.
+fn small_state(rt: &(impl AllocGlobal + Abort)) -> State {
+    let mut state = State::start(rt.alloc());
+    let moved = update(rt, "g1", 0, 1, 0, "a");
+    state.take(&moved).expect(rt, "memory");
+    let made = call(rt, "a1", 2, 0, 0);
+    state.take(&made).expect(rt, "memory");
+    state
+}
+
+fn check_equal(rt: &(impl AllocGlobal + Abort), ours: &State, theirs: &State, want: bool) {
+    assert_eq!(rt; ours.equal(theirs), want);
+    assert_eq!(rt; theirs.equal(ours), want);
+}
+
+/// Whether an operation at no later counter sets a state apart from one that didn't take it.
+fn check_more(rt: &(impl AllocGlobal + Abort), more: &Operation) {
+    let mut state = small_state(rt);
+    let mut other = small_state(rt);
+    check_equal(rt, &state, &other, true);
+    other.take(more).expect(rt, "memory");
+    check_equal(rt, &state, &other, false);
+    state.take(more).expect(rt, "memory");
+    check_equal(rt, &state, &other, true);
+}
+
+fn check_gateway(rt: &(impl AllocGlobal + Abort), id: &str, fact: GxFact) {
+    let more = gateway_fact(rt, id, 1, fact);
+    check_more(rt, &more);
+}
+
+fn check_call(rt: &(impl AllocGlobal + Abort), id: &str, fact: AfFact) {
+    let more = call_fact(rt, id, 1, fact);
+    check_more(rt, &more);
+}
+
+#[test]
+fn nothing_held_is_equal(rt: HostRuntime) {
+    let state = State::start(rt.alloc());
+    let other = State::start(rt.alloc());
+    check_equal(&rt, &state, &other, true);
+    check_equal(&rt, &state, &small_state(&rt), false);
+}
+
+#[test]
+fn copies_are_equal(rt: HostRuntime) {
+    let state = small_state(&rt);
+    let copy = state.try_copy().expect(&rt, "memory");
+    check_equal(&rt, &state, &copy, true);
+}
+
+#[test]
+fn another_clock_alone_sets_apart(rt: HostRuntime) {
+    let state = small_state(&rt);
+    let mut other = small_state(&rt);
+    let absent = session_id(&rt, "g2");
+    let stood = other.put_gx(&absent, None, 3).expect(&rt, "memory");
+    assert!(&rt; stood.is_none());
+    check_equal(&rt, &state, &other, false);
+    let stood = other.put_gx(&absent, None, 2).expect(&rt, "memory");
+    assert!(&rt; stood.is_none());
+    check_equal(&rt, &state, &other, true);
+}
+
+#[test]
+fn another_fact_alone_sets_apart(rt: HostRuntime) {
+    check_more(&rt, &update(&rt, "g1", 0, 1, 0, "b"));
+    check_more(&rt, &call(&rt, "a1", 2, 0, 1));
+}
+
+#[test]
+fn a_session_more_sets_apart(rt: HostRuntime) {
+    check_more(&rt, &update(&rt, "g2", 0, 1, 0, "a"));
+    check_more(&rt, &call(&rt, "a2", 2, 0, 0));
+    check_gateway(&rt, "g0", GxFact::End);
+    check_call(&rt, "a0", AfFact::End);
+}
+
+#[test]
+fn an_end_sets_apart(rt: HostRuntime) {
+    check_gateway(&rt, "g1", GxFact::End);
+    check_call(&rt, "a1", AfFact::End);
+}
+
+#[test]
+fn a_told_name_more_sets_apart(rt: HostRuntime) {
+    check_gateway(&rt, "g1", told_nothing(&rt, BESIDE, "r1"));
+}
+
+#[test]
+fn a_component_more_sets_apart(rt: HostRuntime) {
+    let media = ComponentValue::MediaType(0);
+    check_call(&rt, "a1", AfFact::Component(2, BESIDE, media));
+    check_call(&rt, "a1", AfFact::ComponentRemoved(2));
+    check_call(&rt, "a1", AfFact::ComponentRemoved(1));
+}
+
+#[test]
+fn a_flow_more_sets_apart(rt: HostRuntime) {
+    let rate = FlowValue::RateUp(1_000);
+    check_call(&rt, "a1", AfFact::Flow(1, 7, BESIDE, rate));
+    check_call(&rt, "a1", AfFact::FlowRemoved(1, 7));
+}
+
+#[test]
+fn a_record_without_facts_is_as_good_as_none(rt: HostRuntime) {
+    let state = small_state(&rt);
+    let mut other = small_state(&rt);
+    let gateway = session_id(&rt, "g2");
+    let record = GxRec::start(rt.alloc());
+    let stood = other.put_gx(&gateway, Some(record), 2);
+    assert!(&rt; stood.expect(&rt, "memory").is_none());
+    let record = AfRec::start(rt.alloc());
+    let stood = other.put_af(&session_id(&rt, "a2"), Some(record), 2);
+    assert!(&rt; stood.expect(&rt, "memory").is_none());
+    check_equal(&rt, &state, &other, true);
+}
