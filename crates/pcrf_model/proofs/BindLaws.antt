@@ -19,7 +19,7 @@ use Rattle.ranked.proofs.Greatest.{greatest_is, greatest_some}
 use Rattle.pcrf_model.proofs.ViewLaws.{shows-known}
 
 -- candidates are ranked
-candidate_ranked : IsRanked candidate_cmp
+pub candidate_ranked : IsRanked candidate_cmp
 candidate_ranked = pair_ranked nat_ranked (pair_ranked nat_ranked text_ranked)
 
 -- ---- what a match says
@@ -30,12 +30,16 @@ module _ (v : View) (a s : Session) (m : matches v a s ≡ true) where
   kinds_and_lives = first_so _ _ (first_so _ _ (first_so _ _ m))
 
   -- what matches is a Gx session
-  of_gx : is_gx s.kind ≡ true
+  pub of_gx : is_gx s.kind ≡ true
   of_gx = second_so (not (is_gx a.kind)) _ (first_so _ _ (first_so _ _ kinds_and_lives))
 
   -- and is live
   live : is_live v s ≡ true
   live = second_so (not (is_gx a.kind) && is_gx s.kind && is_live v a) _ kinds_and_lives
+
+  -- and so is what asks for it
+  pub live_asking : is_live v a ≡ true
+  live_asking = second_so (not (is_gx a.kind) && is_gx s.kind) _ (first_so _ _ kinds_and_lives)
 
 -- a live Gx session shows an address
 pub has_address : (v : View) (s : Session) (k : Kind) → is_gx k ≡ true → has_what_it_needs v s k ≡ true → is_some (v.shows s address) ≡ true
@@ -43,7 +47,7 @@ has_address v s Gx g h = first_so _ _ h
 has_address v s Af g h = clash false g refl
 
 -- a Gx session is the one of its Session-Id
-gx_is : (s : Session) (k : Kind) → s.kind ≡ k → is_gx k ≡ true → gx s.id ≡ s
+pub gx_is : (s : Session) (k : Kind) → s.kind ≡ k → is_gx k ≡ true → gx s.id ≡ s
 gx_is s Gx e g = λ i. record { kind = sym e i; id = s.id }
 gx_is s Af e g = clash false g refl
 

@@ -1,0 +1,22 @@
+-- What is read of one Gx session and one AF session by their facts alone. Whether they match depends on nothing else, nor do the rules of the
+-- AF session's flows, once it is bound.
+use Rattle.std.specs.Prelude.{List, []}
+use Rattle.pcrf_facts.specs.Facts.{Fact}
+use Rattle.pcrf_facts.specs.Held.{shown, removed, is_ended}
+use Rattle.pcrf_model.specs.Sessions.{Kind, Gx, Af}
+use Rattle.pcrf_model.specs.Views.{View}
+
+-- the facts of the session of that kind
+abbrev pub of_kind : Kind → List Fact → List Fact → List Fact
+of_kind Gx gxs afs = gxs
+of_kind Af gxs afs = afs
+
+-- what is read of a Gx session of the first facts beside an AF session of the second
+abbrev pub beside : List Fact → List Fact → View
+beside gxs afs = record {
+  shows = λ s. shown (of_kind s.kind gxs afs);
+  ended = λ s. is_ended (of_kind s.kind gxs afs);
+  removals = λ s. removed (of_kind s.kind gxs afs);
+  all = [];
+  sessions = [];
+}

@@ -1,0 +1,51 @@
+-- The live Gx sessions that have an address, or a subscriber.
+use Rattle.std.specs.Prelude.{ℕ, Bool, ◌&&◌, cond, List, [], ◌∷◌, Option, Some, None}
+use Rattle.std.specs.List.{filter_map}
+use Rattle.std.specs.Net.Addr.{ipv4_octets}
+use Rattle.pcrf_facts.specs.Facts.{Fact}
+use Rattle.pcrf_facts.specs.FlowWords.{value_at}
+use Rattle.pcrf_facts.specs.Live.{Shows}
+use Rattle.pcrf_facts.specs.Places.{address, subscribers}
+use Rattle.pcrf_facts.specs.Values.{Address, Subscriber, Subscribers}
+use Rattle.pcrf_model.specs.Bindings.{agrees, meets}
+use Rattle.pcrf_model.specs.Live.{is_live}
+use Rattle.pcrf_model.specs.Sessions.{Session, gx, is_gx}
+use Rattle.pcrf_model.specs.Views.{View}
+use Rattle.bind_index.specs.Beside.{beside}
+use Rattle.bind_index.specs.declared.listing.Asked.{Asked}
+use Rattle.bind_index.specs.declared.listing.Asked.TheVariants as on
+
+-- what a session is asked to have
+pub data Question : Type 0 where
+  HasAddress : List ℕ → Question
+  HasSubscriber : Subscriber → Question
+
+-- it shows what is asked
+abbrev pub shows_asked : Question → Shows → Bool
+shows_asked (HasAddress a) shows = agrees (Some (Address a)) (value_at shows address)
+shows_asked (HasSubscriber x) shows = meets (Some (Subscribers (x ∷ []))) (value_at shows subscribers)
+
+-- the Session-Id of a live Gx session that shows what is asked
+abbrev pub listed : View → Question → Session → Option (List ℕ)
+listed v q s = cond (is_gx s.kind && is_live v s && shows_asked q (v.shows s)) (Some s.id) None
+
+-- the Session-Ids of all of them, ascending
+abbrev pub live_sessions : View → Question → List (List ℕ)
+live_sessions v q = filter_map (listed v q) v.sessions
+
+-- of those that have the address (TS 29.213, 5.2)
+abbrev pub sessions_at : View → List ℕ → List (List ℕ)
+sessions_at v a = live_sessions v (HasAddress a)
+
+-- and of those that have the subscriber among theirs
+abbrev pub sessions_of : View → Subscriber → List (List ℕ)
+sessions_of v x = live_sessions v (HasSubscriber x)
+
+-- those among the records of Gx sessions
+abbrev pub listed_among : Question → List (List ℕ × List Fact) → List (List ℕ)
+listed_among q = filter_map (λ (e : List ℕ × List Fact). listed (beside e.1 []) q (gx e.0))
+
+-- what the code asks
+abbrev pub asked_value : Asked → Question
+asked_value (on.Address a) = HasAddress (ipv4_octets a)
+asked_value (on.Subscriber x) = HasSubscriber x.now

@@ -1,0 +1,2 @@
+pub mod FlowsAlone
+pub mod Listing

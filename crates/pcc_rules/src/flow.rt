@@ -1,0 +1,116 @@
+//! The rule of one flow of an application function's session (TS 29.213, 6.3).
+ghost use Rattle.std.specs.Prelude.{◌≡◌, IfOk, cond, min};
+ghost use Rattle.std.proofs.Common.{unwrap_or};
+ghost use Rattle.pcrf_values.specs.Numbers.{preemption_number};
+ghost use Rattle.pcrf_facts.specs.Held.{shown};
+ghost use Rattle.pcrf_facts.specs.FlowWords.{has_usage};
+ghost use Rattle.pcrf_model.specs.Flows.{class_of, flow_rate, Uplink, Downlink};
+ghost use Rattle.pcrf_model.specs.Rules.{rule_of};
+ghost use Rattle.pcc_rules.specs.FlowsAlone.{alone, flow_id, flow_facts};
+
+use crate::naming::flow_name;
+use af_records::AfRec;
+use op_tables::{Class, Tables};
+use pcrf_values::{Rule, RuleQos, SessionId};
+use ranked::Ranked;
+use std::alloc::{AllocError, Global};
+
+/// Flow-Usage RTCP (TS 29.214, 5.3.12).
+const RTCP: u32 = 1;
+
+/// Flow-Usage AF_SIGNALLING.
+const AF_SIGNALLING: u32 = 2;
+
+/// The Media-Type of a component that shows none.
+const NO_MEDIA_TYPE: u32 = 0xFFFF_FFFF;
+
+/// A flow of a session.
+#[derive(Clone, Copy)]
+pub(crate) struct Flow<'r> {
+    pub(crate) session: &'r SessionId,
+    /// What is known of the session.
+    pub(crate) known: &'r AfRec,
+    /// The Media-Component-Number.
+    pub(crate) component: u32,
+    /// The Flow-Number.
+    pub(crate) number: u32,
+}
+
+impl Flow<'_> {
+    /// The rule of the flow, if it has filters, and its service a class.
+    pub(crate) fn rule(self, alloc: Global, tables: &Tables) -> Result<Option<Rule>, AllocError>
+        ensures { IfOk result (λ rule. rule
+            ≡ rule_of tables.now (alone (flow_facts self)) (flow_id self)) }
+    {
+        let Some((_, filters)) = self.known.flow_descriptions(self.component, self.number) else {
+            return Ok(None);
+        };
+        let Some(class) = self.class(tables) else {
+            return Ok(None);
+        };
+        let name = flow_name(alloc, self.session, self.component, self.number)?;
+        let filters = filters.try_copy()?;
+        let status = self.known.flow_status(self.component, self.number);
+        let qos = self.qos(tables, class);
+        Ok(Some(Rule::of(name, status, filters, qos, class.precedence())))
+    }
+
+    /// The class of its service: that of signalling, or that of its media, if they have one.
+    fn class(self, tables: &Tables) -> Option<Class>
+        ensures { result ≡ class_of tables.now (alone (flow_facts self)) (flow_id self) }
+    {
+        if self.has_usage(AF_SIGNALLING) {
+            return Some(tables.signalling());
+        }
+        match self.known.component_media_type(self.component) {
+            Some((_, media_type)) => tables.media(*media_type),
+            None => tables.media(NO_MEDIA_TYPE),
+        }
+    }
+
+    /// The flow shows this Flow-Usage.
+    fn has_usage(self, usage: u32) -> bool
+        ensures { result ≡ has_usage (shown (flow_facts self)) self.component self.number usage }
+    {
+        match self.known.flow_usage(self.component, self.number) {
+            Some((_, told)) => told.get() == usage,
+            None => false,
+        }
+    }
+
+    /// The quality of service of its class, with its own bit rates below the caps.
+    fn qos(self, tables: &Tables, class: Class) -> RuleQos
+        ensures class { result.class ≡ class.qci }
+        ensures level { result.priority.level ≡ class.priority }
+        ensures capability { preemption_number result.priority.capability ≡ class.capability }
+        ensures vulnerability { preemption_number result.priority.vulnerability
+            ≡ class.vulnerability }
+        ensures uplink { result.max_uplink
+            ≡ flow_rate tables.now (alone (flow_facts self)) (flow_id self) Uplink class.max_ul }
+        ensures downlink { result.max_downlink
+            ≡ flow_rate tables.now (alone (flow_facts self)) (flow_id self) Downlink class.max_dl }
+    {
+        let caps = class.qos();
+        let given = self.known.flow_rates(self.component, self.number);
+        let is_rtcp = self.has_usage(RTCP);
+        RuleQos {
+            class: caps.class,
+            priority: caps.priority,
+            max_uplink: rate(given.up, is_rtcp, tables.rtcp(), caps.max_uplink),
+            max_downlink: rate(given.down, is_rtcp, tables.rtcp(), caps.max_downlink),
+        }
+    }
+}
+
+/// The bit rate of a flow in one direction, in bit/s: the one given, else for RTCP the operator's, else the cap, and never
+/// above the cap.
+fn rate(given: Option<u32>, is_rtcp: bool, rtcp: u32, cap: u32) -> u32
+    ensures { result ≡ min (unwrap_or given (cond is_rtcp rtcp cap)) cap }
+{
+    let asked = match given {
+        Some(rate) => rate,
+        None if is_rtcp => rtcp,
+        None => cap,
+    };
+    asked.min(cap)
+}

@@ -1,0 +1,10 @@
+//! The PCC rules of a gateway's session (TS 23.203, 6.3): those of its access point, and one for each flow of the
+//! application functions' sessions that are bound to it.
+#![tactic(auto)]
+
+mod deriving;
+mod flow;
+mod naming;
+mod operator;
+
+pub use deriving::derive;

@@ -1,0 +1,59 @@
+//! The rules that the operator gives each session of an access point.
+ghost use Rattle.std.specs.Prelude.{◌≡◌, [], map, IfOk};
+ghost use Rattle.pcrf_model.specs.Sessions.{gx};
+ghost use Rattle.pcrf_model.specs.Rules.{operator_rule, operator_rules};
+ghost use Rattle.bind_index.specs.Beside.{beside};
+ghost use Rattle.pcc_rules.specs.Listing.{keyed};
+
+use crate::naming::operator_name;
+use gx_records::GxRec;
+use op_tables::{OperatorRule, Tables};
+use pcrf_values::{Filters, PermitFilters, Rule};
+use ranked::Ranked;
+use std::alloc::{AllocError, Global};
+
+/// The rules of the access point that the session shows, each with its precedence in front.
+pub(crate) fn operator_rules(
+    alloc: Global,
+    tables: &Tables,
+    gateway: &GxRec,
+) -> Result<Vec<(u32, Rule)>, AllocError>
+    ensures { IfOk result (λ rules. rules.items
+        ≡ map keyed (operator_rules tables.now (beside gateway.now []) (gx []))) }
+{
+    let mut rules = Vec::new(alloc);
+    let Some((_, name)) = gateway.apn() else {
+        return Ok(rules);
+    };
+    let Some(point) = tables.apn(name) else {
+        return Ok(rules);
+    };
+    for rule in point.rules() {
+        rules.push((rule.class().precedence(), of_operator(alloc, rule)?))?;
+    }
+    Ok(rules)
+}
+
+/// The rule of a gateway's session that a rule of the tables stands for.
+fn of_operator(alloc: Global, rule: &OperatorRule) -> Result<Rule, AllocError>
+    ensures { IfOk result (λ made. made ≡ operator_rule rule.now) }
+{
+    let name = operator_name(alloc, rule.name())?;
+    let filters = texts_of(alloc, rule.filters())?;
+    let class = rule.class();
+    Ok(Rule::of(name, rule.status(), filters, class.qos(), class.precedence()))
+}
+
+/// The texts of the filters.
+fn texts_of(alloc: Global, given: &PermitFilters) -> Result<Filters, AllocError>
+    ensures { IfOk result (λ texts. texts ≡ given.now) }
+{
+    let mut texts = Vec::new(alloc);
+    for filter in given.as_slice() {
+        texts.push(filter.text().try_copy()?)?;
+    }
+    let Some(filters) = Filters::of(texts) else {
+        unreachable!()
+    };
+    Ok(filters)
+}
