@@ -2,9 +2,9 @@
 //! application functions' sessions that are bound to it.
 #![tactic(auto)]
 
-mod deriving;
+mod derivation;
 mod flow;
 mod naming;
 mod operator;
 
-pub use deriving::derive;
+pub use derivation::derive;

@@ -39,8 +39,8 @@ pub(crate) fn flow_name(
 
 /// The name with these bytes.
 fn name_of(bytes: Vec<u8>) -> RuleName
-    requires { 0 < length bytes.items }
-    requires { length bytes.items ≤ 600 }
+    requires not_empty { 0 < length bytes.items }
+    requires within { length bytes.items ≤ rule_name_limit }
     ensures { result ≡ bytes.items }
 {
     let Some(name) = RuleName::of(bytes) else {
