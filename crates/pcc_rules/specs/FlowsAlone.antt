@@ -1,11 +1,9 @@
 -- The rules of flows, session by session. What a flow shows is read of the facts of its session alone.
-use Rattle.std.specs.Prelude.{◌≡◌, ℕ, ◌<◌, ◌^◌, true, cond, List, [], ◌∷◌, Option, Some}
+use Rattle.std.specs.Prelude.{◌≡◌, ℕ, ◌<◌, ◌^◌, true, cond, List, [], ◌∷◌}
 use Rattle.std.specs.List.{filter_map, flat_map}
 use Rattle.pcrf_values.specs.RuleValues.{RuleValue}
 use Rattle.pcrf_facts.specs.Facts.{Fact}
 use Rattle.pcrf_facts.specs.FlowWords.{flows}
-use Rattle.pcrf_facts.specs.Places.{FlowDescriptions, OfFlow}
-use Rattle.pcrf_facts.specs.Values.{Entry}
 use Rattle.pcrf_model.specs.Sessions.{Session, af}
 use Rattle.pcrf_model.specs.Views.{View}
 use Rattle.pcrf_model.specs.Bindings.{is_bound_to}
@@ -57,7 +55,3 @@ AreLow (f ∷ fs) = IsLow f × AreLow fs
 abbrev pub AreLowWhereBound : View → Session → List (List ℕ × List Fact) → Type 0
 AreLowWhereBound v s [] = Unit {0}
 AreLowWhereBound v s (e ∷ es) = (is_bound_to v s (af e.0) ≡ true → AreLow (flows e.1)) × AreLowWhereBound v s es
-
--- of each flow that shows filters, of the sessions that are bound to s
-abbrev pub BoundFlowsAreLow : View → Session → Type 0
-BoundFlowsAreLow v s = (a : Session) (c n : ℕ) (e : Entry) → is_bound_to v s a ≡ true → v.shows a (OfFlow c n FlowDescriptions) ≡ Some e → IsLow (c, n)

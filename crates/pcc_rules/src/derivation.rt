@@ -1,14 +1,14 @@
 //! All rules of a session.
 ghost use Rattle.std.specs.Prelude.{◌≡◌, ◌++◌, map, IfOk, OnOk};
 ghost use Rattle.ranked.specs.Ascending.{ascending};
-ghost use Rattle.ranked.specs.Sets.{Distinct, Same};
+ghost use Rattle.ranked.specs.Sets.{Distinct};
 ghost use Rattle.pcrf_facts.specs.FlowWords.{flows};
 ghost use Rattle.pcrf_model.specs.Sessions.{gx, af};
 ghost use Rattle.pcrf_model.specs.Views.{view};
 ghost use Rattle.pcrf_model.specs.Bindings.{is_bound_to};
-ghost use Rattle.pcrf_model.specs.Rules.{flow_rules, rules};
+ghost use Rattle.pcrf_model.specs.Rules.{rules};
 ghost use Rattle.pcrf_model.specs.Differences.{rule_name_of};
-ghost use Rattle.pcc_rules.specs.FlowsAlone.{AreLow, BoundFlowsAreLow, rules_of_flows};
+ghost use Rattle.pcc_rules.specs.FlowsAlone.{AreLow, AreLowWhereBound, rules_of_flows, rules_of_sessions};
 ghost use Rattle.pcc_rules.specs.Listing.{keyed, keyed_cmp, unkeyed};
 
 use crate::flow::Flow;
@@ -20,6 +20,7 @@ use pcrf_values::{Rule, SessionId};
 use ranked::ascending_of;
 use site_join::State;
 use std::alloc::{AllocError, Global};
+use std::collections::btree_map::Iter;
 
 /// The PCC rules of a gateway's session, by precedence and then by name, and no two of one name: the operator's rules of its
 /// access point, and the rule of each flow with filters and a class of each application function's session that is bound to
@@ -41,23 +42,26 @@ pub fn derive(
         return Ok(Vec::new(alloc));
     }
     let mut found = operator_rules(alloc, tables, gateway)?;
-    add_bound(alloc, &mut found, tables, state, session)?;
+    add_bound(alloc, &mut found, tables, state, session, state.all_af())?;
     in_order(alloc, found)
 }
 
-/// Adds the rules of the sessions that are bound to the gateway's session.
+/// Adds the rules of those of the sessions that are bound to the gateway's session.
 fn add_bound(
     alloc: Global,
     found: &mut Vec<(u32, Rule)>,
     tables: &Tables,
     state: &State,
     session: &SessionId,
+    sessions: Iter<'_, SessionId, AfRec>,
 ) -> Result<(), AllocError>
-    ensures added { OnOk result (Same found.new.items (found.old.items
-        ++ map keyed (flow_rules tables.now (view state.now.facts) (gx session.now)))) }
-    ensures low { OnOk result (BoundFlowsAreLow (view state.now.facts) (gx session.now)) }
+    ensures added { OnOk result (found.new.items
+        ≡ found.old.items ++ map keyed (rules_of_sessions tables.now
+            (view state.now.facts) (gx session.now) sessions.entry)) }
+    ensures low { OnOk result (AreLowWhereBound
+        (view state.now.facts) (gx session.now) sessions.entry) }
 {
-    for (asking, known) in state.all_af() {
+    for (asking, known) in sessions {
         if is_bound(state, asking, session) {
             add_flows(alloc, found, tables, asking, known)?;
         }
@@ -70,7 +74,7 @@ fn is_bound(state: &State, asking: &SessionId, session: &SessionId) -> bool
     ensures { result ≡ is_bound_to (view state.now.facts) (gx session.now) (af asking.now) }
 {
     match bind(state, asking) {
-        Some(bound) => bound == session,
+        Some(bound) => bound.cmp(session).is_eq(),
         None => false,
     }
 }

@@ -38,9 +38,9 @@ pub(crate) struct Flow<'r> {
 
 impl Flow<'_> {
     /// The rule of the flow, if it has filters, and its service a class.
-    pub(crate) fn rule(self, alloc: Global, tables: &Tables) -> Result<Option<Rule>, AllocError>
+    pub(crate) fn rule(&self, alloc: Global, tables: &Tables) -> Result<Option<Rule>, AllocError>
         ensures { IfOk result (λ rule. rule
-            ≡ rule_of tables.now (alone (flow_facts self)) (flow_id self)) }
+            ≡ rule_of tables.now (alone (flow_facts self.now)) (flow_id self.now)) }
     {
         let Some((_, filters)) = self.known.flow_descriptions(self.component, self.number) else {
             return Ok(None);
@@ -56,8 +56,8 @@ impl Flow<'_> {
     }
 
     /// The class of its service: that of signalling, or that of its media, if they have one.
-    fn class(self, tables: &Tables) -> Option<Class>
-        ensures { result ≡ class_of tables.now (alone (flow_facts self)) (flow_id self) }
+    fn class(&self, tables: &Tables) -> Option<Class>
+        ensures { result ≡ class_of tables.now (alone (flow_facts self.now)) (flow_id self.now) }
     {
         if self.has_usage(AF_SIGNALLING) {
             return Some(tables.signalling());
@@ -69,8 +69,8 @@ impl Flow<'_> {
     }
 
     /// The flow shows this Flow-Usage.
-    fn has_usage(self, usage: u32) -> bool
-        ensures { result ≡ has_usage (shown (flow_facts self)) self.component self.number usage }
+    fn has_usage(&self, usage: u32) -> bool
+        ensures { result ≡ has_usage (shown (flow_facts self.now)) self.now.component self.now.number usage }
     {
         match self.known.flow_usage(self.component, self.number) {
             Some((_, told)) => told.get() == usage,
@@ -79,16 +79,16 @@ impl Flow<'_> {
     }
 
     /// The quality of service of its class, with its own bit rates below the caps.
-    fn qos(self, tables: &Tables, class: Class) -> RuleQos
+    fn qos(&self, tables: &Tables, class: Class) -> RuleQos
         ensures class { result.class ≡ class.qci }
         ensures level { result.priority.level ≡ class.priority }
         ensures capability { preemption_number result.priority.capability ≡ class.capability }
         ensures vulnerability { preemption_number result.priority.vulnerability
             ≡ class.vulnerability }
         ensures uplink { result.max_uplink
-            ≡ flow_rate tables.now (alone (flow_facts self)) (flow_id self) Uplink class.max_ul }
+            ≡ flow_rate tables.now (alone (flow_facts self.now)) (flow_id self.now) Uplink class.max_ul }
         ensures downlink { result.max_downlink
-            ≡ flow_rate tables.now (alone (flow_facts self)) (flow_id self) Downlink class.max_dl }
+            ≡ flow_rate tables.now (alone (flow_facts self.now)) (flow_id self.now) Downlink class.max_dl }
     {
         let caps = class.qos();
         let given = self.known.flow_rates(self.component, self.number);

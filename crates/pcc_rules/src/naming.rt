@@ -1,6 +1,6 @@
 //! Names of rules.
 ghost use Rattle.std.specs.Prelude.{◌≡◌, ◌<◌, ◌≤◌, ◌++◌, codes, length, IfOk};
-ghost use Rattle.pcrf_model.specs.Sessions.{af};
+ghost use Rattle.pcrf_values.specs.Limits.{rule_name_limit};
 ghost use Rattle.pcrf_model.specs.Flows.{flow_rule_name};
 ghost use Rattle.pcc_rules.specs.FlowsAlone.{flow_of};
 

@@ -3,7 +3,7 @@ ghost use Rattle.std.specs.Prelude.{◌≡◌, [], map, IfOk};
 ghost use Rattle.pcrf_model.specs.Sessions.{gx};
 ghost use Rattle.pcrf_model.specs.Rules.{operator_rule, operator_rules};
 ghost use Rattle.bind_index.specs.Beside.{beside};
-ghost use Rattle.pcc_rules.specs.Listing.{keyed};
+ghost use Rattle.pcc_rules.specs.Listing.{RowNamesApart, keyed};
 
 use crate::naming::operator_name;
 use gx_records::GxRec;
@@ -18,8 +18,9 @@ pub(crate) fn operator_rules(
     tables: &Tables,
     gateway: &GxRec,
 ) -> Result<Vec<(u32, Rule)>, AllocError>
-    ensures { IfOk result (λ rules. rules.items
+    ensures given { IfOk result (λ rules. rules.items
         ≡ map keyed (operator_rules tables.now (beside gateway.now []) (gx []))) }
+    ensures apart { IfOk result (λ _. RowNamesApart tables.now (beside gateway.now []) (gx [])) }
 {
     let mut rules = Vec::new(alloc);
     let Some((_, name)) = gateway.apn() else {

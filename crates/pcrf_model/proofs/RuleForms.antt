@@ -244,7 +244,7 @@ module _ (t : Tables) (h : Holding) (tables : are_tables t ≡ true) (form : is_
   rule_in_form s x = elim (is_live v s) as (λ b. In x (cond b (ascending listed_cmp (operator_rules t v s ++ flow_rules t v s)) []) → GoodRule x) [
     | true ↦ λ i. elim (In-cases x (operator_rules t v s) (flow_rules t v s) ((ascending-In listed_cmp listed_ranked (operator_rules t v s ++ flow_rules t v s) x).0 i)) [
       | inl j ↦ given_in_form s x j
-      | inr j ↦ flow_rule_in_form x (names.of_flow t h.facts s (flows_fit h form) x j)
+      | inr j ↦ flow_rule_in_form x (names.of_flow t h.facts s (names.flows_fit_low h.facts s (flows_fit h form)) x j)
     ]
     | false ↦ λ i. absurd i
   ]

@@ -10,6 +10,7 @@ use Rattle.ranked.proofs.Plain.{clash, some_same, came_from}
 use Rattle.ranked.specs.Sets.{In, Distinct}
 use Rattle.pcrf_facts.specs.Places.{FlowDescriptions, Place, OfFlow, apn}
 use Rattle.pcrf_facts.specs.Facts.{Field}
+use Rattle.pcrf_facts.specs.Values.{Entry}
 use Rattle.pcrf_facts.proofs.FactLaws.{rule_ranked}
 use Rattle.pcrf_facts.proofs.ShownLaws.{fact_there}
 use Rattle.pcrf_model.specs.Sessions.{Kind, Gx, Af, Session, session_cmp, is_gx}
@@ -64,12 +65,12 @@ one_op (Some r) apart x y i j e =
 -- ---- the flows'
 
 -- what comes of two came of both
-and_then : {A B : Type 0} (f : A → Option B) (x : Option A) (y : B) → option_and_then f x ≡ Some y → (z : A) × (x ≡ Some z) × (f z ≡ Some y)
+pub and_then : {A B : Type 0} (f : A → Option B) (x : Option A) (y : B) → option_and_then f x ≡ Some y → (z : A) × (x ≡ Some z) × (f z ≡ Some y)
 and_then f None y h = absurd (cc)
 and_then f (Some z) y h = (z, refl, h)
 
 -- the place of a flow's filters tells of the flow
-filters_at : (a : Session) (p : Place) (i : FlowId) → flow_at a p ≡ Some i → (i.session ≡ a) × (p ≡ OfFlow i.component i.flow FlowDescriptions)
+pub filters_at : (a : Session) (p : Place) (i : FlowId) → flow_at a p ≡ Some i → (i.session ≡ a) × (p ≡ OfFlow i.component i.flow FlowDescriptions)
 filters_at a (OfFlow c n FlowDescriptions) i h =
     let same : record { session = a; component = c; flow = n } ≡ i = some_same _ _ h in
     (sym (ap (λ (z : FlowId). z.session) same), ap (λ (z : FlowId). OfFlow z.component z.flow FlowDescriptions) same)
@@ -87,6 +88,19 @@ kind_af : (k : Kind) → not (is_gx k) ≡ true → k ≡ Af
 kind_af Gx h = clash false h refl
 kind_af Af h = refl
 
+module _ (facts : List SessionFact) (s : Session) where
+  -- a session that is bound is bound to some session
+  bound_is_some : (a : Session) (x : Option Session) → unwrap_or (option_map (λ z. is_eq (session_cmp z s)) x) false ≡ true → (z : Session) × (x ≡ Some z)
+  bound_is_some a None h = clash false h refl
+  bound_is_some a (Some z) h = (z, refl)
+
+  -- a session that is bound is an AF session
+  pub bound_kind : (a : Session) → is_bound_to (view facts) s a ≡ true → a.kind ≡ Af
+  bound_kind a h =
+      let z = bound_is_some a (bind (view facts) a) h in
+      let m = ((bind-greatest facts a z.0).0 z.1).fits in
+      kind_af a.kind (first_so _ _ (first_so _ _ (first_so _ _ (first_so _ _ (first_so _ _ (first_so _ _ m))))))
+
 -- what is known of a rule of a flow
 pub record IsOfFlow (t : Tables) (v : View) (x : RuleValue) : Type 0 where
   pub flow : FlowId
@@ -95,29 +109,21 @@ pub record IsOfFlow (t : Tables) (v : View) (x : RuleValue) : Type 0 where
   pub low_component : flow.component < 2 ^ 32
   pub low_flow : flow.flow < 2 ^ 32
 
-module _ (t : Tables) (facts : List SessionFact) (s : Session) (fit : FlowsFit facts) where
+-- the flows that show filters, of sessions that are bound to s, have numbers of 32 bits
+abbrev pub BoundFlowsAreLow : View → Session → Type 0
+BoundFlowsAreLow v s = (a : Session) (c n : ℕ) (e : Entry) → is_bound_to v s a ≡ true → v.shows a (OfFlow c n FlowDescriptions) ≡ Some e → (c < 2 ^ 32) × (n < 2 ^ 32)
+
+-- so have all whose facts are in form
+pub flows_fit_low : (facts : List SessionFact) (s : Session) → FlowsFit facts → BoundFlowsAreLow (view facts) s
+flows_fit_low facts s fit a c n e _ h =
+    let there = facts_on-In facts a (Field (OfFlow c n FlowDescriptions) e.0 e.1)
+    (fact_there (facts_on facts a) (OfFlow c n FlowDescriptions) e (sym ((sessions_alone facts a).shows (OfFlow c n FlowDescriptions)) ∙ h)) in
+    (fit.low_component a c n FlowDescriptions e.0 e.1 there, fit.low_flow a c n FlowDescriptions e.0 e.1 there)
+
+module _ (t : Tables) (facts : List SessionFact) (s : Session) (low : BoundFlowsAreLow (view facts) s) where
   -- what is read of the facts
   abbrev v : View
   v = view facts
-
-  -- where a flow's field shows a fact stands
-  flow_fact : (x : Shown) (i : FlowId) → In x v.all → i.session ≡ x.session → x.place ≡ OfFlow i.component i.flow FlowDescriptions → In (x.session, Field (OfFlow i.component i.flow FlowDescriptions) x.tag x.value) facts
-  flow_fact x i m a p =
-      let shows = sym ((sessions_alone facts x.session).shows x.place) ∙ all-shows facts x m in
-      subst (λ (q : Place). In (x.session, Field q x.tag x.value) facts) p
-      (facts_on-In facts x.session (Field x.place x.tag x.value) (fact_there (facts_on facts x.session) x.place (x.tag, x.value) shows))
-
-  -- a session that is bound is bound to some session
-  bound_is_some : (a : Session) (x : Option Session) → unwrap_or (option_map (λ z. is_eq (session_cmp z s)) x) false ≡ true → (z : Session) × (x ≡ Some z)
-  bound_is_some a None h = clash false h refl
-  bound_is_some a (Some z) h = (z, refl)
-
-  -- a session that is bound is an AF session
-  bound_kind : (a : Session) → is_bound_to v s a ≡ true → a.kind ≡ Af
-  bound_kind a h =
-      let z = bound_is_some a (bind v a) h in
-      let m = ((bind-greatest facts a z.0).0 z.1).fits in
-      kind_af a.kind (first_so _ _ (first_so _ _ (first_so _ _ (first_so _ _ (first_so _ _ (first_so _ _ m))))))
 
   -- each rule of a flow is so
   pub of_flow : (x : RuleValue) → In x (flow_rules t v s) → IsOfFlow t v x
@@ -126,13 +132,14 @@ module _ (t : Tables) (facts : List SessionFact) (s : Session) (fit : FlowsFit f
       let b = came_from (is_bound_to v s r.0.session) (option_and_then (rule_of t v) (flow_at r.0.session r.0.place)) x r.2 in
       let f = and_then (rule_of t v) (flow_at r.0.session r.0.place) x b.1 in
       let n = filters_at r.0.session r.0.place f.0 f.1 in
-      let fact = flow_fact r.0 f.0 r.1 n.0 n.1 in
+      let shows = subst (λ (p : Place). v.shows r.0.session p ≡ Some (r.0.tag, r.0.value)) n.1 (all-shows facts r.0 r.1) in
+      let numbers = low r.0.session f.0.component f.0.flow (r.0.tag, r.0.value) b.0 shows in
       record {
         flow = f.0;
         gives = f.2;
-        kind = ap (λ (z : Session). z.kind) n.0 ∙ bound_kind r.0.session b.0;
-        low_component = fit.low_component r.0.session f.0.component f.0.flow FlowDescriptions r.0.tag r.0.value fact;
-        low_flow = fit.low_flow r.0.session f.0.component f.0.flow FlowDescriptions r.0.tag r.0.value fact;
+        kind = ap (λ (z : Session). z.kind) n.0 ∙ bound_kind facts s r.0.session b.0;
+        low_component = numbers.0;
+        low_flow = numbers.1;
       }
 
   -- and has the flow's name
@@ -155,11 +162,7 @@ module _ (t : Tables) (facts : List SessionFact) (s : Session) (fit : FlowsFit f
   apart : (n m : List ℕ) → codes "op/" ++ n ≡ codes "af/" ++ m → ⊥
   apart n m e = let h = heads 111 97 (112 ∷ 47 ∷ n) (102 ∷ 47 ∷ m) e in omega (arith, h)
 
-  module _ (rows : are_tables t ≡ true) where
-    -- the row of the session names its rules apart
-    apart_in_row : (r : ApnRow) → apn_of t v s ≡ Some r → Distinct (map (λ (x : OperatorRule). x.name) r.rules)
-    apart_in_row r h = let w = row_of t (text v s apn) r h in (table_row t rows w.0 r w.1).apart
-
+  module _ (apart_in_row : (r : ApnRow) → apn_of t v s ≡ Some r → Distinct (map (λ (x : OperatorRule). x.name) r.rules)) where
     -- no operator's rule has a flow's name
     across : (x y : RuleValue) → In x (operator_rules t v s) → In y (flow_rules t v s) → x.name ≡ y.name → ⊥
     across x y i j e =
@@ -195,10 +198,11 @@ module _ (t : Tables) (facts : List SessionFact) (s : Session) (fit : FlowsFit f
         (λ x y i j. one_rule x y (listed x i) (listed y j))
 
     -- and so those of the session, live or not
-    names_differ : Distinct (map rule_name_of (rules t v s))
+    pub names_differ : Distinct (map rule_name_of (rules t v s))
     unfolding rules
     names_differ = elim (is_live v s) as (λ b. Distinct (map rule_name_of (cond b all_rules []))) [ true ↦ all_differ | false ↦ tt ]
 
 -- for any tables and facts
 pub rules-names_differ : (t : Tables) (facts : List SessionFact) (s : Session) → are_tables t ≡ true → FlowsFit facts → Distinct (map rule_name_of (rules t (view facts) s))
-rules-names_differ t facts s rows fit = names_differ t facts s fit rows
+rules-names_differ t facts s rows fit =
+    names_differ t facts s (flows_fit_low facts s fit) (λ r h. let w = row_of t (text (view facts) s apn) r h in (table_row t rows w.0 r w.1).apart)
