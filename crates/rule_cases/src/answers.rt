@@ -1,0 +1,89 @@
+//! Answers to questions: `bound` and the Session-Id of a call, `at` and an address, `of` and a subscriber, `rules` and the
+//! Session-Id of a gateway's session.
+use crate::tables::tables;
+use crate::words::{address, subscriber, text};
+use bind_index::{bind, sessions_at, sessions_of};
+use pcc_rules::derive;
+use pcrf_values::{Rule, SessionId};
+use site_join::State;
+use std::alloc::{AllocError, AllocGlobal};
+use std::fmt::Write as _;
+use std::process::Abort;
+
+/// Bytes of ASCII.
+fn put_text(out: &mut String, bytes: &[u8]) -> Result<(), AllocError> {
+    for &byte in bytes {
+        out.push(char::from(byte))?;
+    }
+    Ok(())
+}
+
+/// Session-Ids.
+fn put_sessions(out: &mut String, sessions: &[SessionId]) -> Result<(), AllocError> {
+    for session in sessions {
+        out.push_str(" ")?;
+        put_text(out, session.as_slice())?;
+    }
+    Ok(())
+}
+
+/// A line with the precedence, the name, the status, the class, the rates up and down, the priority and the filters.
+fn put_rule(out: &mut String, rule: &Rule) -> Result<(), AllocError> {
+    let qos = rule.qos();
+    let priority = qos.priority;
+    write!(out, "\n> {} ", rule.precedence())?;
+    put_text(out, rule.name().as_slice())?;
+    write!(out, " {} {}", rule.status().number(), qos.class.get())?;
+    write!(out, " {} {}", qos.max_uplink, qos.max_downlink)?;
+    let capability = priority.capability.number();
+    let vulnerability = priority.vulnerability.number();
+    write!(
+        out,
+        " {}/{capability}/{vulnerability}",
+        priority.level.get()
+    )?;
+    for filter in rule.filters().as_slice() {
+        out.push_str(" ")?;
+        put_text(out, filter.as_slice())?;
+    }
+    Ok(())
+}
+
+/// The gateway's session to which a call is bound.
+pub fn put_bound(rt: &(impl AllocGlobal + Abort), state: &State, id: &str, out: &mut String) {
+    if let Some(session) = bind(state, &text(rt, id)) {
+        out.push_str(" ").expect(rt, "memory");
+        put_text(out, session.as_slice()).expect(rt, "memory");
+    }
+}
+
+/// The live sessions that have an address.
+fn put_at(rt: &(impl AllocGlobal + Abort), state: &State, word: &str, out: &mut String) {
+    let sessions = sessions_at(rt.alloc(), state, address(rt, word)).expect(rt, "memory");
+    put_sessions(out, sessions.as_slice()).expect(rt, "memory");
+}
+
+/// The live sessions that have a subscriber.
+fn put_of(rt: &(impl AllocGlobal + Abort), state: &State, word: &str, out: &mut String) {
+    let sessions = sessions_of(rt.alloc(), state, &subscriber(rt, word)).expect(rt, "memory");
+    put_sessions(out, sessions.as_slice()).expect(rt, "memory");
+}
+
+/// The rules of a gateway's session.
+fn put_rules(rt: &(impl AllocGlobal + Abort), state: &State, id: &str, out: &mut String) {
+    let rules = derive(rt.alloc(), &tables(rt), state, &text(rt, id)).expect(rt, "memory");
+    for rule in &rules {
+        put_rule(out, rule).expect(rt, "memory");
+    }
+}
+
+/// The answer to a question.
+pub fn put_answer(rt: &(impl AllocGlobal + Abort), state: &State, asked: &str, out: &mut String) {
+    match asked.split_once(' ').unwrap_or((asked, "")) {
+        ("bound", id) => put_bound(rt, state, id, out),
+        ("at", word) => put_at(rt, state, word, out),
+        ("of", word) => put_of(rt, state, word, out),
+        ("rules", id) => put_rules(rt, state, id, out),
+        _ => panic!(rt; "{asked}"),
+    }
+}
