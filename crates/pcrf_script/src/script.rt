@@ -4,7 +4,8 @@ ghost use Rattle.pcrf_script.specs.Limits.{read_limit};
 
 use crate::lines::{Line, LineFault, read_line};
 use crate::messages::put_stream;
-use crate::printing::{put_outcome, put_restart, put_site};
+use crate::printing::{put_outcome, put_restart};
+use crate::showing::show_state;
 use dia_codec::Counted;
 use op_tables::Tables;
 use pcrf_world::{World, WorldEvent};
@@ -109,10 +110,10 @@ impl Script {
         let Some(world) = &self.world else {
             return Err(LineFault::Bad);
         };
-        match world.site(i) {
-            Some(site) => Ok(put_site(&mut self.out, site)?),
-            None => Ok(self.out.push_str("refused NoSuchSite\n")?),
-        }
+        let Some(site) = world.site(i) else {
+            return Ok(self.out.push_str("refused NoSuchSite\n")?);
+        };
+        Ok(show_state(self.alloc, &mut self.out, world.tables(), site.state())?)
     }
 
     /// The line is whole: obeys it, and writes what it prints.

@@ -2,6 +2,7 @@
 use crate::events::{Event, Kind, Request, Script};
 use crate::messages::answer_bytes;
 use crate::model::{Missing, Reply, Site, Tag, World};
+use crate::tables::rules_of;
 use std::alloc::{AllocError, Global};
 use std::fmt::Write as _;
 use test_messages::put_hexadecimal;
@@ -25,6 +26,8 @@ pub struct Counts {
     pub unknown: u64,
     /// Sites that started again.
     pub restarts: u64,
+    /// Live sessions shown whose access point has rules.
+    pub ruled: u64,
     /// Sessions shown as ended.
     pub ended: u64,
     /// Sessions shown of which only some facts are known.
@@ -187,7 +190,7 @@ fn put_site(
     text.push_str("end\n")
 }
 
-/// Writes the line of a session.
+/// Writes the line of a session, and behind that of a live one its rules.
 fn put_session(
     text: &mut String,
     site: &Site,
@@ -197,7 +200,8 @@ fn put_session(
     text.push_str("gx ")?;
     put_text(text, session)?;
     if site.is_live(session) {
-        return put_live(text, site, session);
+        put_live(text, site, session)?;
+        return put_rules(text, site, session, counts);
     }
     if site.is_ended(session) {
         count(&mut counts.ended);
@@ -228,6 +232,20 @@ fn put_live(text: &mut String, site: &Site, session: &[u8]) -> Result<(), AllocE
     put_address(text, address)?;
     put_text(text, apn)?;
     writeln!(text, " home {home}")
+}
+
+/// Writes the rules of the access point that a live session shows.
+fn put_rules(
+    text: &mut String,
+    site: &Site,
+    session: &[u8],
+    counts: &mut Counts,
+) -> Result<(), AllocError> {
+    let rules = site.apn(session).map_or("", |apn| rules_of(apn));
+    if !rules.is_empty() {
+        count(&mut counts.ruled);
+    }
+    text.push_str(rules)
 }
 
 /// Writes a text: bytes 0x21 to 0x7E but the backslash as they are, each other byte as `\x` and two small digits.

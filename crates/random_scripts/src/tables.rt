@@ -3,8 +3,8 @@ use op_tables::{TableFault, Tables, read_tables};
 use std::alloc::Global;
 use test_messages::Quality;
 
-/// Three access points: two with defaults that have no number in common, and one with a name alone, which has a capital
-/// letter and a character of two bytes.
+/// Three access points: two with defaults that have no number in common and with rules, and one with a name alone, which
+/// has a capital letter and a character of two bytes. The rules of the first don't stand in the order in which they apply.
 const TEXT: &str = r#"
 edition = 3
 rtcp_bps = 5000
@@ -25,6 +25,39 @@ capability = 1
 vulnerability = 0
 ambr_ul = 1000000
 ambr_dl = 2000000
+[[apn.rule]]
+name = "sip"
+qci = 5
+priority = 9
+capability = 1
+vulnerability = 0
+max_ul = 32000
+max_dl = 32000
+precedence = 40
+status = 2
+filters = ["permit out ip from any to any"]
+[[apn.rule]]
+name = "a\\b"
+qci = 1
+priority = 15
+capability = 0
+vulnerability = 1
+max_ul = 0
+max_dl = 64000
+precedence = 4294967295
+status = 3
+filters = ["permit in ip from any to any", "permit out ip from any to any"]
+[[apn.rule]]
+name = "SIP"
+qci = 9
+priority = 1
+capability = 0
+vulnerability = 0
+max_ul = 1
+max_dl = 4294967295
+precedence = 40
+status = 0
+filters = ["permit in ip from any to any"]
 [[apn]]
 name = "internet"
 [apn.default]
@@ -34,6 +67,17 @@ capability = 0
 vulnerability = 1
 ambr_ul = 4294967295
 ambr_dl = 16909060
+[[apn.rule]]
+name = "sip"
+qci = 4
+priority = 2
+capability = 1
+vulnerability = 1
+max_ul = 128000
+max_dl = 256000
+precedence = 0
+status = 1
+filters = ["permit out ip from any to any"]
 [[apn]]
 name = "Z\\\u00C0"
 "#;
@@ -58,11 +102,36 @@ const INTERNET: Quality = Quality {
     downlink: 16_909_060,
 };
 
-/// The names of the access points in small letters, each with its default.
-const ROWS: [(&[u8], Option<Quality>); 3] = [
-    (b"ims", Some(IMS)),
-    (b"internet", Some(INTERNET)),
-    (b"z\\\xc3\x80", None),
+/// What the model knows of an access point.
+#[derive(Clone, Copy)]
+struct Row {
+    /// The name in small letters.
+    name: &'static [u8],
+    default: Option<Quality>,
+    /// The lines of the rules: precedence, name, status, class, and the bit rates up and down.
+    rules: &'static str,
+}
+
+/// The rows of the access points. Rules apply by precedence and then by name, in which capitals come first.
+const ROWS: [Row; 3] = [
+    Row {
+        name: b"ims",
+        default: Some(IMS),
+        rules: "rule 40 op/SIP 0 9 1 4294967295
+rule 40 op/sip 2 5 32000 32000
+rule 4294967295 op/a\\x5cb 3 1 0 64000
+",
+    },
+    Row {
+        name: b"internet",
+        default: Some(INTERNET),
+        rules: "rule 0 op/sip 1 4 128000 256000\n",
+    },
+    Row {
+        name: b"z\\\xc3\x80",
+        default: None,
+        rules: "",
+    },
 ];
 
 /// The tables of the scripts' sites.
@@ -72,15 +141,25 @@ pub fn tables(alloc: Global) -> Result<Tables, TableFault> {
 
 /// Whether a name has a row, whatever its letters' case.
 pub fn has_row(name: &[u8]) -> bool {
-    ROWS.iter().any(|(row, _)| row.eq_ignore_ascii_case(name))
+    ROWS.iter().any(|row| row.name.eq_ignore_ascii_case(name))
 }
 
 /// The default of an access point, if it has one.
 pub fn default_of(name: &[u8]) -> Option<Quality> {
-    for (row, default) in &ROWS {
-        if *row == name {
-            return *default;
+    for row in &ROWS {
+        if row.name == name {
+            return row.default;
         }
     }
     None
+}
+
+/// The lines of the rules of an access point.
+pub fn rules_of(name: &[u8]) -> &'static str {
+    for row in &ROWS {
+        if row.name == name {
+            return row.rules;
+        }
+    }
+    ""
 }

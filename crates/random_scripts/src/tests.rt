@@ -95,6 +95,7 @@ fn assert_busy(rt: &impl Abort, counts: &Counts) {
     assert!(rt; counts.no_site >= 20, "{counts:?}");
     assert!(rt; counts.no_letter >= 10, "{counts:?}");
     assert!(rt; counts.shown >= 300, "{counts:?}");
+    assert!(rt; counts.ruled >= 100, "{counts:?}");
     assert!(rt; counts.by_number >= 10, "{counts:?}");
     assert!(rt; counts.by_site >= 1, "{counts:?}");
     assert!(rt; counts.ended >= 1, "{counts:?}");

@@ -3,7 +3,11 @@
 //! the same for each form of answer.
 #![tactic(auto)]
 
+#[cfg(test)]
+mod operations;
 mod operator_tables;
+#[cfg(test)]
+mod shown;
 #[cfg(test)]
 mod stored;
 #[cfg(test)]
