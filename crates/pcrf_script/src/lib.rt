@@ -5,7 +5,5 @@ mod lines;
 mod messages;
 mod printing;
 mod script;
-mod showing;
 
 pub use script::{ScriptEnd, run_script};
-pub use showing::show_state;

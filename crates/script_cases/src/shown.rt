@@ -4,7 +4,7 @@ use crate::operations::{
     put_signalling, put_voice, stamp, take_application, take_gateway,
 };
 use op_tables::read_tables;
-use pcrf_script::show_state;
+use pcrf_show::show_state;
 use ranked::Tag;
 use site_join::State;
 use std::alloc::AllocGlobal;

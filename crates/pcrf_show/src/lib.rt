@@ -1,0 +1,6 @@
+//! What a state shows, as text.
+#![tactic(auto)]
+
+mod showing;
+
+pub use showing::show_state;
