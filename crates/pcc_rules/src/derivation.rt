@@ -24,7 +24,8 @@ use std::collections::btree_map::Iter;
 
 /// The PCC rules of a gateway's session, by precedence and then by name, and no two of one name: the operator's rules of its
 /// access point, and the rule of each flow with filters and a class of each application function's session that is bound to
-/// it; none where the session isn't live. Rates are in bit/s. Its time grows with the number of all sessions.
+/// it; none where the session isn't live. Rates are in bit/s. Its time grows with the number of application functions'
+/// sessions times that of gateways' sessions.
 pub fn derive(
     alloc: Global,
     tables: &Tables,

@@ -10,7 +10,8 @@ use std::fmt::Write as _;
 
 /// Prints what a state shows by the operator's tables: its clock; the sessions of gateways, a live one with its rules and
 /// with the names of those that the gateway was told; the sessions of application functions, a live one with its binding.
-/// Rules and bindings are found anew for each session, so its time grows faster than the number of sessions.
+/// Rules and bindings are found anew for each session, so its time grows with the number of application functions' sessions
+/// times the square of that of gateways' sessions.
 pub fn show_state(
     alloc: Global,
     out: &mut String,
