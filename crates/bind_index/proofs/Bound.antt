@@ -1,9 +1,8 @@
 -- The binding is the greatest match among the records.
-use Rattle.std.proofs.Common.{◌≡◌, ℕ, true, false, cond, List, [], ◌∷◌, Option, Some, None, refl, sym, ap, ◌∙◌, subst, option_map}
+use Rattle.std.proofs.Common.{◌≡◌, ℕ, false, List, [], ◌∷◌, Option, Some, None, refl, sym, ap, ◌∙◌, option_map}
 use Rattle.std.specs.List.{filter_map}
-use Rattle.std.specs.Cmp.{first_so, second_so}
-use Rattle.ranked.specs.Sets.{In, Same, greatest}
-use Rattle.ranked.proofs.Plain.{clash, is_false, some_same, some_is, came_from}
+use Rattle.ranked.specs.Sets.{In, greatest}
+use Rattle.ranked.proofs.Plain.{clash, is_false, some_same, came_from}
 use Rattle.ranked.proofs.SetLaws.{In-filter_map, filter_map-In, greatest-Same}
 use Rattle.pcrf_facts.specs.Facts.{Fact}
 use Rattle.pcrf_facts.specs.Live.{af_is_live}

@@ -1,8 +1,7 @@
 -- The sessions that are listed are those of the records that show what is asked.
-use Rattle.std.proofs.Common.{◌≡◌, ℕ, true, not, ◌&&◌, List, [], ◌∷◌, map, Option, Some, None, refl, sym, ap, ◌∙◌, subst, Less}
+use Rattle.std.proofs.Common.{◌≡◌, ℕ, true, not, ◌&&◌, List, [], ◌∷◌, map, Option, Some, refl, sym, ap, ◌∙◌}
 use Rattle.std.specs.Cmp.{first_so, second_so}
-use Rattle.std.specs.List.{filter_map}
-use Rattle.ranked.specs.Ascending.{ascending, Rises}
+use Rattle.ranked.specs.Ascending.{Rises}
 use Rattle.ranked.specs.Orders.{text_cmp}
 use Rattle.ranked.specs.Sets.{In}
 use Rattle.ranked.proofs.Plain.{came_from, some_same, some_is}
@@ -90,9 +89,9 @@ module _ (facts : List SessionFact) (es : Records) (r : AreRecordsOf gx facts es
   unfolding view
   sessions_rise = filter_map-ascending session_cmp text_cmp (listed v q) v.sessions
       (λ s t u w _ _ less p o.
-        let a = (is_listed v q s u p).named in
-        let b = (is_listed v q t w o).named in
-        (λ i. session_cmp (a i) (b i)) ∙ less)
+      let a = (is_listed v q s u p).named in
+      let b = (is_listed v q t w o).named in
+      (λ i. session_cmp (a i) (b i)) ∙ less)
       (ascending-ascending session_cmp session_ranked (map its_session facts))
 
   -- and those of records

@@ -33,10 +33,7 @@ pub fn bind<'s>(state: &'s State, session: &SessionId) -> Option<&'s SessionId>
 }
 
 /// The greatest of the sessions that match.
-fn greatest_match<'s>(
-    asking: &AfRec,
-    sessions: Iter<'s, SessionId, GxRec>,
-) -> Option<Match<'s>>
+fn greatest_match<'s>(asking: &AfRec, sessions: Iter<'s, SessionId, GxRec>) -> Option<Match<'s>>
     ensures { option_map match_value result
         ≡ greatest candidate_cmp (matches_among asking.now sessions.entry) }
 {

@@ -1,9 +1,9 @@
 -- What was found, in order, is the session's rules.
-use Rattle.std.proofs.Common.{◌≡◌, ℕ, Bool, true, false, cond, List, [], ◌++◌, map, Option, Some, None, refl, sym, ap, ◌∙◌, subst, option_and_then}
+use Rattle.std.proofs.Common.{◌≡◌, ℕ, Bool, true, false, cond, List, [], ◌++◌, map, sym, ap, ◌∙◌, subst}
 use Rattle.std.proofs.lemmas.List.{map-append}
 use Rattle.ranked.specs.Ascending.{ascending}
 use Rattle.ranked.specs.Sets.{Same, Distinct}
-use Rattle.ranked.proofs.SetLaws.{Same-append, Same-itself, Same-through, map-Same}
+use Rattle.ranked.proofs.SetLaws.{Same-append, Same-itself, map-Same}
 use Rattle.pcrf_values.specs.RuleValues.{RuleValue}
 use Rattle.pcrf_facts.specs.Facts.{Fact}
 use Rattle.pcrf_facts.specs.Live.{gx_is_live}
@@ -11,8 +11,7 @@ use Rattle.pcrf_facts.specs.Places.{apn}
 use Rattle.pcrf_model.specs.Holdings.{SessionFact, facts_on}
 use Rattle.pcrf_model.specs.Sessions.{Session, gx, af}
 use Rattle.pcrf_model.specs.Views.{View, view, text}
-use Rattle.pcrf_model.specs.Live.{is_live}
-use Rattle.pcrf_model.specs.Tables.{ApnRow, Tables, apn_row}
+use Rattle.pcrf_model.specs.Tables.{Tables}
 use Rattle.pcrf_model.specs.Rules.{apn_of, operator_rules, flow_rules, listed_cmp, rules}
 use Rattle.pcrf_model.specs.Differences.{rule_name_of}
 use Rattle.pcrf_model.proofs.RuleNames.{row_of, names_differ}

@@ -1,5 +1,5 @@
 -- The rules of the flows of bound sessions, record by record, are those that the view has.
-use Rattle.std.proofs.Common.{◌≡◌, ℕ, Bool, true, false, cond, List, [], ◌∷◌, Option, Some, None, inl, inr, refl, sym, ap, ◌∙◌, subst, option_map, option_and_then}
+use Rattle.std.proofs.Common.{◌≡◌, ℕ, Bool, true, cond, List, [], ◌∷◌, Option, Some, None, inl, inr, refl, sym, ap, ◌∙◌, subst, option_map, option_and_then}
 use Rattle.std.specs.List.{filter_map}
 use Rattle.ranked.specs.Sets.{In, Same}
 use Rattle.ranked.proofs.Plain.{came_from, split}
@@ -14,10 +14,10 @@ use Rattle.pcrf_facts.specs.Facts.{Fact, Field}
 use Rattle.pcrf_facts.specs.FlowWords as words
 use Rattle.pcrf_facts.specs.Held.{shown, held}
 use Rattle.pcrf_facts.specs.Places.{Place, FlowField, FlowDescriptions, OfFlow}
-use Rattle.pcrf_facts.specs.Values.{Entry, Value}
+use Rattle.pcrf_facts.specs.Values.{Entry}
 use Rattle.pcrf_facts.proofs.ShownLaws.{held_shows_the_same, fact_there}
 use Rattle.pcrf_model.specs.Holdings.{SessionFact, facts_on}
-use Rattle.pcrf_model.specs.Sessions.{Session, Kind, Gx, Af, af}
+use Rattle.pcrf_model.specs.Sessions.{Session, Af, af}
 use Rattle.pcrf_model.specs.Views.{View, Shown, view, value, shown_as, as_filters}
 use Rattle.pcrf_model.specs.Bindings.{is_bound_to}
 use Rattle.pcrf_model.specs.Tables.{Tables}
@@ -119,10 +119,10 @@ module _ (t : Tables) (facts : List SessionFact) (s : Session) (es : Records) (r
       let w = flat_map-In of_record x es i in
       elim (split (is_bound_to v s (af w.0.0))) [
         | inl b ↦
-          let l = filter_map-In (λ (g : ℕ × ℕ). rule_of t (alone w.0.1) (flow_of w.0.0 g.0 g.1)) x (words.flows w.0.1)
-          (subst (λ (y : Bool). In x (cond y (rules_of_flows t w.0.0 w.0.1) [])) b w.2) in
-          of_flow w.0.0 l.0.0 l.0.1 x b
-          (sym (read_alone w.0.0 l.0.0 l.0.1) ∙ ap (λ (fs : List Fact). rule_of t (alone fs) (flow_of w.0.0 l.0.0 l.0.1)) (its_facts facts es r w.0 w.1) ∙ l.2)
+            let l = filter_map-In (λ (g : ℕ × ℕ). rule_of t (alone w.0.1) (flow_of w.0.0 g.0 g.1)) x (words.flows w.0.1)
+            (subst (λ (y : Bool). In x (cond y (rules_of_flows t w.0.0 w.0.1) [])) b w.2) in
+            of_flow w.0.0 l.0.0 l.0.1 x b
+            (sym (read_alone w.0.0 l.0.0 l.0.1) ∙ ap (λ (fs : List Fact). rule_of t (alone fs) (flow_of w.0.0 l.0.0 l.0.1)) (its_facts facts es r w.0 w.1) ∙ l.2)
         | inr b ↦ absurd (subst (λ (y : Bool). In x (cond y (rules_of_flows t w.0.0 w.0.1) [])) b w.2)
       ]
 

@@ -1,5 +1,5 @@
 -- Rules with their precedence in front, by which they are put in order.
-use Rattle.std.specs.Prelude.{◌≡◌, ℕ, List, map, Some}
+use Rattle.std.specs.Prelude.{◌≡◌, ℕ, map, Some}
 use Rattle.std.proofs.Common.{Ordering}
 use Rattle.std.specs.Ordering.{nat_cmp}
 use Rattle.ranked.specs.Orders.{pair_cmp}

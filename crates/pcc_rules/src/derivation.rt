@@ -58,7 +58,7 @@ fn add_bound(
 ) -> Result<(), AllocError>
     ensures added { OnOk result (found.new.items
         ≡ found.old.items ++ map keyed (rules_of_sessions tables.now
-            (view state.now.facts) (gx session.now) sessions.entry)) }
+        (view state.now.facts) (gx session.now) sessions.entry)) }
     ensures low { OnOk result (AreLowWhereBound
         (view state.now.facts) (gx session.now) sessions.entry) }
 {

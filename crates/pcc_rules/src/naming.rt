@@ -9,10 +9,7 @@ use pcrf_values::{RuleName, SessionId};
 use std::alloc::{AllocError, Global};
 
 /// The name under which a gateway knows a rule of the operator: `op/` and the name in the tables.
-pub(crate) fn operator_name(
-    alloc: Global,
-    name: &OperatorRuleName,
-) -> Result<RuleName, AllocError>
+pub(crate) fn operator_name(alloc: Global, name: &OperatorRuleName) -> Result<RuleName, AllocError>
     ensures { IfOk result (λ text. text ≡ codes "op/" ++ name.now) }
 {
     let mut text = Vec::from_slice(alloc, b"op/")?;

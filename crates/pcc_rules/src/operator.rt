@@ -42,7 +42,13 @@ fn of_operator(alloc: Global, rule: &OperatorRule) -> Result<Rule, AllocError>
     let name = operator_name(alloc, rule.name())?;
     let filters = texts_of(alloc, rule.filters())?;
     let class = rule.class();
-    Ok(Rule::of(name, rule.status(), filters, class.qos(), class.precedence()))
+    Ok(Rule::of(
+        name,
+        rule.status(),
+        filters,
+        class.qos(),
+        class.precedence(),
+    ))
 }
 
 /// The texts of the filters.

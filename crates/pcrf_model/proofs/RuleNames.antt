@@ -15,7 +15,7 @@ use Rattle.pcrf_facts.proofs.FactLaws.{rule_ranked}
 use Rattle.pcrf_facts.proofs.ShownLaws.{fact_there}
 use Rattle.pcrf_model.specs.Sessions.{Kind, Gx, Af, Session, session_cmp, is_gx}
 use Rattle.pcrf_model.specs.Holdings.{SessionFact, facts_on}
-use Rattle.pcrf_model.specs.Views.{View, Shown, view, text}
+use Rattle.pcrf_model.specs.Views.{View, view, text}
 use Rattle.pcrf_model.specs.Live.{is_live}
 use Rattle.pcrf_model.specs.Bindings.{bind, is_bound_to}
 use Rattle.pcrf_model.specs.Tables.{OperatorRule, ApnRow, Class, Tables, apn_row}

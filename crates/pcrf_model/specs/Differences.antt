@@ -1,5 +1,5 @@
 -- What a gateway was told, and how that differs from the rules that hold (TS 29.212, 4.5.2: Charging-Rule-Remove and -Install).
-use Rattle.std.specs.Prelude.{◌≡◌, ℕ, ◌+◌, ◌-◌, ◌==◌, Bool, cond, not, ◌&&◌, List, ◌++◌, map, take, drop, length, Option, Some, None}
+use Rattle.std.specs.Prelude.{◌≡◌, ℕ, ◌+◌, ◌-◌, ◌==◌, Bool, cond, not, ◌&&◌, List, ◌++◌, map, take, drop, length, None}
 use Rattle.std.proofs.Common.{Ordering}
 use Rattle.std.specs.Ordering.{is_eq}
 use Rattle.std.specs.List.{list_any, filter, filter_map}

@@ -2,7 +2,6 @@ use Rattle.std.proofs.Common.{◌≡◌, ℕ, IfOk, List, [], ◌++◌, map, ref
 use Rattle.std.proofs.lemmas.Result.{IfOk-weaker}
 use Rattle.ranked.specs.Sets.{Distinct}
 use Rattle.pcrf_values.specs.RuleValues.{RuleValue}
-use Rattle.pcrf_facts.specs.Live.{gx_is_live}
 use Rattle.pcrf_model.specs.Sessions.{gx, af}
 use Rattle.pcrf_model.specs.Views.{view}
 use Rattle.pcrf_model.specs.Rules.{rules}
@@ -27,7 +26,7 @@ returns-clause-derived c =
     let live = sym c.live.ensures ∙ c.if-not-live.false in
     subst (λ (xs : List RuleValue). IfOk c.in_order.result (λ made. made.items ≡ xs))
     (derived_is c.args.tables.now c.args.state.now.facts c.args.session.now c.all_af.result records c.in-Some.gateway.now c.in-Some.ensures live c.add_bound.new.found.items
-      (c.in_ok-add_bound.ensures.added ∙ ap (λ (xs : List (ℕ × RuleValue)). xs ++ map keyed (rules_of_sessions c.args.tables.now (view c.args.state.now.facts) (gx c.args.session.now) c.all_af.result)) c.in_ok-found.ensures.given))
+    (c.in_ok-add_bound.ensures.added ∙ ap (λ (xs : List (ℕ × RuleValue)). xs ++ map keyed (rules_of_sessions c.args.tables.now (view c.args.state.now.facts) (gx c.args.session.now) c.all_af.result)) c.in_ok-found.ensures.given))
     c.in_order.ensures
 
 pub returns-clause-names_apart : goal.returns-clause-names_apart
@@ -37,5 +36,5 @@ returns-clause-names_apart c =
     let all = rules c.args.tables.now (view c.args.state.now.facts) (gx c.args.session.now) in
     IfOk-weaker c.in_order.result (λ made. made.items ≡ all) (λ made. Distinct (map rule_name_of made.items))
     (λ made h. subst (λ (xs : List RuleValue). Distinct (map rule_name_of xs)) (sym h)
-      (derived_apart c.args.tables.now c.args.state.now.facts c.args.session.now c.all_af.result records c.in-Some.gateway.now c.in-Some.ensures live c.in_ok-add_bound.ensures.low c.in_ok-found.ensures.apart))
+    (derived_apart c.args.tables.now c.args.state.now.facts c.args.session.now c.all_af.result records c.in-Some.gateway.now c.in-Some.ensures live c.in_ok-add_bound.ensures.low c.in_ok-found.ensures.apart))
     (returns-clause-derived c)

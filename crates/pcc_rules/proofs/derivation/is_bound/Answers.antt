@@ -1,4 +1,4 @@
-use Rattle.std.proofs.Common.{ap, ◌∙◌, Option, Ordering, false, option_map, unwrap_or}
+use Rattle.std.proofs.Common.{ap, ◌∙◌, Option, false, option_map, unwrap_or}
 use Rattle.std.specs.Ordering.{is_eq}
 use Rattle.pcrf_model.specs.Sessions.{Session, session_cmp, gx}
 use Rattle.pcc_rules.proofs.derivation.is_bound.Goals as goal

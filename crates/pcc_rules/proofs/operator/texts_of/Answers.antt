@@ -1,4 +1,4 @@
-use Rattle.std.proofs.Common.{rules, ◌≡◌, ◌∙◌, sym, ap, subst, take, length, List, ℕ, Some}
+use Rattle.std.proofs.Common.{rules, ◌≡◌, ◌∙◌, ap}
 use Rattle.pcrf_values.specs.Texts.{one_to}
 use Rattle.pcc_rules.proofs.Names.{one_to_fits}
 use Rattle.pcc_rules.proofs.operator.texts_of.Goals as goal
