@@ -19,7 +19,7 @@ use Rattle.bind_index.specs.Matches.{match_of, matches_among, best_from, one}
 use Rattle.bind_index.proofs.Entries.{AreRecordsOf, its_facts, has_record, is_there}
 
 -- what is mapped from something was there
-was_there : {A B : Type 0} (f : A → B) (x : Option A) (y : B) → option_map f x ≡ Some y → (z : A) × (x ≡ Some z)
+pub was_there : {A B : Type 0} (f : A → B) (x : Option A) (y : B) → option_map f x ≡ Some y → (z : A) × (x ≡ Some z)
 was_there f None y h = absurd (cc)
 was_there f (Some z) y h = (z, refl)
 

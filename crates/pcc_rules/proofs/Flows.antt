@@ -1,5 +1,5 @@
 -- The rules of the flows of bound sessions, record by record, are those that the view has.
-use Rattle.std.proofs.Common.{◌≡◌, ℕ, Bool, true, cond, List, [], ◌∷◌, Option, Some, None, inl, inr, refl, sym, ap, ◌∙◌, subst, option_map, option_and_then}
+use Rattle.std.proofs.Common.{◌≡◌, ℕ, Bool, true, cond, List, [], ◌∷◌, Option, Some, None, inl, inr, refl, sym, ap, ◌∙◌, subst, option_and_then}
 use Rattle.std.specs.List.{filter_map}
 use Rattle.ranked.specs.Sets.{In, Same}
 use Rattle.ranked.proofs.Plain.{came_from, split}
@@ -26,17 +26,13 @@ use Rattle.pcrf_model.specs.Rules.{flow_at, rule_of, rule_at, flow_rules}
 use Rattle.pcrf_model.proofs.ViewLaws.{In-all, all-shows}
 use Rattle.pcrf_model.proofs.RuleNames.{BoundFlowsAreLow, and_then, filters_at, bound_kind}
 use Rattle.site_join.specs.States.{Records}
+use Rattle.bind_index.proofs.Bound.{was_there}
 use Rattle.bind_index.proofs.Entries.{AreRecordsOf, its_facts, has_record}
 use Rattle.pcc_rules.specs.FlowsAlone.{alone, flow_of, rules_of_flows, rules_of_sessions, IsLow, AreLow, AreLowWhereBound}
 
 -- a session of the application function is that of its Session-Id
 af_is : (a : Session) → a.kind ≡ Af → af a.id ≡ a
 af_is a h = λ i. record { kind = sym h i; id = a.id }
-
--- what is mapped from something was there
-was_there : {A B : Type 0} (f : A → B) (x : Option A) (y : B) → option_map f x ≡ Some y → (z : A) × (x ≡ Some z)
-was_there f None y h = absurd (cc)
-was_there f (Some z) y h = (z, refl)
 
 -- a flow of which a field shows is listed
 flow_listed : (fs : List Fact) (c n : ℕ) (f : FlowField) (e : Entry) → shown fs (OfFlow c n f) ≡ Some e → In (c, n) (words.flows fs)

@@ -70,7 +70,8 @@ impl Flow<'_> {
 
     /// The flow shows this Flow-Usage.
     fn has_usage(&self, usage: u32) -> bool
-        ensures { result ≡ has_usage (shown (flow_facts self.now)) self.now.component self.now.number usage }
+        ensures { result
+            ≡ has_usage (shown (flow_facts self.now)) self.now.component self.now.number usage }
     {
         match self.known.flow_usage(self.component, self.number) {
             Some((_, told)) => told.get() == usage,
