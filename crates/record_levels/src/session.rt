@@ -111,16 +111,23 @@ impl<L: Ranked> SessionFields<L> {
     pub fn of(tag: Tag, value: &SessionValue<L>) -> Result<SessionFields<L>, AllocError>
         ensures { IfOk result (λ r. r ≡ one_field tag value.now) }
     {
+        Ok(SessionFields::with(tag, value.try_copy()?))
+    }
+
+    /// One field, of a value that is given away, without memory.
+    fn with(tag: Tag, value: SessionValue<L>) -> SessionFields<L>
+        ensures { result ≡ one_field tag value }
+    {
         let mut fields = SessionFields::start();
         match value {
-            SessionValue::Address(address) => fields.user.address.put(tag, *address),
-            SessionValue::Apn(apn) => fields.user.apn.put(tag, apn.try_copy()?),
-            SessionValue::Subscribers(ids) => fields.user.subscribers.put(tag, ids.try_copy()?),
-            SessionValue::Host(host) => fields.client.host.put(tag, host.try_copy()?),
-            SessionValue::Realm(realm) => fields.client.realm.put(tag, realm.try_copy()?),
-            SessionValue::Last(last) => fields.client.last.put(tag, last.try_copy()?),
+            SessionValue::Address(address) => fields.user.address.put(tag, address),
+            SessionValue::Apn(apn) => fields.user.apn.put(tag, apn),
+            SessionValue::Subscribers(ids) => fields.user.subscribers.put(tag, ids),
+            SessionValue::Host(host) => fields.client.host.put(tag, host),
+            SessionValue::Realm(realm) => fields.client.realm.put(tag, realm),
+            SessionValue::Last(last) => fields.client.last.put(tag, last),
         }
-        Ok(fields)
+        fields
     }
 
     /// Each of the fields is there.
