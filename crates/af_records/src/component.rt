@@ -4,9 +4,9 @@ ghost use Rattle.af_records.specs.Singles.{no_component, one_component_field, wi
 
 use crate::fact::{ComponentValue, OpenStatusNumber};
 use crate::flow::FlowParts;
-use crate::joining::map_of;
 use crate::rates::Rates;
 use lattice_core::{FactSet, Join, JoinMap, Reg, Tag, Tombed};
+use record_levels::map_of;
 use std::alloc::{AllocError, Global};
 
 /// The fields of a component, and its flows.

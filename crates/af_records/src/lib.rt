@@ -5,7 +5,6 @@ mod component;
 mod fact;
 mod flow;
 mod flows;
-mod joining;
 mod rates;
 mod record;
 mod removed;

@@ -1,11 +1,11 @@
 //! What is known of a Gx session that isn't ended.
-ghost use Rattle.std.specs.Prelude.{◌≡◌, IfOk};
+ghost use Rattle.std.specs.Prelude.{◌≡◌, IfOk, Some};
 ghost use Rattle.gx_records.specs.GxFacts.{no_parts, one_field_of, one_told};
 
 use crate::fact::OpenRequestType;
 use lattice_core::{FactSet, Join, JoinMap, Ranked, Reg, Tag};
 use pcrf_values::{Rule, RuleName};
-use record_levels::{SessionFields, SessionValue};
+use record_levels::{SessionFields, SessionValue, map_of};
 use std::alloc::{AllocError, Global};
 
 /// The fields of a session, and what its gateway was told of rules.
@@ -50,15 +50,24 @@ impl GxParts {
     ) -> Result<GxParts, AllocError>
         ensures { IfOk result (λ r. r ≡ one_told tag name.now rule.now) }
     {
-        let mut parts = GxParts::start(alloc);
-        let mut told = Reg::start();
-        told.put(tag, rule.try_copy()?);
         let name = name.try_copy()?;
-        if let Err((refused, _)) = parts.told.join_at(name, told) {
-            return Err(refused);
-        }
-        Ok(parts)
+        let told = told_of(tag, rule)?;
+        let told = map_of(alloc, name, told)?;
+        Ok(GxParts {
+            fields: SessionFields::start(),
+            told,
+        })
     }
+}
+
+// The register of what was told.
+fn told_of(tag: Tag, rule: &Option<Rule>) -> Result<Reg<Option<Rule>>, AllocError>
+    ensures { IfOk result (λ r. r ≡ Some (tag, rule.now)) }
+{
+    let rule = rule.try_copy()?;
+    let mut told = Reg::start();
+    told.put(tag, rule);
+    Ok(told)
 }
 
 impl Join for GxParts {

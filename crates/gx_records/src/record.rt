@@ -18,7 +18,7 @@ use crate::parts::GxParts;
 use crate::told::Told;
 use lattice_core::{FactSet, Join, Ranked, Reg, Tag, Tombed};
 use pcrf_values::{Apn, DiameterIdentity, Rule, RuleName, Subscribers};
-use record_levels::SessionFields;
+use record_levels::{SessionFields, join_into};
 use std::alloc::{AllocError, Global};
 use std::marker::Model;
 use std::net::Ipv4Addr;
@@ -139,10 +139,7 @@ impl GxRec {
     {
         self.parts.note_valid();
         let one = single(alloc, fact)?;
-        if let Err((refused, _)) = self.parts.join_in(one) {
-            return Err(refused);
-        }
-        Ok(())
+        join_into(&mut self.parts, one)
     }
 
     /// The record of these facts.

@@ -1,7 +1,7 @@
 //! Joins that let go of what is refused. Each is proved once, for whatever it joins.
 ghost use Rattle.std.specs.Prelude.{◌≡◌, [], ◌∷◌, IfOk, OnOk, OnErr};
 
-use lattice_core::{Join, JoinMap};
+use lattice_core::{Join, JoinMap, Ranked};
 use std::alloc::{AllocError, Global};
 
 /// Joins a value into another; a refusal changes nothing.
@@ -16,11 +16,15 @@ pub fn join_into<T: Join>(ours: &mut T, theirs: T) -> Result<(), AllocError>
 }
 
 /// The map of one value.
-pub fn map_of<V: Join>(alloc: Global, number: u32, value: V) -> Result<JoinMap<u32, V>, AllocError>
-    ensures { IfOk result (λ r. r ≡ (number, value) ∷ []) }
+pub fn map_of<K: Ranked, V: Join>(
+    alloc: Global,
+    key: K,
+    value: V,
+) -> Result<JoinMap<K, V>, AllocError>
+    ensures { IfOk result (λ r. r ≡ (key, value) ∷ []) }
 {
     let mut map = JoinMap::start(alloc);
-    match map.join_at(number, value) {
+    match map.join_at(key, value) {
         Ok(()) => Ok(map),
         Err((refused, _)) => Err(refused),
     }
