@@ -20,6 +20,13 @@ impl Model for Told {
 impl Told {
     ghost use Rattle.std.specs.Prelude.{◌≡◌};
 
+    /// These names and their rules.
+    pub fn of(pairs: Vec<(RuleName, Rule)>) -> Told
+        ensures { result ≡ pairs.items }
+    {
+        Told { pairs }
+    }
+
     /// The names and their rules.
     pub fn as_slice(&self) -> &[(RuleName, Rule)]
         ensures { result.now ≡ self.now }

@@ -1,5 +1,5 @@
 //! Differences between the rules that a gateway was told and those that it is to have.
-ghost use Rattle.std.specs.Prelude.{◌≡◌};
+ghost use Rattle.std.specs.Prelude.{◌≡◌, ◌-◌, take, length};
 
 use crate::bounded_list::RuleName;
 use crate::rule::Rule;
@@ -49,6 +49,18 @@ impl Delta {
         ensures { result.now ≡ self.now.installed }
     {
         self.installed.as_slice()
+    }
+
+    /// Its first entries, so many of them at most: the removed names come before the installed rules.
+    pub fn first(self, most: usize) -> Delta
+        ensures removed { result.removed ≡ take most self.removed }
+        ensures installed { result.installed ≡ take (most - length self.removed) self.installed }
+    {
+        let (mut removed, mut installed) = self.into_parts();
+        let left = most.saturating_sub(removed.len());
+        removed.truncate(most);
+        installed.truncate(left);
+        Delta::of(removed, installed)
     }
 
     /// Both lists.

@@ -8,6 +8,8 @@ mod answers;
 #[cfg(test)]
 mod bindings;
 #[cfg(test)]
+mod deltas;
+#[cfg(test)]
 mod facts;
 #[cfg(test)]
 mod random;
