@@ -1,4 +1,4 @@
-use Rattle.std.proofs.Common.{◌≡◌, true, false, List, ℕ, Bool, not, ◌&&◌, ◌+◌, ◌++◌, ◌∷◌, [], take, filter, ap, sym, ◌∙◌, arith}
+use Rattle.std.proofs.Common.{◌≡◌, true, false, List, ℕ, not, ◌&&◌, ◌+◌, ◌++◌, ◌∷◌, [], take, filter, ap, sym, ◌∙◌, arith}
 use Rattle.std.specs.List.{list_any}
 use Rattle.std.specs.Ordering.{is_eq}
 use Rattle.ranked.specs.Orders.{text_cmp}

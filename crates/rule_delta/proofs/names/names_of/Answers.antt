@@ -1,4 +1,4 @@
-use Rattle.std.proofs.Common.{Bool, true, cond, ap, ◌∙◌, arith}
+use Rattle.std.proofs.Common.{true, cond, ap, ◌∙◌, arith}
 use Rattle.std.specs.Ordering.{is_eq}
 use Rattle.ranked.specs.Orders.{text_cmp}
 use Rattle.pcrf_model.specs.Differences.{has_name}
