@@ -1,11 +1,9 @@
-//! A letter of three operations, which a site takes.
-use crate::fingerprint::{EMPTY, Fingerprint, fingerprint_of, mixed};
+//! A letter of five operations, which a site takes.
+use crate::fingerprint::{EMPTY, Fingerprint};
+use crate::operations::{Said, call, shown, update, with_call};
 use crate::trial::Call;
-use gx_records::{GxFact, SessionValue};
-use pcrf_values::{DiameterIdentity, SessionId};
-use ranked::Tag;
 use site_core::Site;
-use site_join::{Operation, SessionFacts};
+use site_join::Operation;
 use std::alloc::{AllocError, Global};
 
 /// A site that takes a letter, and how many of the letter's operations stand taken.
@@ -16,14 +14,25 @@ pub struct TakeLetter {
     taken: usize,
 }
 
-/// What the fingerprint of a site has to be that shows these hosts, each of a session.
-fn shown(clock: u64, hosts: &[(&[u8], &[u8])]) -> u64 {
-    let mut print = mixed(EMPTY, clock);
-    for (id, host) in hosts {
-        print = mixed(print, mixed(fingerprint_of(id), fingerprint_of(host)));
-    }
-    print
-}
+/// The hosts after the updates.
+const HOSTS: [(&[u8], &[u8]); 2] = [(b"gw;1;1", b"b"), (b"gw;1;2", b"c")];
+
+/// What the call says at first.
+const FIRST: Said<'static> = Said {
+    media: 0,
+    flow: 1,
+    filter: b"permit in 17",
+};
+
+/// What it says then: another Media-Type, and a flow more.
+const SECOND: Said<'static> = Said {
+    media: 1,
+    flow: 2,
+    filter: b"permit out 17",
+};
+
+/// The flows after both.
+const FLOWS: [(u32, &[u8]); 2] = [(1, b"permit in 17"), (2, b"permit out 17")];
 
 /// What a site has to show that took so many operations of the letter, and no other.
 fn shown_after(taken: usize) -> u64 {
@@ -31,25 +40,16 @@ fn shown_after(taken: usize) -> u64 {
         0 => shown(0, &[]),
         1 => shown(7, &[(b"gw;1;2", b"a")]),
         2 => shown(8, &[(b"gw;1;1", b"b"), (b"gw;1;2", b"a")]),
-        _ => shown(9, &[(b"gw;1;1", b"b"), (b"gw;1;2", b"c")]),
-    }
-}
-
-impl Fingerprint for Site {
-    fn fingerprint(&self) -> u64 {
-        let mut print = mixed(EMPTY, self.state().clock());
-        for (id, record) in self.state().all_gx() {
-            let host = record.host().map_or(0, |host| host.1.fingerprint());
-            print = mixed(print, mixed(id.fingerprint(), host));
-        }
-        print
+        3 => shown(9, &HOSTS),
+        4 => with_call(shown(10, &HOSTS), 0, &[(1, b"permit in 17")]),
+        _ => with_call(shown(11, &HOSTS), 1, &FLOWS),
     }
 }
 
 // It stays as it is where the site shows just the operations that stand taken.
 impl Fingerprint for TakeLetter {
     fn fingerprint(&self) -> u64 {
-        if self.site.fingerprint() == shown_after(self.taken) {
+        if self.site.state().fingerprint() == shown_after(self.taken) {
             EMPTY
         } else {
             0
@@ -57,25 +57,19 @@ impl Fingerprint for TakeLetter {
     }
 }
 
-/// What an update of this host says.
-fn facts(alloc: Global, at: Tag, host: &[u8]) -> Result<Vec<GxFact>, AllocError> {
-    let host = DiameterIdentity::read(alloc, host)?.ok_or(AllocError)?;
-    let mut facts = Vec::new(alloc);
-    facts.push(GxFact::Field(at, SessionValue::Host(host)))?;
-    Ok(facts)
+/// The updates of two sessions.
+fn put_updates(alloc: Global, letter: &mut Vec<Operation>) -> Result<(), AllocError> {
+    letter.push(update(alloc, b"gw;1;2", 7, b"a")?)?;
+    letter.push(update(alloc, b"gw;1;1", 8, b"b")?)?;
+    letter.push(update(alloc, b"gw;1;2", 9, b"c")?)?;
+    Ok(())
 }
 
-/// An update of a session by site 2.
-fn update(alloc: Global, id: &[u8], counter: u8, host: &[u8]) -> Result<Operation, AllocError> {
-    let counter = u64::from(counter);
-    let at = Tag {
-        number: 0,
-        counter,
-        site: 2,
-    };
-    let facts = facts(alloc, at, host)?;
-    let id = SessionId::read(alloc, id)?.ok_or(AllocError)?;
-    Ok(Operation::stamped(counter, 2, 0, SessionFacts::Gx(id, facts)))
+/// A call, and more of the same call.
+fn put_calls(alloc: Global, letter: &mut Vec<Operation>) -> Result<(), AllocError> {
+    letter.push(call(alloc, 10, FIRST)?)?;
+    letter.push(call(alloc, 11, SECOND)?)?;
+    Ok(())
 }
 
 impl Call for TakeLetter {
@@ -83,9 +77,8 @@ impl Call for TakeLetter {
 
     fn operands(alloc: Global, _case: ()) -> Result<TakeLetter, AllocError> {
         let mut letter = Vec::new(alloc);
-        letter.push(update(alloc, b"gw;1;2", 7, b"a")?)?;
-        letter.push(update(alloc, b"gw;1;1", 8, b"b")?)?;
-        letter.push(update(alloc, b"gw;1;2", 9, b"c")?)?;
+        put_updates(alloc, &mut letter)?;
+        put_calls(alloc, &mut letter)?;
         let site = Site::start(alloc, 0);
         let taken = 0;
         Ok(TakeLetter {
@@ -96,7 +89,7 @@ impl Call for TakeLetter {
     }
 
     fn expected(_alloc: Global, _case: ()) -> Result<u64, AllocError> {
-        Ok(shown_after(3))
+        Ok(shown_after(5))
     }
 
     fn make(self) -> Result<u64, TakeLetter> {
@@ -106,7 +99,7 @@ impl Call for TakeLetter {
             ..
         } = self;
         match site.take_all(letter.as_slice()) {
-            Ok(()) => Ok(site.fingerprint()),
+            Ok(()) => Ok(site.state().fingerprint()),
             Err((taken, _)) => Err(TakeLetter {
                 site,
                 letter,

@@ -9,6 +9,8 @@ mod fingerprint;
 mod joins;
 mod letters;
 mod makings;
+mod merges;
+mod operations;
 mod places;
 mod samples;
 mod tally;
@@ -19,6 +21,7 @@ use joins::{Form, Joining};
 use lattice_core::{JoinMap, JoinTree, Reg, Tombed};
 use letters::TakeLetter;
 use makings::{Copy, FoldApn, GatherSubscribers, ReadText};
+use merges::MergeStates;
 use pcrf_values::{Apn, Delta, Filters, Rule, RuleName, Subscriber, Subscribers};
 use places::{JoinAt, Place, PlaceAt};
 use ranked::Text;
@@ -118,6 +121,7 @@ fn try_all(alloc: Global) -> Tally {
     try_makings(alloc, &mut tally);
     try_copies(alloc, &mut tally);
     tally.count(outcome_of::<TakeLetter>(alloc, ()), "take", "letter");
+    tally.count(outcome_of::<MergeStates>(alloc, ()), "merge", "states");
     tally
 }
 

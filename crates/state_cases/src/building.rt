@@ -2,11 +2,11 @@
 ghost use Rattle.std.specs.Prelude.{◌≤◌};
 ghost use Rattle.pcrf_model.specs.Limits.{last_counter};
 
-use af_records::{AfFact, ComponentValue};
-use gx_records::{GxFact, SessionValue};
+use af_records::{AfFact, AfRec, ComponentValue};
+use gx_records::{GxFact, GxRec, SessionValue};
 use lattice_core::Tag;
 use pcrf_values::{BoundedNumber, BoundedText, DiameterIdentity, RuleName, SessionId};
-use site_join::{Operation, SessionFacts};
+use site_join::{Operation, SessionFacts, State};
 use std::alloc::AllocGlobal;
 use std::process::Abort;
 
@@ -133,4 +133,42 @@ pub fn told_nothing(rt: &(impl AllocGlobal + Abort), at: Tag, name: &str) -> GxF
     let read = BoundedText::read(rt.alloc(), name.as_bytes()).expect(rt, "memory");
     let name: RuleName = read.expect(rt, "the name of a rule");
     GxFact::Told(at, name, None)
+}
+
+/// Puts a record, or none, in the place of that of a gateway's session, sets the clock, and gives the record that stood.
+pub fn put_gateway(
+    rt: &(impl AllocGlobal + Abort),
+    state: &mut State,
+    id: &str,
+    record: Option<GxRec>,
+    clock: u64,
+) -> Option<GxRec>
+    requires { clock ≤ last_counter }
+{
+    let id = session_id(rt, id);
+    state.put_gx(&id, record, clock).expect(rt, "memory")
+}
+
+/// Puts a record, or none, in the place of that of a call, sets the clock, and gives the record that stood.
+pub fn put_call(
+    rt: &(impl AllocGlobal + Abort),
+    state: &mut State,
+    id: &str,
+    record: Option<AfRec>,
+    clock: u64,
+) -> Option<AfRec>
+    requires { clock ≤ last_counter }
+{
+    let id = session_id(rt, id);
+    state.put_af(&id, record, clock).expect(rt, "memory")
+}
+
+/// Whether a record of a gateway's session stood.
+pub fn check_gateway_stood(rt: &impl Abort, stood: Option<GxRec>, want: bool) {
+    assert_eq!(rt; stood.is_some(), want);
+}
+
+/// Whether a record of a call stood.
+pub fn check_call_stood(rt: &impl Abort, stood: Option<AfRec>, want: bool) {
+    assert_eq!(rt; stood.is_some(), want);
 }

@@ -1,5 +1,11 @@
 //! Which states are equal.
-use crate::building::{call, call_fact, gateway_fact, session_id, told_nothing, update};
+ghost use Rattle.std.specs.Prelude.{◌≤◌};
+ghost use Rattle.pcrf_model.specs.Limits.{last_counter};
+
+use crate::building::{
+    call, call_fact, check_call_stood, check_gateway_stood, gateway_fact, put_call, put_gateway,
+    told_nothing, update,
+};
 use af_records::{AfFact, AfRec, ComponentValue, FlowValue};
 use gx_records::{GxFact, GxRec};
 use lattice_core::Tag;
@@ -50,12 +56,15 @@ fn check_call(rt: &(impl AllocGlobal + Abort), id: &str, fact: AfFact) {
     check_more(rt, &more);
 }
 
+/// Whether a state is equal to one that holds nothing.
+fn check_nothing(rt: &(impl AllocGlobal + Abort), other: &State, want: bool) {
+    check_equal(rt, &State::start(rt.alloc()), other, want);
+}
+
 #[test]
 fn nothing_held_is_equal(rt: HostRuntime) {
-    let state = State::start(rt.alloc());
-    let other = State::start(rt.alloc());
-    check_equal(&rt, &state, &other, true);
-    check_equal(&rt, &state, &small_state(&rt), false);
+    check_nothing(&rt, &State::start(rt.alloc()), true);
+    check_nothing(&rt, &small_state(&rt), false);
 }
 
 #[test]
@@ -65,16 +74,21 @@ fn copies_are_equal(rt: HostRuntime) {
     check_equal(&rt, &state, &copy, true);
 }
 
+/// Sets the clock alone: no record is put in the place of none.
+fn set_clock(rt: &(impl AllocGlobal + Abort), state: &mut State, clock: u64)
+    requires { clock ≤ last_counter }
+{
+    let stood = put_gateway(rt, state, "g2", None, clock);
+    check_gateway_stood(rt, stood, false);
+}
+
 #[test]
 fn another_clock_alone_sets_apart(rt: HostRuntime) {
     let state = small_state(&rt);
     let mut other = small_state(&rt);
-    let absent = session_id(&rt, "g2");
-    let stood = other.put_gx(&absent, None, 3).expect(&rt, "memory");
-    assert!(&rt; stood.is_none());
+    set_clock(&rt, &mut other, 3);
     check_equal(&rt, &state, &other, false);
-    let stood = other.put_gx(&absent, None, 2).expect(&rt, "memory");
-    assert!(&rt; stood.is_none());
+    set_clock(&rt, &mut other, 2);
     check_equal(&rt, &state, &other, true);
 }
 
@@ -118,16 +132,18 @@ fn a_flow_more_sets_apart(rt: HostRuntime) {
     check_call(&rt, "a1", AfFact::FlowRemoved(1, 7));
 }
 
+/// Puts records without facts on sessions that have none.
+fn put_empty_records(rt: &(impl AllocGlobal + Abort), state: &mut State) {
+    let record = Some(GxRec::start(rt.alloc()));
+    check_gateway_stood(rt, put_gateway(rt, state, "g2", record, 2), false);
+    let record = Some(AfRec::start(rt.alloc()));
+    check_call_stood(rt, put_call(rt, state, "a2", record, 2), false);
+}
+
 #[test]
 fn a_record_without_facts_is_as_good_as_none(rt: HostRuntime) {
     let state = small_state(&rt);
     let mut other = small_state(&rt);
-    let gateway = session_id(&rt, "g2");
-    let record = GxRec::start(rt.alloc());
-    let stood = other.put_gx(&gateway, Some(record), 2);
-    assert!(&rt; stood.expect(&rt, "memory").is_none());
-    let record = AfRec::start(rt.alloc());
-    let stood = other.put_af(&session_id(&rt, "a2"), Some(record), 2);
-    assert!(&rt; stood.expect(&rt, "memory").is_none());
+    put_empty_records(&rt, &mut other);
     check_equal(&rt, &state, &other, true);
 }

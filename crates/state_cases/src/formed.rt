@@ -132,14 +132,26 @@ fn check_large(rt: &(impl AllocGlobal + Abort), removed: u32, stands: bool) {
     check(rt, function(rt, UNNUMBERED, facts), stands);
 }
 
+/// The Session-Id.
+fn id_in(facts: &SessionFacts) -> &[u8] {
+    match facts {
+        SessionFacts::Gx(id, _) => id.as_slice(),
+        SessionFacts::Af(id, _) => id.as_slice(),
+    }
+}
+
+/// How many facts there are.
+fn count_in(facts: &SessionFacts) -> usize {
+    match facts {
+        SessionFacts::Gx(_, facts) => facts.len(),
+        SessionFacts::Af(_, facts) => facts.len(),
+    }
+}
+
 /// The session and the number of facts that are read back.
 fn check_parts(rt: &(impl AllocGlobal + Abort), made: &Operation, want: &[u8]) {
-    let (id, count) = match made.facts() {
-        SessionFacts::Gx(id, facts) => (id, facts.len()),
-        SessionFacts::Af(id, facts) => (id, facts.len()),
-    };
-    assert_eq!(rt; id.as_slice(), want);
-    assert_eq!(rt; count, 2);
+    assert_eq!(rt; id_in(made.facts()), want);
+    assert_eq!(rt; count_in(made.facts()), 2);
     assert_eq!(rt; made.counter(), 5);
     assert_eq!(rt; made.site(), 3);
 }

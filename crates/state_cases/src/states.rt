@@ -1,5 +1,11 @@
 //! What a state shows of the operations that it took.
-use crate::building::{call, call_end, call_facts, gateway_end, session_id, update, update_facts};
+ghost use Rattle.std.specs.Prelude.{◌≤◌};
+ghost use Rattle.pcrf_model.specs.Limits.{last_counter};
+
+use crate::building::{
+    call, call_end, call_facts, check_call_stood, check_gateway_stood, gateway_end, put_call,
+    put_gateway, update, update_facts,
+};
 use crate::text::state_text;
 use af_records::AfRec;
 use gx_records::GxRec;
@@ -118,32 +124,45 @@ fn check(rt: &(impl AllocGlobal + Abort), first: &Operation, second: &Operation,
     compare_taken(rt, second, first, want);
 }
 
+/// Whether the letters lead to a state in an order, taken once and again.
+fn check_order(rt: &(impl AllocGlobal + Abort), order: [u8; 4], want: &State) {
+    let mut state = of_all_letters(rt, order);
+    assert!(rt; state.equal(want));
+    take_letters(rt, &mut state, order);
+    assert!(rt; state.equal(want));
+}
+
 #[test]
 fn letters_lead_to_the_same_in_any_order(rt: HostRuntime) {
     let first = of_all_letters(&rt, [0, 1, 2, 3]);
     compare(&rt, &first, SHOWN);
     for order in ORDERS {
-        let mut state = of_all_letters(&rt, order);
-        assert!(&rt; state.equal(&first));
-        take_letters(&rt, &mut state, order);
-        assert!(&rt; state.equal(&first));
+        check_order(&rt, order, &first);
     }
+}
+
+/// A state that took two letters.
+fn of_two_letters(rt: &(impl AllocGlobal + Abort), first: u8, second: u8) -> State {
+    let mut state = State::start(rt.alloc());
+    take_letter(rt, &mut state, first);
+    take_letter(rt, &mut state, second);
+    state
+}
+
+/// Whether a state is equal to another, and so is what it merges to with its copy.
+fn check_merged(rt: &(impl AllocGlobal + Abort), both: State, want: &State) {
+    assert!(rt; both.equal(want));
+    let again = both.try_copy().expect(rt, "memory");
+    assert!(rt; merged(rt, both, again).equal(want));
 }
 
 #[test]
 fn merged_states_show_both(rt: HostRuntime) {
     let all = of_all_letters(&rt, [0, 1, 2, 3]);
     for [first, second, third, fourth] in ORDERS {
-        let mut ours = State::start(rt.alloc());
-        take_letter(&rt, &mut ours, first);
-        take_letter(&rt, &mut ours, second);
-        let mut theirs = State::start(rt.alloc());
-        take_letter(&rt, &mut theirs, third);
-        take_letter(&rt, &mut theirs, fourth);
-        let both = merged(&rt, ours, theirs);
-        assert!(&rt; both.equal(&all));
-        let again = both.try_copy().expect(&rt, "memory");
-        assert!(&rt; merged(&rt, both, again).equal(&all));
+        let ours = of_two_letters(&rt, first, second);
+        let theirs = of_two_letters(&rt, third, fourth);
+        check_merged(&rt, merged(&rt, ours, theirs), &all);
     }
 }
 
@@ -152,37 +171,40 @@ fn an_ended_session_stays_ended(rt: HostRuntime) {
     let late = update(&rt, "g1", 9, 9, 1, "a");
     let end = gateway_end(&rt, "g1", 2, 0);
     check(&rt, &end, &late, "clock 9, gx g1 ended");
+}
+
+#[test]
+fn an_ended_call_stays_ended(rt: HostRuntime) {
     let late = call(&rt, "a1", 9, 1, 0);
     let end = call_end(&rt, "a1", 2, 0);
     check(&rt, &end, &late, "clock 9, af a1 ended");
 }
 
+/// What this update of `b` shows with one of `g1` that has the same stamp.
+fn check_same_stamp(rt: &(impl AllocGlobal + Abort), id: &str, want: &str) {
+    let first = update(rt, "g1", 0, 1, 0, "a");
+    let other = update(rt, id, 0, 1, 0, "b");
+    check(rt, &first, &other, want);
+}
+
 #[test]
 fn equal_stamps_with_different_contents(rt: HostRuntime) {
-    let first = update(&rt, "g1", 0, 1, 0, "a");
-    let same = update(&rt, "g1", 0, 1, 0, "b");
-    check(
-        &rt,
-        &first,
-        &same,
-        "clock 1, gx g1 host b@0.1.0 last 2@0.1.0",
-    );
-    let other = update(&rt, "g2", 0, 1, 0, "b");
-    check(
-        &rt,
-        &first,
-        &other,
-        "clock 1, gx g1 host a@0.1.0 last 2@0.1.0, gx g2 host b@0.1.0 last 2@0.1.0",
-    );
+    let one = "clock 1, gx g1 host b@0.1.0 last 2@0.1.0";
+    check_same_stamp(&rt, "g1", one);
+    let both = "clock 1, gx g1 host a@0.1.0 last 2@0.1.0, gx g2 host b@0.1.0 last 2@0.1.0";
+    check_same_stamp(&rt, "g2", both);
+}
+
+/// The copy of an operation.
+fn copied(rt: &(impl AllocGlobal + Abort), operation: &Operation) -> Operation {
+    operation.try_copy().expect(rt, "memory")
 }
 
 #[test]
 fn copies_of_operations_are_taken_as_they_are(rt: HostRuntime) {
     let mut state = State::start(rt.alloc());
-    let moved = update(&rt, "g1", 0, 1, 0, "a");
-    let moved = moved.try_copy().expect(&rt, "memory");
-    let made = call(&rt, "a1", 2, 0, 4);
-    let made = made.try_copy().expect(&rt, "memory");
+    let moved = copied(&rt, &update(&rt, "g1", 0, 1, 0, "a"));
+    let made = copied(&rt, &call(&rt, "a1", 2, 0, 4));
     take_both(&rt, &mut state, &moved, &made);
     compare(
         &rt,
@@ -191,44 +213,85 @@ fn copies_of_operations_are_taken_as_they_are(rt: HostRuntime) {
     );
 }
 
+/// The stamp of the records that are put.
+const PUT: Tag = Tag {
+    number: 0,
+    counter: 2,
+    site: 0,
+};
+
+/// The record of an update.
+fn gateway_record(rt: &(impl AllocGlobal + Abort)) -> GxRec {
+    let facts = update_facts(rt, PUT, "b");
+    GxRec::of_facts(rt.alloc(), facts.as_slice()).expect(rt, "memory")
+}
+
+/// The record of a call.
+fn call_record(rt: &(impl AllocGlobal + Abort)) -> AfRec {
+    let facts = call_facts(rt, PUT, 4);
+    AfRec::of_facts(rt.alloc(), facts.as_slice()).expect(rt, "memory")
+}
+
+/// A state that took one update.
+fn updated(rt: &(impl AllocGlobal + Abort)) -> State {
+    let mut state = State::start(rt.alloc());
+    let made = update(rt, "g1", 0, 3, 0, "a");
+    state.take(&made).expect(rt, "memory");
+    state
+}
+
+/// Puts a gateway's record, or none: the one that stood, and what the state shows then.
+fn put_and_compare(
+    rt: &(impl AllocGlobal + Abort),
+    state: &mut State,
+    record: Option<GxRec>,
+    clock: u64,
+    want: &str,
+) -> Option<GxRec>
+    requires { clock ≤ last_counter }
+{
+    let stood = put_gateway(rt, state, "g1", record, clock);
+    compare(rt, state, want);
+    stood
+}
+
+/// Puts another record, and then the one again that stood.
+fn put_by_turns(rt: &(impl AllocGlobal + Abort), state: &mut State) {
+    let first = "clock 2, gx g1 host b@0.2.0 last 2@0.2.0";
+    let stood = put_and_compare(rt, state, Some(gateway_record(rt)), 2, first);
+    let again = "clock 3, gx g1 host a@0.3.0 last 2@0.3.0";
+    let put = put_and_compare(rt, state, stood, 3, again);
+    check_gateway_stood(rt, put, true);
+}
+
 #[test]
 fn records_are_put_and_handed_back(rt: HostRuntime) {
-    let mut state = State::start(rt.alloc());
-    let made = update(&rt, "g1", 0, 3, 0, "a");
-    state.take(&made).expect(&rt, "memory");
-    let id = session_id(&rt, "g1");
-    let at = Tag {
-        number: 0,
-        counter: 2,
-        site: 0,
-    };
-    let facts = update_facts(&rt, at, "b");
-    let record = GxRec::of_facts(rt.alloc(), facts.as_slice()).expect(&rt, "memory");
-    let stood = state.put_gx(&id, Some(record), 2).expect(&rt, "memory");
-    compare(&rt, &state, "clock 2, gx g1 host b@0.2.0 last 2@0.2.0");
-    let put = state.put_gx(&id, stood, 3).expect(&rt, "memory");
-    assert!(&rt; put.is_some());
-    compare(&rt, &state, "clock 3, gx g1 host a@0.3.0 last 2@0.3.0");
-    let gone = state.put_gx(&id, None, 0).expect(&rt, "memory");
-    assert!(&rt; gone.is_some());
-    compare(&rt, &state, "clock 0");
+    let mut state = updated(&rt);
+    put_by_turns(&rt, &mut state);
+    let gone = put_and_compare(&rt, &mut state, None, 0, "clock 0");
+    check_gateway_stood(&rt, gone, true);
+}
+
+/// Whether the record of a call stood where this one is put, or none.
+fn check_put(
+    rt: &(impl AllocGlobal + Abort),
+    state: &mut State,
+    record: Option<AfRec>,
+    clock: u64,
+    stands: bool,
+)
+    requires { clock ≤ last_counter }
+{
+    let stood = put_call(rt, state, "a1", record, clock);
+    check_call_stood(rt, stood, stands);
 }
 
 #[test]
 fn calls_are_put_and_handed_back(rt: HostRuntime) {
     let mut state = State::start(rt.alloc());
-    let id = session_id(&rt, "a1");
-    let at = Tag {
-        number: 0,
-        counter: 2,
-        site: 0,
-    };
-    let facts = call_facts(&rt, at, 4);
-    let record = AfRec::of_facts(rt.alloc(), facts.as_slice()).expect(&rt, "memory");
-    let stood = state.put_af(&id, Some(record), 2).expect(&rt, "memory");
-    assert!(&rt; stood.is_none());
-    compare(&rt, &state, "clock 2, af a1 host af@0.2.0 media 4@0.2.0");
-    let gone = state.put_af(&id, None, 0).expect(&rt, "memory");
-    assert!(&rt; gone.is_some());
+    check_put(&rt, &mut state, Some(call_record(&rt)), 2, false);
+    let shown = "clock 2, af a1 host af@0.2.0 media 4@0.2.0";
+    compare(&rt, &state, shown);
+    check_put(&rt, &mut state, None, 0, true);
     compare(&rt, &state, "clock 0");
 }

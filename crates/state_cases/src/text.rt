@@ -50,19 +50,29 @@ fn put_call(out: &mut String, record: &AfRec) -> Result<(), AllocError> {
     Ok(())
 }
 
+fn put_gateways(out: &mut String, state: &State) -> Result<(), AllocError> {
+    for (id, record) in state.all_gx() {
+        out.push_str(", gx ")?;
+        put_text(out, id.as_slice())?;
+        put_gateway(out, record)?;
+    }
+    Ok(())
+}
+
+fn put_calls(out: &mut String, state: &State) -> Result<(), AllocError> {
+    for (id, record) in state.all_af() {
+        out.push_str(", af ")?;
+        put_text(out, id.as_slice())?;
+        put_call(out, record)?;
+    }
+    Ok(())
+}
+
 /// The clock, and the sessions with their host, their last request and the media of component 1.
 pub fn state_text(alloc: Global, state: &State) -> Result<String, AllocError> {
     let mut out = String::new(alloc);
     write!(out, "clock {}", state.clock())?;
-    for (id, record) in state.all_gx() {
-        out.push_str(", gx ")?;
-        put_text(&mut out, id.as_slice())?;
-        put_gateway(&mut out, record)?;
-    }
-    for (id, record) in state.all_af() {
-        out.push_str(", af ")?;
-        put_text(&mut out, id.as_slice())?;
-        put_call(&mut out, record)?;
-    }
+    put_gateways(&mut out, state)?;
+    put_calls(&mut out, state)?;
     Ok(out)
 }
