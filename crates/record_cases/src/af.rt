@@ -171,13 +171,28 @@ fn nothing_revives_an_ended_session(rt: HostRuntime) {
     );
 }
 
+/// Whether the join of a record and its copy shows this.
+fn compare_joined_copy(rt: &(impl AllocGlobal + Abort), record: &AfRec, copy: &AfRec, want: &str) {
+    let both = record.joined_copy(copy).expect(rt, "memory");
+    compare(rt, &both, want);
+}
+
+/// Whether a copy of a record shows this, and the join of both.
+fn compare_copies(rt: &(impl AllocGlobal + Abort), record: &AfRec, want: &str) {
+    let copy = record.try_copy().expect(rt, "memory");
+    compare(rt, &copy, want);
+    compare_joined_copy(rt, record, &copy, want);
+}
+
+/// Whether copies of a record show what it shows.
+fn compare_with_copies(rt: &(impl AllocGlobal + Abort), record: &AfRec) {
+    let want = af_text(rt.alloc(), record, &[1]).expect(rt, "memory");
+    compare_copies(rt, record, want.as_str());
+}
+
 #[test]
 fn a_copy_and_a_joined_copy_show_the_same(rt: HostRuntime) {
     let mut record = AfRec::start(rt.alloc());
     join_part(&rt, &mut record, &audio(&rt, tag(0, 2, 0)));
-    let copy = record.try_copy().expect(&rt, "memory");
-    let both = record.joined_copy(&copy).expect(&rt, "memory");
-    let want = af_text(rt.alloc(), &record, &[1]).expect(&rt, "memory");
-    compare(&rt, &copy, want.as_str());
-    compare(&rt, &both, want.as_str());
+    compare_with_copies(&rt, &record);
 }

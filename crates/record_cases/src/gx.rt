@@ -126,14 +126,28 @@ fn a_rule_that_was_removed_is_told_no_more(rt: HostRuntime) {
     );
 }
 
+/// Whether the join of a record and its copy shows this.
+fn compare_joined_copy(rt: &(impl AllocGlobal + Abort), record: &GxRec, copy: &GxRec, want: &str) {
+    let both = record.joined_copy(copy).expect(rt, "memory");
+    compare(rt, &both, want);
+}
+
+/// Whether a copy of a record shows this, and the join of both.
+fn compare_copies(rt: &(impl AllocGlobal + Abort), record: &GxRec, want: &str) {
+    let copy = record.try_copy().expect(rt, "memory");
+    compare(rt, &copy, want);
+    compare_joined_copy(rt, record, &copy, want);
+}
+
+/// Whether copies of a record show what it shows.
+fn compare_with_copies(rt: &(impl AllocGlobal + Abort), record: &GxRec) {
+    let want = gx_text(rt.alloc(), record).expect(rt, "memory");
+    compare_copies(rt, record, want.as_str());
+}
+
 #[test]
 fn a_copy_and_a_joined_copy_show_the_same(rt: HostRuntime) {
-    let initial = initial_request(&rt, tag(0, 1, 0), 1);
     let mut record = GxRec::start(rt.alloc());
-    join_part(&rt, &mut record, &initial);
-    let copy = record.try_copy().expect(&rt, "memory");
-    let both = record.joined_copy(&copy).expect(&rt, "memory");
-    let want = gx_text(rt.alloc(), &record).expect(&rt, "memory");
-    compare(&rt, &copy, want.as_str());
-    compare(&rt, &both, want.as_str());
+    join_part(&rt, &mut record, &initial_request(&rt, tag(0, 1, 0), 1));
+    compare_with_copies(&rt, &record);
 }

@@ -2,9 +2,10 @@
 use af_records::{AfRec, RemovedPart};
 use gx_records::GxRec;
 use lattice_core::Tag;
-use pcrf_values::{Filters, Subscribers};
+use pcrf_values::{Apn, DiameterIdentity, Filters, Rule, RuleName, Subscribers};
 use std::alloc::{AllocError, Global};
 use std::fmt::Write as _;
+use std::net::Ipv4Addr;
 
 /// Bytes of ASCII.
 fn put_text(out: &mut String, bytes: &[u8]) -> Result<(), AllocError> {
@@ -57,23 +58,44 @@ fn put_state(out: &mut String, live: bool, ended: bool) -> Result<(), AllocError
     })
 }
 
-fn put_gx_fields(out: &mut String, record: &GxRec) -> Result<(), AllocError> {
-    if let Some((tag, address)) = record.address() {
+/// What is known of the user.
+fn put_user(
+    out: &mut String,
+    address: Option<&(Tag, Ipv4Addr)>,
+    apn: Option<&(Tag, Apn)>,
+    subscribers: Option<&(Tag, Subscribers)>,
+) -> Result<(), AllocError> {
+    if let Some((tag, address)) = address {
         write!(out, " address {address}")?;
         put_tag(out, *tag)?;
     }
-    if let Some((tag, apn)) = record.apn() {
+    if let Some((tag, apn)) = apn {
         put_named(out, "apn", *tag, apn.as_slice())?;
     }
-    if let Some((tag, ids)) = record.subscribers() {
+    if let Some((tag, ids)) = subscribers {
         put_subscribers(out, *tag, ids)?;
     }
-    if let Some((tag, host)) = record.host() {
+    Ok(())
+}
+
+/// What is known of the client.
+fn put_client(
+    out: &mut String,
+    host: Option<&(Tag, DiameterIdentity)>,
+    realm: Option<&(Tag, DiameterIdentity)>,
+) -> Result<(), AllocError> {
+    if let Some((tag, host)) = host {
         put_named(out, "host", *tag, host.as_slice())?;
     }
-    if let Some((tag, realm)) = record.realm() {
+    if let Some((tag, realm)) = realm {
         put_named(out, "realm", *tag, realm.as_slice())?;
     }
+    Ok(())
+}
+
+fn put_gx_fields(out: &mut String, record: &GxRec) -> Result<(), AllocError> {
+    put_user(out, record.address(), record.apn(), record.subscribers())?;
+    put_client(out, record.host(), record.realm())?;
     if let Some((tag, last)) = record.last() {
         put_number(out, "last", *tag, last.get())?;
     }
@@ -96,40 +118,50 @@ fn put_told(out: &mut String, record: &GxRec) -> Result<(), AllocError> {
     Ok(())
 }
 
+fn put_rules(out: &mut String, rules: &[(RuleName, Rule)]) -> Result<(), AllocError> {
+    for (name, rule) in rules {
+        out.push_str(" rule ")?;
+        put_text(out, name.as_slice())?;
+        write!(out, ":{}", rule.precedence())?;
+    }
+    Ok(())
+}
+
+fn put_gx(out: &mut String, alloc: Global, record: &GxRec) -> Result<(), AllocError> {
+    put_state(out, record.live(), record.ended())?;
+    put_gx_fields(out, record)?;
+    put_told(out, record)?;
+    let told = record.told(alloc)?;
+    put_rules(out, told.as_slice())
+}
+
 /// What a Gx record shows.
 pub fn gx_text(alloc: Global, record: &GxRec) -> Result<String, AllocError> {
     let mut out = String::new(alloc);
-    put_state(&mut out, record.live(), record.ended())?;
-    put_gx_fields(&mut out, record)?;
-    put_told(&mut out, record)?;
-    let told = record.told(alloc)?;
-    for (name, rule) in told.as_slice() {
-        out.push_str(" rule ")?;
-        put_text(&mut out, name.as_slice())?;
-        write!(out, ":{}", rule.precedence())?;
-    }
+    put_gx(&mut out, alloc, record)?;
     Ok(out)
 }
 
 fn put_af_fields(out: &mut String, record: &AfRec) -> Result<(), AllocError> {
-    if let Some((tag, address)) = record.address() {
-        write!(out, " address {address}")?;
-        put_tag(out, *tag)?;
-    }
-    if let Some((tag, apn)) = record.apn() {
-        put_named(out, "apn", *tag, apn.as_slice())?;
-    }
-    if let Some((tag, ids)) = record.subscribers() {
-        put_subscribers(out, *tag, ids)?;
-    }
-    if let Some((tag, host)) = record.host() {
-        put_named(out, "host", *tag, host.as_slice())?;
-    }
-    if let Some((tag, realm)) = record.realm() {
-        put_named(out, "realm", *tag, realm.as_slice())?;
-    }
+    put_user(out, record.address(), record.apn(), record.subscribers())?;
+    put_client(out, record.host(), record.realm())?;
     if let Some((tag, last)) = record.last() {
         put_number(out, "last", *tag, last.get())?;
+    }
+    Ok(())
+}
+
+/// The rates that a component or a flow has of its own.
+fn put_rates(
+    out: &mut String,
+    up: Option<&(Tag, u32)>,
+    down: Option<&(Tag, u32)>,
+) -> Result<(), AllocError> {
+    if let Some((tag, rate)) = up {
+        put_number(out, "up", *tag, *rate)?;
+    }
+    if let Some((tag, rate)) = down {
+        put_number(out, "down", *tag, *rate)?;
     }
     Ok(())
 }
@@ -142,17 +174,16 @@ fn put_component(out: &mut String, record: &AfRec, number: u32) -> Result<(), Al
     if let Some((tag, status)) = record.component_status(number) {
         put_number(out, "status", *tag, status.get())?;
     }
-    if let Some((tag, rate)) = record.component_rate_up(number) {
-        put_number(out, "up", *tag, *rate)?;
-    }
-    if let Some((tag, rate)) = record.component_rate_down(number) {
-        put_number(out, "down", *tag, *rate)?;
-    }
-    Ok(())
+    let up = record.component_rate_up(number);
+    put_rates(out, up, record.component_rate_down(number))
 }
 
-fn put_flow(out: &mut String, record: &AfRec, component: u32, flow: u32) -> Result<(), AllocError> {
-    write!(out, "; flow {component}/{flow}")?;
+fn put_flow_fields(
+    out: &mut String,
+    record: &AfRec,
+    component: u32,
+    flow: u32,
+) -> Result<(), AllocError> {
     if let Some((tag, filters)) = record.flow_descriptions(component, flow) {
         put_filters(out, *tag, filters)?;
     }
@@ -162,12 +193,13 @@ fn put_flow(out: &mut String, record: &AfRec, component: u32, flow: u32) -> Resu
     if let Some((tag, status)) = record.flow_own_status(component, flow) {
         put_number(out, "status", *tag, status.get())?;
     }
-    if let Some((tag, rate)) = record.flow_rate_up(component, flow) {
-        put_number(out, "up", *tag, *rate)?;
-    }
-    if let Some((tag, rate)) = record.flow_rate_down(component, flow) {
-        put_number(out, "down", *tag, *rate)?;
-    }
+    let up = record.flow_rate_up(component, flow);
+    put_rates(out, up, record.flow_rate_down(component, flow))
+}
+
+fn put_flow(out: &mut String, record: &AfRec, component: u32, flow: u32) -> Result<(), AllocError> {
+    write!(out, "; flow {component}/{flow}")?;
+    put_flow_fields(out, record, component, flow)?;
     let rates = record.flow_rates(component, flow);
     let status = record.flow_status(component, flow).number();
     write!(out, " shows {status}")?;
@@ -183,22 +215,36 @@ fn put_rate(out: &mut String, rate: Option<u32>) -> Result<(), AllocError> {
     }
 }
 
-/// What an AF record shows, of its components those of these numbers.
-pub fn af_text(alloc: Global, record: &AfRec, components: &[u32]) -> Result<String, AllocError> {
-    let mut out = String::new(alloc);
-    put_state(&mut out, record.live(), record.ended())?;
-    put_af_fields(&mut out, record)?;
-    for number in components {
-        put_component(&mut out, record, *number)?;
-    }
+fn put_flows(out: &mut String, record: &AfRec) -> Result<(), AllocError> {
     for (component, flow) in record.flows() {
-        put_flow(&mut out, record, component, flow)?;
+        put_flow(out, record, component, flow)?;
     }
+    Ok(())
+}
+
+fn put_removed(out: &mut String, record: &AfRec) -> Result<(), AllocError> {
     for part in record.removed() {
         match part {
             RemovedPart::Component(number) => write!(out, "; removed {number}")?,
             RemovedPart::Flow(number, flow) => write!(out, "; removed {number}/{flow}")?,
         }
     }
+    Ok(())
+}
+
+fn put_af(out: &mut String, record: &AfRec, components: &[u32]) -> Result<(), AllocError> {
+    put_state(out, record.live(), record.ended())?;
+    put_af_fields(out, record)?;
+    for number in components {
+        put_component(out, record, *number)?;
+    }
+    put_flows(out, record)?;
+    put_removed(out, record)
+}
+
+/// What an AF record shows, of its components those of these numbers.
+pub fn af_text(alloc: Global, record: &AfRec, components: &[u32]) -> Result<String, AllocError> {
+    let mut out = String::new(alloc);
+    put_af(&mut out, record, components)?;
     Ok(out)
 }
