@@ -1,6 +1,7 @@
 //! Operations of several sites, taken in any order and more than once.
-use crate::requests::{Sent, request};
-use crate::tables::{ims, tables};
+use crate::requests::Sent;
+use crate::sites::serves;
+use crate::tables::ims;
 use crate::text::compare;
 use gx_profile::GxReply;
 use site_core::Site;
@@ -23,14 +24,22 @@ fn sent(kind: u32, number: u32, address: Option<u8>) -> Sent {
     }
 }
 
-/// What a site makes of a request that it grants.
-fn made(rt: &(impl AllocGlobal + Abort), site: &mut Site, sent: Sent) -> Operation {
-    let ccr = request(rt, sent);
-    let reply = site.serve_ccr(&tables(rt), &ccr).expect(rt, "memory");
-    let told = if sent.kind == 3 { None } else { ims(rt) };
-    assert_eq!(rt; reply, GxReply::Granted(told));
+/// What a site made last.
+fn last_made(rt: &(impl AllocGlobal + Abort), site: &Site) -> Operation {
     let mut log = site.copy_of_log().expect(rt, "memory");
     log.pop().expect(rt, "an operation")
+}
+
+/// Has a site serve a request that it grants, and puts what it makes of it.
+fn put_made(
+    rt: &(impl AllocGlobal + Abort),
+    letter: &mut Vec<Operation>,
+    site: &mut Site,
+    sent: Sent,
+) {
+    let told = if sent.kind == 3 { None } else { ims(rt) };
+    serves(rt, site, sent, GxReply::Granted(told));
+    letter.push(last_made(rt, site)).expect(rt, "memory");
 }
 
 fn takes(rt: &(impl AllocGlobal + Abort), site: &mut Site, letter: &[Operation]) {
@@ -44,20 +53,22 @@ fn takes_one(rt: &(impl AllocGlobal + Abort), site: &mut Site, letter: &[Operati
     takes(rt, site, one.expect(rt, "an operation"));
 }
 
+/// Puts what a site that knows the first operation alone makes of a request.
+fn put_late(rt: &(impl AllocGlobal + Abort), letter: &mut Vec<Operation>, number: u8, late: Sent) {
+    let mut site = Site::start(rt.alloc(), number);
+    takes_one(rt, &mut site, letter.as_slice(), 0);
+    put_made(rt, letter, &mut site, late);
+}
+
 /// What three sites make of the first session. Site 0 serves its initial request and an update with number 2; site 1, which
 /// knows the initial request alone, one with number 1; and site 2 likewise one with number 2 that gives no address.
 fn updates(rt: &(impl AllocGlobal + Abort)) -> Vec<Operation> {
     let mut letter = Vec::new(rt.alloc());
     let mut first = Site::start(rt.alloc(), 0);
-    let initial = made(rt, &mut first, sent(1, 0, Some(1)));
-    letter.push(initial).expect(rt, "memory");
-    let moved = made(rt, &mut first, sent(2, 2, Some(2)));
-    for (number, late) in [(1, sent(2, 1, Some(3))), (2, sent(2, 2, None))] {
-        let mut site = Site::start(rt.alloc(), number);
-        takes_one(rt, &mut site, letter.as_slice(), 0);
-        letter.push(made(rt, &mut site, late)).expect(rt, "memory");
-    }
-    letter.push(moved).expect(rt, "memory");
+    put_made(rt, &mut letter, &mut first, sent(1, 0, Some(1)));
+    put_late(rt, &mut letter, 1, sent(2, 1, Some(3)));
+    put_late(rt, &mut letter, 2, sent(2, 2, None));
+    put_made(rt, &mut letter, &mut first, sent(2, 2, Some(2)));
     letter
 }
 
@@ -66,17 +77,10 @@ fn updates(rt: &(impl AllocGlobal + Abort)) -> Vec<Operation> {
 fn ended(rt: &(impl AllocGlobal + Abort)) -> Vec<Operation> {
     let mut letter = Vec::new(rt.alloc());
     let mut first = Site::start(rt.alloc(), 0);
-    let mut second = Site::start(rt.alloc(), 1);
-    let initial = made(rt, &mut first, sent(1, 0, Some(1)));
-    letter.push(initial).expect(rt, "memory");
-    takes(rt, &mut second, letter.as_slice());
-    for (kind, address) in [(2, Some(2)), (3, None)] {
-        letter
-            .push(made(rt, &mut first, sent(kind, 1, address)))
-            .expect(rt, "memory");
-    }
-    let late = made(rt, &mut second, sent(2, 9, Some(9)));
-    letter.push(late).expect(rt, "memory");
+    put_made(rt, &mut letter, &mut first, sent(1, 0, Some(1)));
+    put_made(rt, &mut letter, &mut first, sent(2, 1, Some(2)));
+    put_made(rt, &mut letter, &mut first, sent(3, 1, None));
+    put_late(rt, &mut letter, 1, sent(2, 9, Some(9)));
     letter
 }
 
@@ -102,14 +106,24 @@ fn take_in_order(
     }
 }
 
-/// What sites hold that take four operations, each twice, in each order, and again in another.
-fn check(rt: &(impl AllocGlobal + Abort), letter: &[Operation], want: &str) {
-    for number in 0..24 {
-        let mut site = Site::start(rt.alloc(), 3);
+/// What a site holds that takes four operations, each twice, in an order, and again in another.
+fn check_orders(
+    rt: &(impl AllocGlobal + Abort),
+    letter: &[Operation],
+    numbers: [usize; 2],
+    want: &str,
+) {
+    let mut site = Site::start(rt.alloc(), 3);
+    for number in numbers {
         take_in_order(rt, &mut site, letter, number);
         compare(rt, &site, want);
-        take_in_order(rt, &mut site, letter, 23 - number);
-        compare(rt, &site, want);
+    }
+}
+
+/// What sites hold that take four operations in each order.
+fn check(rt: &(impl AllocGlobal + Abort), letter: &[Operation], want: &str) {
+    for number in 0..24 {
+        check_orders(rt, letter, [number, 23 - number], want);
     }
 }
 
@@ -138,30 +152,43 @@ fn an_end_leads_to_the_same_in_any_order(rt: HostRuntime) {
     check(&rt, ended(&rt).as_slice(), "clock 3, gw;1;1 ended");
 }
 
+/// A site begins again, in its second epoch, and holds nothing.
+fn begins_again(rt: &(impl AllocGlobal + Abort), site: &mut Site) {
+    assert_eq!(rt; site.restart(), Some(2));
+    assert_eq!(rt; site.epoch(), 2);
+    compare(rt, site, "clock 0");
+}
+
 /// Two operations with the same stamp: a site serves a request, begins again and serves another, each with counter 1.
 fn made_again(rt: &(impl AllocGlobal + Abort), before: Sent, after: Sent) -> Vec<Operation> {
     let mut letter = Vec::new(rt.alloc());
     let mut maker = Site::start(rt.alloc(), 0);
-    let first = made(rt, &mut maker, before);
-    letter.push(first).expect(rt, "memory");
-    assert_eq!(rt; maker.restart(), Some(2));
-    assert_eq!(rt; maker.epoch(), 2);
-    compare(rt, &maker, "clock 0");
-    let second = made(rt, &mut maker, after);
-    letter.push(second).expect(rt, "memory");
-    let log = maker.copy_of_log().expect(rt, "memory");
-    assert_eq!(rt; log.len(), 1);
+    put_made(rt, &mut letter, &mut maker, before);
+    begins_again(rt, &mut maker);
+    put_made(rt, &mut letter, &mut maker, after);
+    assert_eq!(rt; maker.copy_of_log().expect(rt, "memory").len(), 1);
     letter
+}
+
+/// What a site holds that takes two operations in an order.
+fn check_taken(
+    rt: &(impl AllocGlobal + Abort),
+    site: &mut Site,
+    letter: &[Operation],
+    order: [usize; 4],
+    want: &str,
+) {
+    for at in order {
+        takes_one(rt, site, letter, at);
+    }
+    compare(rt, site, want);
 }
 
 /// What two sites hold that take two operations in opposite orders, each twice.
 fn check_both(rt: &(impl AllocGlobal + Abort), letter: &[Operation], want: &str) {
     for (number, order) in [(1, [0, 0, 1, 1]), (2, [1, 1, 0, 0])] {
         let mut site = Site::start(rt.alloc(), number);
-        for at in order {
-            takes_one(rt, &mut site, letter, at);
-        }
-        compare(rt, &site, want);
+        check_taken(rt, &mut site, letter, order, want);
     }
 }
 

@@ -16,19 +16,29 @@ pub struct Sent {
     pub apn: Option<&'static [u8]>,
 }
 
-/// What a request carries.
-fn avps(rt: &(impl AllocGlobal + Abort), sent: Sent) -> Avps {
-    let mut avps = Avps::start(rt.alloc());
+/// A subscriber, as a group carries it.
+fn subscriber(rt: &(impl AllocGlobal + Abort)) -> Avps {
+    let mut group = Avps::start(rt.alloc());
+    group.number(450, 1).expect(rt, "memory");
+    group.text(444, b"001010000000001").expect(rt, "memory");
+    group
+}
+
+/// What every request carries.
+fn put_session(rt: &impl Abort, avps: &mut Avps, sent: Sent) {
     avps.text(263, sent.session).expect(rt, "memory");
     avps.text(264, b"gw").expect(rt, "memory");
     avps.text(296, b"r").expect(rt, "memory");
     avps.number(416, sent.kind).expect(rt, "memory");
     avps.number(415, sent.number).expect(rt, "memory");
+}
+
+/// What a request carries.
+fn avps(rt: &(impl AllocGlobal + Abort), sent: Sent) -> Avps {
+    let mut avps = Avps::start(rt.alloc());
+    put_session(rt, &mut avps, sent);
     if let Some(last) = sent.address {
-        let mut group = Avps::start(rt.alloc());
-        group.number(450, 1).expect(rt, "memory");
-        group.text(444, b"001010000000001").expect(rt, "memory");
-        avps.group(443, &group).expect(rt, "memory");
+        avps.group(443, &subscriber(rt)).expect(rt, "memory");
         avps.text(8, &[10, 0, 0, last]).expect(rt, "memory");
     }
     if let Some(apn) = sent.apn {

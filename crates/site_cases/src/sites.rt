@@ -2,7 +2,7 @@
 use crate::requests::{Sent, request};
 use crate::tables::{ims, tables};
 use crate::text::compare;
-use gx_profile::GxReply;
+use gx_profile::{Ccr, GxReply};
 use gx_records::GxRec;
 use pcrf_values::{BoundedText, Refusal, SessionId};
 use site_core::Site;
@@ -46,10 +46,15 @@ pub fn end(number: u32) -> Sent {
     }
 }
 
+/// What a site replies to a request.
+fn reply(rt: &(impl AllocGlobal + Abort), site: &mut Site, ccr: &Ccr) -> GxReply {
+    let tables = tables(rt);
+    site.serve_ccr(&tables, ccr).expect(rt, "memory")
+}
+
 /// Has a site serve a request, and compares its reply.
 pub fn serves(rt: &(impl AllocGlobal + Abort), site: &mut Site, sent: Sent, wanted: GxReply) {
-    let ccr = request(rt, sent);
-    let reply = site.serve_ccr(&tables(rt), &ccr).expect(rt, "memory");
+    let reply = reply(rt, site, &request(rt, sent));
     assert_eq!(rt; reply, wanted);
 }
 
@@ -76,14 +81,18 @@ fn first_session(rt: &(impl AllocGlobal + Abort)) -> SessionId {
     read.expect(rt, "a Session-Id")
 }
 
-/// What a site shows of the first session: the last octet of its address and its home, where it is live.
-fn shown(rt: &(impl AllocGlobal + Abort), site: &Site) -> Option<(u8, u8)> {
-    let session = first_session(rt);
-    let known: &GxRec = site.state().gx(&session)?;
+/// What a record shows: the last octet of the address and the home, where it is live.
+fn shown_by(known: &GxRec) -> Option<(u8, u8)> {
     if !known.live() {
         return None;
     }
     Some((known.address()?.1.octets()[3], known.home()?))
+}
+
+/// What a site shows of the first session.
+fn shown(rt: &(impl AllocGlobal + Abort), site: &Site) -> Option<(u8, u8)> {
+    let session = first_session(rt);
+    site.state().gx(&session).and_then(shown_by)
 }
 
 /// The first session has ended at a site, and no request shows it again.

@@ -1,8 +1,9 @@
 //! What a site holds, as a line of text.
 use gx_records::GxRec;
+use pcrf_values::Subscriber;
 use ranked::Tag;
 use site_core::Site;
-use std::alloc::{AllocError, AllocGlobal, Global};
+use std::alloc::{AllocError, AllocGlobal};
 use std::fmt::Write as _;
 use std::process::Abort;
 
@@ -34,9 +35,14 @@ fn put_user(out: &mut String, record: &GxRec) -> Result<(), AllocError> {
         put_field(out, "apn", *tag, apn.as_slice())?;
     }
     if let Some((tag, subscribers)) = record.subscribers() {
-        for subscriber in subscribers.as_slice() {
-            put_field(out, "subscriber", *tag, subscriber.name().as_slice())?;
-        }
+        put_subscribers(out, *tag, subscribers.as_slice())?;
+    }
+    Ok(())
+}
+
+fn put_subscribers(out: &mut String, tag: Tag, given: &[Subscriber]) -> Result<(), AllocError> {
+    for subscriber in given {
+        put_field(out, "subscriber", tag, subscriber.name().as_slice())?;
     }
     Ok(())
 }
@@ -55,24 +61,28 @@ fn put_client(out: &mut String, record: &GxRec) -> Result<(), AllocError> {
     Ok(())
 }
 
+fn put_record(out: &mut String, record: &GxRec) -> Result<(), AllocError> {
+    if record.ended() {
+        out.push_str(" ended")?;
+    }
+    put_user(out, record)?;
+    put_client(out, record)
+}
+
 /// The clock, and each session with all that it shows, each with its tag.
-fn site_text(alloc: Global, site: &Site) -> Result<String, AllocError> {
-    let mut out = String::new(alloc);
+fn put_site(out: &mut String, site: &Site) -> Result<(), AllocError> {
     write!(out, "clock {}", site.state().clock())?;
     for (id, record) in site.state().all_gx() {
         out.push_str(", ")?;
-        put_bytes(&mut out, id.as_slice())?;
-        if record.ended() {
-            out.push_str(" ended")?;
-        }
-        put_user(&mut out, record)?;
-        put_client(&mut out, record)?;
+        put_bytes(out, id.as_slice())?;
+        put_record(out, record)?;
     }
-    Ok(out)
+    Ok(())
 }
 
 /// Compares what a site holds with a line of text.
 pub fn compare(rt: &(impl AllocGlobal + Abort), site: &Site, want: &str) {
-    let text = site_text(rt.alloc(), site).expect(rt, "memory");
+    let mut text = String::new(rt.alloc());
+    put_site(&mut text, site).expect(rt, "memory");
     assert_eq!(rt; text.as_str(), want);
 }
