@@ -1,9 +1,6 @@
 //! The lines of a script.
-ghost use Rattle.std.specs.Prelude.{◌≡◌};
-ghost use Rattle.pcrf_script.specs.declared.lines.LineFault.TheVariants as fault;
-
-use std::alloc::{AllocError, AllocFailed, Global};
-use thiserror::Error;
+use script_lines::LineFault;
+use std::alloc::Global;
 
 /// A site or a letter as a script names it: any decimal number. Those that no world has are `usize::MAX`.
 pub(crate) type Named = usize;
@@ -25,31 +22,6 @@ pub(crate) enum Line {
     Restart(Named),
     /// A site shows what it holds.
     Show(Named),
-}
-
-/// Why a line is not obeyed.
-#[derive(Clone, Copy, Debug, PartialEq, Eq, Error)]
-pub(crate) enum LineFault {
-    #[error("the line fits no form, or not at its place")]
-    Bad,
-    #[error("no memory")]
-    NoMemory,
-}
-
-impl From<AllocError> for LineFault {
-    ghost from_gives = { λ _ e. e ≡ fault.NoMemory };
-
-    fn from(_refused: AllocError) -> LineFault {
-        LineFault::NoMemory
-    }
-}
-
-impl<T: Drop> From<AllocFailed<T>> for LineFault {
-    ghost from_gives = { λ _ e. e ≡ fault.NoMemory };
-
-    fn from(_refused: AllocFailed<T>) -> LineFault {
-        LineFault::NoMemory
-    }
 }
 
 /// A decimal number without leading zeros; one of more than 64 bits is the greatest there is.

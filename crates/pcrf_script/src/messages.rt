@@ -3,12 +3,12 @@ ghost use Rattle.std.specs.Prelude.{◌≡◌, ◌≤◌, ◌<◌, length, IfOk}
 ghost use Rattle.dia_codec.specs.Limits.{command_bound, header_bytes};
 ghost use Rattle.dia_codec.specs.Spelling.{IsFrame};
 
-use crate::lines::LineFault;
 use crate::printing::{put_answer, put_outcome};
 use dia_codec::{FrameFault, Header, StreamEnd, frames_of};
 use pcrf_values::{Refusal, SessionId};
 use pcrf_wire::{Asked, Reply, Request, read_request, write_refusal, write_reply};
 use pcrf_world::{PlainSite, World, WorldEvent, WorldOutcome};
+use script_lines::LineFault;
 use std::alloc::{AllocError, Global};
 
 /// Gives a site the bytes of a stream: prints a line for each message, and one for what is left of the stream. An

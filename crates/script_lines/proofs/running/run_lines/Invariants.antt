@@ -1,5 +1,5 @@
 use Rattle.std.proofs.Common.{◌≡◌, ◌≤◌, ◌+◌}
-use Rattle.pcrf_script.proofs.script.run_script.Given as goal
+use Rattle.script_lines.proofs.running.run_lines.Given as goal
 
 -- no call has failed since the script began, and each turn has read once
 abbrev pub invariant-loop-byte : goal.invariant-loop-byte

@@ -1,0 +1,89 @@
+//! The world of a script, which its lines start and change.
+use crate::lines::{Line, read_line};
+use crate::messages::put_stream;
+use crate::printing::{put_outcome, put_restart};
+use op_tables::Tables;
+use pcrf_show::show_state;
+use pcrf_world::{World, WorldEvent};
+use script_lines::{LineFault, Obey};
+use std::alloc::Global;
+
+/// A world that a line starts, and that further lines change and show.
+#[derive(Drop)]
+pub(crate) struct Console {
+    alloc: Global,
+    tables: Tables,
+    world: Option<World>,
+}
+
+impl Obey for Console {
+    fn obey(&mut self, line: &[u8], out: &mut String) -> Result<(), LineFault> {
+        let line = read_line(self.alloc, line)?;
+        match &line {
+            Line::Nothing => Ok(()),
+            Line::Sites(n) => self.start_world(*n, out),
+            Line::Message(i, bytes) => self.give(*i, bytes.as_slice(), out),
+            Line::Letter(i, j) => self.happen(&WorldEvent::Letter(*i, *j), out),
+            Line::Merge(j, k) => self.happen(&WorldEvent::Merge(*j, *k), out),
+            Line::Restart(i) => self.restart(*i, out),
+            Line::Show(i) => self.show(*i, out),
+        }
+    }
+}
+
+impl Console {
+    /// No world yet; its sites will have these tables.
+    pub(crate) fn start(alloc: Global, tables: Tables) -> Console {
+        Console {
+            alloc,
+            tables,
+            world: None,
+        }
+    }
+
+    /// Starts the world, which only one line may do.
+    fn start_world(&mut self, n: u8, out: &mut String) -> Result<(), LineFault> {
+        if self.world.is_some() {
+            return Err(LineFault::Bad);
+        }
+        let tables = self.tables.try_copy(self.alloc)?;
+        self.world = Some(World::start(self.alloc, tables, n)?);
+        Ok(writeln!(out, "sites {n}")?)
+    }
+
+    /// Gives a site the bytes of a stream.
+    fn give(&mut self, i: usize, bytes: &[u8], out: &mut String) -> Result<(), LineFault> {
+        let Some(world) = &mut self.world else {
+            return Err(LineFault::Bad);
+        };
+        put_stream(self.alloc, world, i, bytes, out)
+    }
+
+    /// Has a letter made or taken.
+    fn happen(&mut self, event: &WorldEvent, out: &mut String) -> Result<(), LineFault> {
+        let Some(world) = &mut self.world else {
+            return Err(LineFault::Bad);
+        };
+        Ok(put_outcome(out, world.step(event))?)
+    }
+
+    /// Has a site start again.
+    fn restart(&mut self, i: usize, out: &mut String) -> Result<(), LineFault> {
+        let Some(world) = &mut self.world else {
+            return Err(LineFault::Bad);
+        };
+        let answer = world.step(&WorldEvent::Restart(i));
+        Ok(put_restart(out, i, answer)?)
+    }
+
+    /// Shows a site.
+    fn show(&mut self, i: usize, out: &mut String) -> Result<(), LineFault> {
+        let Some(world) = &self.world else {
+            return Err(LineFault::Bad);
+        };
+        let Some(site) = world.site(i) else {
+            return Ok(out.push_str("refused NoSuchSite\n")?);
+        };
+        Ok(show_state(self.alloc, out, world.tables(), site.state())?)
+    }
+}
