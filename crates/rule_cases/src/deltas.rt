@@ -4,8 +4,8 @@
 use crate::words::{number, text};
 use gx_records::Told;
 use pcrf_values::{
-    Filters, FlowStatus, Preemption, PriorityLevel, QosClass, RetentionPriority, Rule, RuleName,
-    RuleQos,
+    Delta, Filters, FlowStatus, Preemption, PriorityLevel, QosClass, RetentionPriority, Rule,
+    RuleName, RuleQos,
 };
 use ranked::Ranked;
 use rule_delta::{apply, difference};
@@ -109,23 +109,36 @@ fn told(rt: &(impl AllocGlobal + Abort), words: &str) -> Told {
     Told::of(pairs)
 }
 
-/// Tries one case.
-fn check(rt: &(impl AllocGlobal + Abort), case: &str) {
-    let mut parts = case.split("|");
-    let mut next = || parts.next().unwrap_or_default();
-    let (before, wanted) = (told(rt, next()), rules(rt, next()));
-    let (removed, installed) = (names(rt, next()), rules(rt, next()));
-    let delta = difference(rt.alloc(), &before, wanted.as_slice()).expect(rt, "memory");
+/// One part of a case.
+fn part(case: &str, at: usize) -> &str {
+    case.split('|').nth(at).unwrap_or_default()
+}
+
+/// Whether a difference is the one that a case has.
+fn compare(rt: &(impl AllocGlobal + Abort), case: &str, delta: &Delta) {
+    let removed = names(rt, part(case, 2));
     assert!(rt; delta.removed() == removed.as_slice(), "removed: {case}");
+    let installed = rules(rt, part(case, 3));
     assert!(rt;
         delta.installed() == installed.as_slice(),
         "installed: {case}"
     );
-    let after = apply(rt.alloc(), &before, &delta).expect(rt, "memory");
-    assert!(rt;
-        after.as_slice() == told(rt, next()).as_slice(),
-        "afterwards: {case}"
-    );
+}
+
+/// Whether a gateway has afterwards what a case has.
+fn compare_after(rt: &(impl AllocGlobal + Abort), case: &str, before: &Told, delta: &Delta) {
+    let after = apply(rt.alloc(), before, delta).expect(rt, "memory");
+    let wanted = told(rt, part(case, 4));
+    assert!(rt; after.as_slice() == wanted.as_slice(), "afterwards: {case}");
+}
+
+/// Tries one case.
+fn check(rt: &(impl AllocGlobal + Abort), case: &str) {
+    let before = told(rt, part(case, 0));
+    let wanted = rules(rt, part(case, 1));
+    let delta = difference(rt.alloc(), &before, wanted.as_slice()).expect(rt, "memory");
+    compare(rt, case, &delta);
+    compare_after(rt, case, &before, &delta);
 }
 
 #[test]
