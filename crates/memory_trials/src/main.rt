@@ -14,6 +14,7 @@ mod operations;
 mod places;
 mod samples;
 mod tally;
+mod telling;
 mod trial;
 mod values;
 
@@ -31,6 +32,7 @@ use std::io::Read;
 use std::process::ExitCode;
 use std::str;
 use tally::Tally;
+use telling::ListTold;
 use trial::{Call, outcome_of};
 use values::Made;
 
@@ -120,6 +122,7 @@ fn try_all(alloc: Global) -> Tally {
     try_records::<Reg<Text>>(alloc, &mut tally);
     try_makings(alloc, &mut tally);
     try_copies(alloc, &mut tally);
+    tally.count(outcome_of::<ListTold>(alloc, ()), "list", "told rules");
     tally.count(outcome_of::<TakeLetter>(alloc, ()), "take", "letter");
     tally.count(outcome_of::<MergeStates>(alloc, ()), "merge", "states");
     tally

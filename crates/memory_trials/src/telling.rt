@@ -1,0 +1,56 @@
+//! What a gateway was told, listed by its record.
+use crate::fingerprint::{EMPTY, Fingerprint, fingerprint_of, mixed};
+use crate::trial::Call;
+use crate::values::Made;
+use gx_records::{GxFact, GxRec};
+use pcrf_values::{Rule, RuleName};
+use ranked::Tag;
+use std::alloc::{AllocError, Global};
+
+/// A record of a gateway's session that was told a rule.
+#[derive(Drop)]
+pub struct ListTold {
+    alloc: Global,
+    record: GxRec,
+}
+
+/// That it was told the rule.
+fn fact(alloc: Global) -> Result<GxFact, AllocError> {
+    let at = Tag {
+        number: 0,
+        counter: 1,
+        site: 0,
+    };
+    let name = RuleName::made(alloc)?;
+    Ok(GxFact::Told(at, name, Some(Rule::made(alloc)?)))
+}
+
+impl Call for ListTold {
+    type Case = ();
+
+    fn operands(alloc: Global, _case: ()) -> Result<ListTold, AllocError> {
+        let fact = fact(alloc)?;
+        let mut record = GxRec::start(alloc);
+        record.put(alloc, &fact)?;
+        Ok(ListTold { alloc, record })
+    }
+
+    fn expected(alloc: Global, _case: ()) -> Result<u64, AllocError> {
+        let name = RuleName::made(alloc)?;
+        let rule = Rule::made(alloc)?;
+        Ok(mixed(EMPTY, (name, rule).fingerprint()))
+    }
+
+    fn make(self) -> Result<u64, ListTold> {
+        match self.record.told(self.alloc) {
+            Ok(told) => Ok(fingerprint_of(told.as_slice())),
+            Err(_) => Err(self),
+        }
+    }
+}
+
+impl Fingerprint for ListTold {
+    fn fingerprint(&self) -> u64 {
+        fingerprint_of(self.record.told_facts())
+    }
+}
