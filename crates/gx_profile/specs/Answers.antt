@@ -16,12 +16,12 @@ use Rattle.gx_profile.specs.declared.answer.GxReply.TheVariants.{Granted, Refuse
 
 -- the refusal that the reply is, if it is one
 abbrev pub reply_refusal : GxReply → Option Refusal
-reply_refusal (Granted quality) = None
+reply_refusal (Granted delta quality) = None
 reply_refusal (Refused refusal) = Some refusal
 
 -- the default quality of service that it tells, if it does
 abbrev pub reply_quality : GxReply → Option DefaultQuality
-reply_quality (Granted quality) = quality
+reply_quality (Granted delta quality) = quality
 reply_quality (Refused refusal) = None
 
 -- Session-Id, Auth-Application-Id for Gx, Origin-Host, Origin-Realm, the result, CC-Request-Type, CC-Request-Number, and the default quality of

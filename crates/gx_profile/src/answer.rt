@@ -8,14 +8,15 @@ use crate::quality::put_quality;
 use dia_base::codes::{GX, avps};
 use dia_base::{AvpWriter, Identity, Refusal, answer_header, put_origin, put_result};
 use dia_codec::{Header, Message};
-use pcrf_values::DefaultQuality;
+use pcrf_values::{DefaultQuality, Delta};
 use std::alloc::{AllocError, Global};
 
 /// What a site answers to a credit control request.
-#[derive(Clone, Copy, Debug, PartialEq, Eq)]
+#[derive(Drop, PartialEq, Eq)]
 pub enum GxReply {
-    /// The request is accepted. The default quality of service is that of the session's access point, where it has one.
-    Granted(Option<DefaultQuality>),
+    /// The request is accepted: what of the session's rules is removed and installed, and the default quality of service of
+    /// its access point, where it has one.
+    Granted(Delta, Option<DefaultQuality>),
     /// The request is refused, and has changed nothing.
     Refused(Refusal),
 }
@@ -26,7 +27,7 @@ impl GxReply {
         ensures { result ≡ reply_refusal self.now }
     {
         match self {
-            GxReply::Granted(_) => None,
+            GxReply::Granted(_, _) => None,
             GxReply::Refused(refusal) => Some(*refusal),
         }
     }
@@ -36,7 +37,7 @@ impl GxReply {
         ensures { result ≡ reply_quality self.now }
     {
         match self {
-            GxReply::Granted(quality) => *quality,
+            GxReply::Granted(_, quality) => *quality,
             GxReply::Refused(_) => None,
         }
     }

@@ -4,8 +4,10 @@
 mod answer;
 mod ccr;
 mod codes;
+mod push;
 mod quality;
 
 pub use answer::{GxReply, write_cca};
 pub use ccr::{Ccr, read_ccr};
+pub use push::PushOut;
 pub use pcrf_values::{DefaultQuality, RequestKind};

@@ -9,7 +9,7 @@ pub enum Request {
 }
 
 /// What a site replies to a request of the same kind.
-#[derive(Clone, Copy, Debug, PartialEq, Eq)]
+#[derive(Drop, PartialEq, Eq)]
 pub enum Reply {
     /// To a credit control request.
     Gx(GxReply),

@@ -8,13 +8,12 @@ use Rattle.pcrf_model.specs.Views.{View}
 use Rattle.pcrf_model.specs.Tables.{Tables}
 use Rattle.pcrf_model.specs.Rules.{quality_of}
 use Rattle.pcrf_model.specs.Replies.{ReplyValue, OnGx, Granted, Rejected}
-use Rattle.pcrf_model.specs.Serving.{empty_delta}
 use Rattle.gx_profile.specs.declared.answer.GxReply.{GxReply}
 use Rattle.gx_profile.specs.declared.answer.GxReply.TheVariants as gx_reply
 
--- a reply to a gateway, which tells nothing of rules as yet
+-- a reply to a gateway
 abbrev pub gx_reply_value : GxReply → ReplyValue
-gx_reply_value (gx_reply.Granted quality) = OnGx (Granted empty_delta quality)
+gx_reply_value (gx_reply.Granted delta quality) = OnGx (Granted delta quality)
 gx_reply_value (gx_reply.Refused r) = OnGx (Rejected r)
 
 -- what a reply to an accepted request tells: the default quality of service of the access point that the session shows, unless it ends
