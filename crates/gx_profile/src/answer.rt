@@ -4,11 +4,12 @@ ghost use Rattle.dia_codec.specs.Spelling.{message_view};
 ghost use Rattle.gx_profile.specs.Answers.{cca, reply_refusal, reply_quality};
 
 use crate::ccr::Ccr;
+use crate::entries::FirstEntries;
 use crate::quality::put_quality;
 use dia_base::codes::{GX, avps};
 use dia_base::{AvpWriter, Identity, Refusal, answer_header, put_origin, put_result};
 use dia_codec::{Header, Message};
-use pcrf_values::{DefaultQuality, Delta};
+use pcrf_values::DefaultQuality;
 use std::alloc::{AllocError, Global};
 
 /// What a site answers to a credit control request.
@@ -16,7 +17,7 @@ use std::alloc::{AllocError, Global};
 pub enum GxReply {
     /// The request is accepted: what of the session's rules is removed and installed, and the default quality of service of
     /// its access point, where it has one.
-    Granted(Delta, Option<DefaultQuality>),
+    Granted(FirstEntries, Option<DefaultQuality>),
     /// The request is refused, and has changed nothing.
     Refused(Refusal),
 }

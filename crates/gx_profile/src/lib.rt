@@ -4,10 +4,12 @@
 mod answer;
 mod ccr;
 mod codes;
+mod entries;
 mod push;
 mod quality;
 
 pub use answer::{GxReply, write_cca};
 pub use ccr::{Ccr, read_ccr};
-pub use push::PushOut;
+pub use entries::{DELTA_LIMIT, FirstEntries};
 pub use pcrf_values::{DefaultQuality, RequestKind};
+pub use push::PushOut;

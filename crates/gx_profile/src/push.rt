@@ -1,5 +1,6 @@
 //! What a site tells a gateway of its own accord.
-use pcrf_values::{Delta, DiameterIdentity, SessionId};
+use crate::entries::FirstEntries;
+use pcrf_values::{DiameterIdentity, SessionId};
 
 /// A push: what the gateway of a session is told by a re-authorisation request (TS 29.212, 4.5.2 and 5.6.4).
 #[derive(Drop, PartialEq, Eq)]
@@ -11,5 +12,5 @@ pub struct PushOut {
     /// Its Origin-Realm.
     pub realm: DiameterIdentity,
     /// The rules that are removed and installed.
-    pub delta: Delta,
+    pub delta: FirstEntries,
 }

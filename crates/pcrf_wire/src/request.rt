@@ -2,7 +2,7 @@
 use gx_profile::{Ccr, GxReply};
 
 /// A request as it was read.
-#[derive(Drop)]
+#[derive(Drop, PartialEq, Eq)]
 pub enum Request {
     /// A credit control request of a gateway.
     Ccr(Ccr),

@@ -1,0 +1,66 @@
+//! How much of a difference one message carries.
+ghost use Rattle.std.specs.Prelude.{◌≡◌};
+ghost use Rattle.pcrf_model.specs.Differences.{first};
+ghost use Rattle.pcrf_model.specs.Limits.{delta_limit};
+ghost use Rattle.pcrf_model.specs.Serving.{empty_delta};
+
+use pcrf_values::{Delta, Rule, RuleName};
+use std::alloc::Global;
+use std::marker::Model;
+
+/// How many entries of a difference a message carries at most, so that every message has room for them.
+pub const DELTA_LIMIT: usize = 40;
+
+/// The entries of a difference that a message carries: the first ones, 40 at most. Contracts see it as a `DeltaValue`.
+#[derive(Drop, PartialEq, Eq)]
+pub struct FirstEntries {
+    delta: Delta,
+}
+
+impl Model for FirstEntries {
+    ghost use Rattle.std.specs.Prelude.{◌+◌, ◌≤◌, length};
+    ghost use Rattle.pcrf_values.specs.RuleValues.{DeltaValue};
+    ghost use Rattle.pcrf_model.specs.Limits.{delta_limit};
+
+    ghost Value = { DeltaValue };
+
+    ghost view = { λ f. f.delta };
+
+    ghost inverse = { λ delta. record { delta = delta } };
+
+    ghost invariant = { λ f. length f.delta.removed + length f.delta.installed ≤ delta_limit };
+}
+
+impl FirstEntries {
+    /// The first entries of a difference.
+    pub fn of(delta: Delta) -> FirstEntries
+        ensures { result ≡ first delta_limit delta }
+    {
+        FirstEntries {
+            delta: delta.first(DELTA_LIMIT),
+        }
+    }
+
+    /// No entry.
+    pub fn none(alloc: Global) -> FirstEntries
+        ensures { result ≡ empty_delta }
+    {
+        FirstEntries {
+            delta: Delta::of(Vec::new(alloc), Vec::new(alloc)),
+        }
+    }
+
+    /// The names of the rules to be removed.
+    pub fn removed(&self) -> &[RuleName]
+        ensures { result.now ≡ self.now.removed }
+    {
+        self.delta.removed()
+    }
+
+    /// The rules to be installed.
+    pub fn installed(&self) -> &[Rule]
+        ensures { result.now ≡ self.now.installed }
+    {
+        self.delta.installed()
+    }
+}
