@@ -1,2 +1,4 @@
 pub mod Replies
+pub mod Restoring
 pub mod Taking
+pub mod ToldOrder

@@ -1,37 +1,40 @@
--- What a site, which tells nothing of rules as yet, replies to credit control requests.
-use Rattle.std.proofs.Common.{◌≡◌, ℕ, ◌+◌, ◌-◌, Bool, true, false, cond, List, [], ◌∷◌, ◌++◌, length, take, Option, Some, None, refl, sym, ap, ◌∙◌, append-nil, option_and_then, arith}
+-- What a site replies to credit control requests.
+use Rattle.std.proofs.Common.{◌≡◌, ℕ, ◌+◌, Bool, true, false, cond, List, [], ◌∷◌, ◌++◌, Option, Some, None, refl, sym, ap, ◌∙◌, subst, option_and_then}
 use Rattle.ranked.specs.Ascending.{ascending}
+use Rattle.ranked.specs.Sets.{In}
 use Rattle.ranked.specs.declared.tag.Tag.{Tag}
+use Rattle.ranked.proofs.Plain.{clash}
 use Rattle.pcrf_values.specs.RuleValues.{DeltaValue}
 use Rattle.pcrf_values.specs.Results.{unknown_session_id, initial_parameters, authorization_rejected, unable_to_comply}
 use Rattle.pcrf_values.specs.declared.refusal.Refusal.{Refusal}
 use Rattle.pcrf_values.specs.declared.request_kind.RequestKind.{RequestKind}
 use Rattle.pcrf_values.specs.declared.request_kind.RequestKind.TheVariants.{Initial, Update, Termination}
-use Rattle.pcrf_facts.specs.Facts.{Fact, fact_cmp}
+use Rattle.pcrf_facts.specs.Facts.{Fact, Field, fact_cmp}
 use Rattle.pcrf_facts.specs.Held.{is_ended, shown}
 use Rattle.pcrf_facts.specs.Live.{gx_is_live}
-use Rattle.pcrf_facts.specs.Places.{apn}
-use Rattle.pcrf_facts.specs.Values.{Subscriber, Text}
+use Rattle.pcrf_facts.specs.Places.{apn, host}
+use Rattle.pcrf_facts.specs.Values.{Text}
 use Rattle.pcrf_facts.specs.FlowWords.{or_else}
+use Rattle.pcrf_model.specs.Limits.{delta_limit}
 use Rattle.pcrf_model.specs.Sessions.{Session, gx}
 use Rattle.pcrf_model.specs.Holdings.{SessionFact, session_fact_cmp, under, facts_on, kept_facts, kept_of, Holding}
 use Rattle.pcrf_model.specs.Operations.{Operation, with_operation}
 use Rattle.pcrf_model.specs.Views.{View, view}
 use Rattle.pcrf_model.specs.Live.{is_live}
 use Rattle.pcrf_model.specs.Tables.{ApnRow, Tables, apn_row}
-use Rattle.pcrf_model.specs.Rules.{rules, quality_of}
-use Rattle.pcrf_model.specs.Differences.{told, difference, first}
+use Rattle.pcrf_model.specs.Rules.{quality_of}
 use Rattle.pcrf_model.specs.Requests.{CcrValue}
 use Rattle.pcrf_model.specs.Refusals.{ccr_refusal, lacks_parameters, names_no_row, is_clock_full}
-use Rattle.pcrf_model.specs.Replies.{OnGx, Granted, Rejected, Outcome}
-use Rattle.pcrf_model.specs.Making.{session_fields, ccr_fields, told_facts, next_tag}
-use Rattle.pcrf_model.specs.Serving.{empty_delta, provisioned, accepted_ccr, serve_ccr}
+use Rattle.pcrf_model.specs.Replies.{OnGx, Granted, Rejected}
+use Rattle.pcrf_model.specs.Making.{ccr_fields, told_facts, next_tag}
+use Rattle.pcrf_model.specs.Serving.{delta_of, provisioned, accepted_ccr, serve_ccr}
 use Rattle.pcrf_model.specs.Worlds.{SiteView}
 use Rattle.pcrf_model.proofs.HoldingLaws.{sorted-In}
 use Rattle.pcrf_model.proofs.ViewLaws.{view-Same, view-kept}
-use Rattle.site_core.specs.Facts.{made_facts, operation_made}
-use Rattle.site_core.specs.Replies.{quality_told}
+use Rattle.site_core.specs.Facts.{opens, made_facts, operation_made, operation_told}
+use Rattle.site_core.specs.Replies.{told_reply}
 use Rattle.site_core.specs.Sites.{ccr_served}
+use Rattle.site_core.proofs.ToldOrder.{fields_then_told, host_is_set}
 
 -- ---- refusals
 
@@ -100,32 +103,6 @@ module _ (t : Tables) (h : Holding) (q : CcrValue) where
 
 -- ---- what is granted
 
--- no entry is told
-no_entries : (d : DeltaValue) → first 0 d ≡ empty_delta
-no_entries d = λ i. record { removed = none d.removed i; installed = nothing i }
-  where
-    none : {A : Type 0} (xs : List A) → take 0 xs ≡ []
-    none [] = refl
-    none (x ∷ xs) = refl
-
-    nothing : take (0 - length d.removed) d.installed ≡ []
-    nothing = let zero : 0 - length d.removed ≡ 0 = omega arith in ap (λ n. take n d.installed) zero ∙ none d.installed
-
--- the fields of a request stand in order
-pub fields_rise : (t : Tag) (a n : Option (List ℕ)) (ids : Option (List Subscriber)) (h r : List ℕ) (k : ℕ) → ascending fact_cmp (session_fields t a n ids h r k) ≡ session_fields t a n ids h r k
-fields_rise t None None None h r k = refl
-fields_rise t None None (Some ids) h r k = refl
-fields_rise t None (Some n) None h r k = refl
-fields_rise t None (Some n) (Some ids) h r k = refl
-fields_rise t (Some a) None None h r k = refl
-fields_rise t (Some a) None (Some ids) h r k = refl
-fields_rise t (Some a) (Some n) None h r k = refl
-fields_rise t (Some a) (Some n) (Some ids) h r k = refl
-
--- the operation of an accepted request
-abbrev pub made_operation : ℕ → Holding → CcrValue → RequestKind → Operation
-made_operation i h q k = operation_made i (h.clock + 1) q k
-
 -- what is held with the operation of a site shows what was held with its facts
 pub shown_with : (h : Holding) (o : Operation) → view (kept_of (with_operation h o)).facts ≡ view (h.facts ++ under o.session o.facts)
 shown_with h o =
@@ -146,32 +123,51 @@ pub access_point : (t : Tables) (facts : List SessionFact) (s : Session) (g : Ta
 unfolding view
 access_point t facts s g name h = rw h refl
 
--- what is held with the operation of a request
-abbrev pub held_with : ℕ → Holding → CcrValue → RequestKind → View
-held_with i h q k = view (kept_of (with_operation h (made_operation i h q k))).facts
+-- a request that leaves its session open sets its fields
+fields_made : (q : CcrValue) (k : RequestKind) (t : Tag) → opens k ≡ true → made_facts q k t ≡ ccr_fields q t
+fields_made q Initial t h = refl
+fields_made q Update t h = refl
+fields_made q Termination t h = clash false h refl
 
--- what an accepted request gives
-abbrev pub granted : Tables → ℕ → Holding → CcrValue → RequestKind → Outcome
-granted t i h q k = record { reply = OnGx (Granted empty_delta (quality_told t (held_with i h q k) q.session k)); added = Some (made_operation i h q k) }
+-- the host among them
+pub host_is_made : (q : CcrValue) (k : RequestKind) (t : Tag) → opens k ≡ true → In (Field host t (Text q.host)) (made_facts q k t)
+host_is_made q k t opening = subst (In (Field host t (Text q.host))) (sym (fields_made q k t opening)) (host_is_set q t)
 
--- an initial request or an update
-provisioned_is : (t : Tables) (i : ℕ) (h : Holding) (q : CcrValue) (k : RequestKind) → made_facts q k (next_tag i h q.number) ≡ ccr_fields q (next_tag i h q.number) → provisioned 0 t i h q
-    ≡ record { reply = OnGx (Granted empty_delta (quality_of t (held_with i h q k) (gx q.session))); added = Some (made_operation i h q k) }
-unfolding provisioned
-provisioned_is t i h q k made =
-    let s : Session = gx q.session in
-    let fields : List Fact = ccr_fields q (next_tag i h q.number) in
-    let v : View = view (h.facts ++ under s fields) in
-    let d = no_entries (difference (told v s) (rules t v s)) in
-    let shown = ap (λ (fs : List Fact). view (h.facts ++ under s fs)) (sym made) ∙ sym (shown_with h (made_operation i h q k)) in
-    let facts = ap (λ (x : DeltaValue). ascending fact_cmp (fields ++ told_facts (next_tag i h 0) x)) d ∙ ap (ascending fact_cmp) (append-nil fields) ∙ fields_rise (next_tag i h q.number) q.address q.apn q.subscribers q.host q.realm _ ∙ sym made in
-    λ j. record { reply = OnGx (Granted (d j) (quality_of t (shown j) s)); added = Some (record { counter = h.clock + 1; site = i; number = q.number; session = s; facts = facts j }) }
+module _ (t : Tables) (i : ℕ) (h : Holding) (q : CcrValue) (k : RequestKind) (opening : opens k ≡ true) where
+  -- the operation of the request's fields
+  abbrev of_fields : Operation
+  of_fields = operation_made i (h.clock + 1) q k
 
--- any request
-pub accepted_is : (t : Tables) (i : ℕ) (h : Holding) (q : CcrValue) (k : RequestKind) → accepted_ccr 0 t i h q k ≡ granted t i h q k
-accepted_is t i h q Initial = provisioned_is t i h q Initial refl
-accepted_is t i h q Update = provisioned_is t i h q Update refl
-accepted_is t i h q Termination = refl
+  -- what is read with them
+  abbrev v : View
+  v = view (kept_of (with_operation h of_fields)).facts
+
+  -- what the gateway is told then
+  abbrev d : DeltaValue
+  d = delta_of delta_limit t v (gx q.session)
+
+  -- so an initial request or an update gives
+  pub provisioned_is : provisioned delta_limit t i h q ≡ record { reply = told_reply t v (gx q.session); added = Some (operation_told i (h.clock + 1) q k d) }
+  unfolding provisioned
+  provisioned_is =
+      let s : Session = gx q.session in
+      let tag : Tag = next_tag i h q.number in
+      let fields : List Fact = ccr_fields q tag in
+      let made : made_facts q k tag ≡ fields = fields_made q k tag opening in
+      let shows : view (h.facts ++ under s fields) ≡ v = ap (λ (fs : List Fact). view (h.facts ++ under s fs)) (sym made) ∙ sym (shown_with h of_fields) in
+      let facts : (e : DeltaValue) → ascending fact_cmp (fields ++ told_facts (next_tag i h 0) e) ≡ made_facts q k tag ++ ascending fact_cmp (told_facts (next_tag i h 0) e) =
+      λ e. fields_then_told q tag (next_tag i h 0) e ∙ ap (λ (fs : List Fact). fs ++ ascending fact_cmp (told_facts (next_tag i h 0) e)) (sym made) in
+      let delta : (w : View) → DeltaValue = λ w. delta_of delta_limit t w s in
+      λ j. record {
+        reply = OnGx (Granted (delta (shows j)) (quality_of t (shows j) s));
+        added = Some (record { counter = h.clock + 1; site = i; number = q.number; session = s; facts = (facts (delta (view (h.facts ++ under s fields))) ∙ ap (λ (w : View). made_facts q k tag ++ ascending fact_cmp (told_facts (next_tag i h 0) (delta w))) shows) j });
+      }
+
+-- what is accepted of a request that leaves its session open
+pub opening_is : (t : Tables) (i : ℕ) (h : Holding) (q : CcrValue) (k : RequestKind) → opens k ≡ true → accepted_ccr delta_limit t i h q k ≡ provisioned delta_limit t i h q
+opening_is t i h q Initial opening = refl
+opening_is t i h q Update opening = refl
+opening_is t i h q Termination opening = clash false opening refl
 
 -- ---- what is served
 
@@ -181,6 +177,6 @@ unfolding serve_ccr
 served_refused t s q r h = rw h refl
 
 -- an accepted one
-pub served_granted : (t : Tables) (s : SiteView) (q : CcrValue) → ccr_refusal t s.state.holding q ≡ None → ccr_served t s q ≡ granted t s.number s.state.holding q q.kind
+pub served_accepted : (t : Tables) (s : SiteView) (q : CcrValue) (k : RequestKind) → q.kind ≡ k → ccr_refusal t s.state.holding q ≡ None → ccr_served t s q ≡ accepted_ccr delta_limit t s.number s.state.holding q k
 unfolding serve_ccr
-served_granted t s q h = rw h (accepted_is t s.number s.state.holding q q.kind)
+served_accepted t s q k is h = rw h (ap (accepted_ccr delta_limit t s.number s.state.holding q) is)

@@ -1,13 +1,17 @@
 -- The facts that an accepted credit control request makes, by its type, and its operation.
-use Rattle.std.specs.Prelude.{ℕ, List, [], ◌∷◌}
+use Rattle.std.specs.Prelude.{ℕ, Bool, true, false, List, [], ◌∷◌, ◌++◌, map, Option, Some, None}
+use Rattle.ranked.specs.Ascending.{ascending}
 use Rattle.ranked.specs.declared.tag.Tag.{Tag}
 use Rattle.pcrf_values.specs.declared.request_kind.RequestKind.{RequestKind}
 use Rattle.pcrf_values.specs.declared.request_kind.RequestKind.TheVariants.{Initial, Update, Termination}
-use Rattle.pcrf_facts.specs.Facts.{Fact, End}
+use Rattle.pcrf_values.specs.RuleValues.{RuleValue, DeltaValue}
+use Rattle.pcrf_facts.specs.Facts.{Fact, End, Field, fact_cmp}
+use Rattle.pcrf_facts.specs.Places.{OfRuleName}
+use Rattle.gx_records.specs.GxFacts.{told_value}
 use Rattle.pcrf_model.specs.Sessions.{gx}
 use Rattle.pcrf_model.specs.Operations.{Operation}
 use Rattle.pcrf_model.specs.Requests.{CcrValue}
-use Rattle.pcrf_model.specs.Making.{session_fields, ccr_fields}
+use Rattle.pcrf_model.specs.Making.{session_fields, ccr_fields, told_facts}
 
 -- the fields that a request sets, with that as the type of the last request
 abbrev pub fields_set : CcrValue → Tag → ℕ → List Fact
@@ -19,6 +23,12 @@ made_facts q Initial t = ccr_fields q t
 made_facts q Update t = ccr_fields q t
 made_facts q Termination t = End ∷ []
 
+-- the request leaves its session open
+abbrev pub opens : RequestKind → Bool
+opens Initial = true
+opens Update = true
+opens Termination = false
+
 -- the operation that it makes at a site, under a counter
 abbrev pub operation_made : ℕ → ℕ → CcrValue → RequestKind → Operation
 operation_made site counter q k = record {
@@ -27,4 +37,37 @@ operation_made site counter q k = record {
   number = q.number;
   session = gx q.session;
   facts = made_facts q k (record { number = q.number; counter = counter; site = site });
+}
+
+-- ---- what a gateway is told
+
+-- a name, with the rule that is installed under it, or with nothing where it is removed
+abbrev pub ToldName : Type 0
+ToldName = List ℕ × Option RuleValue
+
+-- a name that is removed
+abbrev pub removed_entry : List ℕ → ToldName
+removed_entry n = (n, None)
+
+-- a rule that is installed
+abbrev pub installed_entry : RuleValue → ToldName
+installed_entry r = (r.name, Some r)
+
+-- all of them
+abbrev pub entries_told : DeltaValue → List ToldName
+entries_told d = map removed_entry d.removed ++ map installed_entry d.installed
+
+-- the fact that tells of one
+abbrev pub told_fact : Tag → ToldName → Fact
+told_fact t e = Field (OfRuleName e.0) t (told_value e.1)
+
+-- the operation of an initial request or an update at a site, under a counter: its fields, and what its gateway is told
+abbrev pub operation_told : ℕ → ℕ → CcrValue → RequestKind → DeltaValue → Operation
+operation_told site counter q k d = record {
+  counter = counter;
+  site = site;
+  number = q.number;
+  session = gx q.session;
+  facts = made_facts q k (record { number = q.number; counter = counter; site = site })
+      ++ ascending fact_cmp (told_facts (record { number = 0; counter = counter; site = site }) d);
 }

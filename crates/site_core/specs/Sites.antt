@@ -1,6 +1,9 @@
 -- What serving, letters and restarts make of a site, as it is seen.
 use Rattle.std.specs.Prelude.{ℕ, ◌+◌, List, [], ◌∷◌, ◌++◌, Option, Some, None}
-use Rattle.pcrf_model.specs.Holdings.{nothing_held, union, kept_of}
+use Rattle.pcrf_facts.specs.Facts.{Fact}
+use Rattle.pcrf_model.specs.Limits.{delta_limit}
+use Rattle.pcrf_model.specs.Sessions.{Session}
+use Rattle.pcrf_model.specs.Holdings.{nothing_held, union, kept_of, replaced}
 use Rattle.pcrf_model.specs.Operations.{Operation, with_operation, holding_of}
 use Rattle.pcrf_model.specs.Requests.{CcrValue}
 use Rattle.pcrf_model.specs.Replies.{Outcome}
@@ -12,9 +15,9 @@ use Rattle.pcrf_model.specs.Worlds.{SiteView}
 abbrev pub new_site : ℕ → SiteView
 new_site number = record { number = number; epoch = 1; state = record { holding = nothing_held; log = [] } }
 
--- what the definitions give by these tables on what the site holds, with nothing told as yet
+-- what the definitions give by these tables on what the site holds
 abbrev pub ccr_served : Tables → SiteView → CcrValue → Outcome
-ccr_served t s q = serve_ccr 0 t s.number s.state.holding q
+ccr_served t s q = serve_ccr delta_limit t s.number s.state.holding q
 
 -- with one operation: what is kept of it is held
 abbrev pub with_one : SiteView → Operation → SiteView
@@ -32,3 +35,7 @@ with_taken s os = record s { state = record { holding = kept_of (union s.state.h
 -- empty, in the next epoch
 abbrev pub started_again : SiteView → SiteView
 started_again s = record { number = s.number; epoch = s.epoch + 1; state = record { holding = nothing_held; log = [] } }
+
+-- with these facts in place of those of a session, under that clock
+abbrev pub with_record : SiteView → Session → List Fact → ℕ → SiteView
+with_record s session facts clock = record s { state = record { holding = replaced s.state.holding session facts clock; log = s.state.log } }

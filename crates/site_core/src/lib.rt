@@ -3,5 +3,6 @@
 
 mod facts;
 mod site;
+mod told;
 
 pub use site::Site;

@@ -1,11 +1,13 @@
 //! One site: what it holds, and the operations that it made itself in its present epoch.
-ghost use Rattle.std.specs.Prelude.{◌≡◌, ◌<◌, ◌≤◌, ◌+◌, [], ◌∷◌, None, Some, false, true, length, take, cond, IfOk, OnOk, OnErr, IfErr, IfSome};
+ghost use Rattle.std.specs.Prelude.{◌≡◌, ◌≢◌, ◌<◌, ◌≤◌, ◌+◌, [], ◌∷◌, None, Some, false, true, length, take, cond, IfOk, OnOk, OnErr, IfErr, IfSome};
 ghost use Rattle.std.specs.Option.{option_copied};
 ghost use Rattle.pcrf_values.specs.Results.{authorization_rejected, unable_to_comply};
 ghost use Rattle.pcrf_facts.specs.Held.{is_ended};
 ghost use Rattle.pcrf_facts.specs.Live.{gx_is_live};
-ghost use Rattle.pcrf_model.specs.Limits.{last_counter, last_epoch};
-ghost use Rattle.pcrf_model.specs.Holdings.{kept_of};
+ghost use Rattle.pcrf_model.specs.Limits.{delta_limit, last_counter, last_epoch};
+ghost use Rattle.pcrf_model.specs.Holdings.{facts_on, kept_of};
+ghost use Rattle.pcrf_model.specs.Replies.{OnGx, Granted};
+ghost use Rattle.pcrf_model.specs.Serving.{delta_of, empty_delta, provisioned};
 ghost use Rattle.pcrf_model.specs.Sessions.{gx};
 ghost use Rattle.pcrf_model.specs.Views.{view};
 ghost use Rattle.pcrf_model.specs.Rules.{quality_of};
@@ -16,14 +18,17 @@ ghost use Rattle.site_join.specs.States.{record_facts};
 ghost use Rattle.site_core.specs.Replies.{gx_reply_value};
 
 use crate::facts::facts_made;
+use crate::told::put_told;
 use dia_base::codes::results::{
     AUTHORIZATION_REJECTED, INITIAL_PARAMETERS, UNABLE_TO_COMPLY, UNKNOWN_SESSION_ID,
 };
-use gx_profile::{Ccr, GxReply};
+use gx_profile::{Ccr, FirstEntries, GxReply};
 use gx_records::GxRec;
+use lattice_core::Join;
 use op_tables::Tables;
 use pcrf_values::{Apn, DefaultQuality, Refusal, RequestKind, SessionId};
 use ranked::{Ranked, Tag};
+use rule_telling::untold;
 use site_join::{LAST_COUNTER, Operation, SessionFacts, State};
 use std::alloc::{AllocError, Global};
 use std::marker::Model;
@@ -51,9 +56,9 @@ impl Model for Site {
 }
 
 impl Site {
-    ghost use Rattle.site_core.specs.Facts.{operation_made};
-    ghost use Rattle.site_core.specs.Replies.{quality_told};
-    ghost use Rattle.site_core.specs.Sites.{new_site, ccr_served, with_made, with_one, with_taken, started_again};
+    ghost use Rattle.site_core.specs.Facts.{opens, operation_made, operation_told};
+    ghost use Rattle.site_core.specs.Replies.{told_reply};
+    ghost use Rattle.site_core.specs.Sites.{new_site, ccr_served, with_made, with_one, with_record, with_taken, started_again};
 
     /// A site that took nothing, in its first epoch.
     pub fn start(alloc: Global, number: u8) -> Site
@@ -110,37 +115,135 @@ impl Site {
         let Some(counter) = self.next_counter() else {
             return Ok(GxReply::Refused(Refusal::base(UNABLE_TO_COMPLY)));
         };
-        self.make(ccr, counter)?;
-        Ok(GxReply::Granted(self.told_quality(tables, ccr)))
+        match ccr.kind {
+            RequestKind::Termination => self.close(ccr, counter),
+            RequestKind::Initial | RequestKind::Update => self.provision(tables, ccr, counter),
+        }
     }
 
-    /// Adds the operation of an accepted request under this counter, or changes nothing.
-    fn make(&mut self, ccr: &Ccr, counter: u64) -> Result<(), AllocError>
+    /// Ends the session of an accepted request, or changes nothing.
+    fn close(&mut self, ccr: &Ccr, counter: u64) -> Result<GxReply, AllocError>
         requires { counter ≤ last_counter }
+        ensures reply { IfOk result (λ reply.
+            gx_reply_value reply ≡ OnGx (Granted empty_delta None)) }
         ensures ok { OnOk result (self.new ≡ with_made self.old (Some
             (operation_made self.old.number counter (ccr_view ccr.now) ccr.now.kind))) }
         ensures err { OnErr result (self.new ≡ self.old) }
     {
-        let tag = Tag {
-            number: ccr.number,
-            counter,
-            site: self.number,
-        };
-        let session = ccr.session.try_copy()?;
-        let facts = SessionFacts::Gx(session, facts_made(self.alloc, ccr, tag)?);
-        self.add(Operation::stamped(counter, self.number, ccr.number, facts))?;
-        Ok(())
+        let operation = self.fields_made(ccr, counter)?;
+        self.add(operation)?;
+        Ok(GxReply::Granted(FirstEntries::none(self.alloc), None))
     }
 
-    /// The default quality of service that the reply to an accepted request tells.
-    fn told_quality(&self, tables: &Tables, ccr: &Ccr) -> Option<DefaultQuality>
-        ensures { result ≡ quality_told tables.now (view self.now.state.holding.facts)
-            ccr.now.session ccr.now.kind }
+    /// Sets the fields of an accepted request and tells the gateway what it lacks then, or changes nothing.
+    fn provision(&mut self, tables: &Tables, ccr: &Ccr, counter: u64) -> Result<GxReply, AllocError>
+        requires within { counter ≤ last_counter }
+        requires next { counter ≡ self.old.state.holding.clock + 1 }
+        requires opens { opens ccr.now.kind ≡ true }
+        ensures reply { IfOk result (λ reply. gx_reply_value reply ≡ (provisioned delta_limit
+            tables.now self.old.number self.old.state.holding (ccr_view ccr.now)).reply) }
+        ensures ok { OnOk result (self.new ≡ with_made self.old (provisioned delta_limit
+            tables.now self.old.number self.old.state.holding (ccr_view ccr.now)).added) }
+        ensures err { OnErr result (self.new ≡ self.old) }
     {
-        match ccr.kind {
-            RequestKind::Initial => self.quality_of(tables, &ccr.session),
-            RequestKind::Update => self.quality_of(tables, &ccr.session),
-            RequestKind::Termination => None,
+        self.note_kept();
+        let before = self.copy_of(&ccr.session)?;
+        let clock = self.state.clock();
+        self.set_fields(ccr, counter)?;
+        match self.tell(tables, ccr, counter) {
+            Ok(reply) => Ok(reply),
+            Err(refused) => {
+                self.put_back(&ccr.session, before, clock);
+                Err(refused)
+            }
+        }
+    }
+
+    /// A copy of the record of a session, if a fact of it is known.
+    fn copy_of(&self, session: &SessionId) -> Result<Option<GxRec>, AllocError>
+        ensures { IfOk result (λ copy. record_facts copy
+            ≡ facts_on self.now.state.holding.facts (gx session.now)) }
+    {
+        match self.state.gx(session) {
+            Some(known) => Ok(Some(known.try_copy()?)),
+            None => Ok(None),
+        }
+    }
+
+    /// Puts the record that stood in its place, with the clock that was.
+    fn put_back(&mut self, session: &SessionId, before: Option<GxRec>, clock: u64)
+        requires within { clock ≤ last_counter }
+        requires known { facts_on self.old.state.holding.facts (gx session.now) ≢ [] }
+        ensures { self.new ≡ with_record self.old (gx session.now) (record_facts before) clock }
+    {
+        self.state.put_gx(session, before, clock).unwrap();
+    }
+
+    /// Sets the fields of an accepted request, or changes nothing.
+    fn set_fields(&mut self, ccr: &Ccr, counter: u64) -> Result<(), AllocError>
+        requires { counter ≤ last_counter }
+        ensures ok { OnOk result (self.new ≡ with_one self.old
+            (operation_made self.old.number counter (ccr_view ccr.now) ccr.now.kind)) }
+        ensures err { OnErr result (self.new ≡ self.old) }
+    {
+        let operation = self.fields_made(ccr, counter)?;
+        self.state.take(&operation)
+    }
+
+    /// Tells the gateway what it lacks of the rules that its session has now, or changes nothing.
+    fn tell(&mut self, tables: &Tables, ccr: &Ccr, counter: u64) -> Result<GxReply, AllocError>
+        requires { counter ≤ last_counter }
+        ensures reply { IfOk result (λ reply. gx_reply_value reply
+            ≡ told_reply tables.now (view self.old.state.holding.facts) (gx ccr.now.session)) }
+        ensures ok { OnOk result (self.new ≡ with_made self.old (Some (operation_told
+            self.old.number counter (ccr_view ccr.now) ccr.now.kind
+            (delta_of delta_limit tables.now (view self.old.state.holding.facts) (gx ccr.now.session))))) }
+        ensures err { OnErr result (self.new ≡ self.old) }
+    {
+        let quality = self.quality_of(tables, &ccr.session);
+        let delta = FirstEntries::of(untold(self.alloc, tables, &self.state, &ccr.session)?);
+        let operation = self.all_made(ccr, counter, &delta)?;
+        self.add(operation)?;
+        Ok(GxReply::Granted(delta, quality))
+    }
+
+    /// The operation of the fields that an accepted request sets, or of the end that it makes.
+    fn fields_made(&self, ccr: &Ccr, counter: u64) -> Result<Operation, AllocError>
+        requires { counter ≤ last_counter }
+        ensures { IfOk result (λ operation. operation
+            ≡ operation_made self.now.number counter (ccr_view ccr.now) ccr.now.kind) }
+    {
+        let session = ccr.session.try_copy()?;
+        let facts = facts_made(self.alloc, ccr, self.tag(ccr.number, counter))?;
+        let facts = SessionFacts::Gx(session, facts);
+        Ok(Operation::stamped(counter, self.number, ccr.number, facts))
+    }
+
+    /// The operation of those fields, and of what the gateway is told.
+    fn all_made(
+        &self,
+        ccr: &Ccr,
+        counter: u64,
+        delta: &FirstEntries,
+    ) -> Result<Operation, AllocError>
+        requires { counter ≤ last_counter }
+        ensures { IfOk result (λ operation. operation ≡ operation_told
+            self.now.number counter (ccr_view ccr.now) ccr.now.kind delta.now) }
+    {
+        let mut facts = facts_made(self.alloc, ccr, self.tag(ccr.number, counter))?;
+        put_told(self.alloc, &mut facts, self.tag(0, counter), delta)?;
+        let facts = SessionFacts::Gx(ccr.session.try_copy()?, facts);
+        Ok(Operation::stamped(counter, self.number, ccr.number, facts))
+    }
+
+    /// The tag of what an operation of this site says.
+    fn tag(&self, number: u32, counter: u64) -> Tag
+        ensures { result ≡ record { number = number; counter = counter; site = self.now.number } }
+    {
+        Tag {
+            number,
+            counter,
+            site: self.number,
         }
     }
 

@@ -1,17 +1,19 @@
-use Rattle.std.proofs.Common.{ℕ, Some, None, cond, Option, Bool, ap, sym, ◌∙◌}
+use Rattle.std.proofs.Common.{rules, ◌≡◌, ℕ, Some, None, cond, Option, Bool, true, refl, ap, sym, ◌∙◌, subst, IfOk, OnOk}
+use Rattle.pcrf_values.specs.declared.request_kind.RequestKind.{RequestKind}
+use Rattle.pcrf_values.specs.declared.request_kind.RequestKind.TheVariants.{Termination}
 use Rattle.pcrf_values.specs.Results.{unable_to_comply}
 use Rattle.pcrf_values.specs.declared.default_quality.DefaultQuality.{DefaultQuality}
 use Rattle.pcrf_values.specs.declared.refusal.Refusal.{Refusal}
 use Rattle.pcrf_facts.specs.FlowWords.{or_else}
 use Rattle.pcrf_model.specs.Views.{view}
-use Rattle.pcrf_model.specs.Replies.{OnGx, Granted, Outcome}
+use Rattle.pcrf_model.specs.Replies.{ReplyValue, Outcome}
 use Rattle.pcrf_model.specs.Serving.{empty_delta}
 use Rattle.pcrf_model.specs.Worlds.{SiteView}
 use Rattle.gx_profile.specs.Requests.{ccr_view}
-use Rattle.site_core.specs.Facts.{operation_made}
-use Rattle.site_core.specs.Replies.{quality_told}
+use Rattle.site_core.specs.Facts.{opens, operation_made}
+use Rattle.site_core.specs.Replies.{gx_reply_value}
 use Rattle.site_core.specs.Sites.{with_made}
-use Rattle.site_core.proofs.Replies.{by_clock, served_refused, served_granted}
+use Rattle.site_core.proofs.Replies.{by_clock, served_refused, served_accepted, opening_is}
 use Rattle.site_core.proofs.site.Site.serve_ccr.Goals as goal
 
 pub returns-in-Some-clause-reply : goal.returns-in-Some-clause-reply
@@ -44,22 +46,37 @@ returns-in_default-next_counter-clause-ok c =
     let refused = c.standing_refusal.ensures ∙ ap (λ (x : Option Refusal). or_else x (by_clock s.state.holding)) c.in_default.is ∙ full in
     sym (ap (λ (o : Outcome). with_made s o.added) (served_refused c.args.tables.now s q unable_to_comply refused))
 
-pub returns-clause-reply : goal.returns-clause-reply
-returns-clause-reply c =
+pub returns-in-Termination-clause-reply : goal.returns-in-Termination-clause-reply
+returns-in-Termination-clause-reply c =
     let s = c.args.self.now in
     let q = ccr_view c.args.ccr.now in
     let room = ap (λ (b : Bool). cond b (Some unable_to_comply) None) c.in-Some-next_counter.ensures.open in
     let none = c.standing_refusal.ensures ∙ ap (λ (x : Option Refusal). or_else x (by_clock s.state.holding)) c.in_default.is ∙ room in
-    let made = c.in_ok-make.ensures.ok ∙ ap (λ (n : ℕ). with_made s (Some (operation_made s.number n q q.kind))) c.in-Some-next_counter.ensures.some in
-    let told = c.told_quality.ensures ∙ ap (λ (x : SiteView). quality_told c.args.tables.now (view x.state.holding.facts) q.session q.kind) made in
-    ap (λ (x : Option DefaultQuality). OnGx (Granted empty_delta x)) told
-    ∙ sym (ap (λ (o : Outcome). o.reply) (served_granted c.args.tables.now s q none))
+    let served = ap (λ (o : Outcome). o.reply) (served_accepted c.args.tables.now s q Termination c.in-Termination.is none) in
+    subst (λ (r : ReplyValue). IfOk c.close.result (λ reply. gx_reply_value reply ≡ r)) (sym served) c.close.ensures.reply
 
-pub returns-clause-ok : goal.returns-clause-ok
-returns-clause-ok c =
+pub returns-in-Termination-clause-ok : goal.returns-in-Termination-clause-ok
+returns-in-Termination-clause-ok c =
     let s = c.args.self.now in
     let q = ccr_view c.args.ccr.now in
     let room = ap (λ (b : Bool). cond b (Some unable_to_comply) None) c.in-Some-next_counter.ensures.open in
     let none = c.standing_refusal.ensures ∙ ap (λ (x : Option Refusal). or_else x (by_clock s.state.holding)) c.in_default.is ∙ room in
-    let made = c.in_ok-make.ensures.ok ∙ ap (λ (n : ℕ). with_made s (Some (operation_made s.number n q q.kind))) c.in-Some-next_counter.ensures.some in
-    made ∙ sym (ap (λ (o : Outcome). with_made s o.added) (served_granted c.args.tables.now s q none))
+    let served = ap (λ (o : Outcome). with_made s o.added) (served_accepted c.args.tables.now s q Termination c.in-Termination.is none) in
+    let made = ap (λ (k : RequestKind). with_made s (Some (operation_made s.number c.in-Some-next_counter.counter q k))) c.in-Termination.is in
+    let next = ap (λ (n : ℕ). with_made s (Some (operation_made s.number n q Termination))) c.in-Some-next_counter.ensures.some in
+    subst (λ (x : SiteView). OnOk c.close.result (c.close.new.self ≡ x)) (made ∙ next ∙ sym served) c.close.ensures.ok
+
+pub returns-in-Initial : goal.returns-in-Initial
+returns-in-Initial c =
+    let s = c.args.self.now in
+    let q = ccr_view c.args.ccr.now in
+    let t = c.args.tables.now in
+    let room = ap (λ (b : Bool). cond b (Some unable_to_comply) None) c.in-Some-next_counter.ensures.open in
+    let none = c.standing_refusal.ensures ∙ ap (λ (x : Option Refusal). or_else x (by_clock s.state.holding)) c.in_default.is ∙ room in
+    let opening : opens q.kind ≡ true = search rules in
+    let served = served_accepted t s q q.kind refl none ∙ opening_is t s.number s.state.holding q q.kind opening in
+    record {
+      reply = subst (λ (o : Outcome). IfOk c.provision.result (λ reply. gx_reply_value reply ≡ o.reply)) (sym served) c.provision.ensures.reply;
+      ok = subst (λ (o : Outcome). OnOk c.provision.result (c.provision.new.self ≡ with_made s o.added)) (sym served) c.provision.ensures.ok;
+      err = c.provision.ensures.err;
+    }
