@@ -26,13 +26,17 @@ tgpp_number key mandatory number = tgpp_avp key mandatory (word_bytes number)
 abbrev pub tgpp_group : AvpKey → Bool → List AvpValue → AvpValue
 tgpp_group key mandatory avps = tgpp_avp key mandatory (flat_map written_avp avps)
 
--- what an Allocation-Retention-Priority holds
-abbrev pub priority_avps : RetentionPriority → List AvpValue
-priority_avps p =
-    tgpp_number priority_level optional p.level
-    ∷ tgpp_number pre_emption_capability optional (preemption_number p.capability)
-    ∷ tgpp_number pre_emption_vulnerability optional (preemption_number p.vulnerability)
+-- what an Allocation-Retention-Priority of this level, capability and vulnerability holds
+abbrev pub retention_avps : ℕ → ℕ → ℕ → List AvpValue
+retention_avps level capability vulnerability =
+    tgpp_number priority_level optional level
+    ∷ tgpp_number pre_emption_capability optional capability
+    ∷ tgpp_number pre_emption_vulnerability optional vulnerability
     ∷ []
+
+-- the same of a priority
+abbrev pub priority_avps : RetentionPriority → List AvpValue
+priority_avps p = retention_avps p.level (preemption_number p.capability) (preemption_number p.vulnerability)
 
 -- what the QoS-Information of an access point holds
 abbrev pub rate_avps : DefaultQuality → List AvpValue

@@ -1,11 +1,13 @@
 //! Answers to credit control requests (TS 29.212, 5.6.3).
 ghost use Rattle.std.specs.Prelude.{◌≡◌, IfOk};
+ghost use Rattle.std.specs.Option.{option_copied};
 ghost use Rattle.dia_codec.specs.Spelling.{message_view};
-ghost use Rattle.gx_profile.specs.Answers.{cca, reply_refusal, reply_quality};
+ghost use Rattle.gx_profile.specs.Answers.{cca, reply_entries, reply_refusal, reply_quality};
 
 use crate::ccr::Ccr;
 use crate::entries::FirstEntries;
 use crate::quality::put_quality;
+use crate::rules::put_delta;
 use dia_base::codes::{GX, avps};
 use dia_base::{AvpWriter, Identity, Refusal, answer_header, put_origin, put_result};
 use dia_codec::{Header, Message};
@@ -30,6 +32,16 @@ impl GxReply {
         match self {
             GxReply::Granted(_, _) => None,
             GxReply::Refused(refusal) => Some(*refusal),
+        }
+    }
+
+    /// What the reply tells to remove and install, if it does.
+    pub fn delta(&self) -> Option<&FirstEntries>
+        ensures { option_copied result ≡ reply_entries self.now }
+    {
+        match self {
+            GxReply::Granted(delta, _) => Some(delta),
+            GxReply::Refused(_) => None,
         }
     }
 
@@ -64,6 +76,9 @@ pub fn write_cca(
     put_result(alloc, &mut out, refusal)?;
     out.number(avps::CC_REQUEST_TYPE, ccr.kind.number())?;
     out.number(avps::CC_REQUEST_NUMBER, ccr.number)?;
+    if let Some(delta) = reply.delta() {
+        put_delta(alloc, &mut out, delta)?;
+    }
     put_quality(alloc, &mut out, &reply.quality())?;
     Ok(Message {
         header: answer_header(header, refusal),

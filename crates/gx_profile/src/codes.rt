@@ -1,9 +1,42 @@
-//! Numbers that TS 29.212 gives out.
+//! Numbers that TS 29.212 and TS 29.214 give out.
 
-/// AVP codes of 3GPP (TS 29.212, 5.3).
+/// AVP codes of 3GPP (TS 29.212, 5.3, and of TS 29.214 those that it reuses).
 pub mod avps {
+    /// TS 29.214, 5.3.8.
+    pub const FLOW_DESCRIPTION: u32 = 507;
+
+    /// TS 29.214, 5.3.11.
+    pub const FLOW_STATUS: u32 = 511;
+
+    /// TS 29.214, 5.3.14.
+    pub const MAX_REQUESTED_BANDWIDTH_DL: u32 = 515;
+
+    /// TS 29.214, 5.3.15.
+    pub const MAX_REQUESTED_BANDWIDTH_UL: u32 = 516;
+
+    /// 5.3.2.
+    pub const CHARGING_RULE_INSTALL: u32 = 1001;
+
+    /// 5.3.3.
+    pub const CHARGING_RULE_REMOVE: u32 = 1002;
+
+    /// 5.3.4.
+    pub const CHARGING_RULE_DEFINITION: u32 = 1003;
+
+    /// 5.3.6.
+    pub const CHARGING_RULE_NAME: u32 = 1005;
+
+    /// 5.3.11.
+    pub const PRECEDENCE: u32 = 1010;
+
     /// 5.3.16.
     pub const QOS_INFORMATION: u32 = 1016;
+
+    /// 5.3.25.
+    pub const GUARANTEED_BITRATE_DL: u32 = 1025;
+
+    /// 5.3.26.
+    pub const GUARANTEED_BITRATE_UL: u32 = 1026;
 
     /// 5.3.17.
     pub const QOS_CLASS_IDENTIFIER: u32 = 1028;
@@ -28,4 +61,7 @@ pub mod avps {
 
     /// 5.3.48.
     pub const DEFAULT_EPS_BEARER_QOS: u32 = 1049;
+
+    /// 5.3.53.
+    pub const FLOW_INFORMATION: u32 = 1058;
 }

@@ -1,5 +1,5 @@
 //! How much of a difference one message carries.
-ghost use Rattle.std.specs.Prelude.{◌≡◌};
+ghost use Rattle.std.specs.Prelude.{◌≡◌, ◌≤◌, length};
 ghost use Rattle.pcrf_model.specs.Differences.{first};
 ghost use Rattle.pcrf_model.specs.Limits.{delta_limit};
 ghost use Rattle.pcrf_model.specs.Serving.{empty_delta};
@@ -52,14 +52,16 @@ impl FirstEntries {
 
     /// The names of the rules to be removed.
     pub fn removed(&self) -> &[RuleName]
-        ensures { result.now ≡ self.now.removed }
+        ensures names { result.now ≡ self.now.removed }
+        ensures within { length self.now.removed ≤ delta_limit }
     {
         self.delta.removed()
     }
 
     /// The rules to be installed.
     pub fn installed(&self) -> &[Rule]
-        ensures { result.now ≡ self.now.installed }
+        ensures rules { result.now ≡ self.now.installed }
+        ensures within { length self.now.installed ≤ delta_limit }
     {
         self.delta.installed()
     }

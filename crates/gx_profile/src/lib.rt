@@ -7,6 +7,7 @@ mod codes;
 mod entries;
 mod push;
 mod quality;
+mod rules;
 
 pub use answer::{GxReply, write_cca};
 pub use ccr::{Ccr, read_ccr};

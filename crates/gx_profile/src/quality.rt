@@ -10,13 +10,16 @@ use pcrf_values::{DefaultQuality, RetentionPriority};
 use std::alloc::{AllocError, Global};
 
 /// The M bit where a gateway has to understand the AVP.
-const NEEDED: bool = true;
+pub(crate) const NEEDED: bool = true;
 
 /// No M bit: the AVP may be passed over.
-const OPTIONAL: bool = false;
+pub(crate) const OPTIONAL: bool = false;
 
 /// The value of an Allocation-Retention-Priority.
-fn priority_value(alloc: Global, priority: RetentionPriority) -> Result<Vec<u8>, AllocError>
+pub(crate) fn priority_value(
+    alloc: Global,
+    priority: RetentionPriority,
+) -> Result<Vec<u8>, AllocError>
     ensures { IfOk result (λ value.
         value.items ≡ flat_map written_avp (priority_avps priority)) }
 {
