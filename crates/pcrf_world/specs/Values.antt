@@ -1,5 +1,6 @@
 -- What happens in a world and what it answers, as the definitions have them.
 use Rattle.std.specs.Prelude.{Result, Ok, Err, List, map}
+use Rattle.pcrf_model.specs.Limits.{delta_limit}
 use Rattle.pcrf_model.specs.Tables.{Tables}
 use Rattle.pcrf_model.specs.Requests.{RequestValue, Ccr}
 use Rattle.pcrf_model.specs.Replies.{ReplyValue, Outcome}
@@ -24,9 +25,9 @@ pub record WorldValue : Type 0 where
   pub tables : Tables
   pub seen : WorldView
 
--- by these tables, with nothing told of rules as yet, and with letters of whole logs
+-- by these tables, with as many entries of a difference told as a message carries, and with letters of whole logs
 abbrev pub setting : Tables → Setting
-setting t = record { tables = t; most = 0; writes = whole_log }
+setting t = record { tables = t; most = delta_limit; writes = whole_log }
 
 -- what the definitions give by these tables on what a site holds
 abbrev pub served : Tables → SiteView → RequestValue → Outcome

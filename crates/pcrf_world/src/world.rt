@@ -28,7 +28,7 @@ pub enum WorldEvent {
 }
 
 /// What an event gave.
-#[derive(Clone, Copy, Debug, PartialEq, Eq)]
+#[derive(Drop, PartialEq, Eq)]
 pub enum WorldOutcome {
     /// The site's reply.
     Replied(Reply),

@@ -5,7 +5,7 @@ use crate::model::{Missing, Reply, Site, Tag, World};
 use crate::tables::rules_of;
 use std::alloc::{AllocError, Global};
 use std::fmt::Write as _;
-use test_messages::put_hexadecimal;
+use test_messages::{Rule, put_hexadecimal};
 
 /// How often things happened in scripts.
 #[derive(Clone, Copy, Debug, PartialEq, Eq, Default)]
@@ -14,6 +14,10 @@ pub struct Counts {
     pub granted: u64,
     /// Requests that were accepted and whose answers tell a default quality of service.
     pub told: u64,
+    /// Requests that were accepted and whose answers remove a rule.
+    pub removals: u64,
+    /// Requests that were accepted and whose answers install a rule.
+    pub installs: u64,
     /// Updates that were accepted though the session shows another access point than the one that they give.
     pub late: u64,
     /// Initial requests whose access point the tables lack.
@@ -123,12 +127,18 @@ fn put_refused(text: &mut String, missing: Missing, counts: &mut Counts) -> Resu
 }
 
 /// Counts a reply.
-fn count_reply(reply: Reply, kind: Kind, counts: &mut Counts) {
+fn count_reply(reply: &Reply, kind: Kind, counts: &mut Counts) {
     match (reply, kind) {
-        (Reply::Granted(quality), _) => {
+        (Reply::Granted(told), _) => {
             count(&mut counts.granted);
-            if quality.is_some() {
+            if told.quality.is_some() {
                 count(&mut counts.told);
+            }
+            if !told.removed.is_empty() {
+                count(&mut counts.removals);
+            }
+            if !told.installed.is_empty() {
+                count(&mut counts.installs);
             }
         }
         (Reply::LacksParameters, _) => count(&mut counts.lacking),
@@ -139,7 +149,7 @@ fn count_reply(reply: Reply, kind: Kind, counts: &mut Counts) {
 }
 
 /// Whether a request is an update that was accepted, and its session shows another access point than it gives.
-fn is_late(site: &Site, request: &Request, reply: Reply) -> bool {
+fn is_late(site: &Site, request: &Request, reply: &Reply) -> bool {
     let (Reply::Granted(_), Kind::Update, Some(given)) = (reply, request.kind, request.apn) else {
         return false;
     };
@@ -160,13 +170,13 @@ fn put_answer(
         Ok(reply) => reply,
         Err(missing) => return put_refused(text, missing, counts),
     };
-    count_reply(reply, request.kind, counts);
+    count_reply(&reply, request.kind, counts);
     if let Some(site) = world.sites.get(i)
-        && is_late(site, request, reply)
+        && is_late(site, request, &reply)
     {
         count(&mut counts.late);
     }
-    let bytes = answer_bytes(alloc, i, request, reply)?;
+    let bytes = answer_bytes(alloc, i, request, &reply)?;
     text.push_str("answer ")?;
     put_hexadecimal(text, bytes.as_slice())?;
     text.push_str("\n")
@@ -183,15 +193,16 @@ fn put_site(
     writeln!(text, "clock {clock}")?;
     let sessions = site.sessions(alloc)?;
     for session in &sessions {
-        put_session(text, site, session, counts)?;
+        put_session(alloc, text, site, session, counts)?;
         let tags = site.tags(alloc, session)?;
         count_deciders(tags.as_slice(), counts);
     }
     text.push_str("end\n")
 }
 
-/// Writes the line of a session, and behind that of a live one its rules.
+/// Writes the line of a session, and behind that of a live one its rules and what its gateway was told.
 fn put_session(
+    alloc: Global,
     text: &mut String,
     site: &Site,
     session: &[u8],
@@ -201,7 +212,8 @@ fn put_session(
     put_text(text, session)?;
     if site.is_live(session) {
         put_live(text, site, session)?;
-        return put_rules(text, site, session, counts);
+        put_rules(text, site, session, counts)?;
+        return put_told(alloc, text, site, session);
     }
     if site.is_ended(session) {
         count(&mut counts.ended);
@@ -241,11 +253,34 @@ fn put_rules(
     session: &[u8],
     counts: &mut Counts,
 ) -> Result<(), AllocError> {
-    let rules = site.apn(session).map_or("", |apn| rules_of(apn));
+    let rules: &'static [Rule] = site.apn(session).map_or(&[], |apn| rules_of(apn));
     if !rules.is_empty() {
         count(&mut counts.ruled);
     }
-    text.push_str(rules)
+    for rule in rules {
+        let precedence = rule.precedence;
+        write!(text, "rule {precedence} ")?;
+        put_text(text, rule.name)?;
+        let (status, class) = (rule.status, rule.class);
+        let (uplink, downlink) = (rule.uplink, rule.downlink);
+        writeln!(text, " {status} {class} {uplink} {downlink}")?;
+    }
+    Ok(())
+}
+
+/// Writes the names of the rules that the gateway of a live session was told.
+fn put_told(
+    alloc: Global,
+    text: &mut String,
+    site: &Site,
+    session: &[u8],
+) -> Result<(), AllocError> {
+    for name in &site.told_names(alloc, session)? {
+        text.push_str("told ")?;
+        put_text(text, name)?;
+        text.push_str("\n")?;
+    }
+    Ok(())
 }
 
 /// Writes a text: bytes 0x21 to 0x7E but the backslash as they are, each other byte as `\x` and two small digits.

@@ -68,13 +68,13 @@ pub fn answer_bytes(
     alloc: Global,
     site: usize,
     request: &Request,
-    reply: Reply,
+    reply: &Reply,
 ) -> Result<Vec<u8>, AllocError> {
-    let (code, quality) = match reply {
-        Reply::Granted(quality) => (Code::Base(2001), quality),
-        Reply::LacksParameters => (Code::Tgpp(5140), None),
-        Reply::NoRow => (Code::Base(5003), None),
-        Reply::Unknown => (Code::Base(5002), None),
+    let code = match reply {
+        Reply::Granted(_) => Code::Base(2001),
+        Reply::LacksParameters => Code::Tgpp(5140),
+        Reply::NoRow => Code::Base(5003),
+        Reply::Unknown => Code::Base(5002),
     };
     let answer = SiteAnswer {
         site,
@@ -86,5 +86,13 @@ pub fn answer_bytes(
             number: request.number,
         }),
     };
-    answer.bytes_telling(alloc, quality)
+    match reply {
+        Reply::Granted(told) => answer.bytes_of_rules(
+            alloc,
+            told.removed.as_slice(),
+            told.installed.as_slice(),
+            told.quality,
+        ),
+        _ => answer.bytes(alloc),
+    }
 }

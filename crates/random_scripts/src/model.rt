@@ -1,8 +1,8 @@
 //! The definitions, over plain lists: which operations a site took, and what follows from them.
 use crate::events::{Kind, Request};
-use crate::tables::{default_of, has_row};
+use crate::tables::{default_of, has_row, rules_of};
 use std::alloc::{AllocError, Global};
-use test_messages::Quality;
+use test_messages::{Quality, Rule};
 
 /// What a field counts by, the first part first.
 #[derive(Clone, Copy, PartialEq, Eq, PartialOrd, Ord)]
@@ -22,13 +22,24 @@ pub struct Operation {
     /// The access point name in small letters.
     pub apn: Option<Vec<u8>>,
     pub subscribers: bool,
+    /// The names that the gateway was told, each with its rule, or with nothing where it was told to remove it.
+    pub told: Vec<(&'static [u8], Option<Rule>)>,
+}
+
+/// What an accepted request is told: which rules are removed and installed, and the default quality of service of the
+/// session's access point, if any.
+#[derive(Drop)]
+pub struct Told {
+    pub removed: Vec<&'static [u8]>,
+    pub installed: Vec<Rule>,
+    pub quality: Option<Quality>,
 }
 
 /// What a site replies.
-#[derive(Clone, Copy, PartialEq, Eq)]
+#[derive(Drop)]
 pub enum Reply {
-    /// The request is accepted, and the default quality of service of the session's access point is told, if any.
-    Granted(Option<Quality>),
+    /// The request is accepted.
+    Granted(Told),
     /// An initial request lacks its address, its access point name or its subscribers.
     LacksParameters,
     /// The request gives an access point that the tables lack.
@@ -178,17 +189,112 @@ impl Site {
         None
     }
 
-    /// What is told of a session after a request of this kind was accepted: of an open one the default of the access point
-    /// that it shows.
-    fn told(&self, kind: Kind, session: &[u8]) -> Option<Quality> {
-        if kind == Kind::Termination {
-            return None;
+    /// What the gateway was told last under a name: a rule, or nothing.
+    fn told_under(&self, session: &[u8], name: &[u8]) -> Option<Rule> {
+        let mut shown: Option<((u64, usize), Option<Rule>)> = None;
+        for operation in &self.taken {
+            let told = operation.told.iter().find(|told| told.0 == name);
+            if let Some((_, rule)) = told
+                && operation.session == session
+            {
+                let stamp = (operation.tag.counter, operation.tag.site);
+                shown = shown.max(Some((stamp, *rule)));
+            }
         }
-        default_of(self.apn(session)?)
+        shown?.1
     }
 
-    /// Makes the operation of an accepted request.
-    fn make(&mut self, alloc: Global, site: usize, request: &Request) -> Result<(), AllocError> {
+    /// The names of the rules that the gateway of a session was told, ascending.
+    pub fn told_names(
+        &self,
+        alloc: Global,
+        session: &[u8],
+    ) -> Result<Vec<&'static [u8]>, AllocError> {
+        let mut names = Vec::new(alloc);
+        for operation in &self.taken {
+            if operation.session == session {
+                self.add_names(&mut names, operation)?;
+            }
+        }
+        names.sort_unstable();
+        Ok(names)
+    }
+
+    /// Adds those names of an operation that show a rule.
+    fn add_names(
+        &self,
+        names: &mut Vec<&'static [u8]>,
+        operation: &Operation,
+    ) -> Result<(), AllocError> {
+        for (name, _) in &operation.told {
+            let shown = self.told_under(operation.session, name);
+            if !names.contains(name) && shown.is_some() {
+                names.push(*name)?;
+            }
+        }
+        Ok(())
+    }
+
+    /// What the gateway of a session is to be told: the names that its rules lack, the rules that it doesn't have just so,
+    /// and the default of the access point.
+    fn untold(&self, alloc: Global, session: &[u8]) -> Result<Told, AllocError> {
+        let apn = self.apn(session);
+        let rules: &'static [Rule] = apn.map_or(&[], |apn| rules_of(apn));
+        let mut removed = Vec::new(alloc);
+        for name in &self.told_names(alloc, session)? {
+            if !rules.iter().any(|rule| rule.name == *name) {
+                removed.push(*name)?;
+            }
+        }
+        let mut installed = Vec::new(alloc);
+        for rule in rules {
+            if self.told_under(session, rule.name) != Some(*rule) {
+                installed.push(*rule)?;
+            }
+        }
+        Ok(Told {
+            removed,
+            installed,
+            quality: apn.and_then(|apn| default_of(apn)),
+        })
+    }
+
+    /// Serves an accepted request.
+    fn accept(
+        &mut self,
+        alloc: Global,
+        site: usize,
+        request: &Request,
+    ) -> Result<Told, AllocError> {
+        let mut operation = self.fields(alloc, site, request)?;
+        self.taken.push(operation.clone()?)?;
+        let mut told = Told {
+            removed: Vec::new(alloc),
+            installed: Vec::new(alloc),
+            quality: None,
+        };
+        if request.kind != Kind::Termination {
+            told = self.untold(alloc, request.session)?;
+        }
+        for name in &told.removed {
+            operation.told.push((*name, None))?;
+        }
+        for rule in &told.installed {
+            operation.told.push((rule.name, Some(*rule)))?;
+        }
+        self.taken.pop();
+        self.taken.push(operation.clone()?)?;
+        self.log.push(operation)?;
+        Ok(told)
+    }
+
+    /// The operation of an accepted request, with nothing told.
+    fn fields(
+        &self,
+        alloc: Global,
+        site: usize,
+        request: &Request,
+    ) -> Result<Operation, AllocError> {
         let tag = Tag {
             number: request.number,
             counter: self.clock().saturating_add(1),
@@ -199,17 +305,15 @@ impl Site {
             Some(apn) if !ends => Some(folded(alloc, apn)?),
             _ => None,
         };
-        let operation = Operation {
+        Ok(Operation {
             tag,
             session: request.session,
             ends,
             address: if ends { None } else { request.address },
             apn,
             subscribers: !ends && request.subscribers > 0,
-        };
-        self.log.push(operation.clone()?)?;
-        self.taken.push(operation)?;
-        Ok(())
+            told: Vec::new(alloc),
+        })
     }
 }
 
@@ -254,8 +358,8 @@ impl World {
         if let Some(refusal) = site.refusal(request) {
             return Ok(Ok(refusal));
         }
-        site.make(self.alloc, i, request)?;
-        Ok(Ok(Reply::Granted(site.told(request.kind, request.session))))
+        let told = site.accept(self.alloc, i, request)?;
+        Ok(Ok(Reply::Granted(told)))
     }
 
     /// A site starts again, empty: the new epoch.

@@ -1,7 +1,7 @@
 //! The operator tables of the scripts, as a text that the program reads, and what the model knows of them.
 use op_tables::{TableFault, Tables, read_tables};
 use std::alloc::Global;
-use test_messages::Quality;
+use test_messages::{Quality, Rule};
 
 /// Three access points: two with defaults that have no number in common and with rules, and one with a name alone, which
 /// has a capital letter and a character of two bytes. The rules of the first don't stand in the order in which they apply.
@@ -108,29 +108,83 @@ struct Row {
     /// The name in small letters.
     name: &'static [u8],
     default: Option<Quality>,
-    /// The lines of the rules: precedence, name, status, class, and the bit rates up and down.
-    rules: &'static str,
+    /// The rules by precedence and then by name, in which capitals come first.
+    rules: &'static [Rule],
 }
 
-/// The rows of the access points. Rules apply by precedence and then by name, in which capitals come first.
+/// The rules of `ims`.
+const IMS_RULES: [Rule; 3] = [
+    Rule {
+        name: b"op/SIP",
+        status: 0,
+        filters: &[b"permit in ip from any to any"],
+        class: 9,
+        level: 1,
+        capability: 0,
+        vulnerability: 0,
+        uplink: 1,
+        downlink: 4_294_967_295,
+        precedence: 40,
+    },
+    Rule {
+        name: b"op/sip",
+        status: 2,
+        filters: &[b"permit out ip from any to any"],
+        class: 5,
+        level: 9,
+        capability: 1,
+        vulnerability: 0,
+        uplink: 32_000,
+        downlink: 32_000,
+        precedence: 40,
+    },
+    Rule {
+        name: b"op/a\\b",
+        status: 3,
+        filters: &[
+            b"permit in ip from any to any",
+            b"permit out ip from any to any",
+        ],
+        class: 1,
+        level: 15,
+        capability: 0,
+        vulnerability: 1,
+        uplink: 0,
+        downlink: 64_000,
+        precedence: 4_294_967_295,
+    },
+];
+
+/// The rules of `internet`.
+const INTERNET_RULES: [Rule; 1] = [Rule {
+    name: b"op/sip",
+    status: 1,
+    filters: &[b"permit out ip from any to any"],
+    class: 4,
+    level: 2,
+    capability: 1,
+    vulnerability: 1,
+    uplink: 128_000,
+    downlink: 256_000,
+    precedence: 0,
+}];
+
+/// The rows of the access points.
 const ROWS: [Row; 3] = [
     Row {
         name: b"ims",
         default: Some(IMS),
-        rules: "rule 40 op/SIP 0 9 1 4294967295
-rule 40 op/sip 2 5 32000 32000
-rule 4294967295 op/a\\x5cb 3 1 0 64000
-",
+        rules: &IMS_RULES,
     },
     Row {
         name: b"internet",
         default: Some(INTERNET),
-        rules: "rule 0 op/sip 1 4 128000 256000\n",
+        rules: &INTERNET_RULES,
     },
     Row {
         name: b"z\\\xc3\x80",
         default: None,
-        rules: "",
+        rules: &[],
     },
 ];
 
@@ -154,12 +208,12 @@ pub fn default_of(name: &[u8]) -> Option<Quality> {
     None
 }
 
-/// The lines of the rules of an access point.
-pub fn rules_of(name: &[u8]) -> &'static str {
+/// The rules of an access point.
+pub fn rules_of(name: &[u8]) -> &'static [Rule] {
     for row in &ROWS {
         if row.name == name {
             return row.rules;
         }
     }
-    ""
+    &[]
 }

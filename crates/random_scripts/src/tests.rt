@@ -84,6 +84,8 @@ fn run_hundred(rt: &(impl Abort + AllocGlobal), first: u64, plan: Plan) -> Resul
 fn assert_busy(rt: &impl Abort, counts: &Counts) {
     assert!(rt; counts.granted >= 500, "{counts:?}");
     assert!(rt; counts.told >= 300, "{counts:?}");
+    assert!(rt; counts.installs >= 100, "{counts:?}");
+    assert!(rt; counts.removals >= 10, "{counts:?}");
     assert!(rt; counts.late >= 1, "{counts:?}");
     assert!(rt; counts.initial_without_row >= 20, "{counts:?}");
     assert!(rt; counts.update_without_row >= 1, "{counts:?}");

@@ -27,10 +27,10 @@ const REQUEST: [&str; 11] = [
     "0000001e 4000000b 494d5300",
 ];
 
-/// The answer of the site `s0` of the realm `r`, with the default quality of service of `ims`.
-const ANSWER: [&str; 17] = [
-    // The header: 240 bytes, P alone.
-    "010000f0 40000110 01000016 00000001 00000002",
+/// The answer of the site `s0` of the realm `r`, with the rules and the default quality of service of `ims`.
+const ANSWER: [&str; 68] = [
+    // The header: 1052 bytes, P alone.
+    "0100041c 40000110 01000016 00000001 00000002",
     // Session-Id `gw;1;1`.
     "00000107 4000000e 67773b313b310000",
     // Auth-Application-Id: Gx.
@@ -43,6 +43,77 @@ const ANSWER: [&str; 17] = [
     // CC-Request-Type 1 and CC-Request-Number 0.
     "000001a0 4000000c 00000001",
     "0000019f 4000000c 00000000",
+    // Charging-Rule-Install of 812 bytes, V and M.
+    "000003e9 c000032c 000028af",
+    // In it a Charging-Rule-Definition of 236 bytes, V and M, of `op/SIP`.
+    "000003eb c00000ec 000028af",
+    "000003ed c0000012 000028af 6f702f53 49500000",
+    // Flow-Information, V alone, with a Flow-Description, V and M.
+    "00000422 80000034 000028af",
+    "000001fb c0000028 000028af",
+    "7065726d 69742069 6e206970 2066726f 6d20616e 7920746f 20616e79",
+    // Flow-Status 0.
+    "000001ff c0000010 000028af 00000000",
+    // QoS-Information: class 9, rates 1 up and 4294967295 down, not guaranteed.
+    "000003f8 c0000078 000028af",
+    "00000404 c0000010 000028af 00000009",
+    "00000204 c0000010 000028af 00000001",
+    "00000203 c0000010 000028af ffffffff",
+    // Allocation-Retention-Priority: 1, 0 and 0, V alone.
+    "0000040a 8000003c 000028af",
+    "00000416 80000010 000028af 00000001",
+    "00000417 80000010 000028af 00000000",
+    "00000418 80000010 000028af 00000000",
+    // Precedence 40.
+    "000003f2 c0000010 000028af 00000028",
+    // In it a Charging-Rule-Definition of 240 bytes, V and M, of `op/sip`.
+    "000003eb c00000f0 000028af",
+    "000003ed c0000012 000028af 6f702f73 69700000",
+    // Flow-Information, V alone, with a Flow-Description, V and M.
+    "00000422 80000038 000028af",
+    "000001fb c0000029 000028af",
+    "7065726d 6974206f 75742069 70206672 6f6d2061 6e792074 6f20616e 79000000",
+    // Flow-Status 2.
+    "000001ff c0000010 000028af 00000002",
+    // QoS-Information: class 5, rates 32000 up and 32000 down, not guaranteed.
+    "000003f8 c0000078 000028af",
+    "00000404 c0000010 000028af 00000005",
+    "00000204 c0000010 000028af 00007d00",
+    "00000203 c0000010 000028af 00007d00",
+    // Allocation-Retention-Priority: 9, 1 and 0, V alone.
+    "0000040a 8000003c 000028af",
+    "00000416 80000010 000028af 00000009",
+    "00000417 80000010 000028af 00000001",
+    "00000418 80000010 000028af 00000000",
+    // Precedence 40.
+    "000003f2 c0000010 000028af 00000028",
+    // In it a Charging-Rule-Definition of 324 bytes, V and M, of `op/a\b`.
+    "000003eb c0000144 000028af",
+    "000003ed c0000012 000028af 6f702f61 5c620000",
+    // Flow-Information, V alone, with a Flow-Description, V and M.
+    "00000422 80000034 000028af",
+    "000001fb c0000028 000028af",
+    "7065726d 69742069 6e206970 2066726f 6d20616e 7920746f 20616e79",
+    // Flow-Information, V alone, with a Flow-Description, V and M.
+    "00000422 80000038 000028af",
+    "000001fb c0000029 000028af",
+    "7065726d 6974206f 75742069 70206672 6f6d2061 6e792074 6f20616e 79000000",
+    // Flow-Status 3.
+    "000001ff c0000010 000028af 00000003",
+    // QoS-Information: class 1, rates 0 up and 64000 down, guaranteed.
+    "000003f8 c0000098 000028af",
+    "00000404 c0000010 000028af 00000001",
+    "00000204 c0000010 000028af 00000000",
+    "00000203 c0000010 000028af 0000fa00",
+    "00000402 c0000010 000028af 00000000",
+    "00000401 c0000010 000028af 0000fa00",
+    // Allocation-Retention-Priority: 15, 0 and 1, V alone.
+    "0000040a 8000003c 000028af",
+    "00000416 80000010 000028af 0000000f",
+    "00000417 80000010 000028af 00000000",
+    "00000418 80000010 000028af 00000001",
+    // Precedence 4294967295.
+    "000003f2 c0000010 000028af ffffffff",
     // QoS-Information of 44 bytes, V and M, of the vendor 10415.
     "000003f8 c000002c 000028af",
     // In it APN-Aggregate-Max-Bitrate-UL 1000000 and APN-Aggregate-Max-Bitrate-DL 2000000, V alone.
@@ -78,7 +149,7 @@ fn lines_of(alloc: Global, word: &str, lines: &[&str]) -> Result<String, AllocEr
 }
 
 #[test]
-fn an_answer_with_a_default_quality_has_these_bytes(rt: HostRuntime) -> Result<(), Fail> {
+fn an_answer_with_rules_and_a_default_quality_has_these_bytes(rt: HostRuntime) -> Result<(), Fail> {
     let script = lines_of(rt.alloc(), "msg 0", &REQUEST)?;
     let wanted = lines_of(rt.alloc(), "answer", &ANSWER)?;
     let (end, out) = run(rt.alloc(), tables(rt.alloc())?, script.as_bytes())?;

@@ -15,3 +15,5 @@ mod sites;
 mod tables;
 #[cfg(test)]
 mod text;
+#[cfg(test)]
+mod told;

@@ -1,9 +1,8 @@
 //! Operations of several sites, taken in any order and more than once.
 use crate::requests::Sent;
-use crate::sites::serves;
+use crate::sites::{Wanted, serves};
 use crate::tables::ims;
 use crate::text::compare;
-use gx_profile::GxReply;
 use site_core::Site;
 use site_join::Operation;
 use std::alloc::AllocGlobal;
@@ -38,7 +37,7 @@ fn put_made(
     sent: Sent,
 ) {
     let told = if sent.kind == 3 { None } else { ims(rt) };
-    serves(rt, site, sent, GxReply::Granted(told));
+    serves(rt, site, sent, Wanted::Granted(told));
     letter.push(last_made(rt, site)).expect(rt, "memory");
 }
 

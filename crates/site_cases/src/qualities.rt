@@ -1,9 +1,8 @@
 //! Which default quality of service replies tell by the operator tables, and which requests the tables have refused.
 use crate::requests::Sent;
-use crate::sites::{end, initial, serves, takes, unknown, update};
+use crate::sites::{Wanted, end, initial, serves, takes, unknown, update};
 use crate::tables::{ims, net};
 use crate::text::compare;
-use gx_profile::GxReply;
 use pcrf_values::Refusal;
 use site_core::Site;
 
@@ -16,59 +15,59 @@ fn at(sent: Sent, apn: &'static [u8]) -> Sent {
 }
 
 /// DIAMETER_AUTHORIZATION_REJECTED.
-fn no_row() -> GxReply {
-    GxReply::Refused(Refusal::base(5003))
+fn no_row() -> Wanted {
+    Wanted::Refused(Refusal::base(5003))
 }
 
 /// DIAMETER_ERROR_INITIAL_PARAMETERS.
-fn lacks_parameters() -> GxReply {
-    GxReply::Refused(Refusal::experimental(5140))
+fn lacks_parameters() -> Wanted {
+    Wanted::Refused(Refusal::experimental(5140))
 }
 
 #[test]
 fn a_reply_tells_the_default_of_the_access_point_that_the_session_shows(rt: HostRuntime) {
     let mut site = Site::start(rt.alloc(), 0);
-    serves(&rt, &mut site, initial(0, 1), GxReply::Granted(ims(&rt)));
-    serves(&rt, &mut site, update(1, None), GxReply::Granted(ims(&rt)));
+    serves(&rt, &mut site, initial(0, 1), Wanted::Granted(ims(&rt)));
+    serves(&rt, &mut site, update(1, None), Wanted::Granted(ims(&rt)));
     serves(
         &rt,
         &mut site,
         at(update(2, None), b"NET"),
-        GxReply::Granted(net(&rt)),
+        Wanted::Granted(net(&rt)),
     );
     serves(
         &rt,
         &mut site,
         at(update(3, None), b"bare"),
-        GxReply::Granted(None),
+        Wanted::Granted(None),
     );
-    serves(&rt, &mut site, update(4, None), GxReply::Granted(None));
+    serves(&rt, &mut site, update(4, None), Wanted::Granted(None));
 }
 
 // The update with number 2 shows `net`; those that come after it with lower numbers give other access points.
 #[test]
 fn a_late_request_tells_the_default_that_it_did_not_give(rt: HostRuntime) {
     let mut site = Site::start(rt.alloc(), 0);
-    serves(&rt, &mut site, initial(0, 1), GxReply::Granted(ims(&rt)));
+    serves(&rt, &mut site, initial(0, 1), Wanted::Granted(ims(&rt)));
     serves(
         &rt,
         &mut site,
         at(update(2, None), b"net"),
-        GxReply::Granted(net(&rt)),
+        Wanted::Granted(net(&rt)),
     );
     serves(
         &rt,
         &mut site,
         at(update(1, None), b"bare"),
-        GxReply::Granted(net(&rt)),
+        Wanted::Granted(net(&rt)),
     );
     serves(
         &rt,
         &mut site,
         at(update(1, None), b"ims"),
-        GxReply::Granted(net(&rt)),
+        Wanted::Granted(net(&rt)),
     );
-    serves(&rt, &mut site, initial(0, 1), GxReply::Granted(net(&rt)));
+    serves(&rt, &mut site, initial(0, 1), Wanted::Granted(net(&rt)));
     compare(
         &rt,
         &site,
@@ -85,17 +84,17 @@ fn a_reply_tells_the_default_of_what_another_site_made(rt: HostRuntime) {
         &rt,
         &mut site,
         at(initial(0, 1), b"net"),
-        GxReply::Granted(net(&rt)),
+        Wanted::Granted(net(&rt)),
     );
     takes(&rt, &mut other, &site);
-    serves(&rt, &mut other, update(1, None), GxReply::Granted(net(&rt)));
+    serves(&rt, &mut other, update(1, None), Wanted::Granted(net(&rt)));
 }
 
 #[test]
 fn an_update_without_a_row_changes_nothing(rt: HostRuntime) {
     let mut site = Site::start(rt.alloc(), 0);
     serves(&rt, &mut site, at(update(1, Some(2)), b"none"), unknown());
-    serves(&rt, &mut site, initial(0, 1), GxReply::Granted(ims(&rt)));
+    serves(&rt, &mut site, initial(0, 1), Wanted::Granted(ims(&rt)));
     serves(&rt, &mut site, at(update(1, Some(2)), b"none"), no_row());
     compare(
         &rt,
@@ -118,8 +117,8 @@ fn an_initial_request_lacks_parameters_before_it_lacks_a_row(rt: HostRuntime) {
 #[test]
 fn a_termination_tells_no_quality(rt: HostRuntime) {
     let mut site = Site::start(rt.alloc(), 0);
-    serves(&rt, &mut site, initial(0, 1), GxReply::Granted(ims(&rt)));
-    serves(&rt, &mut site, at(end(1), b"none"), GxReply::Granted(None));
+    serves(&rt, &mut site, initial(0, 1), Wanted::Granted(ims(&rt)));
+    serves(&rt, &mut site, at(end(1), b"none"), Wanted::Granted(None));
     compare(&rt, &site, "clock 2, gw;1;1 ended");
     serves(&rt, &mut site, at(initial(0, 1), b"none"), unknown());
 }

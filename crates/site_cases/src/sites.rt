@@ -4,10 +4,18 @@ use crate::tables::{ims, tables};
 use crate::text::compare;
 use gx_profile::{Ccr, GxReply};
 use gx_records::GxRec;
-use pcrf_values::{BoundedText, Refusal, SessionId};
+use pcrf_values::{BoundedText, DefaultQuality, Refusal, SessionId};
 use site_core::Site;
 use std::alloc::AllocGlobal;
 use std::process::Abort;
+
+/// What a site that is told of no rules is to reply.
+#[derive(Clone, Copy)]
+pub enum Wanted {
+    /// The request is accepted, no rule is told, and this default quality of service.
+    Granted(Option<DefaultQuality>),
+    Refused(Refusal),
+}
 
 /// An initial request of the first session, from this address.
 pub fn initial(number: u32, address: u8) -> Sent {
@@ -53,19 +61,26 @@ fn reply(rt: &(impl AllocGlobal + Abort), site: &mut Site, ccr: &Ccr) -> GxReply
 }
 
 /// Has a site serve a request, and compares its reply.
-pub fn serves(rt: &(impl AllocGlobal + Abort), site: &mut Site, sent: Sent, wanted: GxReply) {
+pub fn serves(rt: &(impl AllocGlobal + Abort), site: &mut Site, sent: Sent, wanted: Wanted) {
     let reply = reply(rt, site, &request(rt, sent));
-    assert_eq!(rt; reply, wanted);
+    match wanted {
+        Wanted::Granted(quality) => {
+            let delta = reply.delta().expect(rt, "a grant");
+            assert!(rt; delta.removed().is_empty() && delta.installed().is_empty());
+            assert_eq!(rt; reply.quality(), quality);
+        }
+        Wanted::Refused(refusal) => assert_eq!(rt; reply.refusal(), Some(refusal)),
+    }
 }
 
 /// DIAMETER_UNKNOWN_SESSION_ID.
-pub fn unknown() -> GxReply {
-    GxReply::Refused(Refusal::base(5002))
+pub fn unknown() -> Wanted {
+    Wanted::Refused(Refusal::base(5002))
 }
 
 /// The request is accepted, and the default of `ims` told.
-fn granted(rt: &impl Abort) -> GxReply {
-    GxReply::Granted(ims(rt))
+fn granted(rt: &impl Abort) -> Wanted {
+    Wanted::Granted(ims(rt))
 }
 
 /// A site takes all that another made.
@@ -76,7 +91,7 @@ pub fn takes(rt: &(impl AllocGlobal + Abort), site: &mut Site, maker: &Site) {
 }
 
 /// The first session's Session-Id.
-fn first_session(rt: &(impl AllocGlobal + Abort)) -> SessionId {
+pub fn first_session(rt: &(impl AllocGlobal + Abort)) -> SessionId {
     let read = BoundedText::read(rt.alloc(), b"gw;1;1").expect(rt, "memory");
     read.expect(rt, "a Session-Id")
 }
@@ -114,7 +129,7 @@ fn initial_requests_are_granted_or_lack_parameters(rt: HostRuntime) {
         &rt,
         &mut site,
         lacking,
-        GxReply::Refused(Refusal::experimental(5140)),
+        Wanted::Refused(Refusal::experimental(5140)),
     );
     assert_eq!(rt; site.state().clock(), 0);
     serves(&rt, &mut site, initial(0, 1), granted(&rt));
@@ -141,7 +156,7 @@ fn an_ended_session_is_never_revived(rt: HostRuntime) {
     serves(&rt, &mut site, initial(0, 1), granted(&rt));
     takes(&rt, &mut other, &site);
     serves(&rt, &mut other, update(9, None), granted(&rt));
-    serves(&rt, &mut site, end(3), GxReply::Granted(None));
+    serves(&rt, &mut site, end(3), Wanted::Granted(None));
     serves(&rt, &mut site, initial(0, 1), unknown());
     takes(&rt, &mut site, &other);
     takes(&rt, &mut other, &site);

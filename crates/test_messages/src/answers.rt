@@ -1,6 +1,7 @@
 //! What a site has to answer, by the profile's tables.
 use crate::encoder::{Avps, GX, Head, RX, TGPP, flag, message};
 use crate::quality::Quality;
+use crate::rules::{Rule, put_installed, put_removed};
 use std::alloc::{AllocError, Global};
 
 /// The command of a credit control request (RFC 8506, 3).
@@ -88,7 +89,7 @@ impl SiteAnswer<'_> {
         out.text(296, b"r")
     }
 
-    /// The bytes of the answer, which tells no quality of service.
+    /// The bytes of the answer, which tells nothing besides.
     pub fn bytes(&self, alloc: Global) -> Result<Vec<u8>, AllocError> {
         self.bytes_telling(alloc, None)
     }
@@ -97,6 +98,17 @@ impl SiteAnswer<'_> {
     pub fn bytes_telling(
         &self,
         alloc: Global,
+        quality: Option<Quality>,
+    ) -> Result<Vec<u8>, AllocError> {
+        self.bytes_of_rules(alloc, &[], &[], quality)
+    }
+
+    /// The bytes of the answer, which removes and installs rules, and at its end tells that.
+    pub fn bytes_of_rules(
+        &self,
+        alloc: Global,
+        removed: &[&'static [u8]],
+        installed: &[Rule],
         quality: Option<Quality>,
     ) -> Result<Vec<u8>, AllocError> {
         let mut avps = Avps::start(alloc);
@@ -112,6 +124,8 @@ impl SiteAnswer<'_> {
             avps.number(416, served.kind)?;
             avps.number(415, served.number)?;
         }
+        put_removed(alloc, &mut avps, removed)?;
+        put_installed(alloc, &mut avps, installed)?;
         if let Some(quality) = quality {
             quality.put(alloc, &mut avps)?;
         }

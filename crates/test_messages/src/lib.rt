@@ -11,7 +11,9 @@
 mod answers;
 mod encoder;
 mod quality;
+mod rules;
 
 pub use answers::{Code, ServedRequest, SiteAnswer};
 pub use encoder::{Avps, GX, Head, RX, TGPP, flag, message, put_hexadecimal};
 pub use quality::Quality;
+pub use rules::Rule;

@@ -20,7 +20,7 @@ pub struct Quality {
 }
 
 /// Writes an AVP without the M bit whose value is a number.
-fn put_option(out: &mut Avps, code: u32, number: u32) -> Result<(), AllocError> {
+pub(crate) fn put_option(out: &mut Avps, code: u32, number: u32) -> Result<(), AllocError> {
     out.vendor_option(code, TGPP, &number.to_be_bytes())
 }
 
