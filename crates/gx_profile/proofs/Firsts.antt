@@ -1,5 +1,5 @@
 -- How many the first entries of a difference are.
-use Rattle.std.proofs.Common.{ℕ, ◌+◌, ◌-◌, ◌≤◌, List, length, take, min, arith}
+use Rattle.std.proofs.Common.{ℕ, ◌+◌, ◌-◌, ◌≤◌, length, arith}
 use Rattle.std.proofs.lemmas.List.{length-take}
 use Rattle.pcrf_values.specs.RuleValues.{DeltaValue}
 use Rattle.pcrf_model.specs.Differences.{first}

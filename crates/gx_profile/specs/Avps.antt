@@ -1,22 +1,8 @@
--- AVPs of Gx by their names (TS 29.212, 5.3; TS 29.214, 5.3).
+-- AVPs of Gx by their names (TS 29.212, 5.3 and 5.4).
 use Rattle.dia_codec.specs.declared.message.AvpKey.{AvpKey}
-use Rattle.dia_base.specs.Avps.{tgpp_key}
+use Rattle.dia_base.specs.Avps.{base_key, tgpp_key}
 
--- TS 29.214, 5.3.8
-abbrev pub flow_description : AvpKey
-flow_description = tgpp_key 507
-
--- TS 29.214, 5.3.11
-abbrev pub flow_status : AvpKey
-flow_status = tgpp_key 511
-
--- TS 29.214, 5.3.14
-abbrev pub max_requested_bandwidth_dl : AvpKey
-max_requested_bandwidth_dl = tgpp_key 515
-
--- TS 29.214, 5.3.15
-abbrev pub max_requested_bandwidth_ul : AvpKey
-max_requested_bandwidth_ul = tgpp_key 516
+-- ---- of rules and qualities of service (TS 29.212)
 
 -- 5.3.2
 abbrev pub charging_rule_install : AvpKey
@@ -42,6 +28,10 @@ precedence = tgpp_key 1010
 abbrev pub qos_information : AvpKey
 qos_information = tgpp_key 1016
 
+-- 5.3.17
+abbrev pub qos_class_identifier : AvpKey
+qos_class_identifier = tgpp_key 1028
+
 -- 5.3.25
 abbrev pub guaranteed_bitrate_dl : AvpKey
 guaranteed_bitrate_dl = tgpp_key 1025
@@ -49,10 +39,6 @@ guaranteed_bitrate_dl = tgpp_key 1025
 -- 5.3.26
 abbrev pub guaranteed_bitrate_ul : AvpKey
 guaranteed_bitrate_ul = tgpp_key 1026
-
--- 5.3.17
-abbrev pub qos_class_identifier : AvpKey
-qos_class_identifier = tgpp_key 1028
 
 -- 5.3.32
 abbrev pub allocation_retention_priority : AvpKey
@@ -85,3 +71,35 @@ default_eps_bearer_qos = tgpp_key 1049
 -- 5.3.53
 abbrev pub flow_information : AvpKey
 flow_information = tgpp_key 1058
+
+-- ---- of flows and rates (TS 29.214)
+
+-- 5.3.8
+abbrev pub flow_description : AvpKey
+flow_description = tgpp_key 507
+
+-- 5.3.11
+abbrev pub flow_status : AvpKey
+flow_status = tgpp_key 511
+
+-- 5.3.14
+abbrev pub max_requested_bandwidth_dl : AvpKey
+max_requested_bandwidth_dl = tgpp_key 515
+
+-- 5.3.15
+abbrev pub max_requested_bandwidth_ul : AvpKey
+max_requested_bandwidth_ul = tgpp_key 516
+
+-- ---- of requests that a server makes (RFC 6733)
+
+-- 6.6
+abbrev pub destination_realm : AvpKey
+destination_realm = base_key 283
+
+-- 8.12
+abbrev pub re_auth_request_type : AvpKey
+re_auth_request_type = base_key 285
+
+-- 6.5
+abbrev pub destination_host : AvpKey
+destination_host = base_key 293

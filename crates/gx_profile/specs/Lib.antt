@@ -1,7 +1,9 @@
 pub mod Answers
 pub mod Avps
-pub mod Installs
+pub mod Lengths
+pub mod Openings
+pub mod PushAnswers
 pub mod Pushes
 pub mod Qualities
 pub mod Requests
-pub mod Room
+pub mod Rules

@@ -26,7 +26,7 @@ tgpp_number key mandatory number = tgpp_avp key mandatory (word_bytes number)
 abbrev pub tgpp_group : AvpKey → Bool → List AvpValue → AvpValue
 tgpp_group key mandatory avps = tgpp_avp key mandatory (flat_map written_avp avps)
 
--- what an Allocation-Retention-Priority of this level, capability and vulnerability holds
+-- what an Allocation-Retention-Priority holds: a level, a capability and a vulnerability
 abbrev pub retention_avps : ℕ → ℕ → ℕ → List AvpValue
 retention_avps level capability vulnerability =
     tgpp_number priority_level optional level

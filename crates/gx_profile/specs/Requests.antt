@@ -1,5 +1,5 @@
 -- Credit control requests as they are read (TS 29.212, 5.6.2).
-use Rattle.std.specs.Prelude.{ℕ, List, [], ◌∷◌, ◌++◌, Option, unwrap_or, option_map}
+use Rattle.std.specs.Prelude.{List, [], ◌∷◌, ◌++◌, Option, unwrap_or, option_map}
 use Rattle.std.specs.Net.Addr.{ipv4_octets}
 use Rattle.pcrf_values.specs.Limits.{apn_limit}
 use Rattle.pcrf_values.specs.Numbers.{request_kind_number, request_kind_of}

@@ -1,15 +1,20 @@
 //! Answers to credit control requests (TS 29.212, 5.6.3).
-ghost use Rattle.std.specs.Prelude.{◌≡◌, IfOk};
-ghost use Rattle.std.specs.Option.{option_copied};
+ghost use Rattle.std.specs.Prelude.{◌≡◌, ◌≤◌, ◌++◌, IfOk, OnOk};
+ghost use Rattle.std.specs.List.{sum_by};
+ghost use Rattle.dia_codec.specs.Limits.{longest_message};
 ghost use Rattle.dia_codec.specs.Spelling.{message_view};
-ghost use Rattle.gx_profile.specs.Answers.{cca, reply_entries, reply_refusal, reply_quality};
+ghost use Rattle.dia_codec.specs.Written.{padded_len, written_len};
+ghost use Rattle.gx_profile.specs.Answers.{cca, reply_refusal, reply_delta, reply_quality};
+ghost use Rattle.gx_profile.specs.Lengths.{delta_room};
+ghost use Rattle.gx_profile.specs.Rules.{delta_avps};
 
 use crate::ccr::Ccr;
 use crate::entries::FirstEntries;
+use crate::opening::put_opening;
 use crate::quality::put_quality;
 use crate::rules::put_delta;
-use dia_base::codes::{GX, avps};
-use dia_base::{AvpWriter, Identity, Refusal, answer_header, put_origin, put_result};
+use dia_base::codes::avps;
+use dia_base::{AvpWriter, Identity, Refusal, answer_header, put_result};
 use dia_codec::{Header, Message};
 use pcrf_values::DefaultQuality;
 use std::alloc::{AllocError, Global};
@@ -35,16 +40,6 @@ impl GxReply {
         }
     }
 
-    /// What the reply tells to remove and install, if it does.
-    pub fn delta(&self) -> Option<&FirstEntries>
-        ensures { option_copied result ≡ reply_entries self.now }
-    {
-        match self {
-            GxReply::Granted(delta, _) => Some(delta),
-            GxReply::Refused(_) => None,
-        }
-    }
-
     /// The default quality of service that the reply tells, if it does.
     pub fn quality(&self) -> Option<DefaultQuality>
         ensures { result ≡ reply_quality self.now }
@@ -56,7 +51,20 @@ impl GxReply {
     }
 }
 
-/// The answer to a credit control request that was read.
+/// Writes what a reply removes and installs.
+#[tactic(auto, unfolding(crate::specs::Rules::delta_avps))]
+fn put_reply_delta(alloc: Global, out: &mut AvpWriter, reply: &GxReply) -> Result<(), AllocError>
+    ensures added { OnOk result (out.new ≡ out.old ++ delta_avps (reply_delta reply.now)) }
+    ensures within { OnOk result
+        (sum_by padded_len (delta_avps (reply_delta reply.now)) ≤ delta_room) }
+{
+    match reply {
+        GxReply::Granted(delta, _) => put_delta(alloc, out, delta),
+        GxReply::Refused(_) => Ok(()),
+    }
+}
+
+/// The answer to a credit control request that was read. Every answer fits a message.
 #[tactic(auto, unfolding(crate::specs::Answers::cca))]
 pub fn write_cca(
     alloc: Global,
@@ -65,20 +73,17 @@ pub fn write_cca(
     ccr: &Ccr,
     reply: &GxReply,
 ) -> Result<Message, AllocError>
-    ensures { IfOk result (λ message. message_view message ≡
+    ensures message { IfOk result (λ message. message_view message ≡
         cca identity.now header.now ccr.now reply.now) }
+    ensures fits { IfOk result (λ message. written_len (message_view message) ≤ longest_message) }
 {
     let refusal = reply.refusal();
     let mut out = AvpWriter::start(alloc);
-    out.text(avps::SESSION_ID, ccr.session.as_slice())?;
-    out.number(avps::AUTH_APPLICATION_ID, GX)?;
-    put_origin(&mut out, identity)?;
+    put_opening(&mut out, &ccr.session, identity)?;
     put_result(alloc, &mut out, refusal)?;
     out.number(avps::CC_REQUEST_TYPE, ccr.kind.number())?;
     out.number(avps::CC_REQUEST_NUMBER, ccr.number)?;
-    if let Some(delta) = reply.delta() {
-        put_delta(alloc, &mut out, delta)?;
-    }
+    put_reply_delta(alloc, &mut out, reply)?;
     put_quality(alloc, &mut out, &reply.quality())?;
     Ok(Message {
         header: answer_header(header, refusal),

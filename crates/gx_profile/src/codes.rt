@@ -1,19 +1,7 @@
-//! Numbers that TS 29.212 and TS 29.214 give out.
+//! Numbers that TS 29.212 gives out.
 
-/// AVP codes of 3GPP (TS 29.212, 5.3, and of TS 29.214 those that it reuses).
+/// AVP codes of 3GPP (TS 29.212, 5.3, where nothing else is said).
 pub mod avps {
-    /// TS 29.214, 5.3.8.
-    pub const FLOW_DESCRIPTION: u32 = 507;
-
-    /// TS 29.214, 5.3.11.
-    pub const FLOW_STATUS: u32 = 511;
-
-    /// TS 29.214, 5.3.14.
-    pub const MAX_REQUESTED_BANDWIDTH_DL: u32 = 515;
-
-    /// TS 29.214, 5.3.15.
-    pub const MAX_REQUESTED_BANDWIDTH_UL: u32 = 516;
-
     /// 5.3.2.
     pub const CHARGING_RULE_INSTALL: u32 = 1001;
 
@@ -32,14 +20,14 @@ pub mod avps {
     /// 5.3.16.
     pub const QOS_INFORMATION: u32 = 1016;
 
+    /// 5.3.17.
+    pub const QOS_CLASS_IDENTIFIER: u32 = 1028;
+
     /// 5.3.25.
     pub const GUARANTEED_BITRATE_DL: u32 = 1025;
 
     /// 5.3.26.
     pub const GUARANTEED_BITRATE_UL: u32 = 1026;
-
-    /// 5.3.17.
-    pub const QOS_CLASS_IDENTIFIER: u32 = 1028;
 
     /// 5.3.32.
     pub const ALLOCATION_RETENTION_PRIORITY: u32 = 1034;
@@ -64,4 +52,34 @@ pub mod avps {
 
     /// 5.3.53.
     pub const FLOW_INFORMATION: u32 = 1058;
+
+    /// TS 29.214, 5.3.8.
+    pub const FLOW_DESCRIPTION: u32 = 507;
+
+    /// TS 29.214, 5.3.11.
+    pub const FLOW_STATUS: u32 = 511;
+
+    /// TS 29.214, 5.3.14.
+    pub const MAX_REQUESTED_BANDWIDTH_DL: u32 = 515;
+
+    /// TS 29.214, 5.3.15.
+    pub const MAX_REQUESTED_BANDWIDTH_UL: u32 = 516;
+}
+
+/// What a request that a server makes has of the base protocol (RFC 6733).
+pub mod base {
+    /// The command Re-Auth (8.3).
+    pub const RE_AUTH: u32 = 258;
+
+    /// 6.6.
+    pub const DESTINATION_REALM: u32 = 283;
+
+    /// 8.12.
+    pub const RE_AUTH_REQUEST_TYPE: u32 = 285;
+
+    /// 6.5.
+    pub const DESTINATION_HOST: u32 = 293;
+
+    /// The Re-Auth-Request-Type that asks for an authorisation alone (8.12).
+    pub const AUTHORIZE_ONLY: u32 = 0;
 }

@@ -1,5 +1,5 @@
 //! How much of a difference one message carries.
-ghost use Rattle.std.specs.Prelude.{◌≡◌, ◌≤◌, length};
+ghost use Rattle.std.specs.Prelude.{◌≡◌, ◌+◌, ◌≤◌, length};
 ghost use Rattle.pcrf_model.specs.Differences.{first};
 ghost use Rattle.pcrf_model.specs.Limits.{delta_limit};
 ghost use Rattle.pcrf_model.specs.Serving.{empty_delta};
@@ -53,7 +53,7 @@ impl FirstEntries {
     /// The names of the rules to be removed.
     pub fn removed(&self) -> &[RuleName]
         ensures names { result.now ≡ self.now.removed }
-        ensures within { length self.now.removed ≤ delta_limit }
+        ensures within { length self.now.removed + length self.now.installed ≤ delta_limit }
     {
         self.delta.removed()
     }
@@ -61,7 +61,7 @@ impl FirstEntries {
     /// The rules to be installed.
     pub fn installed(&self) -> &[Rule]
         ensures rules { result.now ≡ self.now.installed }
-        ensures within { length self.now.installed ≤ delta_limit }
+        ensures within { length self.now.removed + length self.now.installed ≤ delta_limit }
     {
         self.delta.installed()
     }

@@ -1,16 +1,20 @@
-//! The Gx profile: what is read of a credit control request, and the bytes of its answer (TS 29.212).
+//! The Gx profile (TS 29.212): what is read of a credit control request and of a re-authorisation answer, and the AVPs of a
+//! credit control answer and of a re-authorisation request.
 #![tactic(auto)]
 
 mod answer;
 mod ccr;
 mod codes;
 mod entries;
+mod opening;
 mod push;
 mod quality;
+mod raa;
 mod rules;
 
 pub use answer::{GxReply, write_cca};
 pub use ccr::{Ccr, read_ccr};
 pub use entries::{DELTA_LIMIT, FirstEntries};
 pub use pcrf_values::{DefaultQuality, RequestKind};
-pub use push::PushOut;
+pub use push::{PushOut, write_rar};
+pub use raa::{Raa, read_raa};

@@ -1,6 +1,19 @@
 //! What a site tells a gateway of its own accord.
+ghost use Rattle.std.specs.Prelude.{◌≡◌, ◌≤◌, IfOk};
+ghost use Rattle.dia_codec.specs.Limits.{longest_message};
+ghost use Rattle.dia_codec.specs.Spelling.{message_view};
+ghost use Rattle.dia_codec.specs.Written.{written_len};
+ghost use Rattle.gx_profile.specs.Pushes.{push_view, rar, rar_header};
+
+use crate::codes::base;
 use crate::entries::FirstEntries;
+use crate::opening::put_opening;
+use crate::rules::put_delta;
+use dia_base::codes::GX;
+use dia_base::{AvpWriter, Identity};
+use dia_codec::{Flags, Header, Message};
 use pcrf_values::{DiameterIdentity, SessionId};
+use std::alloc::{AllocError, Global};
 
 /// A push: what the gateway of a session is told by a re-authorisation request (TS 29.212, 4.5.2 and 5.6.4).
 #[derive(Drop, PartialEq, Eq)]
@@ -13,4 +26,47 @@ pub struct PushOut {
     pub realm: DiameterIdentity,
     /// The rules that are removed and installed.
     pub delta: FirstEntries,
+}
+
+/// The header of a re-authorisation request with these identifiers.
+fn rar_header(hop_id: u32, end_id: u32) -> Header
+    ensures { result ≡ rar_header hop_id end_id }
+{
+    Header {
+        flags: Flags {
+            request: true,
+            proxiable: true,
+            error: false,
+            retransmitted: false,
+        },
+        command: base::RE_AUTH,
+        application: GX,
+        hop_id,
+        end_id,
+    }
+}
+
+/// The re-authorisation request of a push. Every one fits a message.
+#[tactic(auto, unfolding(crate::specs::Pushes::rar))]
+pub fn write_rar(
+    alloc: Global,
+    identity: &Identity,
+    hop_id: u32,
+    end_id: u32,
+    push: &PushOut,
+) -> Result<Message, AllocError>
+    ensures message { IfOk result (λ message. message_view message ≡
+        rar identity.now hop_id end_id (push_view push.now)) }
+    ensures fits { IfOk result (λ message. written_len (message_view message) ≤ longest_message) }
+{
+    let mut out = AvpWriter::start(alloc);
+    put_opening(&mut out, &push.session, identity)?;
+    out.text(base::DESTINATION_REALM, push.realm.as_slice())?;
+    out.text(base::DESTINATION_HOST, push.host.as_slice())?;
+    out.number(base::RE_AUTH_REQUEST_TYPE, base::AUTHORIZE_ONLY)?;
+    put_delta(alloc, &mut out, &push.delta)?;
+    Ok(Message {
+        header: rar_header(hop_id, end_id),
+        avps: out.into_avps(),
+    })
 }

@@ -1,72 +1,46 @@
-//! Rules in messages to gateways (TS 29.212, 5.3.2 to 5.3.4).
-ghost use Rattle.std.specs.Prelude.{◌≡◌, ◌+◌, ◌*◌, ◌≤◌, ◌∷◌, ◌++◌, [], length, map, IfOk, OnOk};
+//! Rules and differences of rules in messages to a gateway (TS 29.212, 5.3.2 to 5.3.4).
+ghost use Rattle.std.specs.Prelude.{◌≡◌, ◌≤◌, ◌+◌, ◌*◌, ◌++◌, ◌∷◌, [], length, map, IfOk, OnOk};
 ghost use Rattle.std.specs.List.{flat_map, sum_by};
-ghost use Rattle.dia_codec.specs.Written.{padded_len, written_avp};
 ghost use Rattle.pcrf_model.specs.Limits.{delta_limit};
-ghost use Rattle.gx_profile.specs.Installs.{definition_avp, definition_avps, delta_avps, filter_avp, guaranteed_avps, install_avps, name_avp, qos_avps, remove_avps};
-ghost use Rattle.gx_profile.specs.Room.{definition_room, filter_room, name_room};
+ghost use Rattle.dia_codec.specs.Limits.{vendor_avp_header_bytes};
+ghost use Rattle.dia_codec.specs.Written.{padded_len, written_avp};
+ghost use Rattle.gx_profile.specs.Lengths.{filter_room, name_room, rule_room, definition_room, delta_room};
+ghost use Rattle.gx_profile.specs.Rules.{has_guaranteed_rate, guaranteed_avps, rule_quality_avps, name_avp, description_avps, filter_avp, rule_avps, rule_avp, remove_avps, install_avps, delta_avps};
 
 use crate::codes::avps;
 use crate::entries::FirstEntries;
 use crate::quality::{NEEDED, OPTIONAL, priority_value};
 use dia_base::AvpWriter;
-use pcrf_values::{FilterText, Filters, Rule, RuleName};
+use pcrf_values::{FilterText, Filters, QosClass, Rule, RuleName};
 use std::alloc::{AllocError, Global};
 
-/// The last class with a guaranteed bit rate (TS 23.203, table 6.1.7).
+/// The last of the classes with a guaranteed bit rate, which are 1 to 4 (TS 23.203, table 6.1.7).
 const LAST_GUARANTEED_CLASS: u32 = 4;
 
-/// Adds a Charging-Rule-Name.
-fn put_name(alloc: Global, out: &mut AvpWriter, name: &RuleName) -> Result<(), AllocError>
-    ensures added { OnOk result (out.new ≡ out.old ++ name_avp name.now ∷ []) }
-    ensures room { OnOk result
-        (sum_by padded_len out.new ≤ sum_by padded_len out.old + name_room) }
+/// Whether a class has a guaranteed bit rate.
+fn has_guaranteed_rate(class: QosClass) -> bool
+    ensures { result ≡ has_guaranteed_rate class }
 {
-    let text = Vec::from_slice(alloc, name.as_slice())?;
-    out.put_tgpp(avps::CHARGING_RULE_NAME, NEEDED, text)
+    class.get() <= LAST_GUARANTEED_CLASS
 }
 
-/// Adds a filter, in a Flow-Information of its own.
-fn put_filter(alloc: Global, out: &mut AvpWriter, filter: &FilterText) -> Result<(), AllocError>
-    ensures added { OnOk result (out.new ≡ out.old ++ filter_avp filter.now ∷ []) }
-    ensures room { OnOk result
-        (sum_by padded_len out.new ≤ sum_by padded_len out.old + filter_room) }
-{
-    let text = Vec::from_slice(alloc, filter.as_slice())?;
-    let mut group = AvpWriter::start(alloc);
-    group.put_tgpp(avps::FLOW_DESCRIPTION, NEEDED, text)?;
-    let value = group.into_group()?;
-    out.put_tgpp(avps::FLOW_INFORMATION, OPTIONAL, value)
-}
-
-/// Adds the filters of a rule.
-fn put_filters(alloc: Global, out: &mut AvpWriter, filters: &Filters) -> Result<(), AllocError>
-    ensures added { OnOk result (out.new ≡ out.old ++ map filter_avp filters.now) }
-    ensures room { OnOk result
-        (sum_by padded_len out.new ≤ sum_by padded_len out.old + filter_room * 2) }
-{
-    let texts = filters.as_slice();
-    for text in texts {
-        put_filter(alloc, out, text)?;
-    }
-    Ok(())
-}
-
-/// Adds the guaranteed bit rates, where the rule's class has them.
-fn put_guaranteed(out: &mut AvpWriter, rule: &Rule) -> Result<(), AllocError>
-    ensures { OnOk result (out.new ≡ out.old ++ guaranteed_avps rule.now) }
+/// Writes the guaranteed bit rates of a rule, where its class has them.
+fn put_guaranteed(group: &mut AvpWriter, rule: &Rule) -> Result<(), AllocError>
+    ensures { OnOk result (group.new ≡ group.old ++ guaranteed_avps rule.now) }
 {
     let qos = rule.qos();
-    if qos.class.get() > LAST_GUARANTEED_CLASS {
+    if !has_guaranteed_rate(qos.class) {
         return Ok(());
     }
-    out.tgpp_number(avps::GUARANTEED_BITRATE_UL, NEEDED, qos.max_uplink)?;
-    out.tgpp_number(avps::GUARANTEED_BITRATE_DL, NEEDED, qos.max_downlink)
+    group.tgpp_number(avps::GUARANTEED_BITRATE_UL, NEEDED, qos.max_uplink)?;
+    group.tgpp_number(avps::GUARANTEED_BITRATE_DL, NEEDED, qos.max_downlink)
 }
 
 /// The value of the QoS-Information of a rule.
-fn qos_value(alloc: Global, rule: &Rule) -> Result<Vec<u8>, AllocError>
-    ensures { IfOk result (λ value. value.items ≡ flat_map written_avp (qos_avps rule.now)) }
+#[tactic(auto, unfolding(crate::specs::Rules::rule_quality_avps))]
+fn quality_value(alloc: Global, rule: &Rule) -> Result<Vec<u8>, AllocError>
+    ensures { IfOk result (λ value.
+        value.items ≡ flat_map written_avp (rule_quality_avps rule.now)) }
 {
     let qos = rule.qos();
     let priority = priority_value(alloc, qos.priority)?;
@@ -79,37 +53,80 @@ fn qos_value(alloc: Global, rule: &Rule) -> Result<Vec<u8>, AllocError>
     group.into_group()
 }
 
-/// The value of a Charging-Rule-Definition.
-fn definition_value(alloc: Global, rule: &Rule) -> Result<Vec<u8>, AllocError>
-    ensures written { IfOk result (λ value.
-        value.items ≡ flat_map written_avp (definition_avps rule.now)) }
-    ensures short { IfOk result (λ value. length value.items ≤ 1400) }
+/// Writes the name of a rule.
+fn put_name(alloc: Global, group: &mut AvpWriter, name: &RuleName) -> Result<(), AllocError>
+    ensures added { OnOk result (group.new ≡ group.old ++ name_avp name.now ∷ []) }
+    ensures within { OnOk result (padded_len (name_avp name.now) ≤ name_room) }
 {
-    let qos = qos_value(alloc, rule)?;
+    let value = Vec::from_slice(alloc, name.as_slice())?;
+    group.put_tgpp(avps::CHARGING_RULE_NAME, NEEDED, value)
+}
+
+/// The value of the Flow-Information of a filter.
+fn filter_value(alloc: Global, filter: &FilterText) -> Result<Vec<u8>, AllocError>
+    ensures { IfOk result (λ value.
+        value.items ≡ flat_map written_avp (description_avps filter.now)) }
+{
+    let description = Vec::from_slice(alloc, filter.as_slice())?;
+    let mut group = AvpWriter::start(alloc);
+    group.put_tgpp(avps::FLOW_DESCRIPTION, NEEDED, description)?;
+    group.into_group()
+}
+
+/// Writes a filter of a rule.
+fn put_filter(alloc: Global, group: &mut AvpWriter, filter: &FilterText) -> Result<(), AllocError>
+    ensures added { OnOk result (group.new ≡ group.old ++ filter_avp filter.now ∷ []) }
+    ensures within { OnOk result (padded_len (filter_avp filter.now) ≤ filter_room) }
+{
+    let _text = filter.as_slice();
+    let value = filter_value(alloc, filter)?;
+    group.put_tgpp(avps::FLOW_INFORMATION, OPTIONAL, value)
+}
+
+/// Writes the filters of a rule, in their order.
+fn put_filters(alloc: Global, group: &mut AvpWriter, filters: &Filters) -> Result<(), AllocError>
+    ensures added { OnOk result (group.new ≡ group.old ++ map filter_avp filters.now) }
+    ensures within { OnOk result
+        (sum_by padded_len (map filter_avp filters.now) ≤ 2 * filter_room) }
+{
+    for filter in filters.as_slice() {
+        put_filter(alloc, group, filter)?;
+    }
+    Ok(())
+}
+
+/// The value of the Charging-Rule-Definition of a rule.
+#[tactic(auto, unfolding(crate::specs::Rules::rule_avps))]
+fn rule_value(alloc: Global, rule: &Rule) -> Result<Vec<u8>, AllocError>
+    ensures value { IfOk result (λ value. value.items ≡ flat_map written_avp (rule_avps rule.now)) }
+    ensures within { OnOk result (sum_by padded_len (rule_avps rule.now) ≤ rule_room) }
+{
+    let quality = quality_value(alloc, rule)?;
     let mut group = AvpWriter::start(alloc);
     put_name(alloc, &mut group, rule.name())?;
     put_filters(alloc, &mut group, rule.filters())?;
     group.tgpp_number(avps::FLOW_STATUS, NEEDED, rule.status().number())?;
-    group.put_tgpp(avps::QOS_INFORMATION, NEEDED, qos)?;
+    group.put_tgpp(avps::QOS_INFORMATION, NEEDED, quality)?;
     group.tgpp_number(avps::PRECEDENCE, NEEDED, rule.precedence())?;
     group.into_group()
 }
 
-/// Adds a rule.
-fn put_definition(alloc: Global, out: &mut AvpWriter, rule: &Rule) -> Result<(), AllocError>
-    ensures added { OnOk result (out.new ≡ out.old ++ definition_avp rule.now ∷ []) }
-    ensures room { OnOk result
-        (sum_by padded_len out.new ≤ sum_by padded_len out.old + definition_room) }
+/// Writes a rule that is installed.
+fn put_rule(alloc: Global, group: &mut AvpWriter, rule: &Rule) -> Result<(), AllocError>
+    ensures added { OnOk result (group.new ≡ group.old ++ rule_avp rule.now ∷ []) }
+    ensures within { OnOk result (padded_len (rule_avp rule.now) ≤ definition_room) }
 {
-    let value = definition_value(alloc, rule)?;
-    out.put_tgpp(avps::CHARGING_RULE_DEFINITION, NEEDED, value)
+    let value = rule_value(alloc, rule)?;
+    group.put_tgpp(avps::CHARGING_RULE_DEFINITION, NEEDED, value)
 }
 
-/// The value of a Charging-Rule-Remove.
-fn names_value(alloc: Global, names: &[RuleName]) -> Result<Vec<u8>, AllocError>
+/// The value of the Charging-Rule-Remove of these names.
+fn remove_value(alloc: Global, names: &[RuleName]) -> Result<Vec<u8>, AllocError>
     requires { length names.now ≤ delta_limit }
-    ensures { IfOk result (λ value.
+    ensures value { IfOk result (λ value.
         value.items ≡ flat_map written_avp (map name_avp names.now)) }
+    ensures within { OnOk result
+        (sum_by padded_len (map name_avp names.now) ≤ name_room * length names.now) }
 {
     let mut group = AvpWriter::start(alloc);
     for name in names {
@@ -118,51 +135,60 @@ fn names_value(alloc: Global, names: &[RuleName]) -> Result<Vec<u8>, AllocError>
     group.into_group()
 }
 
-/// The value of a Charging-Rule-Install.
-fn definitions_value(alloc: Global, rules: &[Rule]) -> Result<Vec<u8>, AllocError>
+/// The value of the Charging-Rule-Install of these rules.
+fn install_value(alloc: Global, rules: &[Rule]) -> Result<Vec<u8>, AllocError>
     requires { length rules.now ≤ delta_limit }
-    ensures { IfOk result (λ value.
-        value.items ≡ flat_map written_avp (map definition_avp rules.now)) }
+    ensures value { IfOk result (λ value.
+        value.items ≡ flat_map written_avp (map rule_avp rules.now)) }
+    ensures within { OnOk result
+        (sum_by padded_len (map rule_avp rules.now) ≤ definition_room * length rules.now) }
 {
     let mut group = AvpWriter::start(alloc);
     for rule in rules {
-        put_definition(alloc, &mut group, rule)?;
+        put_rule(alloc, &mut group, rule)?;
     }
     group.into_group()
 }
 
-/// Adds the Charging-Rule-Remove of names, where there are some.
+/// Writes the names of the rules that are removed, where there are any.
 fn put_removed(alloc: Global, out: &mut AvpWriter, names: &[RuleName]) -> Result<(), AllocError>
     requires { length names.now ≤ delta_limit }
-    ensures { OnOk result (out.new ≡ out.old ++ remove_avps names.now) }
+    ensures added { OnOk result (out.new ≡ out.old ++ remove_avps names.now) }
+    ensures within { OnOk result (sum_by padded_len (remove_avps names.now)
+        ≤ vendor_avp_header_bytes + name_room * length names.now) }
 {
     if names.is_empty() {
         return Ok(());
     }
-    let value = names_value(alloc, names)?;
+    let value = remove_value(alloc, names)?;
     out.put_tgpp(avps::CHARGING_RULE_REMOVE, NEEDED, value)
 }
 
-/// Adds the Charging-Rule-Install of rules, where there are some.
+/// Writes the rules that are installed, where there are any.
 fn put_installed(alloc: Global, out: &mut AvpWriter, rules: &[Rule]) -> Result<(), AllocError>
     requires { length rules.now ≤ delta_limit }
-    ensures { OnOk result (out.new ≡ out.old ++ install_avps rules.now) }
+    ensures added { OnOk result (out.new ≡ out.old ++ install_avps rules.now) }
+    ensures within { OnOk result (sum_by padded_len (install_avps rules.now)
+        ≤ vendor_avp_header_bytes + definition_room * length rules.now) }
 {
     if rules.is_empty() {
         return Ok(());
     }
-    let value = definitions_value(alloc, rules)?;
+    let value = install_value(alloc, rules)?;
     out.put_tgpp(avps::CHARGING_RULE_INSTALL, NEEDED, value)
 }
 
-/// Adds what a gateway is told to remove and to install.
+/// Writes what is removed and installed.
+#[tactic(auto, unfolding(crate::specs::Rules::delta_avps))]
 pub(crate) fn put_delta(
     alloc: Global,
     out: &mut AvpWriter,
     delta: &FirstEntries,
 ) -> Result<(), AllocError>
-    ensures { OnOk result (out.new ≡ out.old ++ delta_avps delta.now) }
+    ensures added { OnOk result (out.new ≡ out.old ++ delta_avps delta.now) }
+    ensures within { OnOk result (sum_by padded_len (delta_avps delta.now) ≤ delta_room) }
 {
     put_removed(alloc, out, delta.removed())?;
-    put_installed(alloc, out, delta.installed())
+    put_installed(alloc, out, delta.installed())?;
+    Ok(())
 }

@@ -1,1 +1,2 @@
-pub mod ToldEntries
+pub mod ToldAlone
+pub mod DueRecord

@@ -63,13 +63,15 @@ fn reply(rt: &(impl AllocGlobal + Abort), site: &mut Site, ccr: &Ccr) -> GxReply
 /// Has a site serve a request, and compares its reply.
 pub fn serves(rt: &(impl AllocGlobal + Abort), site: &mut Site, sent: Sent, wanted: Wanted) {
     let reply = reply(rt, site, &request(rt, sent));
-    match wanted {
-        Wanted::Granted(quality) => {
-            let delta = reply.delta().expect(rt, "a grant");
+    match (&reply, wanted) {
+        (GxReply::Granted(delta, told), Wanted::Granted(quality)) => {
             assert!(rt; delta.removed().is_empty() && delta.installed().is_empty());
-            assert_eq!(rt; reply.quality(), quality);
+            assert_eq!(rt; *told, quality);
         }
-        Wanted::Refused(refusal) => assert_eq!(rt; reply.refusal(), Some(refusal)),
+        (GxReply::Refused(refused), Wanted::Refused(refusal)) => {
+            assert_eq!(rt; *refused, refusal);
+        }
+        _ => rt.abort(),
     }
 }
 

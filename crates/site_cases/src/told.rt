@@ -1,7 +1,7 @@
 //! Which rules replies tell a gateway to remove and to install.
 use crate::requests::{Sent, request};
 use crate::sites::{end, first_session, initial, takes, update};
-use gx_profile::FirstEntries;
+use gx_profile::{FirstEntries, GxReply};
 use op_tables::{Tables, read_tables};
 use site_core::Site;
 use std::alloc::{AllocError, AllocGlobal, Global};
@@ -114,7 +114,9 @@ fn tells(
 ) {
     let ccr = request(rt, sent);
     let reply = site.serve_ccr(tables, &ccr).expect(rt, "memory");
-    let delta = reply.delta().expect(rt, "a grant");
+    let GxReply::Granted(delta, _) = &reply else {
+        rt.abort()
+    };
     let told = names(rt.alloc(), delta).expect(rt, "memory");
     assert_eq!(rt; told.as_str(), wanted);
 }

@@ -1,13 +1,13 @@
--- The filters before the index are there, in their room.
-use Rattle.std.proofs.Common.{◌≡◌, ◌+◌, ◌*◌, ◌≤◌, ◌++◌, map, take}
+use Rattle.std.proofs.Common.{◌≡◌, ◌≤◌, ◌*◌, ◌++◌, map, take}
 use Rattle.std.specs.List.{sum_by}
 use Rattle.dia_codec.specs.Written.{padded_len}
-use Rattle.gx_profile.specs.Installs.{filter_avp}
-use Rattle.gx_profile.specs.Room.{filter_room}
+use Rattle.gx_profile.specs.Lengths.{filter_room}
+use Rattle.gx_profile.specs.Rules.{filter_avp}
 use Rattle.gx_profile.proofs.rules.put_filters.Given as goal
 
-abbrev pub invariant-loop-text : goal.invariant-loop-text
-invariant-loop-text l = record {
-  added : l.out ≡ l.fn.out ++ map filter_avp (take l.text-index l.texts);
-  room : sum_by padded_len l.out ≤ sum_by padded_len l.fn.out + filter_room * l.text-index
+-- those so far are written, and take so many bytes at most
+abbrev pub invariant-loop-filter : goal.invariant-loop-filter
+invariant-loop-filter l = record {
+  so_far : l.group ≡ l.initial.group ++ map filter_avp (take l.filter-index l.filter-items);
+  within : sum_by padded_len (map filter_avp (take l.filter-index l.filter-items)) ≤ filter_room * l.filter-index;
 }

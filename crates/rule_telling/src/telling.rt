@@ -1,0 +1,41 @@
+//! What the gateway of a session is still to be told.
+ghost use Rattle.std.specs.Prelude.{◌≡◌, IfOk};
+ghost use Rattle.pcrf_model.specs.Differences.{told};
+ghost use Rattle.pcrf_model.specs.Sessions.{gx};
+ghost use Rattle.pcrf_model.specs.Views.{view};
+ghost use Rattle.rule_telling.specs.Pushed.{untold};
+
+use gx_records::Told;
+use op_tables::Tables;
+use pcc_rules::derive;
+use pcrf_values::{Delta, SessionId};
+use rule_delta::difference;
+use site_join::State;
+use std::alloc::{AllocError, Global};
+
+/// What the gateway of a session is still to be told: the difference between what it was told and the session's rules
+/// (TS 29.212, 4.5.2). Its time is that of `derive`, and grows with the number of rules and the logarithm of it.
+pub fn untold(
+    alloc: Global,
+    tables: &Tables,
+    state: &State,
+    session: &SessionId,
+) -> Result<Delta, AllocError>
+    ensures { IfOk result (λ delta. delta
+        ≡ untold tables.now (view state.now.facts) (gx session.now)) }
+{
+    let rules = derive(alloc, tables, state, session)?;
+    let told = told_of(alloc, state, session)?;
+    difference(alloc, &told, rules.as_slice())
+}
+
+/// What the gateway of a session was told: nothing, where no fact of the session is known.
+fn told_of(alloc: Global, state: &State, session: &SessionId) -> Result<Told, AllocError>
+    ensures { IfOk result (λ entries. entries
+        ≡ told (view state.now.facts) (gx session.now)) }
+{
+    match state.gx(session) {
+        Some(record) => record.told(alloc),
+        None => Ok(Told::of(Vec::new(alloc))),
+    }
+}
