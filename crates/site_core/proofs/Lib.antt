@@ -1,3 +1,4 @@
+pub mod Pushes
 pub mod Replies
 pub mod Restoring
 pub mod Taking

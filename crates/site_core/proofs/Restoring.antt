@@ -111,9 +111,9 @@ module _ (h : Holding) (o p : Operation) (session : o.session ≡ p.session) (co
       there : In x (ascending session_fact_cmp (h.facts ++ under o.session o.facts) ++ under p.session p.facts) → In x (h.facts ++ under p.session p.facts)
       there i = elim (In-cases x (ascending session_fact_cmp (h.facts ++ under o.session o.facts)) (under p.session p.facts) i) [
         | inl j ↦ elim (In-cases x h.facts (under o.session o.facts) ((sorted-In (h.facts ++ under o.session o.facts) x).0 j)) [
-            | inl l ↦ In-left x h.facts (under p.session p.facts) l
-            | inr l ↦ new l
-          ]
+          | inl l ↦ In-left x h.facts (under p.session p.facts) l
+          | inr l ↦ new l
+        ]
         | inr j ↦ In-right x h.facts (under p.session p.facts) j
       ]
 

@@ -71,3 +71,13 @@ operation_told site counter q k d = record {
   facts = made_facts q k (record { number = q.number; counter = counter; site = site })
       ++ ascending fact_cmp (told_facts (record { number = 0; counter = counter; site = site }) d);
 }
+
+-- the operation of a push of a session at a site, under a counter
+abbrev pub operation_pushed : ℕ → ℕ → List ℕ → DeltaValue → Operation
+operation_pushed site counter session d = record {
+  counter = counter;
+  site = site;
+  number = 0;
+  session = gx session;
+  facts = ascending fact_cmp (told_facts (record { number = 0; counter = counter; site = site }) d);
+}

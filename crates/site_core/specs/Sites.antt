@@ -8,6 +8,7 @@ use Rattle.pcrf_model.specs.Operations.{Operation, with_operation, holding_of}
 use Rattle.pcrf_model.specs.Requests.{CcrValue}
 use Rattle.pcrf_model.specs.Replies.{Outcome}
 use Rattle.pcrf_model.specs.Serving.{serve_ccr}
+use Rattle.pcrf_model.specs.Pushing.{push}
 use Rattle.pcrf_model.specs.Tables.{Tables}
 use Rattle.pcrf_model.specs.Worlds.{SiteView}
 
@@ -18,6 +19,10 @@ new_site number = record { number = number; epoch = 1; state = record { holding 
 -- what the definitions give by these tables on what the site holds
 abbrev pub ccr_served : Tables → SiteView → CcrValue → Outcome
 ccr_served t s q = serve_ccr delta_limit t s.number s.state.holding q
+
+-- what they push of it to the gateway of a host, any where none is named
+abbrev pub pushed : Tables → SiteView → Option (List ℕ) → Outcome
+pushed t s name = push delta_limit t s.number s.state.holding name
 
 -- with one operation: what is kept of it is held
 abbrev pub with_one : SiteView → Operation → SiteView

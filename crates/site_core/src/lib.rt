@@ -2,7 +2,9 @@
 #![tactic(auto)]
 
 mod facts;
+mod fault;
 mod site;
 mod told;
 
+pub use fault::StepFault;
 pub use site::Site;

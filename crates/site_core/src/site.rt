@@ -1,34 +1,37 @@
 //! One site: what it holds, and the operations that it made itself in its present epoch.
-ghost use Rattle.std.specs.Prelude.{◌≡◌, ◌≢◌, ◌<◌, ◌≤◌, ◌+◌, [], ◌∷◌, None, Some, false, true, length, take, cond, IfOk, OnOk, OnErr, IfErr, IfSome};
+ghost use Rattle.std.specs.Prelude.{◌≡◌, ◌≢◌, ◌<◌, ◌≤◌, ◌+◌, [], ◌∷◌, None, Some, false, true, length, take, cond, IfOk, OnOk, OnErr, IfErr, IfSome, option_map};
 ghost use Rattle.std.specs.Option.{option_copied};
 ghost use Rattle.pcrf_values.specs.Results.{authorization_rejected, unable_to_comply};
 ghost use Rattle.pcrf_facts.specs.Held.{is_ended};
 ghost use Rattle.pcrf_facts.specs.Live.{gx_is_live};
 ghost use Rattle.pcrf_model.specs.Limits.{delta_limit, last_counter, last_epoch};
 ghost use Rattle.pcrf_model.specs.Holdings.{facts_on, kept_of};
-ghost use Rattle.pcrf_model.specs.Replies.{OnGx, Granted};
+ghost use Rattle.pcrf_model.specs.Pushing.{lacks_counter};
+ghost use Rattle.pcrf_model.specs.Replies.{OnGx, Granted, Pushed};
 ghost use Rattle.pcrf_model.specs.Serving.{delta_of, empty_delta, provisioned};
 ghost use Rattle.pcrf_model.specs.Sessions.{gx};
 ghost use Rattle.pcrf_model.specs.Views.{view};
 ghost use Rattle.pcrf_model.specs.Rules.{quality_of};
 ghost use Rattle.pcrf_model.specs.Refusals.{is_clock_full, ccr_refusal, lacks_parameters, names_no_row};
 ghost use Rattle.pcrf_facts.specs.FlowWords.{or_else};
+ghost use Rattle.gx_profile.specs.Pushes.{push_view};
 ghost use Rattle.gx_profile.specs.Requests.{ccr_view};
 ghost use Rattle.site_join.specs.States.{record_facts};
 ghost use Rattle.site_core.specs.Replies.{gx_reply_value};
 
 use crate::facts::facts_made;
+use crate::fault::StepFault;
 use crate::told::put_told;
 use dia_base::codes::results::{
     AUTHORIZATION_REJECTED, INITIAL_PARAMETERS, UNABLE_TO_COMPLY, UNKNOWN_SESSION_ID,
 };
-use gx_profile::{Ccr, FirstEntries, GxReply};
+use gx_profile::{Ccr, FirstEntries, GxReply, PushOut};
 use gx_records::GxRec;
 use lattice_core::Join;
 use op_tables::Tables;
 use pcrf_values::{Apn, DefaultQuality, Refusal, RequestKind, SessionId};
 use ranked::{Ranked, Tag};
-use rule_telling::untold;
+use rule_telling::{next_push, untold};
 use site_join::{LAST_COUNTER, Operation, SessionFacts, State};
 use std::alloc::{AllocError, Global};
 use std::marker::Model;
@@ -56,9 +59,9 @@ impl Model for Site {
 }
 
 impl Site {
-    ghost use Rattle.site_core.specs.Facts.{opens, operation_made, operation_told};
+    ghost use Rattle.site_core.specs.Facts.{opens, operation_made, operation_pushed, operation_told};
     ghost use Rattle.site_core.specs.Replies.{told_reply};
-    ghost use Rattle.site_core.specs.Sites.{new_site, ccr_served, with_made, with_one, with_record, with_taken, started_again};
+    ghost use Rattle.site_core.specs.Sites.{new_site, ccr_served, pushed, with_made, with_one, with_record, with_taken, started_again};
 
     /// A site that took nothing, in its first epoch.
     pub fn start(alloc: Global, number: u8) -> Site
@@ -298,6 +301,53 @@ impl Site {
         self.state.take(&operation)?;
         self.log.push(operation).unwrap();
         Ok(())
+    }
+
+    /// Pushes what the gateway of the session that is due was not told (TS 29.212, 4.5.2): of the live sessions whose home is
+    /// this site and whose host is the given one, any where none is given, that with the least Session-Id; at most the first
+    /// 40 entries. An error changes nothing.
+    pub fn push(
+        &mut self,
+        tables: &Tables,
+        host: Option<&[u8]>,
+    ) -> Result<Option<PushOut>, StepFault>
+        ensures push { IfOk result (λ push. Pushed (option_map push_view push)
+            ≡ (pushed tables.now self.old (option_copied host.entry)).reply) }
+        ensures ok { OnOk result (self.new
+            ≡ with_made self.old (pushed tables.now self.old (option_copied host.entry)).added) }
+        ensures room { OnOk result (lacks_counter tables.now self.old.number
+            self.old.state.holding (option_copied host.entry) ≡ false) }
+        ensures full { IfErr result (λ fault. fault ≡ StepFault.ClockFull → lacks_counter tables.now
+            self.old.number self.old.state.holding (option_copied host.entry) ≡ true) }
+        ensures err { OnErr result (self.new ≡ self.old) }
+    {
+        let found = next_push(self.alloc, tables, &self.state, self.number, host);
+        let Ok(found) = found else {
+            return Err(StepFault::NoMemory);
+        };
+        let Some(push) = found else {
+            return Ok(None);
+        };
+        let Some(counter) = self.next_counter() else {
+            return Err(StepFault::ClockFull);
+        };
+        if self.tell_push(&push, counter).is_err() {
+            return Err(StepFault::NoMemory);
+        }
+        Ok(Some(push))
+    }
+
+    /// Adds the operation of a push, or changes nothing.
+    fn tell_push(&mut self, push: &PushOut, counter: u64) -> Result<(), AllocError>
+        requires { counter ≤ last_counter }
+        ensures ok { OnOk result (self.new ≡ with_made self.old
+            (Some (operation_pushed self.old.number counter push.now.session push.now.delta))) }
+        ensures err { OnErr result (self.new ≡ self.old) }
+    {
+        let mut facts = Vec::new(self.alloc);
+        put_told(self.alloc, &mut facts, self.tag(0, counter), &push.delta)?;
+        let facts = SessionFacts::Gx(push.session.try_copy()?, facts);
+        self.add(Operation::stamped(counter, self.number, 0, facts))
     }
 
     /// Takes operations in order. An error tells how many stand taken.
