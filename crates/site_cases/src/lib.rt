@@ -1,10 +1,12 @@
 //! Tests of `site_core`, which stand apart so that its proofs are made once: what a site replies to requests and holds
-//! then, after letters and restarts too, which default quality of service its replies tell by the operator tables, and
-//! that its calls which allocate succeed.
+//! then, after letters and restarts too, which rules and which default quality of service its replies and pushes tell by
+//! the operator tables, and that its calls which allocate succeed.
 #![tactic(auto)]
 
 #[cfg(test)]
 mod orders;
+#[cfg(test)]
+mod pushes;
 #[cfg(test)]
 mod qualities;
 #[cfg(test)]

@@ -31,7 +31,7 @@ fn put_point(
 ) -> Result<(), AllocError> {
     write!(text, "[[apn]]\nname = \"{name}\"\n")?;
     for number in 0..rules {
-        let precedence = 100 + number;
+        let precedence = number.saturating_add(100);
         write!(text, "[[apn.rule]]\nname = \"{letter}{number:02}\"\n")?;
         write!(
             text,
@@ -57,13 +57,13 @@ fn tables_text(alloc: Global, ims: u32, net: u32) -> Result<String, AllocError> 
     Ok(text)
 }
 
-fn tables(rt: &(impl AllocGlobal + Abort), ims: u32, net: u32) -> Tables {
+pub fn tables(rt: &(impl AllocGlobal + Abort), ims: u32, net: u32) -> Tables {
     let text = tables_text(rt.alloc(), ims, net).expect(rt, "memory");
     read_tables(rt.alloc(), text.as_str()).expect(rt, "tables")
 }
 
 /// The names of rules that are removed, each behind `-`, and of those that are installed, behind `+`.
-fn names(alloc: Global, delta: &FirstEntries) -> Result<String, AllocError> {
+pub fn names(alloc: Global, delta: &FirstEntries) -> Result<String, AllocError> {
     let mut text = String::new(alloc);
     for name in delta.removed() {
         text.push_str("-")?;
@@ -93,7 +93,7 @@ fn put_range(text: &mut String, sign: &str, first: u32, end: u32) -> Result<(), 
 }
 
 /// Such names of two letters.
-fn ranges(
+pub fn ranges(
     alloc: Global,
     one: (&str, u32, u32),
     two: (&str, u32, u32),
@@ -105,7 +105,7 @@ fn ranges(
 }
 
 /// Has a site serve a request, which tells just these names.
-fn tells(
+pub fn tells(
     rt: &(impl AllocGlobal + Abort),
     site: &mut Site,
     tables: &Tables,
@@ -134,7 +134,7 @@ fn tells_ranges(
 }
 
 /// How many rules the gateway of the first session was told.
-fn told_count(rt: &(impl AllocGlobal + Abort), site: &Site) -> usize {
+pub fn told_count(rt: &(impl AllocGlobal + Abort), site: &Site) -> usize {
     let session = first_session(rt);
     let known = site.state().gx(&session).expect(rt, "a record");
     known.told(rt.alloc()).expect(rt, "memory").as_slice().len()
