@@ -70,36 +70,91 @@ fn site_quality(told: Quality) -> Option<DefaultQuality> {
     })
 }
 
+/// Whether the filters of a rule are these texts.
+fn has_filters(rule: &pcrf_values::Rule, texts: &[&'static [u8]]) -> bool {
+    let filters = rule.filters().as_slice();
+    for (i, text) in texts.iter().enumerate() {
+        let Some(filter) = filters.get(i) else {
+            return false;
+        };
+        if filter.as_slice() != *text {
+            return false;
+        }
+    }
+    filters.len() == texts.len()
+}
+
+/// The numbers of a rule, in the order of their AVPs.
+fn numbers(rule: &pcrf_values::Rule) -> [u32; 8] {
+    let qos = rule.qos();
+    let priority = qos.priority;
+    [
+        rule.status().number(),
+        qos.class.get(),
+        qos.max_uplink,
+        qos.max_downlink,
+        priority.level.get(),
+        priority.capability.number(),
+        priority.vulnerability.number(),
+        rule.precedence(),
+    ]
+}
+
 /// Whether a rule is the model's.
 fn is_rule(rule: &pcrf_values::Rule, wanted: &Rule) -> bool {
-    let qos = rule.qos();
-    let filters = rule.filters().as_slice();
-    let texts = wanted.filters;
-    rule.name().as_slice() == wanted.name
-        && rule.status().number() == wanted.status
-        && (filters.len(), qos.class.get()) == (texts.len(), wanted.class)
-        && filters.iter().zip(texts).all(|(a, b)| a.as_slice() == *b)
-        && qos.priority.level.get() == wanted.level
-        && qos.priority.capability.number() == wanted.capability
-        && qos.priority.vulnerability.number() == wanted.vulnerability
-        && (qos.max_uplink, qos.max_downlink) == (wanted.uplink, wanted.downlink)
-        && rule.precedence() == wanted.precedence
+    let parts = [
+        wanted.status,
+        wanted.class,
+        wanted.uplink,
+        wanted.downlink,
+        wanted.level,
+        wanted.capability,
+        wanted.vulnerability,
+        wanted.precedence,
+    ];
+    if rule.name().as_slice() != wanted.name || numbers(rule) != parts {
+        return false;
+    }
+    has_filters(rule, wanted.filters)
+}
+
+/// Whether these names are removed.
+fn removes(delta: &FirstEntries, names: &[&'static [u8]]) -> bool {
+    let removed = delta.removed();
+    for (i, name) in names.iter().enumerate() {
+        let Some(text) = removed.get(i) else {
+            return false;
+        };
+        if text.as_slice() != *name {
+            return false;
+        }
+    }
+    removed.len() == names.len()
+}
+
+/// Whether these rules are installed.
+fn installs(delta: &FirstEntries, rules: &[Rule]) -> bool {
+    let installed = delta.installed();
+    for (i, wanted) in rules.iter().enumerate() {
+        let Some(rule) = installed.get(i) else {
+            return false;
+        };
+        if !is_rule(rule, wanted) {
+            return false;
+        }
+    }
+    installed.len() == rules.len()
 }
 
 /// Whether a reply tells just what the model tells.
 fn tells(delta: &FirstEntries, quality: Option<DefaultQuality>, wanted: &model::Told) -> bool {
-    let (removed, installed) = (delta.removed(), delta.installed());
-    removed.len() == wanted.removed.len()
-        && installed.len() == wanted.installed.len()
-        && removed
-            .iter()
-            .zip(&wanted.removed)
-            .all(|(a, b)| a.as_slice() == *b)
-        && installed
-            .iter()
-            .zip(&wanted.installed)
-            .all(|(a, b)| is_rule(a, b))
-        && quality == wanted.quality.and_then(site_quality)
+    if !removes(delta, wanted.removed.as_slice()) {
+        return false;
+    }
+    if !installs(delta, wanted.installed.as_slice()) {
+        return false;
+    }
+    quality == wanted.quality.and_then(site_quality)
 }
 
 /// Whether a reply is the model's.
