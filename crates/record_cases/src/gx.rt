@@ -8,9 +8,20 @@ use lattice_core::Join;
 use std::alloc::AllocGlobal;
 use std::process::Abort;
 
-/// Joins the record of these facts in.
+/// Equal facts.
+fn copies_of(rt: &(impl AllocGlobal + Abort), facts: &[GxFact]) -> Vec<GxFact> {
+    let mut copies = Vec::new(rt.alloc());
+    for fact in facts {
+        let copy = fact.try_copy().expect(rt, "memory");
+        copies.push(copy).expect(rt, "memory");
+    }
+    copies
+}
+
+/// Joins the record of copies of these facts in.
 fn join_part(rt: &(impl AllocGlobal + Abort), record: &mut GxRec, facts: &[GxFact]) {
-    let part = GxRec::of_facts(rt.alloc(), facts).expect(rt, "memory");
+    let copies = copies_of(rt, facts);
+    let part = GxRec::of_facts(rt.alloc(), copies.as_slice()).expect(rt, "memory");
     assert!(rt; record.join_in(part).is_ok());
 }
 
