@@ -1,4 +1,4 @@
-//! Tests of `site_core`, which stand apart so that its proofs are made once: what a site replies to requests and holds
+//! Tests of `site_core`, and of the messages of pushes, which stand apart so that its proofs are made once: what a site replies to requests and holds
 //! then, after letters and restarts too, which rules and which default quality of service its replies and pushes tell by
 //! the operator tables, and that its calls which allocate succeed.
 #![tactic(auto)]
@@ -9,6 +9,8 @@ mod orders;
 mod pushes;
 #[cfg(test)]
 mod qualities;
+#[cfg(test)]
+mod reauthorisation;
 #[cfg(test)]
 mod requests;
 #[cfg(test)]
