@@ -3,8 +3,7 @@ use af_records::{AfFact, ComponentValue, FlowValue};
 use gx_records::{GxFact, SessionValue};
 use pcrf_values::{
     Apn, BoundedNumber, BoundedText, FilterText, Filters, FlowStatus, Preemption,
-    RetentionPriority, Rule, RuleName, RuleQos, SessionId, Subscriber, Subscribers,
-    SubscriptionType,
+    RetentionPriority, Rule, RuleName, RuleQos, Subscriber, Subscribers, SubscriptionType,
 };
 use ranked::Tag;
 use site_join::{Operation, SessionFacts, State};
@@ -181,10 +180,53 @@ fn put_usage(rt: &impl Abort, at: Tag, facts: &mut Vec<AfFact>, flow: u32, usage
     put(rt, facts, AfFact::Flow(1, flow, at, value));
 }
 
-fn take(rt: &(impl AllocGlobal + Abort), state: &mut State, at: Tag, facts: SessionFacts) {
+fn operation(rt: &impl Abort, at: Tag, facts: SessionFacts) -> Operation {
     let made = Operation::of(at.counter, at.site, at.number, facts);
-    let operation = made.expect(rt, "an operation");
-    state.take(&operation).expect(rt, "memory");
+    made.expect(rt, "an operation")
+}
+
+/// An operation on a gateway's session.
+pub fn of_gateway(
+    rt: &(impl AllocGlobal + Abort),
+    at: Tag,
+    session: &str,
+    facts: Vec<GxFact>,
+) -> Operation {
+    operation(rt, at, SessionFacts::Gx(text(rt, session), facts))
+}
+
+/// An operation on an application function's session.
+pub fn of_application(
+    rt: &(impl AllocGlobal + Abort),
+    at: Tag,
+    session: &str,
+    facts: Vec<AfFact>,
+) -> Operation {
+    operation(rt, at, SessionFacts::Af(text(rt, session), facts))
+}
+
+/// Component 2, of audio, with so many flows of one filter each.
+pub fn put_many(rt: &(impl AllocGlobal + Abort), at: Tag, facts: &mut Vec<AfFact>, flows: u32) {
+    put(
+        rt,
+        facts,
+        AfFact::Component(2, at, ComponentValue::MediaType(0)),
+    );
+    for flow in 1..=flows {
+        let value = FlowValue::Descriptions(filters(rt, &["permit out ip from any to any"]));
+        put(rt, facts, AfFact::Flow(2, flow, at, value));
+    }
+}
+
+/// Component 1 has this Flow-Status.
+pub fn put_status(rt: &impl Abort, at: Tag, facts: &mut Vec<AfFact>, status: u32) {
+    let value = ComponentValue::Status(number(rt, status));
+    put(rt, facts, AfFact::Component(1, at, value));
+}
+
+/// Component 1 is removed.
+pub fn put_removal(rt: &impl Abort, facts: &mut Vec<AfFact>) {
+    put(rt, facts, AfFact::ComponentRemoved(1));
 }
 
 /// A state takes an operation on a gateway's session.
@@ -195,8 +237,8 @@ pub fn take_gateway(
     session: &str,
     facts: Vec<GxFact>,
 ) {
-    let session: SessionId = text(rt, session);
-    take(rt, state, at, SessionFacts::Gx(session, facts));
+    let taken = of_gateway(rt, at, session, facts);
+    state.take(&taken).expect(rt, "memory");
 }
 
 /// A state takes an operation on an application function's session.
@@ -207,8 +249,8 @@ pub fn take_application(
     session: &str,
     facts: Vec<AfFact>,
 ) {
-    let session: SessionId = text(rt, session);
-    take(rt, state, at, SessionFacts::Af(session, facts));
+    let taken = of_application(rt, at, session, facts);
+    state.take(&taken).expect(rt, "memory");
 }
 
 /// A gateway's session ends.

@@ -12,7 +12,7 @@ use std::net::Ipv4Addr;
 use std::process::Abort;
 
 /// An access point with a rule, and one with a name alone; a class of signalling, and one of audio.
-const TABLES: &str = "edition = 7
+pub const TABLES: &str = "edition = 7
 rtcp_bps = 5000
 [signalling]
 qci = 5
@@ -78,7 +78,7 @@ end
 ";
 
 /// An address that gateways give.
-fn address(last_octet: u8) -> Ipv4Addr {
+pub fn address(last_octet: u8) -> Ipv4Addr {
     Ipv4Addr::new(10, 0, 0, last_octet)
 }
 

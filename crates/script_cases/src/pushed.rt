@@ -1,0 +1,139 @@
+//! What a site pushes of a call whose operations it took: no site serves requests of application functions yet.
+use crate::operations::{
+    application_request, call, connection, of_application, of_gateway, push, put_many, put_removal,
+    put_status, put_voice, stamp,
+};
+use crate::shown::{TABLES, address};
+use gx_profile::PushOut;
+use op_tables::{Tables, read_tables};
+use site_core::Site;
+use site_join::Operation;
+use std::alloc::{AllocError, AllocGlobal, Global};
+use std::fmt::Write as _;
+use std::process::Abort;
+
+/// A site takes an operation.
+fn takes(rt: &(impl AllocGlobal + Abort), site: &mut Site, operation: Operation) {
+    let mut letter = Vec::new(rt.alloc());
+    letter.push(operation).expect(rt, "memory");
+    let taken = site.take_all(letter.as_slice());
+    assert!(rt; taken.is_ok(), "memory");
+}
+
+/// The initial request of `gw;1;1` at site 0, whose answer installed `op/sip`.
+fn take_gateway(rt: &(impl AllocGlobal + Abort), site: &mut Site) {
+    let at = stamp(1, 0);
+    let facts = connection(rt, at, address(1), "IMS");
+    takes(rt, site, of_gateway(rt, at, "gw;1;1", facts));
+    let told = push(rt, at);
+    takes(rt, site, of_gateway(rt, at, "gw;1;1", told));
+}
+
+/// A site takes a request of the application function's session with the voice that it describes.
+fn take_voice(rt: &(impl AllocGlobal + Abort), site: &mut Site, counter: u64) {
+    let at = stamp(counter, 1);
+    let mut facts = call(rt, at, address(1));
+    put_voice(rt, at, &mut facts);
+    takes(rt, site, of_application(rt, at, "af;1", facts));
+}
+
+/// Names, each behind its sign and a space.
+fn line(alloc: Global, push: &PushOut) -> Result<String, AllocError> {
+    let mut text = String::new(alloc);
+    for name in push.delta.removed() {
+        put_name(&mut text, "-", name.as_slice())?;
+    }
+    for rule in push.delta.installed() {
+        put_name(&mut text, "+", rule.name().as_slice())?;
+        let (status, qos) = (rule.status().number(), rule.qos());
+        let (up, down) = (qos.max_uplink, qos.max_downlink);
+        write!(text, " {status} {up} {down}")?;
+    }
+    Ok(text)
+}
+
+fn put_name(text: &mut String, sign: &str, name: &[u8]) -> Result<(), AllocError> {
+    text.push_str(" ")?;
+    text.push_str(sign)?;
+    for byte in name {
+        text.push(char::from(*byte))?;
+    }
+    Ok(())
+}
+
+fn tables(rt: &(impl AllocGlobal + Abort)) -> Tables {
+    read_tables(rt.alloc(), TABLES).expect(rt, "tables")
+}
+
+/// Has a site push, and compares the names that it tells; `None` where it pushes nothing.
+fn pushes(rt: &(impl AllocGlobal + Abort), site: &mut Site, wanted: Option<&str>) {
+    let tables = tables(rt);
+    let pushed = site.push(&tables, None).expect(rt, "memory and a counter");
+    let Some(push) = pushed else {
+        assert!(rt; wanted.is_none());
+        return;
+    };
+    assert_eq!(rt; push.session.as_slice(), b"gw;1;1".as_slice());
+    let told = line(rt.alloc(), &push).expect(rt, "memory");
+    assert_eq!(rt; Some(told.as_str()), wanted);
+}
+
+/// How many rules a push installs.
+fn installs(rt: &(impl AllocGlobal + Abort), site: &mut Site, wanted: usize) {
+    let tables = tables(rt);
+    let pushed = site.push(&tables, None).expect(rt, "memory and a counter");
+    let push = pushed.expect(rt, "a push");
+    assert!(rt; push.delta.removed().is_empty());
+    assert_eq!(rt; push.delta.installed().len(), wanted);
+}
+
+const VOICE: &str = " +af/af;1/1/1 2 41000 64000 +af/af;1/1/2 2 5000 5000";
+
+#[test]
+fn a_call_is_pushed_changed_and_removed(rt: HostRuntime) {
+    let mut site = Site::start(rt.alloc(), 0);
+    take_gateway(&rt, &mut site);
+    pushes(&rt, &mut site, None);
+    take_voice(&rt, &mut site, 2);
+    pushes(&rt, &mut site, Some(VOICE));
+    pushes(&rt, &mut site, None);
+    let at = stamp(4, 1);
+    let mut closed = application_request(&rt, at);
+    put_status(&rt, at, &mut closed, 3);
+    takes(&rt, &mut site, of_application(&rt, at, "af;1", closed));
+    pushes(&rt, &mut site, Some(" +af/af;1/1/1 3 41000 64000"));
+    let at = stamp(6, 1);
+    let mut removed = application_request(&rt, at);
+    put_removal(&rt, &mut removed);
+    takes(&rt, &mut site, of_application(&rt, at, "af;1", removed));
+    pushes(&rt, &mut site, Some(" -af/af;1/1/1 -af/af;1/1/2"));
+    take_voice(&rt, &mut site, 8);
+    pushes(&rt, &mut site, None);
+}
+
+#[test]
+fn fifty_flows_are_pushed_in_two_messages(rt: HostRuntime) {
+    let mut site = Site::start(rt.alloc(), 0);
+    take_gateway(&rt, &mut site);
+    let at = stamp(2, 1);
+    let mut facts = call(&rt, at, address(1));
+    put_many(&rt, at, &mut facts, 50);
+    takes(&rt, &mut site, of_application(&rt, at, "af;1", facts));
+    installs(&rt, &mut site, 40);
+    installs(&rt, &mut site, 10);
+    pushes(&rt, &mut site, None);
+}
+
+// The call comes before the session that it is bound to, and only the session's home pushes.
+#[test]
+fn only_the_home_pushes_a_call(rt: HostRuntime) {
+    let mut site = Site::start(rt.alloc(), 0);
+    let mut other = Site::start(rt.alloc(), 2);
+    take_voice(&rt, &mut other, 2);
+    pushes(&rt, &mut other, None);
+    take_gateway(&rt, &mut other);
+    pushes(&rt, &mut other, None);
+    take_gateway(&rt, &mut site);
+    take_voice(&rt, &mut site, 2);
+    pushes(&rt, &mut site, Some(VOICE));
+}
