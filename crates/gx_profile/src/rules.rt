@@ -78,6 +78,7 @@ fn put_filter(alloc: Global, group: &mut AvpWriter, filter: &FilterText) -> Resu
     ensures added { OnOk result (group.new ≡ group.old ++ filter_avp filter.now ∷ []) }
     ensures within { OnOk result (padded_len (filter_avp filter.now) ≤ filter_room) }
 {
+    // Read for its contract alone, which says how long a filter is.
     let _text = filter.as_slice();
     let value = filter_value(alloc, filter)?;
     group.put_tgpp(avps::FLOW_INFORMATION, OPTIONAL, value)

@@ -1,4 +1,4 @@
-//! One site: what it holds, and what it replies.
+//! One site: what it holds, what it replies, and what it pushes.
 #![tactic(auto)]
 
 mod facts;
