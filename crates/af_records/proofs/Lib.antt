@@ -1,5 +1,8 @@
 pub mod FlowLaws
 pub mod FlowOrder
+pub mod ListLaws
+pub mod ListParts
+pub mod ListOrder
 pub mod ReaderLaws
 pub mod RecordLaws
 pub mod RemovedLaws

@@ -56,7 +56,7 @@ abbrev pub part_cmp : RemovedPart → RemovedPart → Ordering
 part_cmp p q = removable_cmp (removable_of p) (removable_of q)
 
 -- nothing follows
-then_equal : (o : Ordering) → ordering_then o Equal ≡ o
+pub then_equal : (o : Ordering) → ordering_then o Equal ≡ o
 then_equal Less = refl
 then_equal Equal = refl
 then_equal Greater = refl
@@ -83,7 +83,7 @@ flows_in_order : (x : Tombed SessionParts) → record_valid x → Rises part_cmp
 flows_in_order x v = map-ascending numbers_cmp part_cmp (λ q. Flow q.0 q.1) (record_flows true x) (λ q r i j l. flow_order q r ∙ l) (flows_ascend true x v)
 
 -- all are
-removed_in_order : (x : Tombed SessionParts) → record_valid x → Rises removable_cmp (map removable_of (record_removed x))
+pub removed_in_order : (x : Tombed SessionParts) → record_valid x → Rises removable_cmp (map removable_of (record_removed x))
 removed_in_order x v = map-ascending part_cmp removable_cmp removable_of (record_removed x) (λ p q i j l. l)
     (append_ascending part_cmp (filter_map removed_component (components_of x)) (map (λ q. Flow q.0 q.1) (record_flows true x)) (components_in_order x v) (flows_in_order x v)
     (λ p q i j.
@@ -109,7 +109,7 @@ of_entry {F} {K} {V} place fields sub entry es q i = elim (In-cases (Removed q) 
 ]
 
 -- and back
-to_entry : {F K V : Type 0} (place : F → Place) (fields : List F) (sub : K → V → List Fact) (entry : F → Option Entry) (es : List (K × V)) (e : K × V) (a : Fact) → In e es → In a (sub e.0 e.1) → In a (level place fields sub entry es)
+pub to_entry : {F K V : Type 0} (place : F → Place) (fields : List F) (sub : K → V → List Fact) (entry : F → Option Entry) (es : List (K × V)) (e : K × V) (a : Fact) → In e es → In a (sub e.0 e.1) → In a (level place fields sub entry es)
 to_entry {F} {K} {V} place fields sub entry es e a i j = In-right a (flat_map (λ f. at_place (place f) (entry f)) fields) (flat_map (λ g. sub g.0 g.1) es) (In-flat_map (λ (g : K × V). sub g.0 g.1) e a es i j)
 
 -- a removed component is listed
@@ -123,7 +123,7 @@ flow_listed x c n k i j = In-map removable_of (Flow c n) (record_removed x)
     (In-right (Flow c n) (filter_map removed_component (components_of x)) (map (λ q. Flow q.0 q.1) (record_flows true x)) (In-map (λ (q : ℕ × ℕ). Flow q.0 q.1) (c, n) (record_flows true x) (there_listed true x c n k Ended i j refl)))
 
 -- what facts remove is listed
-fact_listed : (x : Tombed SessionParts) (q : Removable) → In (Removed q) (record_facts x) → In q (map removable_of (record_removed x))
+pub fact_listed : (x : Tombed SessionParts) (q : Removable) → In (Removed q) (record_facts x) → In q (map removable_of (record_removed x))
 fact_listed Ended q (inl p) = absurd (cc)
 fact_listed Ended q (inr i) = absurd i
 fact_listed (Live s) q i = let r = of_entry OfSession session_fields component_or_removed (session_entry s.fields) s.components q i in in_component r.0.0 r.0.1 r.1 r.2
@@ -149,7 +149,7 @@ ended (Live z) h = clash false h refl
 ended Ended h = refl
 
 -- what is listed, facts remove
-listed_fact : (x : Tombed SessionParts) (q : Removable) → In q (map removable_of (record_removed x)) → In (Removed q) (record_facts x)
+pub listed_fact : (x : Tombed SessionParts) (q : Removable) → In q (map removable_of (record_removed x)) → In (Removed q) (record_facts x)
 listed_fact x q i = let r = map-In removable_of q (record_removed x) i in subst (λ (z : Removable). In (Removed z) (record_facts x)) (sym r.2) (elim (In-cases r.0 (filter_map removed_component (components_of x)) (map (λ n. Flow n.0 n.1) (record_flows true x)) r.1) [
   | inl j ↦ of_component r.0 j
   | inr j ↦ of_flow r.0 j

@@ -1,3 +1,4 @@
+pub mod FactLists
 pub mod FlowLists
 pub mod Joins
 pub mod Parts

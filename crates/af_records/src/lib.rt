@@ -4,7 +4,9 @@
 mod component;
 mod fact;
 mod flow;
+mod flow_listing;
 mod flows;
+mod listing;
 mod rates;
 mod record;
 mod removed;

@@ -13,6 +13,7 @@ ghost use Rattle.pcrf_facts.specs.Values as values;
 ghost use Rattle.pcrf_facts.specs.Values.{Number, Text};
 ghost use Rattle.record_levels.specs.Levels.{entry_by};
 ghost use Rattle.record_levels.specs.SessionFacts.{address_value, session_says};
+ghost use Rattle.af_records.specs.FactLists.{record_listed};
 ghost use Rattle.af_records.specs.RemovedLists.{removable_of};
 ghost use Rattle.af_records.specs.Parts.{fields_at, components_of, component_at, flow_at, component_says, flow_says, held_number};
 ghost use Rattle.af_records.specs.RecordFacts.{fact_of};
@@ -23,6 +24,7 @@ use crate::component::ComponentParts;
 use crate::fact::{AfFact, AfRequestType, FlowUsageNumber, OpenStatusNumber};
 use crate::flow::FlowParts;
 use crate::flows::Flows;
+use crate::listing::facts_of;
 use crate::rates::GivenRates;
 use crate::removed::RemovedParts;
 use crate::session::SessionParts;
@@ -245,6 +247,14 @@ impl AfRec {
             record.put(alloc, fact)?;
         }
         Ok(record)
+    }
+
+    /// All facts that are kept, in order: a record of them is this record again. Its time and memory grow with their number.
+    pub fn facts(&self, alloc: Global) -> Result<Vec<AfFact>, AllocError>
+        ensures { IfOk result (λ facts. map fact_of facts.items ≡ self.now) }
+    {
+        self.parts.note_valid();
+        listed(alloc, &self.parts)
     }
 
     /// The session is ended.
@@ -510,6 +520,18 @@ impl AfRec {
         self.parts.note_valid();
         RemovedParts::of(components_of(&self.parts))
     }
+}
+
+// The facts of a record, in order.
+fn listed(alloc: Global, parts: &Tombed<SessionParts>) -> Result<Vec<AfFact>, AllocError>
+    ensures { IfOk result (λ facts. facts.items ≡ record_listed parts.now) }
+{
+    let Tombed::Live(session) = parts else {
+        let mut facts = Vec::new(alloc);
+        facts.push(AfFact::End)?;
+        return Ok(facts);
+    };
+    facts_of(alloc, session)
 }
 
 // The Flow-Status of a flow, by what it and its component say.

@@ -1,3 +1,4 @@
+pub mod ListLaws
 pub mod ReaderLaws
 pub mod RecordLaws
 pub mod SubsetLaws

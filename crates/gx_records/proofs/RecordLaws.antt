@@ -63,7 +63,7 @@ told_all name P h (Some e) a (inl q) = subst P (sym q) (h (e.0, told_value e.1))
 told_all name P h (Some e) a (inr i) = absurd i
 
 -- they are under that name
-told_keyed : (name : List ℕ) (x : Register) (a : Fact) → In a (told_at name x) → gx_key a ≡ Some (inr name)
+pub told_keyed : (name : List ℕ) (x : Register) (a : Fact) → In a (told_at name x) → gx_key a ≡ Some (inr name)
 told_keyed name = told_all name (λ (a : Fact). gx_key a ≡ Some (inr name)) (λ _. refl)
 
 -- ---- sessions

@@ -1,3 +1,4 @@
+pub mod FactLists
 pub mod GxFacts
 pub mod GxJoins
 pub mod Subsets

@@ -2,6 +2,7 @@
 #![tactic(auto)]
 
 mod fact;
+mod listing;
 mod parts;
 mod record;
 mod told;

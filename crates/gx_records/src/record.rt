@@ -1,19 +1,21 @@
 //! Records of Gx sessions.
-ghost use Rattle.std.specs.Prelude.{◌≡◌, [], ◌∷◌, IfOk, OnOk, OnErr, map};
+ghost use Rattle.std.specs.Prelude.{◌≡◌, ℕ, [], ◌∷◌, IfOk, OnOk, OnErr, None, map};
 ghost use Rattle.std.specs.List.{filter_map};
 ghost use Rattle.std.specs.Option.{option_copied};
 ghost use Rattle.pcrf_facts.specs.Held.{held, joined, is_ended, shown};
 ghost use Rattle.pcrf_facts.specs.Live.{gx_is_live, home};
 ghost use Rattle.pcrf_facts.specs.Places as places;
-ghost use Rattle.pcrf_facts.specs.Places.{SessionField, OfSession};
+ghost use Rattle.pcrf_facts.specs.Places.{SessionField, ComponentField, FlowField, OfSession, OfComponent, OfFlow};
 ghost use Rattle.pcrf_facts.specs.ToldWords.{told_entries, told};
 ghost use Rattle.pcrf_facts.specs.Values as values;
 ghost use Rattle.pcrf_facts.specs.Values.{Number, Text};
 ghost use Rattle.record_levels.specs.Levels.{entry_by};
 ghost use Rattle.record_levels.specs.SessionFacts.{address_value, session_says};
+ghost use Rattle.gx_records.specs.FactLists.{record_listed};
 ghost use Rattle.gx_records.specs.GxFacts.{fact_of, fields_at, rule_under, single, told_held};
 
 use crate::fact::{GxFact, OpenRequestType};
+use crate::listing::facts_of;
 use crate::parts::GxParts;
 use crate::told::Told;
 use lattice_core::{FactSet, Join, Ranked, Reg, Tag, Tombed};
@@ -153,6 +155,14 @@ impl GxRec {
         Ok(record)
     }
 
+    /// All facts that are kept, in order: a record of them is this record again. Its time and memory grow with their number.
+    pub fn facts(&self, alloc: Global) -> Result<Vec<GxFact>, AllocError>
+        ensures { IfOk result (λ facts. map fact_of facts.items ≡ self.now) }
+    {
+        self.parts.note_valid();
+        listed(alloc, &self.parts)
+    }
+
     /// The session is ended.
     #[tactic(auto, using(crate::proofs::ReaderLaws::ended_is))]
     pub fn ended(&self) -> bool
@@ -183,6 +193,14 @@ impl GxRec {
     {
         self.parts.note_valid();
         fields_at(&self.parts)
+    }
+
+    /// Does nothing: its contract tells a proof that no component and no flow shows anything.
+    pub fn note_places(&self)
+        ensures components { (c : ℕ) (f : ComponentField) → None ≡ shown self.now (OfComponent c f) }
+        ensures flows { (c n : ℕ) (f : FlowField) → None ≡ shown self.now (OfFlow c n f) }
+    {
+        self.parts.note_valid();
     }
 
     /// The Framed-IP-Address, with its tag.
@@ -282,6 +300,18 @@ impl GxRec {
         }
         Ok(Told { pairs })
     }
+}
+
+// The facts of a record, in order.
+fn listed(alloc: Global, parts: &Tombed<GxParts>) -> Result<Vec<GxFact>, AllocError>
+    ensures { IfOk result (λ facts. facts.items ≡ record_listed parts.now) }
+{
+    let Tombed::Live(session) = parts else {
+        let mut facts = Vec::new(alloc);
+        facts.push(GxFact::End)?;
+        return Ok(facts);
+    };
+    facts_of(alloc, session)
 }
 
 // The rule that was told, where one was.

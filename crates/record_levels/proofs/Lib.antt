@@ -1,4 +1,5 @@
 pub mod LevelLaws
 pub mod Ordered
 pub mod SessionLaws
+pub mod FieldLists
 pub mod SubsetLaws

@@ -1,4 +1,5 @@
 pub mod Levels
 pub mod SessionFacts
 pub mod SessionJoins
+pub mod SessionLists
 pub mod Subsets

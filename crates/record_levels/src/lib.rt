@@ -4,6 +4,7 @@
 
 mod joining;
 mod session;
+mod values;
 
 pub use joining::{join_into, map_of};
 pub use session::{ClientFields, SessionFields, SessionValue, UserFields};
