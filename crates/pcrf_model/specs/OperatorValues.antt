@@ -41,6 +41,10 @@ pub record AfShown : Type 0 where
   pub fields : List FieldShown
   pub binding : Option (List ℕ)
 
+-- the Session-Id of the Gx session to which the AF session is bound (TS 29.213, 5.2)
+abbrev pub binding_id : View → Session → Option (List ℕ)
+binding_id v s = option_map (λ (x : Session). x.id) (bind v s)
+
 -- ended; partial, of which only some facts are known; or live, with what it shows
 pub data SessionValue (Seen : Type 0) : Type 0 where
   Ended : SessionValue Seen
@@ -57,7 +61,7 @@ gx_shown t v s = record { fields = fields_shown v s; home = home v s; rules = ru
 
 -- what a live AF session shows
 abbrev pub af_shown : View → Session → AfShown
-af_shown v s = record { fields = fields_shown v s; binding = option_map (λ (x : Session). x.id) (bind v s) }
+af_shown v s = record { fields = fields_shown v s; binding = binding_id v s }
 
 -- a Gx session by its Session-Id, with what is seen of it
 abbrev pub gx_value : Tables → View → Session → Kind → Option (List ℕ × SessionValue GxShown)
@@ -86,3 +90,12 @@ value_seen t clock v = record {
 -- what an operator sees of a holding
 unfoldable pub operator_value : Tables → Holding → OperatorValue
 operator_value t h = value_seen t h.clock (view h.facts)
+
+-- a live AF session by its Session-Id, with its binding
+abbrev pub bound_value : View → Session → Kind → Option (List ℕ × Option (List ℕ))
+bound_value v s Gx = None
+bound_value v s Af = cond (is_live v s) (Some (s.id, binding_id v s)) None
+
+-- the live AF sessions, ascending by Session-Id, each with its binding
+unfoldable pub bindings_of : View → List (List ℕ × Option (List ℕ))
+bindings_of v = filter_map (λ (s : Session). bound_value v s s.kind) v.sessions

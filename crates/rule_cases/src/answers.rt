@@ -1,5 +1,6 @@
 //! Answers to questions: `bound` and the Session-Id of a call, `at` and an address, `of` and a subscriber, `rules` and the
-//! Session-Id of a gateway's session.
+//! Session-Id of a gateway's session, `bindings` and `value`.
+use crate::seen::{put_bindings, put_value};
 use crate::tables::tables;
 use crate::words::{address, subscriber, text};
 use bind_index::{bind, sessions_at, sessions_of};
@@ -28,7 +29,7 @@ fn put_sessions(out: &mut String, sessions: &[SessionId]) -> Result<(), AllocErr
 }
 
 /// A line with the precedence, the name, the status, the class, the rates up and down, the priority and the filters.
-fn put_rule(out: &mut String, rule: &Rule) -> Result<(), AllocError> {
+pub fn put_rule(out: &mut String, rule: &Rule) -> Result<(), AllocError> {
     let qos = rule.qos();
     let priority = qos.priority;
     write!(out, "\n> {} ", rule.precedence())?;
@@ -84,6 +85,8 @@ pub fn put_answer(rt: &(impl AllocGlobal + Abort), state: &State, asked: &str, o
         ("at", word) => put_at(rt, state, word, out),
         ("of", word) => put_of(rt, state, word, out),
         ("rules", id) => put_rules(rt, state, id, out),
+        ("bindings", _) => put_bindings(rt, state, out),
+        ("value", _) => put_value(rt, state, out),
         _ => panic!(rt; "{asked}"),
     }
 }

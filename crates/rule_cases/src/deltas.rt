@@ -59,7 +59,7 @@ fn quality(rt: &impl Abort, part: u32) -> RuleQos {
 }
 
 /// The rule of a word.
-fn rule(rt: &(impl AllocGlobal + Abort), word: &str) -> Rule {
+pub fn rule(rt: &(impl AllocGlobal + Abort), word: &str) -> Rule {
     let (name, part) = word.split_once('.').unwrap_or((word, "0"));
     let part = number(rt, part);
     let status = match part {

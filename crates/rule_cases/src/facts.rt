@@ -1,8 +1,10 @@
 //! Operations by lines. `initial`, `update` and `terminate` stand for credit control requests, `call` for an AA request and
-//! `hang-up` for a session termination request; `partial` is an initial request of which the realm is not known. Behind that
-//! stand the Session-Id, the tag, and what the request gives: words `FIELD=VALUE` of the session, and in a call behind `with`
-//! words `COMPONENT:FIELD=VALUE` and `COMPONENT/FLOW:FIELD=VALUE`, or `removed` in the place of a field. These stand in the
-//! order in which an operation has its facts: what is removed, components, flows.
+//! `hang-up` for a session termination request; `partial` is an initial request of which the realm is not known, and `told`
+//! says that the gateway was told a rule. Behind that stand the Session-Id, the tag, and what the request gives: words
+//! `FIELD=VALUE` of the session, and in a call behind `with` words `COMPONENT:FIELD=VALUE` and `COMPONENT/FLOW:FIELD=VALUE`,
+//! or `removed` in the place of a field. These stand in the order in which an operation has its facts: what is removed,
+//! components, flows.
+use crate::deltas::rule;
 use crate::words::{address, apn, filters, number, parted, subscribers, tag, text};
 use af_records::{AfFact, ComponentValue, FlowValue};
 use gx_records::{GxFact, SessionValue};
@@ -119,6 +121,11 @@ fn call_facts(rt: &(impl AllocGlobal + Abort), at: Tag, words: &str) -> Vec<AfFa
     facts
 }
 
+/// That the gateway was told a rule.
+fn told(rt: &(impl AllocGlobal + Abort), at: Tag, word: &str) -> GxFact {
+    GxFact::Told(at, text(rt, word), Some(rule(rt, word)))
+}
+
 /// One fact alone.
 fn alone<F: Drop>(rt: &(impl AllocGlobal + Abort), fact: F) -> Vec<F> {
     let mut facts = Vec::new(rt.alloc());
@@ -135,6 +142,7 @@ pub fn take(rt: &(impl AllocGlobal + Abort), state: &mut State, line: &str) {
     let facts = match request {
         "call" => SessionFacts::Af(text(rt, id), call_facts(rt, at, words)),
         "hang-up" => SessionFacts::Af(text(rt, id), alone(rt, AfFact::End)),
+        "told" => SessionFacts::Gx(text(rt, id), alone(rt, told(rt, at, words))),
         "terminate" => SessionFacts::Gx(text(rt, id), alone(rt, GxFact::End)),
         _ => SessionFacts::Gx(text(rt, id), gateway_facts(rt, request, at, words)),
     };

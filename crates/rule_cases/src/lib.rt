@@ -18,6 +18,8 @@ mod replay;
 #[cfg(test)]
 mod rules;
 #[cfg(test)]
+mod seen;
+#[cfg(test)]
 mod tables;
 #[cfg(test)]
 mod words;

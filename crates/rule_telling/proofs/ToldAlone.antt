@@ -30,7 +30,7 @@ use Rattle.pcrf_model.proofs.ViewLaws.{sessions_alone}
 use Rattle.gx_records.specs.GxFacts.{told_value}
 
 -- a field that is kept shows
-kept_shows : (facts : List Fact) (p : Place) (e : Entry) → In (Field p e.0 e.1) (held facts) → shown facts p ≡ Some e
+pub kept_shows : (facts : List Fact) (p : Place) (e : Entry) → In (Field p e.0 e.1) (held facts) → shown facts p ≡ Some e
 kept_shows facts p e i =
     let k = kept-In (Field p e.0 e.1) facts ((sorted-In (kept facts) (Field p e.0 e.1)).0 i) in
     let open_ : is_gone facts p ≡ false = is_false (is_gone facts p) (λ t. let r = any-In (blocks p) facts t in clash (is_shaded_by (Field p e.0 e.1) r.0) (field_blocked p e r.0 r.2) (k.1 r.0 r.1)) in

@@ -1,0 +1,53 @@
+-- The fields that the facts of a session show.
+use Rattle.std.specs.Prelude.{List, [], ◌∷◌, Option, Some, None}
+use Rattle.std.proofs.Common.{option_map}
+use Rattle.std.specs.List.{filter_map}
+use Rattle.pcrf_facts.specs.Places.{SessionField, FramedIpAddress, CalledStationId, SubscriptionIds, OriginHost, OriginRealm, RequestType, OfSession}
+use Rattle.pcrf_facts.specs.Values.{Entry}
+use Rattle.pcrf_facts.specs.Facts as facts
+use Rattle.pcrf_facts.specs.Facts.{Fact}
+use Rattle.pcrf_facts.specs.Held.{held}
+use Rattle.pcrf_facts.specs.Live.{Shows}
+use Rattle.pcrf_model.specs.OperatorValues.{FieldShown, field_shown}
+use Rattle.af_records.specs.declared.fact.AfFact.{AfFact}
+use Rattle.af_records.specs.declared.fact.AfFact.TheVariants as af_fact
+use Rattle.operator_view.specs.declared.seen.AfField.{AfField}
+use Rattle.operator_view.specs.declared.seen.AfField.TheVariants.{Session, Component, Flow}
+
+-- the field that the fact gives
+abbrev pub field_of : Fact → Option FieldShown
+field_of facts.End = None
+field_of (facts.Removed r) = None
+field_of (facts.Field p t x) = field_shown p x
+
+-- those that are kept, ascending by their places
+abbrev pub fields_of : List Fact → List FieldShown
+fields_of facts = filter_map field_of (held facts)
+
+-- ---- fields of the session
+
+-- what a place shows, without its tag
+abbrev pub field_at : Shows → SessionField → Option FieldShown
+field_at shows f = option_map (λ (e : Entry). (OfSession f, e.1)) (shows (OfSession f))
+
+-- of these places
+abbrev pub shown_at : Shows → List SessionField → List FieldShown
+shown_at shows fs = filter_map (field_at shows) fs
+
+-- those of the user, and those of the client
+abbrev pub user_places : List SessionField
+user_places = FramedIpAddress ∷ CalledStationId ∷ SubscriptionIds ∷ []
+
+abbrev pub client_places : List SessionField
+client_places = OriginHost ∷ OriginRealm ∷ RequestType ∷ []
+
+-- ---- facts of the code
+
+-- the field that the fact gives
+abbrev pub af_field : AfFact → Option AfField
+af_field af_fact.End = None
+af_field (af_fact.ComponentRemoved c) = None
+af_field (af_fact.FlowRemoved c n) = None
+af_field (af_fact.Session t x) = Some (Session x)
+af_field (af_fact.Component c t x) = Some (Component c x)
+af_field (af_fact.Flow c n t x) = Some (Flow c n x)

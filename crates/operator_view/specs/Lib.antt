@@ -1,0 +1,3 @@
+pub mod ByRecord
+pub mod Fields
+pub mod Shown

@@ -1,0 +1,58 @@
+//! The bindings of all calls.
+ghost use Rattle.std.specs.Prelude.{◌≡◌, IfOk};
+ghost use Rattle.pcrf_model.specs.OperatorValues.{binding_id, bindings_of};
+ghost use Rattle.pcrf_model.specs.Sessions.{af};
+ghost use Rattle.pcrf_model.specs.Views.{view};
+ghost use Rattle.operator_view.specs.ByRecord.{bindings_among};
+
+use af_records::AfRec;
+use bind_index::bind;
+use pcrf_values::SessionId;
+use ranked::Ranked;
+use site_join::State;
+use std::alloc::{AllocError, Global};
+use std::collections::btree_map::Iter;
+
+/// The live sessions of application functions in the order of their Session-Ids, each with the Session-Id of the gateway's
+/// session to which it is bound, or none (TS 29.213, 5.2). Its time grows with the number of application functions' sessions
+/// times that of gateways' sessions.
+pub fn bindings(
+    alloc: Global,
+    state: &State,
+) -> Result<Vec<(SessionId, Option<SessionId>)>, AllocError>
+    ensures { IfOk result (λ found. found.items ≡ bindings_of (view state.now.facts)) }
+{
+    bindings_among(alloc, state, state.all_af())
+}
+
+/// Those of the live ones among these sessions.
+fn bindings_among(
+    alloc: Global,
+    state: &State,
+    sessions: Iter<'_, SessionId, AfRec>,
+) -> Result<Vec<(SessionId, Option<SessionId>)>, AllocError>
+    ensures { IfOk result (λ found. found.items
+        ≡ bindings_among (view state.now.facts) sessions.entry) }
+{
+    let mut found = Vec::new(alloc);
+    for (session, known) in sessions {
+        if known.live() {
+            let binding = binding_of(state, session)?;
+            found.push((session.try_copy()?, binding))?;
+        }
+    }
+    Ok(found)
+}
+
+/// The Session-Id of the gateway's session to which one is bound.
+pub(crate) fn binding_of(
+    state: &State,
+    session: &SessionId,
+) -> Result<Option<SessionId>, AllocError>
+    ensures { IfOk result (λ id. id ≡ binding_id (view state.now.facts) (af session.now)) }
+{
+    match bind(state, session) {
+        Some(bound) => Ok(Some(bound.try_copy()?)),
+        None => Ok(None),
+    }
+}
