@@ -52,7 +52,7 @@ pub record StrValue : Type 0 where
   pub realm : List ℕ
 
 -- A request of the base protocol (RFC 6733, 5.3 to 5.5): Origin-Host and Origin-Realm, and of a capabilities exchange the applications
--- that it advertises (Auth-Application-Id, alone and within Vendor-Specific-Application-Id), in the order in which they stand.
+-- that it advertises (Auth-Application-Id, alone and then within Vendor-Specific-Application-Id), each in the order in which they stand.
 pub data BaseKind : Type 0 where
   CapabilitiesExchange : List ℕ → BaseKind
   DeviceWatchdog DisconnectPeer : BaseKind

@@ -1,0 +1,12 @@
+//! Requests of the base protocol between neighbours, and their answers: the capabilities exchange, the watchdog and the end of
+//! a connection (RFC 6733, 5.3 to 5.5).
+#![tactic(auto)]
+
+mod answer;
+mod applications;
+mod codes;
+mod request;
+
+pub use answer::base_answer;
+pub use applications::ApplicationId;
+pub use request::{BaseKind, BaseRequest, read_base};

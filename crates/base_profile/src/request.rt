@@ -1,0 +1,64 @@
+//! Requests of the base protocol.
+ghost use Rattle.std.specs.Prelude.{◌≡◌, OnOk, IfOk, IfErr};
+ghost use Rattle.dia_codec.specs.Spelling.{avp_views};
+ghost use Rattle.dia_base.specs.Rows.{AcceptsAll, IsFaultOf, rows_refusal};
+ghost use Rattle.base_profile.specs.Requests.{base_of, base_rows, base_view, kind_of, kind_rows, kind_view};
+
+use crate::applications::{ApplicationId, read_applications};
+use crate::codes::commands::{CAPABILITIES_EXCHANGE, DEVICE_WATCHDOG};
+use dia_base::{Origin, ReadFault, read_origin};
+use dia_codec::{Avp, Message};
+use std::alloc::Global;
+
+/// What a request of the base protocol asks for.
+#[derive(Drop, PartialEq, Eq)]
+pub enum BaseKind {
+    /// What the peers can (5.3.1): with the applications that the peer advertises.
+    CapabilitiesExchange(Vec<ApplicationId>),
+    /// Whether the peer is there (5.5.1).
+    DeviceWatchdog,
+    /// That the connection ends (5.4.1).
+    DisconnectPeer,
+}
+
+/// A request of the base protocol as it was read.
+#[derive(Drop, PartialEq, Eq)]
+pub struct BaseRequest {
+    /// What it asks for.
+    pub kind: BaseKind,
+    /// Origin-Host and Origin-Realm: the peer.
+    pub origin: Origin,
+}
+
+/// Reads what a command has besides the origin.
+fn read_kind(alloc: Global, command: u32, avps: &[Avp]) -> Result<BaseKind, ReadFault>
+    ensures accepted { OnOk result (AcceptsAll (kind_rows command) (avp_views avps.now)) }
+    ensures kind { IfOk result (λ kind. kind_view kind ≡ kind_of command (avp_views avps.now)) }
+    ensures refused { IfErr result
+        (IsFaultOf (rows_refusal (kind_rows command) (avp_views avps.now))) }
+{
+    if command == CAPABILITIES_EXCHANGE {
+        let applications = read_applications(alloc, avps)?;
+        return Ok(BaseKind::CapabilitiesExchange(applications));
+    }
+    if command == DEVICE_WATCHDOG {
+        return Ok(BaseKind::DeviceWatchdog);
+    }
+    Ok(BaseKind::DisconnectPeer)
+}
+
+/// Reads a request of the base protocol, or gives the first refusal of what breaks its command's table. A command that is
+/// neither a capabilities exchange nor a watchdog is read as the end of a connection.
+pub fn read_base(alloc: Global, message: &Message) -> Result<BaseRequest, ReadFault>
+    ensures accepted { OnOk result (AcceptsAll (base_rows message.now.header.command)
+        (avp_views message.now.avps.items)) }
+    ensures request { IfOk result (λ request. base_view request
+        ≡ base_of message.now.header.command (avp_views message.now.avps.items)) }
+    ensures refused { IfErr result (IsFaultOf (rows_refusal
+        (base_rows message.now.header.command) (avp_views message.now.avps.items))) }
+{
+    let avps = message.avps.as_slice();
+    let origin = read_origin(alloc, avps)?;
+    let kind = read_kind(alloc, message.header.command, avps)?;
+    Ok(BaseRequest { kind, origin })
+}
