@@ -2,9 +2,26 @@
 use crate::fingerprint::{EMPTY, Fingerprint};
 use crate::operations::{Said, call, shown, update, with_call};
 use crate::trial::Call;
+use dia_base::Identity;
+use op_tables::{Tables, read_tables};
+use pcrf_values::{BoundedText, DiameterIdentity};
 use site_core::Site;
 use site_join::Operation;
 use std::alloc::{AllocError, Global};
+use std::net::Ipv4Addr;
+
+/// Operator tables without an access point.
+const TABLES: &str = "edition = 1
+rtcp_bps = 5000
+[signalling]
+qci = 5
+priority = 9
+capability = 1
+vulnerability = 0
+max_ul = 32000
+max_dl = 32000
+precedence = 50
+";
 
 /// A site that takes a letter, and how many of the letter's operations stand taken.
 #[derive(Drop)]
@@ -49,7 +66,7 @@ fn shown_after(taken: usize) -> u64 {
 // It stays as it is where the site shows just the operations that stand taken.
 impl Fingerprint for TakeLetter {
     fn fingerprint(&self) -> u64 {
-        if self.site.state().fingerprint() == shown_after(self.taken) {
+        if self.site.sessions().fingerprint() == shown_after(self.taken) {
             EMPTY
         } else {
             0
@@ -72,6 +89,32 @@ fn put_calls(alloc: Global, letter: &mut Vec<Operation>) -> Result<(), AllocErro
     Ok(())
 }
 
+/// The operator tables; any fault counts as want of memory.
+fn tables(alloc: Global) -> Result<Tables, AllocError> {
+    match read_tables(alloc, TABLES) {
+        Ok(tables) => Ok(tables),
+        Err(_) => Err(AllocError),
+    }
+}
+
+/// A host or a realm.
+fn name(alloc: Global, text: &[u8]) -> Result<DiameterIdentity, AllocError> {
+    match BoundedText::read(alloc, text)? {
+        Some(name) => Ok(name),
+        None => Err(AllocError),
+    }
+}
+
+/// A site that took nothing.
+fn new_site(alloc: Global) -> Result<Site, AllocError> {
+    let names = Identity {
+        host: name(alloc, b"s")?,
+        realm: name(alloc, b"r")?,
+        address: Ipv4Addr::LOCALHOST,
+    };
+    Ok(Site::start(alloc, tables(alloc)?, names, 0))
+}
+
 impl Call for TakeLetter {
     type Case = ();
 
@@ -79,7 +122,7 @@ impl Call for TakeLetter {
         let mut letter = Vec::new(alloc);
         put_updates(alloc, &mut letter)?;
         put_calls(alloc, &mut letter)?;
-        let site = Site::start(alloc, 0);
+        let site = new_site(alloc)?;
         let taken = 0;
         Ok(TakeLetter {
             site,
@@ -99,7 +142,7 @@ impl Call for TakeLetter {
             ..
         } = self;
         match site.take_all(letter.as_slice()) {
-            Ok(()) => Ok(site.state().fingerprint()),
+            Ok(()) => Ok(site.sessions().fingerprint()),
             Err((taken, _)) => Err(TakeLetter {
                 site,
                 letter,

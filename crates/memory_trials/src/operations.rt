@@ -40,7 +40,7 @@ pub fn update(alloc: Global, id: &[u8], counter: u8, host: &[u8]) -> Result<Oper
     let facts = host_facts(alloc, tag(counter), host)?;
     let id = SessionId::read(alloc, id)?.ok_or(AllocError)?;
     let facts = SessionFacts::Gx(id, facts);
-    Ok(Operation::stamped(u64::from(counter), 2, 0, facts))
+    Operation::of(u64::from(counter), 2, 0, facts).ok_or(AllocError)
 }
 
 /// A list of one filter.
@@ -66,7 +66,7 @@ pub fn call(alloc: Global, counter: u8, said: Said<'_>) -> Result<Operation, All
     let facts = call_facts(alloc, tag(counter), said)?;
     let id = SessionId::read(alloc, CALL)?.ok_or(AllocError)?;
     let facts = SessionFacts::Af(id, facts);
-    Ok(Operation::stamped(u64::from(counter), 2, 0, facts))
+    Operation::of(u64::from(counter), 2, 0, facts).ok_or(AllocError)
 }
 
 /// What the fingerprint of a state has to be that shows these hosts, each of a session, and no call.

@@ -1,14 +1,18 @@
-//! Facts of typical Gx sessions of one gateway, each told apart by its place.
+//! What typical Gx sessions of a gateway say, each told apart by its place, and their facts.
 use crate::report::{add, given, only, text};
 use gx_records::{GxFact, SessionValue};
 use lattice_core::Tag;
 use pcrf_values::{
-    Apn, BoundedNumber, Subscriber, Subscribers, SubscriptionData, SubscriptionType,
+    Apn, BoundedNumber, DiameterIdentity, SessionId, Subscriber, Subscribers, SubscriptionData,
+    SubscriptionType,
 };
 use std::alloc::{AllocError, Global};
 use std::fmt::Write as _;
 use std::io;
 use std::net::Ipv4Addr;
+
+/// The host of the first gateway.
+pub const GATEWAY: &[u8] = b"gw.example";
 
 /// An international mobile subscriber identity.
 fn imsi(alloc: Global, place: u32) -> io::Result<SubscriptionData> {
@@ -17,36 +21,57 @@ fn imsi(alloc: Global, place: u32) -> io::Result<SubscriptionData> {
     text(alloc, imsi.as_bytes())
 }
 
+/// The Session-Id of a session: the host, the time of its start and the place (RFC 6733, 8.8).
+pub fn session_id(alloc: Global, place: u32) -> io::Result<SessionId> {
+    let mut id = String::new(alloc);
+    write!(id, "gw.example;1876543210;{place}")?;
+    text(alloc, id.as_bytes())
+}
+
 /// One subscriber, named by an international mobile subscriber identity.
-fn subscribers(alloc: Global, at: Tag, place: u32) -> io::Result<GxFact> {
+pub fn subscribers(alloc: Global, place: u32) -> io::Result<Subscribers> {
     let name = imsi(alloc, place)?;
     let ids = only(alloc, Subscriber::of(SubscriptionType::EndUserImsi, name))?;
-    let ids: Subscribers = given(Subscribers::of(alloc, ids)?)?;
-    Ok(GxFact::Field(at, SessionValue::Subscribers(ids)))
+    given(Subscribers::of(alloc, ids)?)
 }
 
 /// The address of a session: 10.0.0.0 and its place.
-fn address(at: Tag, place: u32) -> GxFact {
+pub fn address(place: u32) -> Ipv4Addr {
     let [_, first, second, third] = place.to_be_bytes();
-    let address = Ipv4Addr::new(10, first, second, third);
-    GxFact::Field(at, SessionValue::Address(address))
+    Ipv4Addr::new(10, first, second, third)
 }
 
 /// The access point name.
-fn apn(alloc: Global, at: Tag) -> io::Result<GxFact> {
-    let apn = given(Apn::folded(alloc, b"ims")?)?;
+pub fn apn(alloc: Global) -> io::Result<Apn> {
+    given(Apn::folded(alloc, b"ims")?)
+}
+
+/// The realm of all that sends requests.
+pub fn realm(alloc: Global) -> io::Result<DiameterIdentity> {
+    text(alloc, b"example")
+}
+
+/// A fact of the subscriber.
+fn subscribed(alloc: Global, at: Tag, place: u32) -> io::Result<GxFact> {
+    let ids = subscribers(alloc, place)?;
+    Ok(GxFact::Field(at, SessionValue::Subscribers(ids)))
+}
+
+/// A fact of the access point name.
+fn named(alloc: Global, at: Tag) -> io::Result<GxFact> {
+    let apn = apn(alloc)?;
     Ok(GxFact::Field(at, SessionValue::Apn(apn)))
 }
 
-/// The gateway's name.
-fn host(alloc: Global, at: Tag) -> io::Result<GxFact> {
-    let host = text(alloc, b"gw.example")?;
+/// A fact of the gateway's name.
+fn from_host(alloc: Global, at: Tag, host: &[u8]) -> io::Result<GxFact> {
+    let host = text(alloc, host)?;
     Ok(GxFact::Field(at, SessionValue::Host(host)))
 }
 
-/// The gateway's realm.
-fn realm(alloc: Global, at: Tag) -> io::Result<GxFact> {
-    let realm = text(alloc, b"example")?;
+/// A fact of the gateway's realm.
+fn from_realm(alloc: Global, at: Tag) -> io::Result<GxFact> {
+    let realm = realm(alloc)?;
     Ok(GxFact::Field(at, SessionValue::Realm(realm)))
 }
 
@@ -58,29 +83,46 @@ fn last(at: Tag, last: u32) -> io::Result<GxFact> {
 
 /// What an initial request says of the user.
 fn put_user(alloc: Global, facts: &mut Vec<GxFact>, at: Tag, place: u32) -> io::Result<()> {
-    add(facts, subscribers(alloc, at, place))?;
-    add(facts, Ok(address(at, place)))?;
-    add(facts, apn(alloc, at))
+    let address = SessionValue::Address(address(place));
+    add(facts, Ok(GxFact::Field(at, address)))?;
+    add(facts, named(alloc, at))?;
+    add(facts, subscribed(alloc, at, place))
 }
 
-/// What a request says of the gateway and of itself, by its CC-Request-Type.
-fn put_client(alloc: Global, facts: &mut Vec<GxFact>, at: Tag, kind: u32) -> io::Result<()> {
-    add(facts, host(alloc, at))?;
-    add(facts, realm(alloc, at))?;
+/// What a request of a gateway says of it and of itself, by its CC-Request-Type.
+fn put_client(
+    alloc: Global,
+    facts: &mut Vec<GxFact>,
+    at: Tag,
+    host: &[u8],
+    kind: u32,
+) -> io::Result<()> {
+    add(facts, from_host(alloc, at, host))?;
+    add(facts, from_realm(alloc, at))?;
     add(facts, last(at, kind))
 }
 
-/// The facts of an initial request: address, access point name, one subscriber, host, realm, and its type.
-pub fn initial_request(alloc: Global, at: Tag, place: u32) -> io::Result<Vec<GxFact>> {
+/// The facts of an initial request of a gateway: address, access point name, one subscriber, host, realm, and its type.
+pub fn initial_request_of(
+    alloc: Global,
+    at: Tag,
+    host: &[u8],
+    place: u32,
+) -> io::Result<Vec<GxFact>> {
     let mut facts = Vec::new(alloc);
     put_user(alloc, &mut facts, at, place)?;
-    put_client(alloc, &mut facts, at, 1)?;
+    put_client(alloc, &mut facts, at, host, 1)?;
     Ok(facts)
+}
+
+/// The facts of an initial request of the first gateway.
+pub fn initial_request(alloc: Global, at: Tag, place: u32) -> io::Result<Vec<GxFact>> {
+    initial_request_of(alloc, at, GATEWAY, place)
 }
 
 /// The facts of an update that gives nothing new: host, realm, and its type.
 pub fn update(alloc: Global, at: Tag) -> io::Result<Vec<GxFact>> {
     let mut facts = Vec::new(alloc);
-    put_client(alloc, &mut facts, at, 2)?;
+    put_client(alloc, &mut facts, at, GATEWAY, 2)?;
     Ok(facts)
 }

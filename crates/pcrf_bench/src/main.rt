@@ -3,11 +3,14 @@
 //! Without an argument it does nothing and prints nothing. Each measure has a module, named as on the command line.
 #![tactic(auto)]
 
+mod calls;
 mod gateway;
 mod map;
 mod records;
 mod report;
+mod rules;
 mod rx;
+mod sites;
 mod states;
 mod tables;
 
@@ -24,6 +27,7 @@ fn measure(rt: &(impl AllocGlobal + Clock + Print), name: &str, size: u32) -> io
         "records_kept" => records::keep(rt, size),
         "rx" => rx::measure(rt, size),
         "rx_kept" => rx::keep(rt, size),
+        "sites" => sites::measure(rt, size),
         "states" => states::measure(rt, size),
         "states_kept" => states::keep(rt, size),
         "tables" => tables::measure(rt, size),

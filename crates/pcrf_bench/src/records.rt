@@ -1,13 +1,11 @@
 //! Records of sessions (`gx_records`, `af_records`): made of so many facts, and two such records joined.
 use crate::gateway::initial_request;
-use crate::report::{add, given, only, print_each, text};
+use crate::report::{add, print_each, text};
+use crate::rules::{filters, told_rule};
 use af_records::{AfFact, AfRec, FlowValue};
 use gx_records::{GxFact, GxRec};
 use lattice_core::{Join, Tag};
-use pcrf_values::{
-    BoundedNumber, FilterText, Filters, FlowStatus, Preemption, RetentionPriority, Rule, RuleName,
-    RuleQos,
-};
+use pcrf_values::RuleName;
 use std::alloc::{AllocError, AllocGlobal, Global};
 use std::fmt::Write as _;
 use std::io::{self, Print};
@@ -30,27 +28,6 @@ fn tag(counter: u64) -> Tag {
     }
 }
 
-/// One filter.
-fn filters(alloc: Global, bytes: &[u8]) -> io::Result<Filters> {
-    let filter: FilterText = text(alloc, bytes)?;
-    given(Filters::of(only(alloc, filter)?))
-}
-
-/// The quality of service of a rule.
-fn quality() -> io::Result<RuleQos> {
-    let priority = RetentionPriority {
-        level: given(BoundedNumber::of(9))?,
-        capability: Preemption::Disabled,
-        vulnerability: Preemption::Enabled,
-    };
-    Ok(RuleQos {
-        class: given(BoundedNumber::of(5))?,
-        priority,
-        max_uplink: 32_000,
-        max_downlink: 32_000,
-    })
-}
-
 /// The name of a rule, by its place.
 fn name_at(alloc: Global, place: u32) -> io::Result<RuleName> {
     let mut name = String::new(alloc);
@@ -58,19 +35,10 @@ fn name_at(alloc: Global, place: u32) -> io::Result<RuleName> {
     text(alloc, name.as_bytes())
 }
 
-/// A rule of one filter.
-fn rule(alloc: Global, place: u32) -> io::Result<Rule> {
-    let qos = quality()?;
-    let name = name_at(alloc, place)?;
-    let filters = filters(alloc, b"permit out ip from any to any")?;
-    Ok(Rule::of(name, FlowStatus::Enabled, filters, qos, 40))
-}
-
 /// What the gateway was told of a rule, by the place of the rule.
 fn told(alloc: Global, place: u32, counter: u64) -> io::Result<GxFact> {
     let name = name_at(alloc, place)?;
-    let rule = rule(alloc, place)?;
-    Ok(GxFact::Told(tag(counter), name, Some(rule)))
+    told_rule(alloc, tag(counter), name)
 }
 
 /// The filter of a flow of the first component.

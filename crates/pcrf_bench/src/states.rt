@@ -1,16 +1,11 @@
 //! What a site holds (`State`): an operation taken on a session that is new and on one that is there, and a merge of two
 //! states.
-ghost use Rattle.std.specs.Prelude.{◌≤◌};
-ghost use Rattle.pcrf_model.specs.Limits.{last_counter};
-
-use crate::gateway::{initial_request, update};
-use crate::report::{add, print_each, text};
+use crate::gateway::{initial_request, session_id, update};
+use crate::report::{add, given, print_each};
 use gx_records::GxFact;
 use lattice_core::Tag;
-use pcrf_values::SessionId;
 use site_join::{Operation, SessionFacts, State};
 use std::alloc::{AllocError, AllocGlobal, Global};
-use std::fmt::Write as _;
 use std::io::{self, Print};
 use std::time::{Clock, Duration, Instant};
 
@@ -39,17 +34,8 @@ fn place_at(kind: Kind, size: u32, turn: u32) -> u32 {
     u32::try_from(place).unwrap_or(0)
 }
 
-/// The Session-Id of a session: the host, the time of its start and the place (RFC 6733, 8.8).
-fn session_id(alloc: Global, place: u32) -> io::Result<SessionId> {
-    let mut id = String::new(alloc);
-    write!(id, "gw.example;1876543210;{place}")?;
-    text(alloc, id.as_bytes())
-}
-
 /// The tag of a turn: updates come after all initial requests.
-fn tag_at(kind: Kind, size: u32, turn: u32) -> Tag
-    ensures { result.counter ≤ last_counter }
-{
+fn tag_at(kind: Kind, size: u32, turn: u32) -> Tag {
     let (number, before) = match kind {
         Kind::Initial => (0, 0),
         Kind::Update => (1, size),
@@ -75,7 +61,7 @@ fn operation(alloc: Global, kind: Kind, size: u32, turn: u32) -> io::Result<Oper
     let at = tag_at(kind, size, turn);
     let id = session_id(alloc, place)?;
     let facts = SessionFacts::Gx(id, facts_of(alloc, kind, at, place)?);
-    Ok(Operation::stamped(at.counter, at.site, at.number, facts))
+    given(Operation::of(at.counter, at.site, at.number, facts))
 }
 
 /// The operations of a batch.

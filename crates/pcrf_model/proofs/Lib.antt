@@ -18,5 +18,6 @@ pub mod StepLaws
 pub mod TellingLaws
 pub mod ToldFacts
 pub mod ToldLaws
+pub mod ToldTagLaws
 pub mod UnionLaws
 pub mod ViewLaws

@@ -26,7 +26,7 @@ use Rattle.pcrf_model.specs.Views.{View, view}
 use Rattle.pcrf_model.specs.Live.{is_live}
 use Rattle.pcrf_model.specs.Tables.{Tables}
 use Rattle.pcrf_model.specs.Rules.{rules}
-use Rattle.pcrf_model.specs.Differences.{told, rule_name_of, difference}
+use Rattle.pcrf_model.specs.Differences.{told_cmp, told, rule_name_of, difference, as_told, apply}
 use Rattle.pcrf_model.specs.Requests.{CcrValue}
 use Rattle.pcrf_model.specs.Making.{given, ccr_fields, told_facts, next_tag, next_operation}
 use Rattle.pcrf_model.specs.Serving.{delta_of, provisioned, with_added}
@@ -35,9 +35,12 @@ use Rattle.pcrf_model.specs.Forms.{are_tables, is_holding}
 use Rattle.pcrf_model.specs.Laws.{TellsTheFirst}
 use Rattle.pcrf_model.proofs.HoldingLaws.{session_ranked, session_fact_ranked, facts_on-In, In-under, under-In}
 use Rattle.pcrf_model.proofs.ViewLaws.{its_session, sessions_alone, view-Same}
-use Rattle.pcrf_model.proofs.DifferenceLaws.{no_name_twice, installed-In}
+use Rattle.pcrf_model.proofs.DifferenceLaws.{no_name_twice, installed-In, apply-difference}
+use Rattle.pcrf_model.proofs.DueLaws.{first_is_all}
 use Rattle.pcrf_model.proofs.FirstEntries.{difference-first}
-use Rattle.pcrf_model.proofs.FormReading.{found, FlowsFit, flows_fit, told_number, told_counter}
+use Rattle.pcrf_model.specs.ToldTags.{ToldUpTo}
+use Rattle.pcrf_model.proofs.FormReading.{found, FlowsFit, flows_fit}
+use Rattle.pcrf_model.proofs.ToldTagLaws.{told_holding}
 use Rattle.pcrf_model.proofs.RuleNames.{rules-names_differ}
 use Rattle.pcrf_model.proofs.ToldLaws.{told_is_told}
 use Rattle.pcrf_model.proofs.ToldFacts.{is_told, same_field, IsApart, told-tells}
@@ -81,6 +84,10 @@ module _ (most : ℕ) (t : Tables) (xs : List SessionFact) (s : Session) (names 
           rules_stay = stay;
           told_next = next;
           left = (λ i. difference (next i) (stay i)) ∙ difference-first most (told v s) (rules t v s) (told_is_told xs s) names;
+          all_told = λ few.
+              next ∙ ap (apply (told v s)) (first_is_all most (difference (told v s) (rules t v s)) few)
+              ∙ apply-difference (told v s) (rules t v s) (told_is_told xs s).one_each names
+              ∙ ap (λ (rs : List RuleValue). ascending told_cmp (map as_told rs)) (sym stay);
         }
 
 -- ---- nothing told is gone, where the session is not ended
@@ -139,14 +146,13 @@ of_request q t f i =
 
 -- ---- a holding, and one with the fields of a request
 
-module _ (h : Holding) (i : ℕ) (form : is_holding h ≡ true) where
+module _ (h : Holding) (i : ℕ) (told_up_to : ToldUpTo h.clock h.facts) where
   -- what is told next is above all that was told
   above_all : (s : Session) (m : List ℕ) (u : Tag) (x : Value) → In (Field (OfRuleName m) u x) (facts_on h.facts s) → tag_cmp u (next_tag i h 0) ≡ Less
   above_all s m u x j =
-      let there = facts_on-In h.facts s (Field (OfRuleName m) u x) j in
-      let zero_ = told_number h form s m u x there in
-      let low = told_counter h form s m u x there in
-      let a : nat_cmp u.number 0 ≡ Equal = ap (λ n. nat_cmp n 0) zero_ in
+      let tag = told_up_to.each (s, Field (OfRuleName m) u x) (facts_on-In h.facts s (Field (OfRuleName m) u x) j) in
+      let low = tag.1 in
+      let a : nat_cmp u.number 0 ≡ Equal = ap (λ n. nat_cmp n 0) tag.0 in
       let b : nat_cmp u.counter (h.clock + 1) ≡ Less = sym (nat_cmp_is u.counter (h.clock + 1) Less (omega (arith, low))) in
       λ k. ordering_then (a k) (ordering_then (b k) (nat_cmp u.site i))
 
@@ -206,11 +212,16 @@ sessions_are : (facts : List SessionFact) (s : Session) → In s (view facts).se
 unfolding view
 sessions_are facts s i = (ascending-In session_cmp session_ranked (map its_session facts) s).0 i
 
--- an initial request or an update tells the first entries
-pub provisioning-tells : (most : ℕ) (t : Tables) (i : ℕ) (h : Holding) (q : CcrValue) → are_tables t ≡ true → is_holding h ≡ true → (view h.facts).ended (gx q.session) ≡ false →
+-- what is held with the fields of a request
+abbrev with_fields : ℕ → Holding → CcrValue → List SessionFact
+with_fields i h q = h.facts ++ under (gx q.session) (ccr_fields q (next_tag i h q.number))
+
+-- an initial request or an update tells the first entries, where the names of the rules differ and what was told is up to the clock
+pub provisioning-tells_up_to : (most : ℕ) (t : Tables) (i : ℕ) (h : Holding) (q : CcrValue) → ToldUpTo h.clock h.facts → Distinct (map rule_name_of (rules t (view (with_fields i h q)) (gx q.session))) →
+    (view h.facts).ended (gx q.session) ≡ false →
     TellsTheFirst most t (view (h.facts ++ under (gx q.session) (ccr_fields q (next_tag i h q.number)))) (view (with_added h (provisioned most t i h q).added).facts) (gx q.session)
 unfolding provisioned
-provisioning-tells most t i h q rows form alive =
+provisioning-tells_up_to most t i h q told_up_to names alive =
     let s : Session = gx q.session in
     let fs : List Fact = ccr_fields q (next_tag i h q.number) in
     let xs : List SessionFact = h.facts ++ under s fs in
@@ -223,21 +234,31 @@ provisioning-tells most t i h q rows form alive =
     (own ∷ Field realm (next_tag i h q.number) (Text q.realm) ∷ Field last (next_tag i h q.number) (Number (request_kind_number q.kind)) ∷ []) (inl refl))) in
     let new : List Fact = told_facts g (delta_of most t (view xs) s) in
     let told_so : TellsTheFirst most t (view xs) (view (xs ++ under s new)) s =
-    tells_the_first most t xs s (rules-names_differ t xs s rows (flows_with h s fs fields (flows_fit h form))) g (In-map its_session (s, own) xs there)
-    (older_with h s fs fields g (above_all h i form s))
+    tells_the_first most t xs s names g (In-map its_session (s, own) xs there)
+    (older_with h s fs fields g (above_all h i told_up_to s))
     (λ n. told_not_gone (facts_on xs s) n open_) in
     subst (λ (w : View). TellsTheFirst most t (view xs) w s) (sym (view-Same _ _ (one_list h.facts s (fs ++ new)) ∙ ap view (in_two h.facts s fs new))) told_so
+
+-- so it does by tables and on a holding of the form
+pub provisioning-tells : (most : ℕ) (t : Tables) (i : ℕ) (h : Holding) (q : CcrValue) → are_tables t ≡ true → is_holding h ≡ true → (view h.facts).ended (gx q.session) ≡ false →
+    TellsTheFirst most t (view (with_fields i h q)) (view (with_added h (provisioned most t i h q).added).facts) (gx q.session)
+provisioning-tells most t i h q rows form =
+    let s : Session = gx q.session in
+    let fs : List Fact = ccr_fields q (next_tag i h q.number) in
+    let fit = flows_with h s fs (of_request q (next_tag i h q.number)) (flows_fit h form) in
+    provisioning-tells_up_to most t i h q (told_holding h form) (rules-names_differ t (with_fields i h q) s rows fit)
 
 -- what is added where something is due
 added_due : (most : ℕ) (t : Tables) (i : ℕ) (h : Holding) (v : View) (o : Option Session) (s : Session) → o ≡ Some s
     → (unwrap_or (option_map (telling most t i h v) o) nothing_pushed).added ≡ Some (next_operation i h 0 s (told_facts (next_tag i h 0) (delta_of most t v s)))
 added_due most t i h v o s is = ap (λ (x : Option Session). (unwrap_or (option_map (telling most t i h v) x) nothing_pushed).added) is
 
--- a push tells the first entries
-pub pushing-tells : (most : ℕ) (t : Tables) (i : ℕ) (h : Holding) (name : Option (List ℕ)) (s : Session) → are_tables t ≡ true → is_holding h ≡ true → due t i (view h.facts) name ≡ Some s →
+-- a push tells the first entries, where the names of the rules differ and what was told is up to the clock
+pub pushing-tells_up_to : (most : ℕ) (t : Tables) (i : ℕ) (h : Holding) (name : Option (List ℕ)) (s : Session) → ToldUpTo h.clock h.facts → Distinct (map rule_name_of (rules t (view h.facts) s)) →
+    due t i (view h.facts) name ≡ Some s →
     TellsTheFirst most t (view h.facts) (view (with_added h (push most t i h name).added).facts) s
 unfolding push due
-pushing-tells most t i h name s rows form is =
+pushing-tells_up_to most t i h name s told_up_to names is =
     let v : View = view h.facts in
     let g : Tag = next_tag i h 0 in
     let new : List Fact = told_facts g (delta_of most t v s) in
@@ -245,9 +266,14 @@ pushing-tells most t i h name s rows form is =
     let alive : is_live v s ≡ true = second_so (is_gx s.kind) _ (first_so _ _ (first_so _ _ (first_so _ _ r.1))) in
     let open_ : is_ended (facts_on h.facts s) ≡ false = sym (sessions_alone h.facts s).ended ∙ not_true _ (first_so _ _ alive) in
     let told_so : TellsTheFirst most t v (view (h.facts ++ under s new)) s =
-    tells_the_first most t h.facts s (rules-names_differ t h.facts s rows (flows_fit h form)) g (sessions_are h.facts s r.0) (above_all h i form s)
+    tells_the_first most t h.facts s names g (sessions_are h.facts s r.0) (above_all h i told_up_to s)
     (λ n. told_not_gone (facts_on h.facts s) n open_) in
     let added = added_due most t i h v (due t i v name) s is in
     subst (λ (w : View). TellsTheFirst most t v w s)
     (sym (view-Same _ _ (one_list h.facts s new)) ∙ ap (λ (o : Option Operation). view (with_added h o).facts) (sym added))
     told_so
+
+-- so it does by tables and on a holding of the form
+pub pushing-tells : (most : ℕ) (t : Tables) (i : ℕ) (h : Holding) (name : Option (List ℕ)) (s : Session) → are_tables t ≡ true → is_holding h ≡ true → due t i (view h.facts) name ≡ Some s →
+    TellsTheFirst most t (view h.facts) (view (with_added h (push most t i h name).added).facts) s
+pushing-tells most t i h name s rows form = pushing-tells_up_to most t i h name s (told_holding h form) (rules-names_differ t h.facts s rows (flows_fit h form))

@@ -93,7 +93,7 @@ module _ (xs ts : List Fact) (tells : (f : Fact) → In f ts → Tells f) where
 -- ---- telling a difference
 
 -- each new fact tells a name that is removed, or a rule that is installed
-told-In : (g : Tag) (d : DeltaValue) (f : Fact) → In f (told_facts g d) → ((n : List ℕ) × In n d.removed × (f ≡ Field (OfRuleName n) g Untold)) ⊎ ((r : RuleValue) × In r d.installed × (f ≡ Field (OfRuleName r.name) g (Told r)))
+pub told-In : (g : Tag) (d : DeltaValue) (f : Fact) → In f (told_facts g d) → ((n : List ℕ) × In n d.removed × (f ≡ Field (OfRuleName n) g Untold)) ⊎ ((r : RuleValue) × In r d.installed × (f ≡ Field (OfRuleName r.name) g (Told r)))
 told-In g d f i = elim (In-cases f (map (λ n. Field (OfRuleName n) g Untold) d.removed) (map (λ (r : RuleValue). Field (OfRuleName r.name) g (Told r)) d.installed) i) [
   | inl j ↦ inl (map-In (λ n. Field (OfRuleName n) g Untold) f d.removed j)
   | inr j ↦ inr (map-In (λ (r : RuleValue). Field (OfRuleName r.name) g (Told r)) f d.installed j)

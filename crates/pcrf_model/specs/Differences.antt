@@ -55,6 +55,10 @@ first n d = record { removed = take n d.removed; installed = take (n - length d.
 abbrev pub rest : ℕ → DeltaValue → DeltaValue
 rest n d = record { removed = drop n d.removed; installed = drop (n - length d.removed) d.installed }
 
+-- how many entries there are
+abbrev pub entries_of : DeltaValue → ℕ
+entries_of d = length d.removed + length d.installed
+
 -- nothing is to be removed or installed
 abbrev pub is_empty : DeltaValue → Bool
 is_empty d = length d.removed + length d.installed == 0

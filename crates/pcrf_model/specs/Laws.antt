@@ -17,7 +17,7 @@ use Rattle.pcrf_model.specs.Bindings.{Candidate, candidate_cmp, standing, matche
 use Rattle.pcrf_model.specs.Tables.{Tables}
 use Rattle.pcrf_model.specs.Rules.{rules}
 use Rattle.pcrf_facts.specs.ToldWords.{ToldRule}
-use Rattle.pcrf_model.specs.Differences.{told_cmp, told, told_name_of, rule_name_of, IsTold, difference, first, rest, as_told, apply}
+use Rattle.pcrf_model.specs.Differences.{told_cmp, told, told_name_of, rule_name_of, IsTold, difference, first, rest, entries_of, as_told, apply}
 use Rattle.pcrf_model.specs.OperatorValues.{operator_value}
 use Rattle.pcrf_model.specs.Requests.{CcrValue, RequestValue}
 use Rattle.pcrf_model.specs.Making.{ccr_fields, next_tag}
@@ -163,7 +163,7 @@ FirstLeavesTheRest = (n : ℕ) (t : List ToldRule) (rs : List RuleValue) → IsT
 
 -- the first entries of a difference that has no more of them are all of it
 abbrev pub FirstIsAll : Type 0
-FirstIsAll = (n : ℕ) (d : DeltaValue) → length d.removed + length d.installed ≤ n → first n d ≡ d
+FirstIsAll = (n : ℕ) (d : DeltaValue) → entries_of d ≤ n → first n d ≡ d
 
 -- the told entries of a session are in order, with no name twice
 abbrev pub ToldIsTold : Type 0
@@ -247,11 +247,12 @@ abbrev pub SessionIsTold : Type 0
 SessionIsTold = (t : Tables) (h : Holding) (s : Session) → are_tables t ≡ true → is_holding h ≡ true → IsToldTheRules (told (view h.facts) s) (rules t (view h.facts) s)
 
 -- From one view to the next the gateway of s was told the first entries of the difference: the rules are the same, the told entries have these
--- entries applied, and what is left is the rest.
+-- entries applied, and what is left is the rest; a difference that had no more entries was told whole, and the told entries are just the rules.
 pub record TellsTheFirst (most : ℕ) (t : Tables) (before after : View) (s : Session) : Type 0 where
   pub rules_stay : rules t after s ≡ rules t before s
   pub told_next : told after s ≡ apply (told before s) (delta_of most t before s)
   pub left : difference (told after s) (rules t after s) ≡ rest most (difference (told before s) (rules t before s))
+  pub all_told : entries_of (difference (told before s) (rules t before s)) ≤ most → told after s ≡ ascending told_cmp (map as_told (rules t after s))
 
 -- an initial request or an update that is accepted tells the first entries of the difference with its fields added
 abbrev pub ProvisioningTells : Type 0

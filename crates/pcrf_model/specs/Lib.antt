@@ -25,5 +25,6 @@ pub mod Serving
 pub mod Sessions
 pub mod Steps
 pub mod Tables
+pub mod ToldTags
 pub mod Views
 pub mod Worlds

@@ -23,6 +23,7 @@ impl Obey for Console {
             Line::Nothing => Ok(()),
             Line::Sites(n) => self.start_world(*n, out),
             Line::Message(i, bytes) => self.give(*i, bytes.as_slice(), out),
+            Line::Push(i) => self.happen(&WorldEvent::Push(*i, None), out),
             Line::Letter(i, j) => self.happen(&WorldEvent::Letter(*i, *j), out),
             Line::Merge(j, k) => self.happen(&WorldEvent::Merge(*j, *k), out),
             Line::Restart(i) => self.restart(*i, out),
@@ -59,12 +60,12 @@ impl Console {
         put_stream(self.alloc, world, i, bytes, out)
     }
 
-    /// Has a letter made or taken.
+    /// Has a push, or a letter made or taken.
     fn happen(&mut self, event: &WorldEvent, out: &mut String) -> Result<(), LineFault> {
         let Some(world) = &mut self.world else {
             return Err(LineFault::Bad);
         };
-        Ok(put_outcome(out, world.step(event))?)
+        Ok(put_outcome(out, &world.step(event))?)
     }
 
     /// Has a site start again.
@@ -73,7 +74,7 @@ impl Console {
             return Err(LineFault::Bad);
         };
         let answer = world.step(&WorldEvent::Restart(i));
-        Ok(put_restart(out, i, answer)?)
+        Ok(put_restart(out, i, &answer)?)
     }
 
     /// Shows a site.
@@ -84,6 +85,6 @@ impl Console {
         let Some(site) = world.site(i) else {
             return Ok(out.push_str("refused NoSuchSite\n")?);
         };
-        Ok(show_state(self.alloc, out, world.tables(), site.state())?)
+        Ok(show_state(self.alloc, out, site.tables(), site.sessions())?)
     }
 }

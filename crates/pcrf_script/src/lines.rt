@@ -14,6 +14,8 @@ pub(crate) enum Line {
     Sites(u8),
     /// A site is given the bytes of a message.
     Message(Named, Vec<u8>),
+    /// A site pushes what is due.
+    Push(Named),
     /// A site makes a letter for a peer.
     Letter(Named, Named),
     /// A site takes a letter.
@@ -72,6 +74,7 @@ pub(crate) fn read_line(alloc: Global, line: &[u8]) -> Result<Line, LineFault> {
     match (first, second, third) {
         (Some("sites"), Some(n), None) => Ok(Line::Sites(sites(n)?)),
         (Some("msg"), Some(i), Some(hex)) => Ok(Line::Message(number(i)?, bytes(alloc, hex)?)),
+        (Some("push"), Some(i), None) => Ok(Line::Push(number(i)?)),
         (Some("letter"), Some(i), Some(j)) => Ok(Line::Letter(number(i)?, number(j)?)),
         (Some("merge"), Some(j), Some(k)) => Ok(Line::Merge(number(j)?, number(k)?)),
         (Some("restart"), Some(i), None) => Ok(Line::Restart(number(i)?)),

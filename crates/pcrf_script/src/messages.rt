@@ -6,9 +6,9 @@ ghost use Rattle.dia_codec.specs.Spelling.{IsFrame};
 use crate::printing::{put_answer, put_outcome};
 use dia_codec::{FrameFault, Header, StreamEnd, frames_of};
 use pcrf_values::{Refusal, SessionId};
-use pcrf_wire::{Asked, Reply, Request, read_request, write_refusal, write_reply};
-use pcrf_world::{PlainSite, World, WorldEvent, WorldOutcome};
+use pcrf_world::{World, WorldEvent, WorldOutcome};
 use script_lines::LineFault;
+use site_core::{Asked, Reply, Request, Site, read_request, write_refusal, write_reply};
 use std::alloc::{AllocError, Global};
 
 /// Gives a site the bytes of a stream: prints a line for each message, and one for what is left of the stream. An
@@ -67,7 +67,7 @@ fn put_message(
 /// Prints the answer to a request that could not be read.
 fn put_refusal(
     alloc: Global,
-    site: &PlainSite,
+    site: &Site,
     header: &Header,
     session: Option<&SessionId>,
     refusal: Refusal,
@@ -82,7 +82,7 @@ fn put_refusal(
 /// Prints the answer to a request that was served.
 fn put_reply(
     alloc: Global,
-    site: &PlainSite,
+    site: &Site,
     header: &Header,
     request: &Request,
     reply: &Reply,
@@ -108,11 +108,11 @@ fn put_served(
 {
     let event = WorldEvent::Serve(i, request);
     let outcome = world.step(&event);
-    let Ok(WorldOutcome::Replied(reply)) = outcome else {
-        return Ok(put_outcome(out, outcome)?);
+    let Ok(WorldOutcome::Replied(reply)) = &outcome else {
+        return Ok(put_outcome(out, &outcome)?);
     };
     let (Some(site), WorldEvent::Serve(_, request)) = (world.site(i), &event) else {
         unreachable!()
     };
-    Ok(put_reply(alloc, site, header, request, &reply, out)?)
+    Ok(put_reply(alloc, site, header, request, reply, out)?)
 }

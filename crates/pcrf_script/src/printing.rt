@@ -1,4 +1,7 @@
 //! What a script prints of events.
+use gx_profile::PushOut;
+use pcrf_show::put_text;
+use pcrf_values::Rule;
 use pcrf_world::{WorldFault, WorldOutcome};
 use std::alloc::AllocError;
 use std::fmt::Write as _;
@@ -7,7 +10,7 @@ use std::fmt::Write as _;
 pub(crate) fn put_restart(
     out: &mut String,
     i: usize,
-    answer: Result<WorldOutcome, WorldFault>,
+    answer: &Result<WorldOutcome, WorldFault>,
 ) -> Result<(), AllocError> {
     if let Ok(WorldOutcome::Restarted(epoch)) = answer {
         return writeln!(out, "restart {i} epoch {epoch}");
@@ -18,17 +21,42 @@ pub(crate) fn put_restart(
 /// What an event gave, but for a reply and a restart, which have lines of their own.
 pub(crate) fn put_outcome(
     out: &mut String,
-    answer: Result<WorldOutcome, WorldFault>,
+    answer: &Result<WorldOutcome, WorldFault>,
 ) -> Result<(), AllocError> {
     match answer {
         Ok(WorldOutcome::Replied(_) | WorldOutcome::Restarted(_)) => Ok(()),
+        Ok(WorldOutcome::Pushed(push)) => put_push(out, push.as_ref()),
         Ok(WorldOutcome::Lettered(k)) => writeln!(out, "letter {k}"),
         Ok(WorldOutcome::Merged) => out.push_str("merged\n"),
         Err(WorldFault::NoSuchSite) => out.push_str("refused NoSuchSite\n"),
         Err(WorldFault::NoSuchLetter) => out.push_str("refused NoSuchLetter\n"),
         Err(WorldFault::EpochFull) => out.push_str("refused EpochFull\n"),
+        Err(WorldFault::ClockFull) => out.push_str("refused ClockFull\n"),
         Err(WorldFault::NoMemory { taken: _ }) => Err(AllocError),
     }
+}
+
+/// What a site pushed: the session, and the names of the rules that its gateway is to remove and to install.
+fn put_push(out: &mut String, push: Option<&PushOut>) -> Result<(), AllocError> {
+    let Some(push) = push else {
+        return out.push_str("none\n");
+    };
+    out.push_str("push ")?;
+    put_text(out, push.session.as_slice())?;
+    for name in push.delta.removed() {
+        out.push_str(" -")?;
+        put_text(out, name.as_slice())?;
+    }
+    put_installed(out, push.delta.installed())
+}
+
+/// The names of the rules that are installed, and the end of the line.
+fn put_installed(out: &mut String, rules: &[Rule]) -> Result<(), AllocError> {
+    for rule in rules {
+        out.push_str(" +")?;
+        put_text(out, rule.name().as_slice())?;
+    }
+    out.push_str("\n")
 }
 
 /// The bytes of an answer.

@@ -3,4 +3,4 @@
 
 mod showing;
 
-pub use showing::show_state;
+pub use showing::{put_text, show_state};

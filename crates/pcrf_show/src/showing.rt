@@ -128,7 +128,7 @@ fn put_not_live(out: &mut String, ended: bool) -> Result<(), AllocError> {
 }
 
 /// A text with its bytes 0x21 to 0x7E but the backslash as they are, and each other byte as `\x` and two digits.
-fn put_text(out: &mut String, bytes: &[u8]) -> Result<(), AllocError> {
+pub fn put_text(out: &mut String, bytes: &[u8]) -> Result<(), AllocError> {
     for byte in bytes {
         if byte.is_ascii_graphic() && *byte != b'\\' {
             out.push(char::from(*byte))?;

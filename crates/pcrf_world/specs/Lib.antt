@@ -1,3 +1,4 @@
 pub mod Identities
 pub mod Letters
+pub mod Members
 pub mod Values

@@ -1,18 +1,12 @@
 -- What happens in a world and what it answers, as the definitions have them.
 use Rattle.std.specs.Prelude.{Result, Ok, Err, List, map}
+use Rattle.std.proofs.Common.{option_map}
 use Rattle.pcrf_model.specs.Limits.{delta_limit}
 use Rattle.pcrf_model.specs.Tables.{Tables}
-use Rattle.pcrf_model.specs.Requests.{RequestValue, Ccr}
-use Rattle.pcrf_model.specs.Replies.{ReplyValue, Outcome}
-use Rattle.pcrf_model.specs.Serving.{serve}
 use Rattle.pcrf_model.specs.Worlds as model
-use Rattle.pcrf_model.specs.Worlds.{SiteView, WorldView, Setting, whole_log, WorldAnswer}
-use Rattle.gx_profile.specs.Requests.{ccr_view}
-use Rattle.site_core.specs.Replies.{gx_reply_value}
-use Rattle.pcrf_wire.specs.declared.request.Request.{Request}
-use Rattle.pcrf_wire.specs.declared.request.Request.TheVariants as request
-use Rattle.pcrf_wire.specs.declared.request.Reply.{Reply}
-use Rattle.pcrf_wire.specs.declared.request.Reply.TheVariants as reply
+use Rattle.pcrf_model.specs.Worlds.{WorldView, Setting, whole_log, WorldAnswer}
+use Rattle.gx_profile.specs.Pushes.{push_view}
+use Rattle.site_core.specs.Values.{request_value, reply_value}
 use Rattle.pcrf_world.specs.declared.world.WorldEvent.{WorldEvent}
 use Rattle.pcrf_world.specs.declared.world.WorldEvent.TheVariants as event
 use Rattle.pcrf_world.specs.declared.world.WorldOutcome.{WorldOutcome}
@@ -29,21 +23,10 @@ pub record WorldValue : Type 0 where
 abbrev pub setting : Tables → Setting
 setting t = record { tables = t; most = delta_limit; writes = whole_log }
 
--- what the definitions give by these tables on what a site holds
-abbrev pub served : Tables → SiteView → RequestValue → Outcome
-served t s q = serve (setting t).most t s.number s.state.holding q
-
--- a request
-abbrev pub request_value : Request → RequestValue
-request_value (request.Ccr q) = Ccr (ccr_view q)
-
--- a reply
-abbrev pub reply_value : Reply → ReplyValue
-reply_value (reply.Gx r) = gx_reply_value r
-
 -- an event
 abbrev pub event_value : WorldEvent → model.WorldEvent
 event_value (event.Serve i q) = model.ServeAt i (request_value q)
+event_value (event.Push i name) = model.PushAt i name
 event_value (event.Letter i j) = model.Letter i j
 event_value (event.Merge j k) = model.Merge j k
 event_value (event.Restart i) = model.Restart i
@@ -51,6 +34,7 @@ event_value (event.Restart i) = model.Restart i
 -- what an event gave
 abbrev pub outcome_value : WorldOutcome → model.WorldOutcome
 outcome_value (outcome.Replied r) = model.Replied (reply_value r)
+outcome_value (outcome.Pushed push) = model.PushedOut (option_map push_view push)
 outcome_value (outcome.Lettered k) = model.Lettered k
 outcome_value outcome.Merged = model.Merged
 outcome_value (outcome.Restarted e) = model.Restarted e
@@ -60,6 +44,7 @@ abbrev pub fault_value : WorldFault → model.WorldFault
 fault_value fault.NoSuchSite = model.NoSuchSite
 fault_value fault.NoSuchLetter = model.NoSuchLetter
 fault_value fault.EpochFull = model.EpochFull
+fault_value fault.ClockFull = model.ClockFull
 fault_value (fault.NoMemory n) = model.NoMemory n
 
 -- an answer

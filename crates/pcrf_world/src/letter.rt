@@ -1,8 +1,9 @@
 //! What sites write to each other.
 ghost use Rattle.std.specs.Prelude.{◌≡◌, IfOk};
 ghost use Rattle.pcrf_world.specs.Letters.{letter_of_log};
+ghost use Rattle.pcrf_world.specs.Members.{seen_of};
 
-use crate::site::PlainSite;
+use crate::site::Member;
 use site_join::Operation;
 use std::alloc::AllocError;
 use std::marker::Model;
@@ -32,15 +33,16 @@ impl Model for Letter {
 impl Letter {
     ghost use Rattle.pcrf_model.specs.Letters.{Range};
 
-    /// The letter of a site's whole log, under this edition of the operator tables.
-    pub(crate) fn of_log(edition: u32, site: &PlainSite) -> Result<Letter, AllocError>
-        ensures { IfOk result (λ letter. letter ≡ letter_of_log edition site.now) }
+    /// The letter of a site's whole log, under the edition of its operator tables.
+    pub(crate) fn of_log(member: &Member) -> Result<Letter, AllocError>
+        ensures { IfOk result (λ letter.
+            letter ≡ letter_of_log member.now.site.tables.edition (seen_of member.now)) }
     {
         Ok(Letter {
-            edition,
-            site: site.number(),
-            epoch: site.epoch(),
-            operations: site.copy_of_log()?,
+            edition: member.site.tables().edition(),
+            site: member.site.number(),
+            epoch: member.epoch,
+            operations: member.site.copy_of_log()?,
         })
     }
 

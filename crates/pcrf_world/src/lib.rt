@@ -1,4 +1,4 @@
-//! A world of sites that serve, make letters, take them and start again.
+//! A world of sites that serve, push, make letters, take them and start again.
 #![tactic(auto)]
 
 mod identity;
@@ -6,5 +6,4 @@ mod letter;
 mod site;
 mod world;
 
-pub use site::PlainSite;
 pub use world::{World, WorldEvent, WorldFault, WorldOutcome};

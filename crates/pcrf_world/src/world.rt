@@ -1,15 +1,16 @@
-//! A world of sites, which serve requests, make letters and take them.
-ghost use Rattle.std.specs.Prelude.{◌≡◌, length, slice_get, IfOk};
+//! A world of sites, which serve requests, push, make letters and take them.
+ghost use Rattle.std.specs.Prelude.{◌≡◌, length, slice_get, IfOk, option_map};
 ghost use Rattle.std.specs.Option.{option_copied};
 ghost use Rattle.pcrf_model.specs.Worlds.{WorldTook, start, world_view, after, after_all, Gives, GivesAll, HoldAlike};
+ghost use Rattle.pcrf_world.specs.Members.{site_seen};
 ghost use Rattle.pcrf_world.specs.Values.{event_value, answer_value, events_value, answers_value, setting};
 
 use crate::letter::Letter;
-use crate::site::PlainSite;
-use gx_profile::GxReply;
+use crate::site::Member;
+use gx_profile::{GxReply, PushOut};
 use op_tables::Tables;
-use pcrf_values::DefaultQuality;
-use pcrf_wire::{Reply, Request};
+use pcrf_values::{DefaultQuality, DiameterIdentity};
+use site_core::{Reply, Request, Site, StepFault};
 use std::alloc::{AllocError, Global};
 use std::marker::Model;
 use thiserror::Error;
@@ -19,6 +20,8 @@ use thiserror::Error;
 pub enum WorldEvent {
     /// A site serves a request.
     Serve(usize, Request),
+    /// A site pushes what a gateway of this host, of any where none is given, was not told.
+    Push(usize, Option<DiameterIdentity>),
     /// The first site makes a letter for the second: the operations that it made itself.
     Letter(usize, usize),
     /// A site takes a letter.
@@ -32,6 +35,8 @@ pub enum WorldEvent {
 pub enum WorldOutcome {
     /// The site's reply.
     Replied(Reply),
+    /// What was pushed; nothing where nothing was due.
+    Pushed(Option<PushOut>),
     /// The number of the new letter.
     Lettered(usize),
     /// The letter was taken.
@@ -49,6 +54,8 @@ pub enum WorldFault {
     NoSuchLetter,
     #[error("the site is in its last epoch")]
     EpochFull,
+    #[error("the site's clock is at its end")]
+    ClockFull,
     /// Memory ran out; of the letter's operations so many stand taken.
     #[error("no memory, with {taken} operations of the letter taken")]
     NoMemory {
@@ -62,19 +69,23 @@ pub enum WorldFault {
 pub struct World {
     alloc: Global,
     tables: Tables,
-    sites: Vec<PlainSite>,
+    sites: Vec<Member>,
     letters: Vec<Letter>,
 }
 
 impl Model for World {
+    ghost use Rattle.std.specs.Prelude.{map};
+    ghost use Rattle.pcrf_world.specs.Members.{AreMembers, seen_of};
     ghost use Rattle.pcrf_world.specs.Values.{WorldValue};
 
     ghost Value = { WorldValue };
 
     ghost view = { λ w. record {
       tables = w.tables;
-      seen = record { sites = w.sites.items; letters = w.letters.items };
+      seen = record { sites = map seen_of w.sites.items; letters = w.letters.items };
     } };
+
+    ghost invariant = { λ w. AreMembers w.tables w.sites.items };
 }
 
 impl World {
@@ -85,7 +96,8 @@ impl World {
     {
         let mut sites = Vec::new(alloc);
         for number in 0..n {
-            sites.push(PlainSite::start(alloc, number)?)?;
+            let tables = tables.try_copy(alloc)?;
+            sites.push(Member::start(alloc, tables, number)?)?;
         }
         Ok(World {
             alloc,
@@ -96,10 +108,14 @@ impl World {
     }
 
     /// The site of a number.
-    pub fn site(&self, i: usize) -> Option<&PlainSite>
-        ensures { option_copied result ≡ slice_get self.now.seen.sites i }
+    pub fn site(&self, i: usize) -> Option<&Site>
+        ensures { option_copied result
+            ≡ option_map (site_seen self.now.tables) (slice_get self.now.seen.sites i) }
     {
-        self.sites.get(i)
+        match self.sites.get(i) {
+            Some(member) => Some(&member.site),
+            None => None,
+        }
     }
 
     /// The operator tables of all sites.
@@ -121,6 +137,7 @@ impl World {
     {
         match event {
             WorldEvent::Serve(i, request) => self.reply_at(*i, request),
+            WorldEvent::Push(i, host) => self.push_at(*i, host),
             WorldEvent::Letter(i, j) => self.make_letter(*i, *j),
             WorldEvent::Merge(j, k) => self.take_letter(*j, *k),
             WorldEvent::Restart(i) => self.restart(*i),
@@ -139,11 +156,36 @@ impl World {
         if i >= self.sites.len() {
             return Err(WorldFault::NoSuchSite);
         }
-        let site = &mut self.sites[i];
-        let Ok(reply) = site.serve(&self.tables, request) else {
+        let member = &mut self.sites[i];
+        let Ok(reply) = member.site.serve(request) else {
             return Err(WorldFault::NoMemory { taken: 0 });
         };
         Ok(WorldOutcome::Replied(reply))
+    }
+
+    /// Has a site push.
+    fn push_at(
+        &mut self,
+        i: usize,
+        host: &Option<DiameterIdentity>,
+    ) -> Result<WorldOutcome, WorldFault>
+        ensures answer { Gives (setting self.old.tables) self.old.seen
+            (event_value (WorldEvent.Push i host.now)) (answer_value result) }
+        ensures after { (w : WorldTook) → world_view w ≡ self.old.seen → self.new.seen ≡ world_view
+            (after (setting self.old.tables) w (event_value (WorldEvent.Push i host.now)) (answer_value result)) }
+        ensures tables { self.new.tables ≡ self.old.tables }
+        ensures sites { length self.new.seen.sites ≡ length self.old.seen.sites }
+    {
+        if i >= self.sites.len() {
+            return Err(WorldFault::NoSuchSite);
+        }
+        let name = host.as_ref().map(|host| host.as_slice());
+        let member = &mut self.sites[i];
+        match member.site.push(name) {
+            Ok(push) => Ok(WorldOutcome::Pushed(push)),
+            Err(StepFault::ClockFull) => Err(WorldFault::ClockFull),
+            Err(StepFault::NoMemory) => Err(WorldFault::NoMemory { taken: 0 }),
+        }
     }
 
     /// Has the first site make a letter for the second.
@@ -159,7 +201,7 @@ impl World {
             return Err(WorldFault::NoSuchSite);
         }
         let k = self.letters.len();
-        let Ok(letter) = Letter::of_log(self.tables.edition(), &self.sites[i]) else {
+        let Ok(letter) = Letter::of_log(&self.sites[i]) else {
             return Err(WorldFault::NoMemory { taken: 0 });
         };
         match self.letters.push(letter) {
@@ -184,8 +226,8 @@ impl World {
             return Err(WorldFault::NoSuchLetter);
         }
         let letter = &self.letters[k];
-        let site = &mut self.sites[j];
-        match site.take_all(letter.operations()) {
+        let member = &mut self.sites[j];
+        match member.site.take_all(letter.operations()) {
             Ok(()) => Ok(WorldOutcome::Merged),
             Err((taken, _)) => Err(WorldFault::NoMemory { taken }),
         }
@@ -203,8 +245,8 @@ impl World {
         if i >= self.sites.len() {
             return Err(WorldFault::NoSuchSite);
         }
-        let site = &mut self.sites[i];
-        let Some(epoch) = site.restart() else {
+        let member = &mut self.sites[i];
+        let Some(epoch) = member.restart() else {
             return Err(WorldFault::EpochFull);
         };
         Ok(WorldOutcome::Restarted(epoch))
@@ -233,7 +275,7 @@ impl World {
         let mut world = World::start(alloc, tables, n)?;
         let mut answers = Vec::with_capacity(alloc, events.len())?;
         // What an answer is made of: without a variable of these types the check of the loop does not find them.
-        let _parts: Option<(Reply, GxReply, DefaultQuality)> = None;
+        let _parts: Option<(Reply, GxReply, PushOut, DefaultQuality)> = None;
         for event in events {
             let answer = world.step(event);
             answers.push(answer).unwrap();

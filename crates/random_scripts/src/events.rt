@@ -48,6 +48,8 @@ pub enum Event {
     Merge(usize, usize),
     /// A site starts again.
     Restart(usize),
+    /// A site pushes what is due.
+    Push(usize),
     /// A site shows what it holds.
     Show(usize),
 }
@@ -83,6 +85,7 @@ fn put_line(alloc: Global, text: &mut String, event: &Event) -> Result<(), Alloc
         Event::Letter(i, j) => writeln!(text, "letter {i} {j}"),
         Event::Merge(j, k) => writeln!(text, "merge {j} {k}"),
         Event::Restart(i) => writeln!(text, "restart {i}"),
+        Event::Push(i) => writeln!(text, "push {i}"),
         Event::Show(i) => writeln!(text, "show {i}"),
     }
 }

@@ -1,7 +1,7 @@
 //! What a script has to print, by the model, and a count of what happened.
 use crate::events::{Event, Kind, Request, Script};
 use crate::messages::answer_bytes;
-use crate::model::{Missing, Reply, Site, Tag, World};
+use crate::model::{Missing, Push, Reply, Site, Tag, World};
 use crate::tables::rules_of;
 use std::alloc::{AllocError, Global};
 use std::fmt::Write as _;
@@ -36,6 +36,10 @@ pub struct Counts {
     pub ended: u64,
     /// Sessions shown of which only some facts are known.
     pub partial: u64,
+    /// Pushes that told something.
+    pub pushed: u64,
+    /// Pushes where nothing was due.
+    pub not_due: u64,
     /// Letters made.
     pub letters: u64,
     /// Letters taken that brought an operation that was new there.
@@ -103,6 +107,10 @@ fn put_event(
                 count(&mut counts.restarts);
                 writeln!(text, "restart {i} epoch {epoch}")
             }
+            Err(missing) => put_refused(text, missing, counts),
+        },
+        Event::Push(i) => match world.push(*i)? {
+            Ok(push) => put_push(text, push.as_ref(), counts),
             Err(missing) => put_refused(text, missing, counts),
         },
         Event::Show(i) => match world.sites.get(*i) {
@@ -179,6 +187,26 @@ fn put_answer(
     let bytes = answer_bytes(alloc, i, request, &reply)?;
     text.push_str("answer ")?;
     put_hexadecimal(text, bytes.as_slice())?;
+    text.push_str("\n")
+}
+
+/// Writes what a site pushes, and counts it.
+fn put_push(text: &mut String, push: Option<&Push>, counts: &mut Counts) -> Result<(), AllocError> {
+    let Some(push) = push else {
+        count(&mut counts.not_due);
+        return text.push_str("none\n");
+    };
+    count(&mut counts.pushed);
+    text.push_str("push ")?;
+    put_text(text, push.session)?;
+    for name in &push.told.removed {
+        text.push_str(" -")?;
+        put_text(text, name)?;
+    }
+    for rule in &push.told.installed {
+        text.push_str(" +")?;
+        put_text(text, rule.name)?;
+    }
     text.push_str("\n")
 }
 

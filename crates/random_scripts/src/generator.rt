@@ -9,14 +9,14 @@ use std::alloc::{AllocError, Global};
 /// are printed by their numbers.
 const SESSIONS: [&[u8]; 4] = [b"gw;1;10", b"gw;1;1", b"~\xff", b"GW;\\ \x00\x7f"];
 
-/// Capital letters count as small ones, so that these are three access points that the tables have, of which one has
+/// Capital letters count as small ones, so that these are four access points that the tables have, of which one has
 /// bytes that are printed as numbers, and one that they lack, though its name is the beginning of another's.
 const ACCESS_POINTS: [&[u8]; 8] = [
     b"IMS",
     b"ims",
     b"iNternet",
-    b"INTERNET",
     b"internet",
+    b"Many",
     b"Z\\\xc3\x80",
     b"z\\\xc3\x80",
     b"im",
@@ -30,7 +30,7 @@ const ADDRESSES: [[u8; 4]; 4] = [[10, 0, 0, 1], [10, 0, 0, 2], [9, 255, 0, 1], [
 pub struct Plan {
     /// It has one of these numbers of sites.
     pub sites: [usize; 4],
-    /// At the end each site takes a letter of each site.
+    /// At the end each site takes a letter of each site, pushes, and takes a letter of each site again.
     pub exchanges: bool,
     /// Sites may start again. What a site made before that is in no letter that it makes later.
     pub restarts: bool,
@@ -55,6 +55,16 @@ fn letter(draws: &mut Draws, letters: usize) -> usize {
         return letters.saturating_sub(1);
     }
     draws.below(letters)
+}
+
+/// Which site a push names: often the one that was sent the newest request.
+fn pushing_site(draws: &mut Draws, sites: usize, asked: usize) -> usize
+    requires { 0 < sites }
+{
+    if draws.once_in(2) {
+        return asked;
+    }
+    site(draws, sites)
 }
 
 /// A request with each part that it may have.
@@ -116,19 +126,44 @@ fn restart(i: usize, restarts: bool) -> Event {
     }
 }
 
-/// What happens next, where so many letters were made.
-fn event(draws: &mut Draws, sites: usize, letters: usize, restarts: bool) -> Event
+/// What happened before, as far as it counts for what happens next.
+#[derive(Clone, Copy)]
+struct Before {
+    /// How many letters were made.
+    letters: usize,
+    /// The site that was sent the newest request.
+    asked: usize,
+}
+
+impl Before {
+    /// What happened after one more event.
+    fn after(self, event: &Event, sites: usize) -> Before {
+        let mut after = self;
+        match event {
+            Event::Send(i, _) => after.asked = *i,
+            Event::Letter(i, j) if *i < sites && *j < sites => {
+                after.letters = self.letters.saturating_add(1);
+            }
+            _ => {}
+        }
+        after
+    }
+}
+
+/// What happens next.
+fn event(draws: &mut Draws, sites: usize, before: Before, restarts: bool) -> Event
     requires { 0 < sites }
 {
     let i = site(draws, sites);
-    match draws.below(48) {
+    match draws.below(54) {
         0..=9 => Event::Send(i, whole_request(draws)),
         10..=11 => Event::Send(i, lacking_request(draws)),
         12..=21 => Event::Send(i, update(draws)),
         22 => Event::Send(i, termination(draws)),
         23 => restart(i, restarts),
         24..=32 => Event::Letter(i, site(draws, sites)),
-        33..=45 => Event::Merge(i, letter(draws, letters)),
+        33..=45 => Event::Merge(i, letter(draws, before.letters)),
+        46..=51 => Event::Push(pushing_site(draws, sites, before.asked)),
         _ => Event::Show(i),
     }
 }
@@ -142,18 +177,16 @@ fn put_events(
 ) -> Result<usize, AllocError>
     requires { 0 < sites }
 {
-    let mut letters = 0usize;
+    let mut before = Before {
+        letters: 0,
+        asked: 0,
+    };
     for _ in 0..20 + draws.below(41) {
-        let event = event(draws, sites, letters, restarts);
-        if let Event::Letter(i, j) = event
-            && i < sites
-            && j < sites
-        {
-            letters = letters.saturating_add(1);
-        }
+        let event = event(draws, sites, before, restarts);
+        before = before.after(&event, sites);
         events.push(event)?;
     }
-    Ok(letters)
+    Ok(before.letters)
 }
 
 /// A site takes so many letters, from the first one on, in an order of its own.
@@ -187,6 +220,15 @@ fn put_exchange(sites: usize, first: usize, events: &mut Vec<Event>) -> Result<(
     Ok(())
 }
 
+/// Each site takes a letter of each site and pushes, and takes a letter of each site again. So many letters were made before.
+fn put_end(sites: usize, letters: usize, events: &mut Vec<Event>) -> Result<(), AllocError> {
+    put_exchange(sites, letters, events)?;
+    for i in 0..sites {
+        events.push(Event::Push(i))?;
+    }
+    put_exchange(sites, letters.saturating_add(sites), events)
+}
+
 /// The script of a seed.
 pub fn script(alloc: Global, seed: u64, plan: Plan) -> Result<Script, AllocError> {
     let mut draws = Draws::start(seed);
@@ -194,7 +236,7 @@ pub fn script(alloc: Global, seed: u64, plan: Plan) -> Result<Script, AllocError
     let mut events = Vec::new(alloc);
     let letters = put_events(&mut draws, sites, plan.restarts, &mut events)?;
     if plan.exchanges {
-        put_exchange(sites, letters, &mut events)?;
+        put_end(sites, letters, &mut events)?;
     }
     for i in 0..sites {
         events.push(Event::Show(i))?;

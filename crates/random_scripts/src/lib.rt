@@ -15,6 +15,8 @@ mod messages;
 #[cfg(test)]
 mod model;
 #[cfg(test)]
+mod restarts;
+#[cfg(test)]
 mod runs;
 #[cfg(test)]
 mod tables;

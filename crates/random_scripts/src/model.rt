@@ -12,12 +12,23 @@ pub struct Tag {
     pub site: usize,
 }
 
-/// What an accepted request added: the end of its session, or the fields that it gives.
+/// What an accepted request or a push added.
+#[derive(Clone, Copy, PartialEq, Eq)]
+pub enum Kept {
+    /// The fields that a request gives.
+    Fields,
+    /// The end of the session.
+    End,
+    /// What a push told, and no field.
+    Push,
+}
+
+/// What an accepted request or a push added.
 #[derive(Clone, Drop, PartialEq, Eq)]
 pub struct Operation {
     pub tag: Tag,
     pub session: &'static [u8],
-    pub ends: bool,
+    pub kept: Kept,
     pub address: Option<[u8; 4]>,
     /// The access point name in small letters.
     pub apn: Option<Vec<u8>>,
@@ -26,13 +37,23 @@ pub struct Operation {
     pub told: Vec<(&'static [u8], Option<Rule>)>,
 }
 
-/// What an accepted request is told: which rules are removed and installed, and the default quality of service of the
+/// How many entries a message tells at most.
+const MOST_TOLD: usize = 40;
+
+/// What a gateway is told: which rules are removed and installed, and, where it asked, the default quality of service of the
 /// session's access point, if any.
 #[derive(Drop)]
 pub struct Told {
     pub removed: Vec<&'static [u8]>,
     pub installed: Vec<Rule>,
     pub quality: Option<Quality>,
+}
+
+/// What a site pushes to the gateway of a session.
+#[derive(Drop)]
+pub struct Push {
+    pub session: &'static [u8],
+    pub told: Told,
 }
 
 /// What a site replies.
@@ -48,7 +69,7 @@ pub enum Reply {
     Unknown,
 }
 
-/// The operations that a site took, and those that it made, each in order, and how often it began.
+/// The operations that a site took, each once, and those that it made, in order, and how often it began.
 #[derive(Drop)]
 pub struct Site {
     pub taken: Vec<Operation>,
@@ -73,6 +94,33 @@ fn lacks_parameters(request: &Request) -> bool {
     request.address.is_none() || request.apn.is_none() || request.subscribers == 0
 }
 
+impl Told {
+    /// Whether nothing is removed or installed.
+    fn is_empty(&self) -> bool {
+        self.removed.is_empty() && self.installed.is_empty()
+    }
+
+    /// Leaves the entries that a message has room for: the first names that are removed, and behind them the first rules.
+    fn keep_first(&mut self) {
+        let left = MOST_TOLD.saturating_sub(self.removed.len());
+        self.removed.truncate(MOST_TOLD);
+        self.installed.truncate(left);
+    }
+}
+
+impl Operation {
+    /// Adds what the gateway is told.
+    fn tell(&mut self, told: &Told) -> Result<(), AllocError> {
+        for name in &told.removed {
+            self.told.push((*name, None))?;
+        }
+        for rule in &told.installed {
+            self.told.push((rule.name, Some(*rule)))?;
+        }
+        Ok(())
+    }
+}
+
 impl Site {
     fn start(alloc: Global) -> Site {
         Site {
@@ -84,9 +132,8 @@ impl Site {
 
     /// Whether a session has ended.
     pub fn is_ended(&self, session: &[u8]) -> bool {
-        self.taken
-            .iter()
-            .any(|operation| operation.ends && operation.session == session)
+        self.taken.iter().any(|operation| operation.kept == Kept::End
+            && operation.session == session)
     }
 
     /// Whether a session is live: not ended, and showing an address, an access point name and subscribers.
@@ -119,11 +166,11 @@ impl Site {
         Ok(sessions)
     }
 
-    /// The tags of the operations of a session.
+    /// The tags of the fields of a session.
     pub fn tags(&self, alloc: Global, session: &[u8]) -> Result<Vec<Tag>, AllocError> {
         let mut tags = Vec::new(alloc);
         for operation in &self.taken {
-            if operation.session == session && !operation.ends {
+            if operation.session == session && operation.kept == Kept::Fields {
                 tags.push(operation.tag)?;
             }
         }
@@ -156,11 +203,11 @@ impl Site {
         Some(shown?.1)
     }
 
-    /// The home of a session: the site in the greatest tag.
+    /// The home of a session: the site in the greatest tag of its fields.
     pub fn home(&self, session: &[u8]) -> Option<usize> {
         let mut shown: Option<Tag> = None;
         for operation in &self.taken {
-            if operation.session == session && !operation.ends {
+            if operation.session == session && operation.kept == Kept::Fields {
                 shown = shown.max(Some(operation.tag));
             }
         }
@@ -227,8 +274,7 @@ impl Site {
         operation: &Operation,
     ) -> Result<(), AllocError> {
         for (name, _) in &operation.told {
-            let shown = self.told_under(operation.session, name);
-            if !names.contains(name) && shown.is_some() {
+            if !names.contains(name) && self.told_under(operation.session, name).is_some() {
                 names.push(*name)?;
             }
         }
@@ -259,6 +305,13 @@ impl Site {
         })
     }
 
+    /// Takes an operation that the site makes itself.
+    fn make(&mut self, operation: Operation) -> Result<(), AllocError> {
+        self.taken.push(operation.clone()?)?;
+        self.log.push(operation)?;
+        Ok(())
+    }
+
     /// Serves an accepted request.
     fn accept(
         &mut self,
@@ -276,16 +329,57 @@ impl Site {
         if request.kind != Kind::Termination {
             told = self.untold(alloc, request.session)?;
         }
-        for name in &told.removed {
-            operation.told.push((*name, None))?;
-        }
-        for rule in &told.installed {
-            operation.told.push((rule.name, Some(*rule)))?;
-        }
         self.taken.pop();
-        self.taken.push(operation.clone()?)?;
-        self.log.push(operation)?;
+        told.keep_first();
+        operation.tell(&told)?;
+        self.make(operation)?;
         Ok(told)
+    }
+
+    /// Pushes what the gateway of a session was not told, of the live sessions whose home is this site the least.
+    fn push(&mut self, alloc: Global, site: usize) -> Result<Option<Push>, AllocError> {
+        for session in &self.sessions(alloc)? {
+            if !self.is_live(session) || self.home(session) != Some(site) {
+                continue;
+            }
+            let told = self.untold(alloc, session)?;
+            if !told.is_empty() {
+                return Ok(Some(self.push_to(alloc, site, session, told)?));
+            }
+        }
+        Ok(None)
+    }
+
+    /// Pushes what the gateway of a session was not told.
+    fn push_to(
+        &mut self,
+        alloc: Global,
+        site: usize,
+        session: &'static [u8],
+        mut told: Told,
+    ) -> Result<Push, AllocError> {
+        told.keep_first();
+        let mut operation = self.pushed(alloc, site, session);
+        operation.tell(&told)?;
+        self.make(operation)?;
+        Ok(Push { session, told })
+    }
+
+    /// The operation of a push, with nothing told.
+    fn pushed(&self, alloc: Global, site: usize, session: &'static [u8]) -> Operation {
+        Operation {
+            tag: Tag {
+                number: 0,
+                counter: self.clock().saturating_add(1),
+                site,
+            },
+            session,
+            kept: Kept::Push,
+            address: None,
+            apn: None,
+            subscribers: false,
+            told: Vec::new(alloc),
+        }
     }
 
     /// The operation of an accepted request, with nothing told.
@@ -308,7 +402,7 @@ impl Site {
         Ok(Operation {
             tag,
             session: request.session,
-            ends,
+            kept: if ends { Kept::End } else { Kept::Fields },
             address: if ends { None } else { request.address },
             apn,
             subscribers: !ends && request.subscribers > 0,
@@ -362,6 +456,14 @@ impl World {
         Ok(Ok(Reply::Granted(told)))
     }
 
+    /// A site pushes: what it tells, if anything is due.
+    pub fn push(&mut self, i: usize) -> Result<Result<Option<Push>, Missing>, AllocError> {
+        match self.sites.get_mut(i) {
+            Some(site) => Ok(Ok(site.push(self.alloc, i)?)),
+            None => Ok(Err(Missing::Site)),
+        }
+    }
+
     /// A site starts again, empty: the new epoch.
     pub fn restart(&mut self, i: usize) -> Result<u64, Missing> {
         let Some(site) = self.sites.get_mut(i) else {
@@ -399,8 +501,8 @@ impl World {
         for operation in letter {
             if !site.has(operation) {
                 new = new.saturating_add(1);
+                site.taken.push(operation.clone()?)?;
             }
-            site.taken.push(operation.clone()?)?;
         }
         Ok(Ok(new))
     }

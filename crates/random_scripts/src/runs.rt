@@ -5,13 +5,14 @@ use crate::messages::request_bytes;
 use crate::model;
 use crate::tables::tables;
 use dia_codec::HEADER_BYTES;
-use gx_profile::{FirstEntries, GxReply};
+use gx_profile::{FirstEntries, GxReply, PushOut};
 use gx_records::GxRec;
 use pcrf_values::{
-    DefaultClass, DefaultQuality, Preemption, PriorityLevel, Refusal, RetentionPriority, SessionId,
+    DefaultClass, DefaultQuality, DiameterIdentity, Preemption, PriorityLevel, Refusal,
+    RetentionPriority, SessionId,
 };
-use pcrf_wire::{Asked, Reply, Request, read_request};
-use pcrf_world::{PlainSite, World, WorldEvent, WorldFault, WorldOutcome};
+use pcrf_world::{World, WorldEvent, WorldFault, WorldOutcome};
+use site_core::{Asked, Reply, Request, Site, read_request};
 use std::alloc::{AllocError, Global};
 use std::process::Abort;
 use std::test::Fail;
@@ -31,6 +32,14 @@ fn request(alloc: Global, sent: &Sent) -> Result<Request, Fail> {
     }
 }
 
+/// To which host a site pushes: a site of an even number to any, and another to the host of all gateways, which is the same.
+fn host(alloc: Global, site: usize) -> Result<Option<DiameterIdentity>, AllocError> {
+    match site % 2 {
+        0 => Ok(None),
+        _ => DiameterIdentity::read(alloc, b"gw"),
+    }
+}
+
 /// What happens in a script, but for what it shows.
 fn world_events(alloc: Global, script: &Script) -> Result<Vec<WorldEvent>, Fail> {
     let mut events = Vec::new(alloc);
@@ -40,6 +49,7 @@ fn world_events(alloc: Global, script: &Script) -> Result<Vec<WorldEvent>, Fail>
             Event::Letter(i, j) => events.push(WorldEvent::Letter(*i, *j))?,
             Event::Merge(j, k) => events.push(WorldEvent::Merge(*j, *k))?,
             Event::Restart(i) => events.push(WorldEvent::Restart(*i))?,
+            Event::Push(i) => events.push(WorldEvent::Push(*i, host(alloc, *i)?))?,
             Event::Show(_) => {}
         }
     }
@@ -50,6 +60,7 @@ fn world_events(alloc: Global, script: &Script) -> Result<Vec<WorldEvent>, Fail>
 #[derive(Drop)]
 enum Wanted {
     Replied(model::Reply),
+    Pushed(Option<model::Push>),
     Lettered(usize),
     Merged,
     Restarted(u64),
@@ -146,22 +157,36 @@ fn installs(delta: &FirstEntries, rules: &[Rule]) -> bool {
     installed.len() == rules.len()
 }
 
-/// Whether a reply tells just what the model tells.
-fn tells(delta: &FirstEntries, quality: Option<DefaultQuality>, wanted: &model::Told) -> bool {
-    if !removes(delta, wanted.removed.as_slice()) {
+/// Whether a gateway is told just what the model tells.
+fn tells(delta: &FirstEntries, wanted: &model::Told) -> bool {
+    removes(delta, wanted.removed.as_slice()) && installs(delta, wanted.installed.as_slice())
+}
+
+/// Whether a push is the model's. All gateways have one host and one realm.
+fn is_push(push: &PushOut, wanted: &model::Push) -> bool {
+    if push.session.as_slice() != wanted.session {
         return false;
     }
-    if !installs(delta, wanted.installed.as_slice()) {
+    if push.host.as_slice() != b"gw".as_slice() || push.realm.as_slice() != b"r".as_slice() {
         return false;
     }
-    quality == wanted.quality.and_then(site_quality)
+    tells(&push.delta, &wanted.told)
+}
+
+/// Whether just what the model pushes is pushed, if anything.
+fn is_pushed(push: Option<&PushOut>, wanted: Option<&model::Push>) -> bool {
+    match (push, wanted) {
+        (Some(push), Some(wanted)) => is_push(push, wanted),
+        (None, None) => true,
+        _ => false,
+    }
 }
 
 /// Whether a reply is the model's.
 fn is_reply(reply: &GxReply, wanted: &model::Reply) -> bool {
     match (reply, wanted) {
         (GxReply::Granted(delta, quality), model::Reply::Granted(told)) => {
-            tells(delta, *quality, told)
+            tells(delta, told) && *quality == told.quality.and_then(site_quality)
         }
         (GxReply::Refused(refusal), model::Reply::NoRow) => *refusal == Refusal::base(5003),
         (GxReply::Refused(refusal), model::Reply::LacksParameters) => {
@@ -177,6 +202,9 @@ fn is_answer(answer: &Answer, wanted: &Wanted) -> bool {
     match (answer, wanted) {
         (Ok(WorldOutcome::Replied(Reply::Gx(reply))), Wanted::Replied(told)) => {
             is_reply(reply, told)
+        }
+        (Ok(WorldOutcome::Pushed(push)), Wanted::Pushed(told)) => {
+            is_pushed(push.as_ref(), told.as_ref())
         }
         (Ok(WorldOutcome::Lettered(k)), Wanted::Lettered(number)) => k == number,
         (Ok(WorldOutcome::Merged), Wanted::Merged) => true,
@@ -196,6 +224,7 @@ fn answer(world: &mut model::World, event: &Event) -> Result<Option<Wanted>, All
         Event::Letter(i, j) => world.letter(*i, *j)?.map(Wanted::Lettered),
         Event::Merge(j, k) => world.merge(*j, *k)?.map(|_| Wanted::Merged),
         Event::Restart(i) => world.restart(*i).map(Wanted::Restarted),
+        Event::Push(i) => world.push(*i)?.map(Wanted::Pushed),
         Event::Show(_) => return Ok(None),
     };
     Ok(Some(given.unwrap_or_else(Wanted::Missing)))
@@ -235,8 +264,8 @@ fn shows(held: &GxRec, site: &model::Site, session: &[u8]) -> bool {
 }
 
 /// Whether a site holds what the model has of it.
-fn holds(alloc: Global, site: &PlainSite, wanted: &model::Site) -> Result<bool, AllocError> {
-    let state = site.state();
+fn holds(alloc: Global, site: &Site, wanted: &model::Site) -> Result<bool, AllocError> {
+    let state = site.sessions();
     let sessions = wanted.sessions(alloc)?;
     let mut count = 0usize;
     for (id, held) in state.all_gx() {

@@ -1,10 +1,13 @@
 //! The operator tables of the scripts, as a text that the program reads, and what the model knows of them.
-use op_tables::{TableFault, Tables, read_tables};
-use std::alloc::Global;
+use op_tables::{Tables, read_tables};
+use std::alloc::{AllocError, Global};
+use std::fmt::Write as _;
+use std::test::Fail;
 use test_messages::{Quality, Rule};
 
 /// Three access points: two with defaults that have no number in common and with rules, and one with a name alone, which
 /// has a capital letter and a character of two bytes. The rules of the first don't stand in the order in which they apply.
+/// Behind them comes `many`.
 const TEXT: &str = r#"
 edition = 3
 rtcp_bps = 5000
@@ -169,8 +172,49 @@ const INTERNET_RULES: [Rule; 1] = [Rule {
     precedence: 0,
 }];
 
+/// The rules of these names, which differ by nothing else.
+macro_rules! alike {
+    ($($name:literal),*) => {
+        [$(Rule {
+            name: $name,
+            status: 2,
+            filters: &[b"permit out ip from any to any"],
+            class: 6,
+            level: 3,
+            capability: 1,
+            vulnerability: 0,
+            uplink: 1_000,
+            downlink: 2_000,
+            precedence: 7,
+        }),*]
+    };
+}
+
+/// The rules of `many`: two more than a message tells.
+const MANY_RULES: [Rule; 42] = alike![
+    b"op/m00", b"op/m01", b"op/m02", b"op/m03", b"op/m04", b"op/m05", b"op/m06", b"op/m07",
+    b"op/m08", b"op/m09", b"op/m10", b"op/m11", b"op/m12", b"op/m13", b"op/m14", b"op/m15",
+    b"op/m16", b"op/m17", b"op/m18", b"op/m19", b"op/m20", b"op/m21", b"op/m22", b"op/m23",
+    b"op/m24", b"op/m25", b"op/m26", b"op/m27", b"op/m28", b"op/m29", b"op/m30", b"op/m31",
+    b"op/m32", b"op/m33", b"op/m34", b"op/m35", b"op/m36", b"op/m37", b"op/m38", b"op/m39",
+    b"op/m40", b"op/m41"
+];
+
+/// What the text has of each rule of `many`, behind its name.
+const MANY_TEXT: &str = r#"
+qci = 6
+priority = 3
+capability = 1
+vulnerability = 0
+max_ul = 1000
+max_dl = 2000
+precedence = 7
+status = 2
+filters = ["permit out ip from any to any"]
+"#;
+
 /// The rows of the access points.
-const ROWS: [Row; 3] = [
+const ROWS: [Row; 4] = [
     Row {
         name: b"ims",
         default: Some(IMS),
@@ -186,11 +230,29 @@ const ROWS: [Row; 3] = [
         default: None,
         rules: &[],
     },
+    Row {
+        name: b"many",
+        default: None,
+        rules: &MANY_RULES,
+    },
 ];
 
+/// The text of the tables.
+fn text(alloc: Global) -> Result<String, AllocError> {
+    let mut text = format!(in alloc; "{TEXT}[[apn]]\nname = \"many\"\n")?;
+    for number in 0..MANY_RULES.len() {
+        write!(text, "[[apn.rule]]\nname = \"m{number:02}\"{MANY_TEXT}")?;
+    }
+    Ok(text)
+}
+
 /// The tables of the scripts' sites.
-pub fn tables(alloc: Global) -> Result<Tables, TableFault> {
-    read_tables(alloc, TEXT)
+pub fn tables(alloc: Global) -> Result<Tables, Fail> {
+    let text = text(alloc)?;
+    match read_tables(alloc, text.as_str()) {
+        Ok(tables) => Ok(tables),
+        Err(_) => Err(Fail::from("tables")),
+    }
 }
 
 /// Whether a name has a row, whatever its letters' case.

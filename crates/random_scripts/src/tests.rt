@@ -75,10 +75,11 @@ fn run_hundred(rt: &(impl Abort + AllocGlobal), first: u64, plan: Plan) -> Resul
 }
 
 /// Asks that much has happened in a hundred scripts. They draw 2,000 events or more, and much less is asked for than is
-/// to be expected of 2,000: of 48 events ten are whole requests, two are requests that lack a part, ten are updates, one is
-/// a termination, nine make a letter, 13 take one, two show a site, and one has it start again. One of 32 sites that are
-/// named is not there, and one of 16 letters. One of eight names of access points has no row in the tables. Each site is
-/// shown at the end. That the number or the site of a tag decides what shows has to happen, however rarely, and so has an
+/// to be expected of 2,000: of 54 events ten are whole requests, two are requests that lack a part, ten are updates, one is
+/// a termination, nine make a letter, 13 take one, six have a site push, two show a site, and one has it start again. One of
+/// 32 sites that are named is not there, and one of 16 letters. One of eight names of access points has no row in the
+/// tables, and one has more rules than an answer tells, so that its session's home has something to push. Each site is shown
+/// at the end. That the number or the site of a tag decides what shows has to happen, however rarely, and so has an
 /// ended session, an update whose access point has no row and one that leaves the session at another access point: where
 /// there are many sites few updates reach one where their session is live.
 fn assert_busy(rt: &impl Abort, counts: &Counts) {
@@ -91,6 +92,8 @@ fn assert_busy(rt: &impl Abort, counts: &Counts) {
     assert!(rt; counts.update_without_row >= 1, "{counts:?}");
     assert!(rt; counts.lacking >= 50, "{counts:?}");
     assert!(rt; counts.unknown >= 50, "{counts:?}");
+    assert!(rt; counts.pushed >= 5, "{counts:?}");
+    assert!(rt; counts.not_due >= 100, "{counts:?}");
     assert!(rt; counts.letters >= 200, "{counts:?}");
     assert!(rt; counts.news >= 50, "{counts:?}");
     assert!(rt; counts.repeats >= 50, "{counts:?}");
@@ -114,6 +117,7 @@ fn few_sites_print_what_the_model_gives(rt: HostRuntime) -> Result<(), Fail> {
     assert_busy(&rt, &counts);
     assert!(rt; counts.late >= 20, "{counts:?}");
     assert!(rt; counts.update_without_row >= 10, "{counts:?}");
+    assert!(rt; counts.pushed >= 20, "{counts:?}");
     assert!(rt; counts.restarts >= 20, "{counts:?}");
     Ok(())
 }
@@ -140,5 +144,6 @@ fn sites_that_took_all_letters_show_the_same(rt: HostRuntime) -> Result<(), Fail
     };
     let counts = run_hundred(&rt, 2001, plan)?;
     assert_busy(&rt, &counts);
+    assert!(rt; counts.pushed >= 50, "{counts:?}");
     Ok(())
 }

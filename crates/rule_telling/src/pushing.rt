@@ -1,9 +1,11 @@
 //! The push that is due at a site.
-ghost use Rattle.std.specs.Prelude.{◌≡◌, true, IfOk, option_map};
+ghost use Rattle.std.specs.Prelude.{◌≡◌, true, IfOk, IfSome, map, option_map};
 ghost use Rattle.std.specs.Option.{option_copied};
+ghost use Rattle.ranked.specs.Sets.{Distinct};
 ghost use Rattle.pcrf_facts.specs.Live.{gx_is_live};
-ghost use Rattle.pcrf_model.specs.Differences.{is_empty};
+ghost use Rattle.pcrf_model.specs.Differences.{is_empty, rule_name_of};
 ghost use Rattle.pcrf_model.specs.Pushing.{due, push_to};
+ghost use Rattle.pcrf_model.specs.Rules.{rules};
 ghost use Rattle.pcrf_model.specs.Sessions.{gx};
 ghost use Rattle.pcrf_model.specs.Views.{view};
 ghost use Rattle.gx_profile.specs.Pushes.{push_view};
@@ -40,9 +42,11 @@ pub fn next_push(
     site: u8,
     host: Option<&[u8]>,
 ) -> Result<Option<PushOut>, AllocError>
-    ensures { IfOk result (λ push. option_map push_view push
+    ensures push { IfOk result (λ push. option_map push_view push
         ≡ option_map (push_of tables.now (view state.now.facts))
         (due tables.now site (view state.now.facts) (option_copied host.entry))) }
+    ensures names { IfOk result (λ push. IfSome push (λ p. Distinct (map rule_name_of
+        (rules tables.now (view state.now.facts) (gx p.session))))) }
 {
     let asked = Asked { site, host };
     first_push(alloc, tables, state, &asked, state.all_gx())
@@ -56,9 +60,11 @@ fn first_push(
     asked: &Asked<'_>,
     sessions: Iter<'_, SessionId, GxRec>,
 ) -> Result<Option<PushOut>, AllocError>
-    ensures { IfOk result (λ push. option_map push_view push
+    ensures push { IfOk result (λ push. option_map push_view push
         ≡ first_push tables.now (view state.now.facts) asked.now.site
         (option_copied asked.now.host) sessions.entry) }
+    ensures names { IfOk result (λ push. IfSome push (λ p. Distinct (map rule_name_of
+        (rules tables.now (view state.now.facts) (gx p.session))))) }
 {
     for (session, known) in sessions {
         let push = push_due(alloc, tables, state, asked, session, known)?;
@@ -78,9 +84,11 @@ fn push_due(
     session: &SessionId,
     known: &GxRec,
 ) -> Result<Option<PushOut>, AllocError>
-    ensures { IfOk result (λ push. option_map push_view push
+    ensures push { IfOk result (λ push. option_map push_view push
         ≡ push_due tables.now (view state.now.facts) asked.now.site
         (option_copied asked.now.host) session.now known.now) }
+    ensures names { IfOk result (λ push. IfSome push (λ p. Distinct (map rule_name_of
+        (rules tables.now (view state.now.facts) (gx p.session))))) }
 {
     if !is_asked(asked, known) {
         return Ok(None);

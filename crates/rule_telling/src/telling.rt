@@ -1,6 +1,8 @@
 //! What the gateway of a session is still to be told.
-ghost use Rattle.std.specs.Prelude.{◌≡◌, IfOk};
-ghost use Rattle.pcrf_model.specs.Differences.{told};
+ghost use Rattle.std.specs.Prelude.{◌≡◌, IfOk, OnOk, map};
+ghost use Rattle.ranked.specs.Sets.{Distinct};
+ghost use Rattle.pcrf_model.specs.Differences.{rule_name_of, told};
+ghost use Rattle.pcrf_model.specs.Rules.{rules};
 ghost use Rattle.pcrf_model.specs.Sessions.{gx};
 ghost use Rattle.pcrf_model.specs.Views.{view};
 ghost use Rattle.rule_telling.specs.Pushed.{untold};
@@ -14,15 +16,18 @@ use site_join::State;
 use std::alloc::{AllocError, Global};
 
 /// What the gateway of a session is still to be told: the difference between what it was told and the session's rules
-/// (TS 29.212, 4.5.2). Its time is that of `derive`, and grows with the number of rules and the logarithm of it.
+/// (TS 29.212, 4.5.2), of which no two have one name. Its time is that of `derive`, and grows with the number of rules and
+/// the logarithm of it.
 pub fn untold(
     alloc: Global,
     tables: &Tables,
     state: &State,
     session: &SessionId,
 ) -> Result<Delta, AllocError>
-    ensures { IfOk result (λ delta. delta
+    ensures difference { IfOk result (λ delta. delta
         ≡ untold tables.now (view state.now.facts) (gx session.now)) }
+    ensures names { OnOk result (Distinct (map rule_name_of
+        (rules tables.now (view state.now.facts) (gx session.now)))) }
 {
     let rules = derive(alloc, tables, state, session)?;
     let told = told_of(alloc, state, session)?;

@@ -7,6 +7,8 @@
 mod operations;
 mod operator_tables;
 #[cfg(test)]
+mod push_lines;
+#[cfg(test)]
 mod pushed;
 #[cfg(test)]
 mod shown;

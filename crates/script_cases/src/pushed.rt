@@ -1,15 +1,20 @@
 //! What a site pushes of a call whose operations it took: no site serves requests of application functions yet.
 use crate::operations::{
-    application_request, call, connection, of_application, of_gateway, push, put_many, put_removal,
-    put_status, put_voice, stamp,
+    application_request, call, connection, gateway_request, of_application, of_gateway, push,
+    put_many, put_removal, put_status, put_voice, stamp,
 };
 use crate::shown::{TABLES, address};
+use af_records::AfFact;
+use dia_base::Identity;
 use gx_profile::PushOut;
-use op_tables::{Tables, read_tables};
+use op_tables::read_tables;
+use pcrf_values::{BoundedText, DiameterIdentity};
+use ranked::Tag;
 use site_core::Site;
 use site_join::Operation;
 use std::alloc::{AllocError, AllocGlobal, Global};
 use std::fmt::Write as _;
+use std::net::Ipv4Addr;
 use std::process::Abort;
 
 /// A site takes an operation.
@@ -61,14 +66,26 @@ fn put_name(text: &mut String, sign: &str, name: &[u8]) -> Result<(), AllocError
     Ok(())
 }
 
-fn tables(rt: &(impl AllocGlobal + Abort)) -> Tables {
-    read_tables(rt.alloc(), TABLES).expect(rt, "tables")
+/// A host or a realm.
+fn name(rt: &(impl AllocGlobal + Abort), text: &[u8]) -> DiameterIdentity {
+    let read = BoundedText::read(rt.alloc(), text).expect(rt, "memory");
+    read.expect(rt, "a name")
+}
+
+/// A site of this number, which took nothing.
+fn new_site(rt: &(impl AllocGlobal + Abort), number: u8) -> Site {
+    let tables = read_tables(rt.alloc(), TABLES).expect(rt, "tables");
+    let names = Identity {
+        host: name(rt, b"s"),
+        realm: name(rt, b"r"),
+        address: Ipv4Addr::LOCALHOST,
+    };
+    Site::start(rt.alloc(), tables, names, number)
 }
 
 /// Has a site push, and compares the names that it tells; `None` where it pushes nothing.
 fn pushes(rt: &(impl AllocGlobal + Abort), site: &mut Site, wanted: Option<&str>) {
-    let tables = tables(rt);
-    let pushed = site.push(&tables, None).expect(rt, "memory and a counter");
+    let pushed = site.push(None).expect(rt, "memory and a counter");
     let Some(push) = pushed else {
         assert!(rt; wanted.is_none());
         return;
@@ -80,8 +97,7 @@ fn pushes(rt: &(impl AllocGlobal + Abort), site: &mut Site, wanted: Option<&str>
 
 /// How many rules a push installs.
 fn installs(rt: &(impl AllocGlobal + Abort), site: &mut Site, wanted: usize) {
-    let tables = tables(rt);
-    let pushed = site.push(&tables, None).expect(rt, "memory and a counter");
+    let pushed = site.push(None).expect(rt, "memory and a counter");
     let push = pushed.expect(rt, "a push");
     assert!(rt; push.delta.removed().is_empty());
     assert_eq!(rt; push.delta.installed().len(), wanted);
@@ -91,7 +107,7 @@ const VOICE: &str = " +af/af;1/1/1 2 41000 64000 +af/af;1/1/2 2 5000 5000";
 
 #[test]
 fn a_call_is_pushed_changed_and_removed(rt: HostRuntime) {
-    let mut site = Site::start(rt.alloc(), 0);
+    let mut site = new_site(&rt, 0);
     take_gateway(&rt, &mut site);
     pushes(&rt, &mut site, None);
     take_voice(&rt, &mut site, 2);
@@ -113,7 +129,7 @@ fn a_call_is_pushed_changed_and_removed(rt: HostRuntime) {
 
 #[test]
 fn fifty_flows_are_pushed_in_two_messages(rt: HostRuntime) {
-    let mut site = Site::start(rt.alloc(), 0);
+    let mut site = new_site(&rt, 0);
     take_gateway(&rt, &mut site);
     let at = stamp(2, 1);
     let mut facts = call(&rt, at, address(1));
@@ -127,8 +143,8 @@ fn fifty_flows_are_pushed_in_two_messages(rt: HostRuntime) {
 // The call comes before the session that it is bound to, and only the session's home pushes.
 #[test]
 fn only_the_home_pushes_a_call(rt: HostRuntime) {
-    let mut site = Site::start(rt.alloc(), 0);
-    let mut other = Site::start(rt.alloc(), 2);
+    let mut site = new_site(&rt, 0);
+    let mut other = new_site(&rt, 2);
     take_voice(&rt, &mut other, 2);
     pushes(&rt, &mut other, None);
     take_gateway(&rt, &mut other);
@@ -136,4 +152,43 @@ fn only_the_home_pushes_a_call(rt: HostRuntime) {
     take_gateway(&rt, &mut site);
     take_voice(&rt, &mut site, 2);
     pushes(&rt, &mut site, Some(VOICE));
+}
+
+/// An update of `gw;1;1` that site 2 accepted, which makes it the session's home.
+fn update(rt: &(impl AllocGlobal + Abort)) -> Operation {
+    let at = Tag {
+        number: 1,
+        counter: 2,
+        site: 2,
+    };
+    of_gateway(rt, at, "gw;1;1", gateway_request(rt, at))
+}
+
+/// The end of the application function's session.
+fn end(rt: &(impl AllocGlobal + Abort)) -> Operation {
+    let mut facts = Vec::new(rt.alloc());
+    facts.push(AfFact::End).expect(rt, "memory");
+    of_application(rt, stamp(4, 1), "af;1", facts)
+}
+
+// Site 0 told the rules of the call; the session's home is site 2 since, so that site alone removes them.
+#[test]
+fn the_home_that_moved_pushes_the_end_of_a_call(rt: HostRuntime) {
+    let mut site = new_site(&rt, 0);
+    let mut other = new_site(&rt, 2);
+    take_gateway(&rt, &mut site);
+    take_gateway(&rt, &mut other);
+    take_voice(&rt, &mut site, 2);
+    pushes(&rt, &mut site, Some(VOICE));
+    takes(&rt, &mut other, update(&rt));
+    takes(&rt, &mut site, update(&rt));
+    takes(&rt, &mut site, end(&rt));
+    pushes(&rt, &mut site, None);
+    take_voice(&rt, &mut other, 2);
+    let told = site.copy_of_log().expect(&rt, "memory");
+    assert!(rt; other.take_all(told.as_slice()).is_ok(), "memory");
+    pushes(&rt, &mut other, None);
+    takes(&rt, &mut other, end(&rt));
+    pushes(&rt, &mut other, Some(" -af/af;1/1/1 -af/af;1/1/2"));
+    pushes(&rt, &mut other, None);
 }

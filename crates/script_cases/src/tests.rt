@@ -20,7 +20,7 @@ fn run(alloc: Global, script: &[u8]) -> Result<(ScriptEnd, Vec<u8>), TableFault>
 
 #[test]
 fn a_bad_line_stops_the_script(rt: HostRuntime) -> Result<(), Fail> {
-    let cases: [(&str, u64, &str); 27] = [
+    let cases: [(&str, u64, &str); 30] = [
         ("show 0\n", 1, ""),
         ("bogus\nsites 1\n", 1, ""),
         ("sites 0\n", 1, ""),
@@ -47,7 +47,10 @@ fn a_bad_line_stops_the_script(rt: HostRuntime) -> Result<(), Fail> {
         ("sites 1\nmsg 0 \n", 2, "sites 1\n"),
         ("sites 1\nmsg 0 0\n", 2, "sites 1\n"),
         ("sites 1\nmsg 0 0g\n", 2, "sites 1\n"),
-        ("sites 1\npush 0\n", 2, "sites 1\n"),
+        ("sites 1\npush\n", 2, "sites 1\n"),
+        ("sites 1\npush 00\n", 2, "sites 1\n"),
+        ("sites 1\npush 0 0\n", 2, "sites 1\n"),
+        ("push 0\n", 1, ""),
         ("sites 1\nrestart\n", 2, "sites 1\n"),
         ("sites 1\nrestart 0 0\n", 2, "sites 1\n"),
         ("restart 0\n", 1, ""),

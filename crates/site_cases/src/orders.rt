@@ -1,6 +1,6 @@
 //! Operations of several sites, taken in any order and more than once.
 use crate::requests::Sent;
-use crate::sites::{Wanted, serves};
+use crate::sites::{Wanted, new_site, serves};
 use crate::tables::ims;
 use crate::text::compare;
 use site_core::Site;
@@ -11,6 +11,7 @@ use std::process::Abort;
 /// A request of the first session, of a CC-Request-Type and with a CC-Request-Number.
 fn sent(kind: u32, number: u32, address: Option<u8>) -> Sent {
     Sent {
+        host: b"gw",
         session: b"gw;1;1",
         kind,
         number,
@@ -54,7 +55,7 @@ fn takes_one(rt: &(impl AllocGlobal + Abort), site: &mut Site, letter: &[Operati
 
 /// Puts what a site that knows the first operation alone makes of a request.
 fn put_late(rt: &(impl AllocGlobal + Abort), letter: &mut Vec<Operation>, number: u8, late: Sent) {
-    let mut site = Site::start(rt.alloc(), number);
+    let mut site = new_site(rt, number);
     takes_one(rt, &mut site, letter.as_slice(), 0);
     put_made(rt, letter, &mut site, late);
 }
@@ -63,7 +64,7 @@ fn put_late(rt: &(impl AllocGlobal + Abort), letter: &mut Vec<Operation>, number
 /// knows the initial request alone, one with number 1; and site 2 likewise one with number 2 that gives no address.
 fn updates(rt: &(impl AllocGlobal + Abort)) -> Vec<Operation> {
     let mut letter = Vec::new(rt.alloc());
-    let mut first = Site::start(rt.alloc(), 0);
+    let mut first = new_site(rt, 0);
     put_made(rt, &mut letter, &mut first, sent(1, 0, Some(1)));
     put_late(rt, &mut letter, 1, sent(2, 1, Some(3)));
     put_late(rt, &mut letter, 2, sent(2, 2, None));
@@ -75,7 +76,7 @@ fn updates(rt: &(impl AllocGlobal + Abort)) -> Vec<Operation> {
 /// doesn't know of the end.
 fn ended(rt: &(impl AllocGlobal + Abort)) -> Vec<Operation> {
     let mut letter = Vec::new(rt.alloc());
-    let mut first = Site::start(rt.alloc(), 0);
+    let mut first = new_site(rt, 0);
     put_made(rt, &mut letter, &mut first, sent(1, 0, Some(1)));
     put_made(rt, &mut letter, &mut first, sent(2, 1, Some(2)));
     put_made(rt, &mut letter, &mut first, sent(3, 1, None));
@@ -112,7 +113,7 @@ fn check_orders(
     numbers: [usize; 2],
     want: &str,
 ) {
-    let mut site = Site::start(rt.alloc(), 3);
+    let mut site = new_site(rt, 3);
     for number in numbers {
         take_in_order(rt, &mut site, letter, number);
         compare(rt, &site, want);
@@ -151,17 +152,16 @@ fn an_end_leads_to_the_same_in_any_order(rt: HostRuntime) {
     check(&rt, ended(&rt).as_slice(), "clock 3, gw;1;1 ended");
 }
 
-/// A site begins again, in its second epoch, and holds nothing.
+/// A site forgets all, and holds nothing.
 fn begins_again(rt: &(impl AllocGlobal + Abort), site: &mut Site) {
-    assert_eq!(rt; site.restart(), Some(2));
-    assert_eq!(rt; site.epoch(), 2);
+    site.clear();
     compare(rt, site, "clock 0");
 }
 
 /// Two operations with the same stamp: a site serves a request, begins again and serves another, each with counter 1.
 fn made_again(rt: &(impl AllocGlobal + Abort), before: Sent, after: Sent) -> Vec<Operation> {
     let mut letter = Vec::new(rt.alloc());
-    let mut maker = Site::start(rt.alloc(), 0);
+    let mut maker = new_site(rt, 0);
     put_made(rt, &mut letter, &mut maker, before);
     begins_again(rt, &mut maker);
     put_made(rt, &mut letter, &mut maker, after);
@@ -186,7 +186,7 @@ fn check_taken(
 /// What two sites hold that take two operations in opposite orders, each twice.
 fn check_both(rt: &(impl AllocGlobal + Abort), letter: &[Operation], want: &str) {
     for (number, order) in [(1, [0, 0, 1, 1]), (2, [1, 1, 0, 0])] {
-        let mut site = Site::start(rt.alloc(), number);
+        let mut site = new_site(rt, number);
         check_taken(rt, &mut site, letter, order, want);
     }
 }

@@ -1,10 +1,9 @@
 //! Which default quality of service replies tell by the operator tables, and which requests the tables have refused.
 use crate::requests::Sent;
-use crate::sites::{Wanted, end, initial, serves, takes, unknown, update};
+use crate::sites::{Wanted, end, initial, new_site, serves, takes, unknown, update};
 use crate::tables::{ims, net};
 use crate::text::compare;
 use pcrf_values::Refusal;
-use site_core::Site;
 
 /// The request with this access point name in the place of its own.
 fn at(sent: Sent, apn: &'static [u8]) -> Sent {
@@ -26,7 +25,7 @@ fn lacks_parameters() -> Wanted {
 
 #[test]
 fn a_reply_tells_the_default_of_the_access_point_that_the_session_shows(rt: HostRuntime) {
-    let mut site = Site::start(rt.alloc(), 0);
+    let mut site = new_site(&rt, 0);
     serves(&rt, &mut site, initial(0, 1), Wanted::Granted(ims(&rt)));
     serves(&rt, &mut site, update(1, None), Wanted::Granted(ims(&rt)));
     serves(
@@ -47,7 +46,7 @@ fn a_reply_tells_the_default_of_the_access_point_that_the_session_shows(rt: Host
 // The update with number 2 shows `net`; those that come after it with lower numbers give other access points.
 #[test]
 fn a_late_request_tells_the_default_that_it_did_not_give(rt: HostRuntime) {
-    let mut site = Site::start(rt.alloc(), 0);
+    let mut site = new_site(&rt, 0);
     serves(&rt, &mut site, initial(0, 1), Wanted::Granted(ims(&rt)));
     serves(
         &rt,
@@ -78,8 +77,8 @@ fn a_late_request_tells_the_default_that_it_did_not_give(rt: HostRuntime) {
 
 #[test]
 fn a_reply_tells_the_default_of_what_another_site_made(rt: HostRuntime) {
-    let mut site = Site::start(rt.alloc(), 0);
-    let mut other = Site::start(rt.alloc(), 1);
+    let mut site = new_site(&rt, 0);
+    let mut other = new_site(&rt, 1);
     serves(
         &rt,
         &mut site,
@@ -92,7 +91,7 @@ fn a_reply_tells_the_default_of_what_another_site_made(rt: HostRuntime) {
 
 #[test]
 fn an_update_without_a_row_changes_nothing(rt: HostRuntime) {
-    let mut site = Site::start(rt.alloc(), 0);
+    let mut site = new_site(&rt, 0);
     serves(&rt, &mut site, at(update(1, Some(2)), b"none"), unknown());
     serves(&rt, &mut site, initial(0, 1), Wanted::Granted(ims(&rt)));
     serves(&rt, &mut site, at(update(1, Some(2)), b"none"), no_row());
@@ -106,7 +105,7 @@ fn an_update_without_a_row_changes_nothing(rt: HostRuntime) {
 
 #[test]
 fn an_initial_request_lacks_parameters_before_it_lacks_a_row(rt: HostRuntime) {
-    let mut site = Site::start(rt.alloc(), 0);
+    let mut site = new_site(&rt, 0);
     let mut lacking = at(initial(0, 1), b"none");
     serves(&rt, &mut site, lacking, no_row());
     lacking.address = None;
@@ -116,7 +115,7 @@ fn an_initial_request_lacks_parameters_before_it_lacks_a_row(rt: HostRuntime) {
 
 #[test]
 fn a_termination_tells_no_quality(rt: HostRuntime) {
-    let mut site = Site::start(rt.alloc(), 0);
+    let mut site = new_site(&rt, 0);
     serves(&rt, &mut site, initial(0, 1), Wanted::Granted(ims(&rt)));
     serves(&rt, &mut site, at(end(1), b"none"), Wanted::Granted(None));
     compare(&rt, &site, "clock 2, gw;1;1 ended");

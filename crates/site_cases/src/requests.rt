@@ -1,14 +1,15 @@
-//! Credit control requests of one gateway.
+//! Credit control requests of gateways.
 use gx_profile::Ccr;
-use pcrf_wire::{Asked, Request, read_request};
+use site_core::{Asked, Request, read_request};
 use std::alloc::AllocGlobal;
 use std::process::Abort;
 use test_messages::{Avps, GX, Head, message};
 
-/// A request: its Session-Id, CC-Request-Type and CC-Request-Number, the last octet of its address, where it gives one,
+/// A request: its host, Session-Id, CC-Request-Type and CC-Request-Number, the last octet of its address, where it gives one,
 /// and its access point name, where it gives one. With an address it gives a subscriber too.
 #[derive(Clone, Copy)]
 pub struct Sent {
+    pub host: &'static [u8],
     pub session: &'static [u8],
     pub kind: u32,
     pub number: u32,
@@ -27,7 +28,7 @@ fn subscriber(rt: &(impl AllocGlobal + Abort)) -> Avps {
 /// What every request carries.
 fn put_session(rt: &impl Abort, avps: &mut Avps, sent: Sent) {
     avps.text(263, sent.session).expect(rt, "memory");
-    avps.text(264, b"gw").expect(rt, "memory");
+    avps.text(264, sent.host).expect(rt, "memory");
     avps.text(296, b"r").expect(rt, "memory");
     avps.number(416, sent.kind).expect(rt, "memory");
     avps.number(415, sent.number).expect(rt, "memory");

@@ -2,11 +2,14 @@
 use crate::requests::{Sent, request};
 use crate::tables::{ims, tables};
 use crate::text::compare;
-use gx_profile::{Ccr, GxReply};
+use dia_base::Identity;
+use gx_profile::GxReply;
 use gx_records::GxRec;
-use pcrf_values::{BoundedText, DefaultQuality, Refusal, SessionId};
-use site_core::Site;
+use op_tables::Tables;
+use pcrf_values::{BoundedText, DefaultQuality, DiameterIdentity, Refusal, SessionId};
+use site_core::{Reply, Request, Site};
 use std::alloc::AllocGlobal;
+use std::net::Ipv4Addr;
 use std::process::Abort;
 
 /// What a site that is told of no rules is to reply.
@@ -20,6 +23,7 @@ pub enum Wanted {
 /// An initial request of the first session, from this address.
 pub fn initial(number: u32, address: u8) -> Sent {
     Sent {
+        host: b"gw",
         session: b"gw;1;1",
         kind: 1,
         number,
@@ -31,6 +35,7 @@ pub fn initial(number: u32, address: u8) -> Sent {
 /// An update of it, which may give another address.
 pub fn update(number: u32, address: Option<u8>) -> Sent {
     Sent {
+        host: b"gw",
         session: b"gw;1;1",
         kind: 2,
         number,
@@ -46,6 +51,7 @@ pub fn update(number: u32, address: Option<u8>) -> Sent {
 /// Its end.
 pub fn end(number: u32) -> Sent {
     Sent {
+        host: b"gw",
         session: b"gw;1;1",
         kind: 3,
         number,
@@ -54,15 +60,39 @@ pub fn end(number: u32) -> Sent {
     }
 }
 
-/// What a site replies to a request.
-fn reply(rt: &(impl AllocGlobal + Abort), site: &mut Site, ccr: &Ccr) -> GxReply {
-    let tables = tables(rt);
-    site.serve_ccr(&tables, ccr).expect(rt, "memory")
+/// A host or a realm.
+pub fn name(rt: &(impl AllocGlobal + Abort), text: &[u8]) -> DiameterIdentity {
+    let read = BoundedText::read(rt.alloc(), text).expect(rt, "memory");
+    read.expect(rt, "a name")
+}
+
+/// A site of this number with these operator tables, which took nothing.
+pub fn site_with(rt: &(impl AllocGlobal + Abort), tables: Tables, number: u8) -> Site {
+    let names = Identity {
+        host: name(rt, b"s"),
+        realm: name(rt, b"r"),
+        address: Ipv4Addr::LOCALHOST,
+    };
+    Site::start(rt.alloc(), tables, names, number)
+}
+
+/// One with the tables of three access points.
+pub fn new_site(rt: &(impl AllocGlobal + Abort), number: u8) -> Site {
+    site_with(rt, tables(rt), number)
+}
+
+/// What a site replies to a request of a gateway.
+pub fn reply_to(rt: &(impl AllocGlobal + Abort), site: &mut Site, sent: Sent) -> GxReply {
+    let request = Request::Ccr(request(rt, sent));
+    let Reply::Gx(reply) = site.serve(&request).expect(rt, "memory") else {
+        rt.abort()
+    };
+    reply
 }
 
 /// Has a site serve a request, and compares its reply.
 pub fn serves(rt: &(impl AllocGlobal + Abort), site: &mut Site, sent: Sent, wanted: Wanted) {
-    let reply = reply(rt, site, &request(rt, sent));
+    let reply = reply_to(rt, site, sent);
     match (&reply, wanted) {
         (GxReply::Granted(delta, told), Wanted::Granted(quality)) => {
             assert!(rt; delta.removed().is_empty() && delta.installed().is_empty());
@@ -109,7 +139,7 @@ fn shown_by(known: &GxRec) -> Option<(u8, u8)> {
 /// What a site shows of the first session.
 fn shown(rt: &(impl AllocGlobal + Abort), site: &Site) -> Option<(u8, u8)> {
     let session = first_session(rt);
-    site.state().gx(&session).and_then(shown_by)
+    site.sessions().gx(&session).and_then(shown_by)
 }
 
 /// The first session has ended at a site, and no request shows it again.
@@ -123,7 +153,7 @@ fn stays_ended(rt: &(impl AllocGlobal + Abort), site: &mut Site) {
 
 #[test]
 fn initial_requests_are_granted_or_lack_parameters(rt: HostRuntime) {
-    let mut site = Site::start(rt.alloc(), 0);
+    let mut site = new_site(&rt, 0);
     let mut lacking = initial(0, 1);
     lacking.address = None;
     lacking.apn = None;
@@ -133,28 +163,28 @@ fn initial_requests_are_granted_or_lack_parameters(rt: HostRuntime) {
         lacking,
         Wanted::Refused(Refusal::experimental(5140)),
     );
-    assert_eq!(rt; site.state().clock(), 0);
+    assert_eq!(rt; site.sessions().clock(), 0);
     serves(&rt, &mut site, initial(0, 1), granted(&rt));
     serves(&rt, &mut site, initial(0, 1), granted(&rt));
-    assert_eq!(rt; site.state().clock(), 2);
+    assert_eq!(rt; site.sessions().clock(), 2);
     assert_eq!(rt; shown(&rt, &site), Some((1, 0)));
 }
 
 #[test]
 fn a_late_update_with_a_lower_number_leaves_the_address(rt: HostRuntime) {
-    let mut site = Site::start(rt.alloc(), 0);
+    let mut site = new_site(&rt, 0);
     serves(&rt, &mut site, update(1, Some(1)), unknown());
     serves(&rt, &mut site, initial(0, 1), granted(&rt));
     serves(&rt, &mut site, update(2, Some(2)), granted(&rt));
     serves(&rt, &mut site, update(1, Some(3)), granted(&rt));
     assert_eq!(rt; shown(&rt, &site), Some((2, 0)));
-    assert_eq!(rt; site.state().clock(), 3);
+    assert_eq!(rt; site.sessions().clock(), 3);
 }
 
 #[test]
 fn an_ended_session_is_never_revived(rt: HostRuntime) {
-    let mut site = Site::start(rt.alloc(), 0);
-    let mut other = Site::start(rt.alloc(), 1);
+    let mut site = new_site(&rt, 0);
+    let mut other = new_site(&rt, 1);
     serves(&rt, &mut site, initial(0, 1), granted(&rt));
     takes(&rt, &mut other, &site);
     serves(&rt, &mut other, update(9, None), granted(&rt));
@@ -168,24 +198,12 @@ fn an_ended_session_is_never_revived(rt: HostRuntime) {
 
 #[test]
 fn the_home_moves_with_the_session(rt: HostRuntime) {
-    let mut site = Site::start(rt.alloc(), 0);
-    let mut other = Site::start(rt.alloc(), 1);
+    let mut site = new_site(&rt, 0);
+    let mut other = new_site(&rt, 1);
     serves(&rt, &mut site, initial(0, 1), granted(&rt));
     serves(&rt, &mut other, update(1, None), unknown());
     takes(&rt, &mut other, &site);
     serves(&rt, &mut other, update(1, None), granted(&rt));
     assert_eq!(rt; shown(&rt, &other), Some((1, 1)));
-    assert_eq!(rt; other.state().clock(), 2);
-}
-
-#[test]
-fn the_last_epoch_is_65_535(rt: HostRuntime) {
-    let mut site = Site::start(rt.alloc(), 3);
-    let mut last = 1u16;
-    for _ in 0..65_534 {
-        last = site.restart().expect(&rt, "an epoch");
-    }
-    assert_eq!(rt; last, 65_535);
-    assert_eq!(rt; site.restart(), None);
-    assert_eq!(rt; (site.number(), site.epoch()), (3, 65_535));
+    assert_eq!(rt; other.sessions().clock(), 2);
 }

@@ -71,8 +71,8 @@ fn put_record(out: &mut String, record: &GxRec) -> Result<(), AllocError> {
 
 /// The clock, and each session with all that it shows, each with its tag.
 fn put_site(out: &mut String, site: &Site) -> Result<(), AllocError> {
-    write!(out, "clock {}", site.state().clock())?;
-    for (id, record) in site.state().all_gx() {
+    write!(out, "clock {}", site.sessions().clock())?;
+    for (id, record) in site.sessions().all_gx() {
         out.push_str(", ")?;
         put_bytes(out, id.as_slice())?;
         put_record(out, record)?;

@@ -1,6 +1,6 @@
 //! Which rules replies tell a gateway to remove and to install.
-use crate::requests::{Sent, request};
-use crate::sites::{end, first_session, initial, takes, update};
+use crate::requests::Sent;
+use crate::sites::{end, first_session, initial, reply_to, site_with, takes, update};
 use gx_profile::{FirstEntries, GxReply};
 use op_tables::{Tables, read_tables};
 use site_core::Site;
@@ -105,15 +105,8 @@ pub fn ranges(
 }
 
 /// Has a site serve a request, which tells just these names.
-pub fn tells(
-    rt: &(impl AllocGlobal + Abort),
-    site: &mut Site,
-    tables: &Tables,
-    sent: Sent,
-    wanted: &str,
-) {
-    let ccr = request(rt, sent);
-    let reply = site.serve_ccr(tables, &ccr).expect(rt, "memory");
+pub fn tells(rt: &(impl AllocGlobal + Abort), site: &mut Site, sent: Sent, wanted: &str) {
+    let reply = reply_to(rt, site, sent);
     let GxReply::Granted(delta, _) = &reply else {
         rt.abort()
     };
@@ -125,18 +118,17 @@ pub fn tells(
 fn tells_ranges(
     rt: &(impl AllocGlobal + Abort),
     site: &mut Site,
-    tables: &Tables,
     sent: Sent,
     ranged: [(&str, u32, u32); 2],
 ) {
     let wanted = ranges(rt.alloc(), ranged[0], ranged[1]).expect(rt, "memory");
-    tells(rt, site, tables, sent, wanted.as_str());
+    tells(rt, site, sent, wanted.as_str());
 }
 
 /// How many rules the gateway of the first session was told.
 pub fn told_count(rt: &(impl AllocGlobal + Abort), site: &Site) -> usize {
     let session = first_session(rt);
-    let known = site.state().gx(&session).expect(rt, "a record");
+    let known = site.sessions().gx(&session).expect(rt, "a record");
     known.told(rt.alloc()).expect(rt, "memory").as_slice().len()
 }
 
@@ -150,72 +142,50 @@ fn moves(number: u32, apn: &'static [u8]) -> Sent {
 
 #[test]
 fn a_rule_is_installed_once_and_removed_with_its_access_point(rt: HostRuntime) {
-    let tables = tables(&rt, 2, 1);
-    let mut site = Site::start(rt.alloc(), 0);
-    tells(&rt, &mut site, &tables, initial(0, 1), "+a00+a01");
+    let mut site = site_with(&rt, tables(&rt, 2, 1), 0);
+    tells(&rt, &mut site, initial(0, 1), "+a00+a01");
     assert_eq!(rt; told_count(&rt, &site), 2);
-    tells(&rt, &mut site, &tables, initial(0, 1), "");
-    tells(&rt, &mut site, &tables, moves(1, b"net"), "-a00-a01+b00");
-    tells(&rt, &mut site, &tables, moves(2, b"bare"), "-b00");
+    tells(&rt, &mut site, initial(0, 1), "");
+    tells(&rt, &mut site, moves(1, b"net"), "-a00-a01+b00");
+    tells(&rt, &mut site, moves(2, b"bare"), "-b00");
     assert_eq!(rt; told_count(&rt, &site), 0);
-    tells(&rt, &mut site, &tables, moves(3, b"IMS"), "+a00+a01");
-    tells(&rt, &mut site, &tables, end(4), "");
+    tells(&rt, &mut site, moves(3, b"IMS"), "+a00+a01");
+    tells(&rt, &mut site, end(4), "");
 }
 
 #[test]
 fn a_rule_that_differs_in_one_field_is_installed_again(rt: HostRuntime) {
-    let tables = tables(&rt, 1, 0);
-    let mut site = Site::start(rt.alloc(), 0);
-    tells(&rt, &mut site, &tables, initial(0, 1), "+a00");
-    tells(&rt, &mut site, &tables, moves(1, b"fast"), "+a00");
-    tells(&rt, &mut site, &tables, moves(2, b"fast"), "");
+    let mut site = site_with(&rt, tables(&rt, 1, 0), 0);
+    tells(&rt, &mut site, initial(0, 1), "+a00");
+    tells(&rt, &mut site, moves(1, b"fast"), "+a00");
+    tells(&rt, &mut site, moves(2, b"fast"), "");
     assert_eq!(rt; told_count(&rt, &site), 1);
 }
 
 #[test]
 fn another_site_tells_what_was_not_told(rt: HostRuntime) {
-    let tables = tables(&rt, 2, 1);
-    let mut site = Site::start(rt.alloc(), 0);
-    let mut other = Site::start(rt.alloc(), 1);
-    tells(&rt, &mut site, &tables, initial(0, 1), "+a00+a01");
+    let mut site = site_with(&rt, tables(&rt, 2, 1), 0);
+    let mut other = site_with(&rt, tables(&rt, 2, 1), 1);
+    tells(&rt, &mut site, initial(0, 1), "+a00+a01");
     takes(&rt, &mut other, &site);
-    tells(&rt, &mut other, &tables, update(1, None), "");
-    tells(&rt, &mut other, &tables, moves(2, b"net"), "-a00-a01+b00");
+    tells(&rt, &mut other, update(1, None), "");
+    tells(&rt, &mut other, moves(2, b"net"), "-a00-a01+b00");
     takes(&rt, &mut site, &other);
-    tells(&rt, &mut site, &tables, update(3, None), "");
+    tells(&rt, &mut site, update(3, None), "");
 }
 
 #[test]
 fn a_reply_tells_40_entries_and_later_ones_the_rest(rt: HostRuntime) {
-    let tables = tables(&rt, 64, 41);
-    let mut site = Site::start(rt.alloc(), 0);
+    let mut site = site_with(&rt, tables(&rt, 64, 41), 0);
     let none = ("", 0, 0);
-    tells_ranges(
-        &rt,
-        &mut site,
-        &tables,
-        initial(0, 1),
-        [none, ("+a", 0, 40)],
-    );
+    tells_ranges(&rt, &mut site, initial(0, 1), [none, ("+a", 0, 40)]);
     assert_eq!(rt; told_count(&rt, &site), 40);
-    tells_ranges(
-        &rt,
-        &mut site,
-        &tables,
-        update(1, None),
-        [none, ("+a", 40, 64)],
-    );
+    tells_ranges(&rt, &mut site, update(1, None), [none, ("+a", 40, 64)]);
     let both = [("-a", 0, 40), none];
-    tells_ranges(&rt, &mut site, &tables, moves(2, b"net"), both);
+    tells_ranges(&rt, &mut site, moves(2, b"net"), both);
     let both = [("-a", 40, 64), ("+b", 0, 16)];
-    tells_ranges(&rt, &mut site, &tables, update(3, None), both);
-    tells_ranges(
-        &rt,
-        &mut site,
-        &tables,
-        update(4, None),
-        [none, ("+b", 16, 41)],
-    );
-    tells(&rt, &mut site, &tables, update(5, None), "");
+    tells_ranges(&rt, &mut site, update(3, None), both);
+    tells_ranges(&rt, &mut site, update(4, None), [none, ("+b", 16, 41)]);
+    tells(&rt, &mut site, update(5, None), "");
     assert_eq!(rt; told_count(&rt, &site), 41);
 }

@@ -12,14 +12,18 @@ use Rattle.pcrf_model.specs.Tables.{Tables}
 use Rattle.pcrf_model.specs.Replies.{PushValue, Pushed, Outcome}
 use Rattle.pcrf_model.specs.Pushing.{due, push, lacks_counter, telling}
 use Rattle.pcrf_model.specs.Refusals.{is_clock_full}
-use Rattle.pcrf_model.specs.Worlds.{SiteView}
+use Rattle.site_core.specs.Sites.{SiteValue}
 use Rattle.pcrf_model.proofs.BindLaws.{gx_is}
 use Rattle.pcrf_model.proofs.DueLaws.{first_due}
 use Rattle.rule_telling.specs.Pushed.{push_of}
 use Rattle.site_core.specs.Facts.{operation_pushed}
 use Rattle.site_core.specs.Sites.{pushed}
 
-module _ (t : Tables) (s : SiteView) (name : Option (List ℕ)) where
+module _ (s : SiteValue) (name : Option (List ℕ)) where
+  -- the operator tables
+  abbrev t : Tables
+  t = s.tables
+
   -- what is held
   abbrev h : Holding
   h = s.state.holding
@@ -42,7 +46,7 @@ module _ (t : Tables) (s : SiteView) (name : Option (List ℕ)) where
   none_due (Some r) e = none_some (push_of t v r) (sym e)
 
   -- then nothing happens
-  pub nothing_is : None ≡ out → pushed t s name ≡ record { reply = Pushed None; added = None }
+  pub nothing_is : None ≡ out → pushed s name ≡ record { reply = Pushed None; added = None }
   unfolding push
   nothing_is e = rw (none_due next (sym e)) refl
 
@@ -74,8 +78,12 @@ module _ (t : Tables) (s : SiteView) (name : Option (List ℕ)) where
             named = ap (λ (x : PushValue). gx x.session) same ∙ gx_is r r.kind refl of_gateway;
           }
 
+  -- its session is due
+  pub session_due : (p : PushValue) → Some p ≡ out → due s.tables s.number (view s.state.holding.facts) name ≡ Some (gx p.session)
+  session_due p e = let w = is_pushed p e in w.is_due ∙ ap (λ (r : Session). Some r) (sym w.named)
+
   -- the push and its operation
-  pub something_is : (p : PushValue) → Some p ≡ out → pushed t s name ≡ record { reply = Pushed (Some p); added = Some (operation_pushed s.number (h.clock + 1) p.session p.delta) }
+  pub something_is : (p : PushValue) → Some p ≡ out → pushed s name ≡ record { reply = Pushed (Some p); added = Some (operation_pushed s.number (h.clock + 1) p.session p.delta) }
   unfolding push
   something_is p e =
       let w = is_pushed p e in

@@ -28,7 +28,7 @@ use Rattle.pcrf_model.specs.Refusals.{ccr_refusal, lacks_parameters, names_no_ro
 use Rattle.pcrf_model.specs.Replies.{OnGx, Granted, Rejected}
 use Rattle.pcrf_model.specs.Making.{ccr_fields, told_facts, next_tag}
 use Rattle.pcrf_model.specs.Serving.{delta_of, provisioned, accepted_ccr, serve_ccr}
-use Rattle.pcrf_model.specs.Worlds.{SiteView}
+use Rattle.site_core.specs.Sites.{SiteValue}
 use Rattle.pcrf_model.proofs.HoldingLaws.{sorted-In}
 use Rattle.pcrf_model.proofs.ViewLaws.{view-Same, view-kept}
 use Rattle.site_core.specs.Facts.{opens, made_facts, operation_made, operation_told}
@@ -124,7 +124,7 @@ unfolding view
 access_point t facts s g name h = rw h refl
 
 -- a request that leaves its session open sets its fields
-fields_made : (q : CcrValue) (k : RequestKind) (t : Tag) → opens k ≡ true → made_facts q k t ≡ ccr_fields q t
+pub fields_made : (q : CcrValue) (k : RequestKind) (t : Tag) → opens k ≡ true → made_facts q k t ≡ ccr_fields q t
 fields_made q Initial t h = refl
 fields_made q Update t h = refl
 fields_made q Termination t h = clash false h refl
@@ -172,11 +172,11 @@ opening_is t i h q Termination opening = clash false opening refl
 -- ---- what is served
 
 -- a refused request
-pub served_refused : (t : Tables) (s : SiteView) (q : CcrValue) (r : Refusal) → ccr_refusal t s.state.holding q ≡ Some r → ccr_served t s q ≡ record { reply = OnGx (Rejected r); added = None }
+pub served_refused : (s : SiteValue) (q : CcrValue) (r : Refusal) → ccr_refusal s.tables s.state.holding q ≡ Some r → ccr_served s q ≡ record { reply = OnGx (Rejected r); added = None }
 unfolding serve_ccr
-served_refused t s q r h = rw h refl
+served_refused s q r h = rw h refl
 
 -- an accepted one
-pub served_accepted : (t : Tables) (s : SiteView) (q : CcrValue) (k : RequestKind) → q.kind ≡ k → ccr_refusal t s.state.holding q ≡ None → ccr_served t s q ≡ accepted_ccr delta_limit t s.number s.state.holding q k
+pub served_accepted : (s : SiteValue) (q : CcrValue) (k : RequestKind) → q.kind ≡ k → ccr_refusal s.tables s.state.holding q ≡ None → ccr_served s q ≡ accepted_ccr delta_limit s.tables s.number s.state.holding q k
 unfolding serve_ccr
-served_accepted t s q k is h = rw h (ap (accepted_ccr delta_limit t s.number s.state.holding q) is)
+served_accepted s q k is h = rw h (ap (accepted_ccr delta_limit s.tables s.number s.state.holding q) is)

@@ -1,3 +1,7 @@
+pub mod Answering
+pub mod Asking
 pub mod Facts
+pub mod Left
 pub mod Replies
 pub mod Sites
+pub mod Values

@@ -1,46 +1,66 @@
--- What serving, letters and restarts make of a site, as it is seen.
+-- What is seen of a site, and what serving, pushes and letters make of it.
 use Rattle.std.specs.Prelude.{ℕ, ◌+◌, List, [], ◌∷◌, ◌++◌, Option, Some, None}
 use Rattle.pcrf_facts.specs.Facts.{Fact}
 use Rattle.pcrf_model.specs.Limits.{delta_limit}
 use Rattle.pcrf_model.specs.Sessions.{Session}
 use Rattle.pcrf_model.specs.Holdings.{nothing_held, union, kept_of, replaced}
 use Rattle.pcrf_model.specs.Operations.{Operation, with_operation, holding_of}
-use Rattle.pcrf_model.specs.Requests.{CcrValue}
-use Rattle.pcrf_model.specs.Replies.{Outcome}
-use Rattle.pcrf_model.specs.Serving.{serve_ccr}
+use Rattle.pcrf_model.specs.Requests.{CcrValue, RequestValue}
+use Rattle.pcrf_model.specs.Replies.{Outcome, ReplyValue}
+use Rattle.pcrf_model.specs.Serving.{serve, serve_ccr}
 use Rattle.pcrf_model.specs.Pushing.{push}
+use Rattle.pcrf_model.specs.Steps.{SiteState, SiteEvent, kept_state, stepped}
 use Rattle.pcrf_model.specs.Tables.{Tables}
-use Rattle.pcrf_model.specs.Worlds.{SiteView}
+use Rattle.dia_base.specs.declared.identity.Identity.{Identity}
 
--- a site that took nothing, in its first epoch
-abbrev pub new_site : ℕ → SiteView
-new_site number = record { number = number; epoch = 1; state = record { holding = nothing_held; log = [] } }
+-- a site: the operator tables that it decides by, the names that it answers under, its number, what it holds, and what it made
+pub record SiteValue : Type 0 where
+  pub tables : Tables
+  pub identity : Identity
+  pub number : ℕ
+  pub state : SiteState
 
--- what the definitions give by these tables on what the site holds
-abbrev pub ccr_served : Tables → SiteView → CcrValue → Outcome
-ccr_served t s q = serve_ccr delta_limit t s.number s.state.holding q
+-- nothing was taken or made
+abbrev pub new_state : SiteState
+new_state = record { holding = nothing_held; log = [] }
+
+-- a site that took nothing
+abbrev pub new_site : Tables → Identity → ℕ → SiteValue
+new_site t names number = record { tables = t; identity = names; number = number; state = new_state }
+
+-- what the definitions give to a credit control request on what the site holds
+abbrev pub ccr_served : SiteValue → CcrValue → Outcome
+ccr_served s q = serve_ccr delta_limit s.tables s.number s.state.holding q
+
+-- and to any request
+abbrev pub served : SiteValue → RequestValue → Outcome
+served s q = serve delta_limit s.tables s.number s.state.holding q
 
 -- what they push of it to the gateway of a host, any where none is named
-abbrev pub pushed : Tables → SiteView → Option (List ℕ) → Outcome
-pushed t s name = push delta_limit t s.number s.state.holding name
+abbrev pub pushed : SiteValue → Option (List ℕ) → Outcome
+pushed s name = push delta_limit s.tables s.number s.state.holding name
 
 -- with one operation: what is kept of it is held
-abbrev pub with_one : SiteView → Operation → SiteView
+abbrev pub with_one : SiteValue → Operation → SiteValue
 with_one s o = record s { state = record { holding = kept_of (with_operation s.state.holding o); log = s.state.log } }
 
 -- with an operation of its own, if there is one: what is kept of it is held, and its log has it last
-abbrev pub with_made : SiteView → Option Operation → SiteView
+abbrev pub with_made : SiteValue → Option Operation → SiteValue
 with_made s None = s
 with_made s (Some o) = record s { state = record { holding = kept_of (with_operation s.state.holding o); log = s.state.log ++ o ∷ [] } }
 
 -- with operations of a letter: what is kept of them is held
-abbrev pub with_taken : SiteView → List Operation → SiteView
+abbrev pub with_taken : SiteValue → List Operation → SiteValue
 with_taken s os = record s { state = record { holding = kept_of (union s.state.holding (holding_of os)); log = s.state.log } }
 
--- empty, in the next epoch
-abbrev pub started_again : SiteView → SiteView
-started_again s = record { number = s.number; epoch = s.epoch + 1; state = record { holding = nothing_held; log = [] } }
+-- after an event to which it gave that reply: what is kept is held
+abbrev pub after_event : SiteValue → SiteEvent → ReplyValue → SiteValue
+after_event s e r = record s { state = kept_state (stepped delta_limit s.tables s.number s.state e r) }
+
+-- empty
+abbrev pub emptied : SiteValue → SiteValue
+emptied s = record s { state = new_state }
 
 -- with these facts in place of those of a session, under that clock
-abbrev pub with_record : SiteView → Session → List Fact → ℕ → SiteView
+abbrev pub with_record : SiteValue → Session → List Fact → ℕ → SiteValue
 with_record s session facts clock = record s { state = record { holding = replaced s.state.holding session facts clock; log = s.state.log } }

@@ -1,27 +1,37 @@
-//! One site: what it holds, and the operations that it made itself in its present epoch.
-ghost use Rattle.std.specs.Prelude.{◌≡◌, ◌≢◌, ◌<◌, ◌≤◌, ◌+◌, [], ◌∷◌, None, Some, false, true, length, take, cond, IfOk, OnOk, OnErr, IfErr, IfSome, option_map};
+//! One site: what it holds, and the operations that it made itself.
+ghost use Rattle.std.specs.Prelude.{◌≡◌, ◌≢◌, ◌<◌, ◌≤◌, ◌+◌, [], ◌∷◌, None, Some, false, true, length, map, take, cond, IfOk, OnOk, OnErr, IfErr, IfSome, option_map};
 ghost use Rattle.std.specs.Option.{option_copied};
+ghost use Rattle.ranked.specs.Sets.{Distinct};
 ghost use Rattle.pcrf_values.specs.Results.{authorization_rejected, unable_to_comply};
 ghost use Rattle.pcrf_facts.specs.Held.{is_ended};
 ghost use Rattle.pcrf_facts.specs.Live.{gx_is_live};
-ghost use Rattle.pcrf_model.specs.Limits.{delta_limit, last_counter, last_epoch};
-ghost use Rattle.pcrf_model.specs.Holdings.{facts_on, kept_of};
+ghost use Rattle.pcrf_model.specs.Limits.{delta_limit, last_counter};
+ghost use Rattle.pcrf_model.specs.Holdings.{facts_on, kept_of, replaced};
 ghost use Rattle.pcrf_model.specs.Pushing.{lacks_counter};
 ghost use Rattle.pcrf_model.specs.Replies.{OnGx, Granted, Pushed};
 ghost use Rattle.pcrf_model.specs.Serving.{delta_of, empty_delta, provisioned};
 ghost use Rattle.pcrf_model.specs.Sessions.{gx};
+ghost use Rattle.pcrf_model.specs.Steps.{MayReply, Serve, Push, Ops};
 ghost use Rattle.pcrf_model.specs.Views.{view};
-ghost use Rattle.pcrf_model.specs.Rules.{quality_of};
+ghost use Rattle.pcrf_model.specs.Rules.{quality_of, rules};
+ghost use Rattle.pcrf_model.specs.Differences.{rule_name_of};
+ghost use Rattle.pcrf_model.specs.OperatorValues.{bindings_of, operator_value};
+ghost use Rattle.operator_view.specs.Shown.{value_view};
 ghost use Rattle.pcrf_model.specs.Refusals.{is_clock_full, ccr_refusal, lacks_parameters, names_no_row};
+ghost use Rattle.pcrf_model.specs.ToldTags.{ToldUpTo};
 ghost use Rattle.pcrf_facts.specs.FlowWords.{or_else};
 ghost use Rattle.gx_profile.specs.Pushes.{push_view};
 ghost use Rattle.gx_profile.specs.Requests.{ccr_view};
 ghost use Rattle.site_join.specs.States.{record_facts};
 ghost use Rattle.site_core.specs.Replies.{gx_reply_value};
+ghost use Rattle.site_core.specs.Values.{event_lacks_counter, event_value, reply_value, request_value};
 
+use crate::event::{Event, Reply};
 use crate::facts::facts_made;
 use crate::fault::StepFault;
+use crate::request::Request;
 use crate::told::put_told;
+use dia_base::Identity;
 use dia_base::codes::results::{
     AUTHORIZATION_REJECTED, INITIAL_PARAMETERS, UNABLE_TO_COMPLY, UNKNOWN_SESSION_ID,
 };
@@ -29,48 +39,55 @@ use gx_profile::{Ccr, FirstEntries, GxReply, PushOut};
 use gx_records::GxRec;
 use lattice_core::Join;
 use op_tables::Tables;
-use pcrf_values::{Apn, DefaultQuality, Refusal, RequestKind, SessionId};
+use operator_view::{OperatorValue, bindings, value};
+use pcc_rules::derive;
+use pcrf_values::{Apn, DefaultQuality, DiameterIdentity, Refusal, RequestKind, Rule, SessionId};
 use ranked::{Ranked, Tag};
 use rule_telling::{next_push, untold};
 use site_join::{LAST_COUNTER, Operation, SessionFacts, State};
 use std::alloc::{AllocError, Global};
 use std::marker::Model;
 
-/// A site: its number and epoch, what it holds, and the operations that it made itself in this epoch, in order.
+/// A site: the operator tables that it decides by, the names that it answers under, its number, what it holds, and the
+/// operations that it made itself since it began, in order.
 #[derive(Drop)]
 pub struct Site {
     alloc: Global,
+    tables: Tables,
+    identity: Identity,
     number: u8,
-    epoch: u16,
     state: State,
     log: Vec<Operation>,
 }
 
 impl Model for Site {
-    ghost use Rattle.pcrf_model.specs.Worlds.{SiteView};
+    ghost use Rattle.site_core.specs.Sites.{SiteValue};
 
-    ghost Value = { SiteView };
+    ghost Value = { SiteValue };
 
     ghost view = { λ s. record {
+      tables = s.tables;
+      identity = s.identity;
       number = s.number;
-      epoch = s.epoch;
       state = record { holding = s.state; log = s.log.items };
     } };
 }
 
 impl Site {
     ghost use Rattle.site_core.specs.Facts.{opens, operation_made, operation_pushed, operation_told};
+    ghost use Rattle.site_core.specs.Left.{ProvisionLeaves, PushLeaves, ReplyLeaves, RequestLeaves};
     ghost use Rattle.site_core.specs.Replies.{told_reply};
-    ghost use Rattle.site_core.specs.Sites.{new_site, ccr_served, pushed, with_made, with_one, with_record, with_taken, started_again};
+    ghost use Rattle.site_core.specs.Sites.{new_site, after_event, ccr_served, emptied, pushed, served, with_made, with_one, with_record, with_taken};
 
-    /// A site that took nothing, in its first epoch.
-    pub fn start(alloc: Global, number: u8) -> Site
-        ensures { result ≡ new_site number }
+    /// A site that took nothing.
+    pub fn start(alloc: Global, tables: Tables, identity: Identity, number: u8) -> Site
+        ensures { result ≡ new_site tables identity number }
     {
         Site {
             alloc,
+            tables,
+            identity,
             number,
-            epoch: 1,
             state: State::start(alloc),
             log: Vec::new(alloc),
         }
@@ -83,36 +100,102 @@ impl Site {
         self.number
     }
 
-    /// How often the site began, from 1.
-    pub fn epoch(&self) -> u16
-        ensures { result ≡ self.now.epoch }
+    /// The operator tables that the site decides by.
+    pub fn tables(&self) -> &Tables
+        ensures { result.now ≡ self.now.tables }
     {
-        self.epoch
+        &self.tables
     }
 
-    /// What the site holds.
-    pub fn state(&self) -> &State
+    /// The names that the site answers under.
+    pub fn identity(&self) -> &Identity
+        ensures { result.now ≡ self.now.identity }
+    {
+        &self.identity
+    }
+
+    /// What the site holds: each session of which it knows a fact.
+    pub fn sessions(&self) -> &State
         ensures { result.now ≡ self.now.state.holding }
     {
         &self.state
     }
 
-    /// The operations that the site made itself in its present epoch, in order.
+    /// Each live session of an application function with the gateway's session to which it is bound, if it is bound, in the
+    /// order of their Session-Ids (TS 29.213, 5.2).
+    pub fn bindings(&self) -> Result<Vec<(SessionId, Option<SessionId>)>, AllocError>
+        ensures { IfOk result (λ found.
+            found.items ≡ bindings_of (view self.now.state.holding.facts)) }
+    {
+        bindings(self.alloc, &self.state)
+    }
+
+    /// The PCC rules of a gateway's session, by precedence and name; none where it isn't live (TS 23.203, 6.3.1).
+    pub fn rules_of(&self, session: &SessionId) -> Result<Vec<Rule>, AllocError>
+        ensures rules { IfOk result (λ made. made.items
+            ≡ rules self.now.tables (view self.now.state.holding.facts) (gx session.now)) }
+        ensures apart { IfOk result (λ made. Distinct (map rule_name_of made.items)) }
+    {
+        derive(self.alloc, &self.tables, &self.state, session)
+    }
+
+    /// All that an operator sees of the site.
+    pub fn value(&self) -> Result<OperatorValue, AllocError>
+        ensures { IfOk result (λ value.
+            value_view value ≡ operator_value self.now.tables self.now.state.holding) }
+    {
+        value(self.alloc, &self.tables, &self.state)
+    }
+
+    /// The operations that the site made itself since it began, in order.
     pub fn copy_of_log(&self) -> Result<Vec<Operation>, AllocError>
         ensures { IfOk result (λ log. log.items ≡ self.now.state.log) }
     {
         copy_all(self.alloc, self.log.as_slice())
     }
 
-    /// Serves a credit control request by these tables. An error changes nothing.
-    pub fn serve_ccr(&mut self, tables: &Tables, ccr: &Ccr) -> Result<GxReply, AllocError>
-        ensures reply { IfOk result (λ reply. gx_reply_value reply
-            ≡ (ccr_served tables.now self.old (ccr_view ccr.now)).reply) }
-        ensures ok { OnOk result (self.new
-            ≡ with_made self.old (ccr_served tables.now self.old (ccr_view ccr.now)).added) }
+    /// Makes an event happen. A fault changes nothing.
+    pub fn step(&mut self, event: &Event) -> Result<Reply, StepFault>
+        ensures reply { IfOk result (λ reply. MayReply delta_limit self.old.tables self.old.number
+            self.old.state (event_value event.now) (reply_value reply)) }
+        ensures ok { IfOk result (λ reply. self.new
+            ≡ after_event self.old (event_value event.now) (reply_value reply)) }
+        ensures full { IfErr result (λ fault. fault ≡ StepFault.ClockFull → event_lacks_counter
+            self.old.tables self.old.number self.old.state.holding (event_value event.now) ≡ true) }
         ensures err { OnErr result (self.new ≡ self.old) }
     {
-        if let Some(refusal) = self.standing_refusal(tables, ccr) {
+        match event {
+            Event::Serve(request) => self.step_serve(request),
+            Event::Push(host) => self.step_push(host),
+            Event::Ops(operations) => Ok(self.step_take(operations.as_slice())),
+        }
+    }
+
+    /// Serves a request. Where it grants an initial request or an update, the gateway lacks then just what the first 40 entries
+    /// of the difference left. An error changes nothing.
+    pub fn serve(&mut self, request: &Request) -> Result<Reply, AllocError>
+        ensures reply { IfOk result (λ reply.
+            reply_value reply ≡ (served self.old (request_value request.now)).reply) }
+        ensures ok { OnOk result (self.new
+            ≡ with_made self.old (served self.old (request_value request.now)).added) }
+        ensures left { IfOk result (λ reply. ReplyLeaves self.old self.new request.now reply) }
+        ensures err { OnErr result (self.new ≡ self.old) }
+    {
+        let Request::Ccr(ccr) = request;
+        Ok(Reply::Gx(self.serve_ccr(ccr)?))
+    }
+
+    /// Serves a credit control request. An error changes nothing.
+    fn serve_ccr(&mut self, ccr: &Ccr) -> Result<GxReply, AllocError>
+        ensures reply { IfOk result (λ reply. gx_reply_value reply
+            ≡ (ccr_served self.old (ccr_view ccr.now)).reply) }
+        ensures ok { OnOk result (self.new
+            ≡ with_made self.old (ccr_served self.old (ccr_view ccr.now)).added) }
+        ensures left { IfOk result (λ reply.
+            RequestLeaves self.old self.new (ccr_view ccr.now) reply) }
+        ensures err { OnErr result (self.new ≡ self.old) }
+    {
+        if let Some(refusal) = self.standing_refusal(ccr) {
             return Ok(GxReply::Refused(refusal));
         }
         let Some(counter) = self.next_counter() else {
@@ -120,7 +203,7 @@ impl Site {
         };
         match ccr.kind {
             RequestKind::Termination => self.close(ccr, counter),
-            RequestKind::Initial | RequestKind::Update => self.provision(tables, ccr, counter),
+            RequestKind::Initial | RequestKind::Update => self.provision(ccr, counter),
         }
     }
 
@@ -139,21 +222,24 @@ impl Site {
     }
 
     /// Sets the fields of an accepted request and tells the gateway what it lacks then, or changes nothing.
-    fn provision(&mut self, tables: &Tables, ccr: &Ccr, counter: u64) -> Result<GxReply, AllocError>
+    fn provision(&mut self, ccr: &Ccr, counter: u64) -> Result<GxReply, AllocError>
         requires within { counter ≤ last_counter }
         requires next { counter ≡ self.old.state.holding.clock + 1 }
         requires opens { opens ccr.now.kind ≡ true }
+        requires alive { (view self.old.state.holding.facts).ended (gx ccr.now.session) ≡ false }
         ensures reply { IfOk result (λ reply. gx_reply_value reply ≡ (provisioned delta_limit
-            tables.now self.old.number self.old.state.holding (ccr_view ccr.now)).reply) }
+            self.old.tables self.old.number self.old.state.holding (ccr_view ccr.now)).reply) }
         ensures ok { OnOk result (self.new ≡ with_made self.old (provisioned delta_limit
-            tables.now self.old.number self.old.state.holding (ccr_view ccr.now)).added) }
+            self.old.tables self.old.number self.old.state.holding (ccr_view ccr.now)).added) }
+        ensures left { OnOk result (ProvisionLeaves self.old self.new (ccr_view ccr.now)) }
         ensures err { OnErr result (self.new ≡ self.old) }
     {
         self.note_kept();
+        self.note_told();
         let before = self.copy_of(&ccr.session)?;
         let clock = self.state.clock();
         self.set_fields(ccr, counter)?;
-        match self.tell(tables, ccr, counter) {
+        match self.tell(ccr, counter) {
             Ok(reply) => Ok(reply),
             Err(refused) => {
                 self.put_back(&ccr.session, before, clock);
@@ -177,6 +263,8 @@ impl Site {
     fn put_back(&mut self, session: &SessionId, before: Option<GxRec>, clock: u64)
         requires within { clock ≤ last_counter }
         requires known { facts_on self.old.state.holding.facts (gx session.now) ≢ [] }
+        requires told { ToldUpTo clock (replaced self.old.state.holding
+            (gx session.now) (record_facts before) clock).facts }
         ensures { self.new ≡ with_record self.old (gx session.now) (record_facts before) clock }
     {
         self.state.put_gx(session, before, clock).unwrap();
@@ -194,17 +282,21 @@ impl Site {
     }
 
     /// Tells the gateway what it lacks of the rules that its session has now, or changes nothing.
-    fn tell(&mut self, tables: &Tables, ccr: &Ccr, counter: u64) -> Result<GxReply, AllocError>
+    fn tell(&mut self, ccr: &Ccr, counter: u64) -> Result<GxReply, AllocError>
         requires { counter ≤ last_counter }
         ensures reply { IfOk result (λ reply. gx_reply_value reply
-            ≡ told_reply tables.now (view self.old.state.holding.facts) (gx ccr.now.session)) }
+            ≡ told_reply self.old.tables (view self.old.state.holding.facts) (gx ccr.now.session)) }
         ensures ok { OnOk result (self.new ≡ with_made self.old (Some (operation_told
             self.old.number counter (ccr_view ccr.now) ccr.now.kind
-            (delta_of delta_limit tables.now (view self.old.state.holding.facts) (gx ccr.now.session))))) }
+            (delta_of delta_limit
+            self.old.tables (view self.old.state.holding.facts) (gx ccr.now.session))))) }
+        ensures names { OnOk result (Distinct (map rule_name_of
+            (rules self.old.tables (view self.old.state.holding.facts) (gx ccr.now.session)))) }
         ensures err { OnErr result (self.new ≡ self.old) }
     {
-        let quality = self.quality_of(tables, &ccr.session);
-        let delta = FirstEntries::of(untold(self.alloc, tables, &self.state, &ccr.session)?);
+        let quality = self.quality_of(&ccr.session);
+        let missing = untold(self.alloc, &self.tables, &self.state, &ccr.session)?;
+        let delta = FirstEntries::of(missing);
         let operation = self.all_made(ccr, counter, &delta)?;
         self.add(operation)?;
         Ok(GxReply::Granted(delta, quality))
@@ -251,18 +343,18 @@ impl Site {
     }
 
     /// The default quality of service of the access point that a session shows.
-    fn quality_of(&self, tables: &Tables, session: &SessionId) -> Option<DefaultQuality>
+    fn quality_of(&self, session: &SessionId) -> Option<DefaultQuality>
         ensures { result
-            ≡ quality_of tables.now (view self.now.state.holding.facts) (gx session.now) }
+            ≡ quality_of self.now.tables (view self.now.state.holding.facts) (gx session.now) }
     {
         let (_, apn) = self.state.gx(session)?.apn()?;
-        tables.apn(apn)?.default_quality()
+        self.tables.apn(apn)?.default_quality()
     }
 
     /// The refusal by what is known of the session, given by the request and stands in the tables; the end of the clock
     /// comes after it.
-    fn standing_refusal(&self, tables: &Tables, ccr: &Ccr) -> Option<Refusal>
-        ensures { ccr_refusal tables.now self.now.state.holding (ccr_view ccr.now)
+    fn standing_refusal(&self, ccr: &Ccr) -> Option<Refusal>
+        ensures { ccr_refusal self.now.tables self.now.state.holding (ccr_view ccr.now)
             ≡ or_else result
             (cond (is_clock_full self.now.state.holding) (Some unable_to_comply) None) }
     {
@@ -270,9 +362,9 @@ impl Site {
         match ccr.kind {
             RequestKind::Initial if has_ended(known) => Some(Refusal::base(UNKNOWN_SESSION_ID)),
             RequestKind::Initial if lacks(ccr) => Some(Refusal::experimental(INITIAL_PARAMETERS)),
-            RequestKind::Initial => row_refusal(tables, &ccr.apn),
+            RequestKind::Initial => row_refusal(&self.tables, &ccr.apn),
             RequestKind::Update if !is_live(known) => Some(Refusal::base(UNKNOWN_SESSION_ID)),
-            RequestKind::Update => row_refusal(tables, &ccr.apn),
+            RequestKind::Update => row_refusal(&self.tables, &ccr.apn),
             RequestKind::Termination if !is_live(known) => Some(Refusal::base(UNKNOWN_SESSION_ID)),
             RequestKind::Termination => None,
         }
@@ -305,23 +397,23 @@ impl Site {
 
     /// Pushes what the gateway of the session that is due was not told (TS 29.212, 4.5.2): of the live sessions whose home is
     /// this site and whose host is the given one, any where none is given, that with the least Session-Id; at most the first
-    /// 40 entries. An error changes nothing.
-    pub fn push(
-        &mut self,
-        tables: &Tables,
-        host: Option<&[u8]>,
-    ) -> Result<Option<PushOut>, StepFault>
+    /// 40 entries. Its gateway lacks then just what these left. An error changes nothing.
+    pub fn push(&mut self, host: Option<&[u8]>) -> Result<Option<PushOut>, StepFault>
         ensures push { IfOk result (λ push. Pushed (option_map push_view push)
-            ≡ (pushed tables.now self.old (option_copied host.entry)).reply) }
+            ≡ (pushed self.old (option_copied host.entry)).reply) }
         ensures ok { OnOk result (self.new
-            ≡ with_made self.old (pushed tables.now self.old (option_copied host.entry)).added) }
-        ensures room { OnOk result (lacks_counter tables.now self.old.number
+            ≡ with_made self.old (pushed self.old (option_copied host.entry)).added) }
+        ensures left { IfOk result (λ push. IfSome push (λ p.
+            PushLeaves self.old self.new (gx p.session))) }
+        ensures room { OnOk result (lacks_counter self.old.tables self.old.number
             self.old.state.holding (option_copied host.entry) ≡ false) }
-        ensures full { IfErr result (λ fault. fault ≡ StepFault.ClockFull → lacks_counter tables.now
-            self.old.number self.old.state.holding (option_copied host.entry) ≡ true) }
+        ensures full { IfErr result (λ fault. fault ≡ StepFault.ClockFull → lacks_counter
+            self.old.tables self.old.number self.old.state.holding
+            (option_copied host.entry) ≡ true) }
         ensures err { OnErr result (self.new ≡ self.old) }
     {
-        let found = next_push(self.alloc, tables, &self.state, self.number, host);
+        self.note_told();
+        let found = next_push(self.alloc, &self.tables, &self.state, self.number, host);
         let Ok(found) = found else {
             return Err(StepFault::NoMemory);
         };
@@ -372,6 +464,13 @@ impl Site {
         self.state.note_kept();
     }
 
+    /// Does nothing: its contract tells a proof that what gateways were told has tags up to the clock.
+    fn note_told(&self)
+        ensures { ToldUpTo self.now.state.holding.clock self.now.state.holding.facts }
+    {
+        self.state.note_told();
+    }
+
     /// Takes one operation, or changes nothing.
     fn take(&mut self, operation: &Operation) -> Result<(), AllocError>
         ensures ok { OnOk result (self.new ≡ with_one self.old operation.now) }
@@ -380,20 +479,55 @@ impl Site {
         self.state.take(operation)
     }
 
-    /// Begins again in the next epoch, empty; tells that epoch, or None in the last one, which changes nothing.
-    pub fn restart(&mut self) -> Option<u16>
-        ensures epoch { IfSome result (λ epoch. epoch ≡ self.old.epoch + 1) }
-        ensures again { IfSome result (λ _. self.new ≡ started_again self.old) }
-        ensures last { result ≡ None → self.old.epoch ≡ last_epoch }
-        ensures unchanged { result ≡ None → self.new ≡ self.old }
+    /// Forgets all that it took and made.
+    pub fn clear(&mut self)
+        ensures { self.new ≡ emptied self.old }
     {
-        let Some(epoch) = self.epoch.checked_add(1) else {
-            return None;
-        };
-        self.epoch = epoch;
         self.state = State::start(self.alloc);
         self.log = Vec::new(self.alloc);
-        Some(epoch)
+    }
+
+    /// Serves the request of an event.
+    fn step_serve(&mut self, request: &Request) -> Result<Reply, StepFault>
+        ensures reply { IfOk result (λ reply. MayReply delta_limit self.old.tables self.old.number
+            self.old.state (Serve (request_value request.now)) (reply_value reply)) }
+        ensures ok { IfOk result (λ reply. self.new
+            ≡ after_event self.old (Serve (request_value request.now)) (reply_value reply)) }
+        ensures memory { IfErr result (λ fault. fault ≡ StepFault.NoMemory) }
+        ensures err { OnErr result (self.new ≡ self.old) }
+    {
+        self.note_kept();
+        match self.serve(request) {
+            Ok(reply) => Ok(reply),
+            Err(_) => Err(StepFault::NoMemory),
+        }
+    }
+
+    /// Pushes as an event asks for it.
+    fn step_push(&mut self, host: &Option<DiameterIdentity>) -> Result<Reply, StepFault>
+        ensures reply { IfOk result (λ reply. MayReply delta_limit self.old.tables self.old.number
+            self.old.state (Push host.now) (reply_value reply)) }
+        ensures ok { IfOk result (λ reply. self.new
+            ≡ after_event self.old (Push host.now) (reply_value reply)) }
+        ensures full { IfErr result (λ fault. fault ≡ StepFault.ClockFull → event_lacks_counter
+            self.old.tables self.old.number self.old.state.holding (Push host.now) ≡ true) }
+        ensures err { OnErr result (self.new ≡ self.old) }
+    {
+        self.note_kept();
+        let host = host.as_ref().map(|host| host.as_slice());
+        Ok(Reply::Pushed(self.push(host)?))
+    }
+
+    /// Takes the operations of an event.
+    fn step_take(&mut self, operations: &[Operation]) -> Reply
+        ensures reply { MayReply delta_limit self.old.tables self.old.number
+            self.old.state (Ops operations.now) (reply_value result) }
+        ensures ok { self.new ≡ after_event self.old (Ops operations.now) (reply_value result) }
+    {
+        match self.take_all(operations) {
+            Ok(()) => Reply::Taken(operations.len()),
+            Err((count, _)) => Reply::Taken(count),
+        }
     }
 }
 

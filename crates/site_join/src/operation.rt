@@ -1,6 +1,8 @@
 //! Operations: what accepted requests and pushes make, and what sites send each other.
 ghost use Rattle.std.specs.Prelude.{◌≡◌, ◌≤◌, IfOk, map};
 ghost use Rattle.pcrf_model.specs.Limits.{last_counter};
+ghost use Rattle.pcrf_model.specs.Holdings.{under};
+ghost use Rattle.pcrf_model.specs.ToldTags.{ToldUpTo};
 ghost use Rattle.site_join.specs.Formed.{if_formed, operation_of};
 ghost use Rattle.site_join.specs.States.{session_of, facts_in};
 
@@ -75,7 +77,9 @@ pub struct Operation {
 impl Model for Operation {
     ghost use Rattle.std.specs.Prelude.{◌≤◌};
     ghost use Rattle.pcrf_model.specs.Limits.{last_counter};
+    ghost use Rattle.pcrf_model.specs.Holdings.{under};
     ghost use Rattle.pcrf_model.specs.Operations.{Operation};
+    ghost use Rattle.pcrf_model.specs.ToldTags.{ToldUpTo};
     ghost use Rattle.site_join.specs.States.{session_of, facts_in};
 
     ghost Value = { Operation };
@@ -88,7 +92,8 @@ impl Model for Operation {
       facts = facts_in o.facts;
     } };
 
-    ghost invariant = { λ o. o.counter ≤ last_counter };
+    ghost invariant = { λ o. (o.counter ≤ last_counter)
+        × ToldUpTo o.counter (under (session_of o.facts) (facts_in o.facts)) };
 }
 
 impl Operation {
@@ -112,7 +117,8 @@ impl Operation {
 
     /// The operation of these parts, which the caller makes of the form.
     pub fn stamped(counter: u64, site: u8, number: u32, facts: SessionFacts) -> Operation
-        requires { counter ≤ last_counter }
+        requires within { counter ≤ last_counter }
+        requires told { ToldUpTo counter (under (session_of facts) (facts_in facts)) }
         ensures { result ≡ record {
           counter = counter;
           site = site;
@@ -157,6 +163,13 @@ impl Operation {
         ensures facts { facts_in result.now ≡ self.now.facts }
     {
         &self.facts
+    }
+
+    /// Does nothing: its contract tells a proof that what it tells a gateway has tags up to its counter.
+    pub(crate) fn note_told(&self)
+        ensures { ToldUpTo self.now.counter (under self.now.session self.now.facts) }
+    {
+        let _ = &self.facts;
     }
 
     /// An equal operation.

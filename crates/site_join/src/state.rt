@@ -5,6 +5,7 @@ ghost use Rattle.pcrf_model.specs.Limits.{last_counter};
 ghost use Rattle.pcrf_model.specs.Sessions.{gx, af};
 ghost use Rattle.pcrf_model.specs.Holdings.{nothing_held, facts_on, union, kept_of, replaced};
 ghost use Rattle.pcrf_model.specs.Operations.{with_operation};
+ghost use Rattle.pcrf_model.specs.ToldTags.{ToldUpTo};
 ghost use Rattle.ranked.specs.Orders.{text_cmp};
 ghost use Rattle.lattice_core.specs.Entries.{IsAscending, put, value_at};
 ghost use Rattle.site_join.specs.States.{record_facts, gx_with, af_with};
@@ -33,13 +34,15 @@ impl Model for State {
     ghost use Rattle.std.specs.Prelude.{◌≤◌};
     ghost use Rattle.pcrf_model.specs.Limits.{last_counter};
     ghost use Rattle.pcrf_model.specs.Holdings.{Holding};
+    ghost use Rattle.pcrf_model.specs.ToldTags.{ToldUpTo};
     ghost use Rattle.site_join.specs.States.{held_by};
 
     ghost Value = { Holding };
 
     ghost view = { λ s. held_by s.gx s.af s.clock };
 
-    ghost invariant = { λ s. s.clock ≤ last_counter };
+    ghost invariant = { λ s. (s.clock ≤ last_counter)
+        × ToldUpTo s.clock (held_by s.gx s.af s.clock).facts };
 }
 
 impl State {
@@ -107,6 +110,13 @@ impl State {
         self.af.note_valid();
     }
 
+    /// Does nothing: its contract tells a proof that what gateways were told has tags up to the clock.
+    pub fn note_told(&self)
+        ensures { ToldUpTo self.now.clock self.now.facts }
+    {
+        let _ = &self.clock;
+    }
+
     /// An equal state.
     pub fn try_copy(&self) -> Result<State, AllocError>
         ensures { IfOk result (λ r. r ≡ self.now) }
@@ -164,15 +174,18 @@ impl State {
         })
     }
 
-    /// Puts a record, or none, in the place of that of a gateway's session, sets the clock, and hands back the record that
-    /// stood. Only a record at a session that has none is refused, which changes nothing.
+    /// Puts a record, or none, in the place of that of a gateway's session, sets the clock, which what gateways were told
+    /// then must not be above, and hands back the record that stood. Only a record at a session that has none is refused,
+    /// which changes nothing.
     pub fn put_gx(
         &mut self,
         id: &SessionId,
         given: Option<GxRec>,
         clock: u64,
     ) -> Result<Option<GxRec>, AllocError>
-        requires { clock ≤ last_counter }
+        requires within { clock ≤ last_counter }
+        requires told { ToldUpTo clock
+            (replaced self.old (gx id.now) (record_facts given) clock).facts }
         ensures stood { IfOk result (λ stood.
             record_facts stood ≡ facts_on self.old.facts (gx id.now)) }
         ensures placed { OnOk result
@@ -195,7 +208,9 @@ impl State {
         given: Option<AfRec>,
         clock: u64,
     ) -> Result<Option<AfRec>, AllocError>
-        requires { clock ≤ last_counter }
+        requires within { clock ≤ last_counter }
+        requires told { ToldUpTo clock
+            (replaced self.old (af id.now) (record_facts given) clock).facts }
         ensures stood { IfOk result (λ stood.
             record_facts stood ≡ facts_on self.old.facts (af id.now)) }
         ensures placed { OnOk result
@@ -218,6 +233,7 @@ impl State {
     {
         self.gx.note_valid();
         self.af.note_valid();
+        operation.note_told();
         join_facts(self.alloc, &mut self.gx, &mut self.af, operation.facts())?;
         self.clock = self.clock.max(operation.counter());
         Ok(())

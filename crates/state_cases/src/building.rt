@@ -1,10 +1,14 @@
 //! Operations for tests.
 ghost use Rattle.std.specs.Prelude.{◌≤◌};
+ghost use Rattle.pcrf_model.specs.Holdings.{under};
 ghost use Rattle.pcrf_model.specs.Limits.{last_counter};
+ghost use Rattle.pcrf_model.specs.Sessions.{Session};
+ghost use Rattle.pcrf_model.specs.ToldTags.{ToldUpTo};
+ghost use Rattle.site_join.specs.States.{record_facts};
 
 use af_records::{AfFact, AfRec, ComponentValue};
 use gx_records::{GxFact, GxRec, SessionValue};
-use lattice_core::Tag;
+use lattice_core::{Join, Tag};
 use pcrf_values::{BoundedNumber, BoundedText, DiameterIdentity, RuleName, SessionId};
 use site_join::{Operation, SessionFacts, State};
 use std::alloc::AllocGlobal;
@@ -52,16 +56,14 @@ pub fn update(
     counter: u64,
     site: u8,
     host: &str,
-) -> Operation
-    requires { counter ≤ last_counter }
-{
+) -> Operation {
     let at = Tag {
         number,
         counter,
         site,
     };
     let facts = SessionFacts::Gx(session_id(rt, id), update_facts(rt, at, host));
-    Operation::stamped(counter, site, number, facts)
+    Operation::of(counter, site, number, facts).expect(rt, "an operation")
 }
 
 /// A call, by its Media-Type.
@@ -71,36 +73,30 @@ pub fn call(
     counter: u64,
     site: u8,
     media: u32,
-) -> Operation
-    requires { counter ≤ last_counter }
-{
+) -> Operation {
     let at = Tag {
         number: 0,
         counter,
         site,
     };
     let facts = SessionFacts::Af(session_id(rt, id), call_facts(rt, at, media));
-    Operation::stamped(counter, site, 0, facts)
+    Operation::of(counter, site, 0, facts).expect(rt, "an operation")
 }
 
 /// The end of a gateway's session.
-pub fn gateway_end(rt: &(impl AllocGlobal + Abort), id: &str, counter: u64, site: u8) -> Operation
-    requires { counter ≤ last_counter }
-{
+pub fn gateway_end(rt: &(impl AllocGlobal + Abort), id: &str, counter: u64, site: u8) -> Operation {
     let mut facts = Vec::new(rt.alloc());
     facts.push(GxFact::End).expect(rt, "memory");
     let facts = SessionFacts::Gx(session_id(rt, id), facts);
-    Operation::stamped(counter, site, 0, facts)
+    Operation::of(counter, site, 0, facts).expect(rt, "an operation")
 }
 
 /// The end of a call.
-pub fn call_end(rt: &(impl AllocGlobal + Abort), id: &str, counter: u64, site: u8) -> Operation
-    requires { counter ≤ last_counter }
-{
+pub fn call_end(rt: &(impl AllocGlobal + Abort), id: &str, counter: u64, site: u8) -> Operation {
     let mut facts = Vec::new(rt.alloc());
     facts.push(AfFact::End).expect(rt, "memory");
     let facts = SessionFacts::Af(session_id(rt, id), facts);
-    Operation::stamped(counter, site, 0, facts)
+    Operation::of(counter, site, 0, facts).expect(rt, "an operation")
 }
 
 /// An operation of site 0 with one fact on a gateway's session.
@@ -109,23 +105,24 @@ pub fn gateway_fact(
     id: &str,
     counter: u64,
     fact: GxFact,
-) -> Operation
-    requires { counter ≤ last_counter }
-{
+) -> Operation {
     let mut facts = Vec::new(rt.alloc());
     facts.push(fact).expect(rt, "memory");
     let facts = SessionFacts::Gx(session_id(rt, id), facts);
-    Operation::stamped(counter, 0, 0, facts)
+    Operation::of(counter, 0, 0, facts).expect(rt, "an operation")
 }
 
 /// An operation of site 0 with one fact on a call.
-pub fn call_fact(rt: &(impl AllocGlobal + Abort), id: &str, counter: u64, fact: AfFact) -> Operation
-    requires { counter ≤ last_counter }
-{
+pub fn call_fact(
+    rt: &(impl AllocGlobal + Abort),
+    id: &str,
+    counter: u64,
+    fact: AfFact,
+) -> Operation {
     let mut facts = Vec::new(rt.alloc());
     facts.push(fact).expect(rt, "memory");
     let facts = SessionFacts::Af(session_id(rt, id), facts);
-    Operation::stamped(counter, 0, 0, facts)
+    Operation::of(counter, 0, 0, facts).expect(rt, "an operation")
 }
 
 /// That a gateway was told to remove the rule of this name.
@@ -135,32 +132,76 @@ pub fn told_nothing(rt: &(impl AllocGlobal + Abort), at: Tag, name: &str) -> GxF
     GxFact::Told(at, name, None)
 }
 
-/// Puts a record, or none, in the place of that of a gateway's session, sets the clock, and gives the record that stood.
+/// The record that a state, whose clock is not above that one, has of a gateway's session, if a fact of it is known.
+#[tactic(auto, using(crate::proofs::Putting::record_told))]
+pub fn gateway_record(
+    rt: &(impl AllocGlobal + Abort),
+    state: &State,
+    id: &str,
+    clock: u64,
+) -> Option<GxRec>
+    ensures { (s : Session) → ToldUpTo clock (under s (record_facts result)) }
+{
+    let id = session_id(rt, id);
+    state.note_told();
+    assert!(rt; state.clock() <= clock);
+    let known = state.gx(&id)?;
+    Some(known.try_copy().expect(rt, "memory"))
+}
+
+/// The record that it has of a call.
+#[tactic(auto, using(crate::proofs::Putting::record_told))]
+pub fn call_record(
+    rt: &(impl AllocGlobal + Abort),
+    state: &State,
+    id: &str,
+    clock: u64,
+) -> Option<AfRec>
+    ensures { (s : Session) → ToldUpTo clock (under s (record_facts result)) }
+{
+    let id = session_id(rt, id);
+    state.note_told();
+    assert!(rt; state.clock() <= clock);
+    let known = state.af(&id)?;
+    Some(known.try_copy().expect(rt, "memory"))
+}
+
+/// Puts a record, or none, in the place of that of a gateway's session, sets the clock, which doesn't go back, and gives
+/// the record that stood.
+#[tactic(auto, using(crate::proofs::Putting::put_told, crate::proofs::Putting::record_told))]
 pub fn put_gateway(
     rt: &(impl AllocGlobal + Abort),
     state: &mut State,
     id: &str,
-    record: Option<GxRec>,
+    given: Option<GxRec>,
     clock: u64,
 ) -> Option<GxRec>
-    requires { clock ≤ last_counter }
+    requires within { clock ≤ last_counter }
+    requires told { (s : Session) → ToldUpTo clock (under s (record_facts given)) }
+    ensures { (s : Session) → ToldUpTo clock (under s (record_facts result)) }
 {
     let id = session_id(rt, id);
-    state.put_gx(&id, record, clock).expect(rt, "memory")
+    state.note_told();
+    assert!(rt; state.clock() <= clock);
+    state.put_gx(&id, given, clock).expect(rt, "memory")
 }
 
-/// Puts a record, or none, in the place of that of a call, sets the clock, and gives the record that stood.
+/// Puts a record, or none, in the place of that of a call, as `put_gateway` does.
+#[tactic(auto, using(crate::proofs::Putting::put_told, crate::proofs::Putting::record_told))]
 pub fn put_call(
     rt: &(impl AllocGlobal + Abort),
     state: &mut State,
     id: &str,
-    record: Option<AfRec>,
+    given: Option<AfRec>,
     clock: u64,
 ) -> Option<AfRec>
-    requires { clock ≤ last_counter }
+    requires within { clock ≤ last_counter }
+    requires told { (s : Session) → ToldUpTo clock (under s (record_facts given)) }
 {
     let id = session_id(rt, id);
-    state.put_af(&id, record, clock).expect(rt, "memory")
+    state.note_told();
+    assert!(rt; state.clock() <= clock);
+    state.put_af(&id, given, clock).expect(rt, "memory")
 }
 
 /// Whether a record of a gateway's session stood.

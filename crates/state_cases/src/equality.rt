@@ -75,6 +75,7 @@ fn copies_are_equal(rt: HostRuntime) {
 }
 
 /// Sets the clock alone: no record is put in the place of none.
+#[tactic(auto, using(crate::proofs::Putting::none_told))]
 fn set_clock(rt: &(impl AllocGlobal + Abort), state: &mut State, clock: u64)
     requires { clock ≤ last_counter }
 {
@@ -84,11 +85,11 @@ fn set_clock(rt: &(impl AllocGlobal + Abort), state: &mut State, clock: u64)
 
 #[test]
 fn another_clock_alone_sets_apart(rt: HostRuntime) {
-    let state = small_state(&rt);
+    let mut state = small_state(&rt);
     let mut other = small_state(&rt);
     set_clock(&rt, &mut other, 3);
     check_equal(&rt, &state, &other, false);
-    set_clock(&rt, &mut other, 2);
+    set_clock(&rt, &mut state, 3);
     check_equal(&rt, &state, &other, true);
 }
 
@@ -133,6 +134,7 @@ fn a_flow_more_sets_apart(rt: HostRuntime) {
 }
 
 /// Puts records without facts on sessions that have none.
+#[tactic(auto, using(crate::proofs::Putting::none_told))]
 fn put_empty_records(rt: &(impl AllocGlobal + Abort), state: &mut State) {
     let record = Some(GxRec::start(rt.alloc()));
     check_gateway_stood(rt, put_gateway(rt, state, "g2", record, 2), false);

@@ -1,15 +1,18 @@
 //! What a state shows of the operations that it took.
 ghost use Rattle.std.specs.Prelude.{◌≤◌};
+ghost use Rattle.pcrf_model.specs.Holdings.{under};
 ghost use Rattle.pcrf_model.specs.Limits.{last_counter};
+ghost use Rattle.pcrf_model.specs.Sessions.{Session};
+ghost use Rattle.pcrf_model.specs.ToldTags.{ToldUpTo};
+ghost use Rattle.site_join.specs.States.{record_facts};
 
 use crate::building::{
-    call, call_end, call_facts, check_call_stood, check_gateway_stood, gateway_end, put_call,
-    put_gateway, update, update_facts,
+    call, call_end, call_record, check_call_stood, check_gateway_stood, gateway_end,
+    gateway_record, put_call, put_gateway, update,
 };
 use crate::text::state_text;
 use af_records::AfRec;
 use gx_records::GxRec;
-use lattice_core::Tag;
 use site_join::{Operation, State};
 use std::alloc::AllocGlobal;
 use std::process::Abort;
@@ -213,29 +216,18 @@ fn copies_of_operations_are_taken_as_they_are(rt: HostRuntime) {
     );
 }
 
-/// The stamp of the records that are put.
-const PUT: Tag = Tag {
-    number: 0,
-    counter: 2,
-    site: 0,
-};
-
-/// The record of an update.
-fn gateway_record(rt: &(impl AllocGlobal + Abort)) -> GxRec {
-    let facts = update_facts(rt, PUT, "b");
-    GxRec::of_facts(rt.alloc(), facts.as_slice()).expect(rt, "memory")
-}
-
-/// The record of a call.
-fn call_record(rt: &(impl AllocGlobal + Abort)) -> AfRec {
-    let facts = call_facts(rt, PUT, 4);
-    AfRec::of_facts(rt.alloc(), facts.as_slice()).expect(rt, "memory")
-}
-
-/// A state that took one update.
-fn updated(rt: &(impl AllocGlobal + Abort)) -> State {
+/// A state that took one update, under this counter.
+fn updated(rt: &(impl AllocGlobal + Abort), counter: u64, host: &str) -> State {
     let mut state = State::start(rt.alloc());
-    let made = update(rt, "g1", 0, 3, 0, "a");
+    let made = update(rt, "g1", 0, counter, 0, host);
+    state.take(&made).expect(rt, "memory");
+    state
+}
+
+/// A state that took one call, under the counter 2.
+fn called(rt: &(impl AllocGlobal + Abort)) -> State {
+    let mut state = State::start(rt.alloc());
+    let made = call(rt, "a1", 2, 0, 4);
     state.take(&made).expect(rt, "memory");
     state
 }
@@ -244,31 +236,35 @@ fn updated(rt: &(impl AllocGlobal + Abort)) -> State {
 fn put_and_compare(
     rt: &(impl AllocGlobal + Abort),
     state: &mut State,
-    record: Option<GxRec>,
+    given: Option<GxRec>,
     clock: u64,
     want: &str,
 ) -> Option<GxRec>
-    requires { clock ≤ last_counter }
+    requires within { clock ≤ last_counter }
+    requires told { (s : Session) → ToldUpTo clock (under s (record_facts given)) }
+    ensures { (s : Session) → ToldUpTo clock (under s (record_facts result)) }
 {
-    let stood = put_gateway(rt, state, "g1", record, clock);
+    let stood = put_gateway(rt, state, "g1", given, clock);
     compare(rt, state, want);
     stood
 }
 
 /// Puts another record, and then the one again that stood.
 fn put_by_turns(rt: &(impl AllocGlobal + Abort), state: &mut State) {
-    let first = "clock 2, gx g1 host b@0.2.0 last 2@0.2.0";
-    let stood = put_and_compare(rt, state, Some(gateway_record(rt)), 2, first);
+    let other = gateway_record(rt, &updated(rt, 2, "b"), "g1", 3);
+    let first = "clock 3, gx g1 host b@0.2.0 last 2@0.2.0";
+    let stood = put_and_compare(rt, state, other, 3, first);
     let again = "clock 3, gx g1 host a@0.3.0 last 2@0.3.0";
     let put = put_and_compare(rt, state, stood, 3, again);
     check_gateway_stood(rt, put, true);
 }
 
 #[test]
+#[tactic(auto, using(crate::proofs::Putting::none_told))]
 fn records_are_put_and_handed_back(rt: HostRuntime) {
-    let mut state = updated(&rt);
+    let mut state = updated(&rt, 3, "a");
     put_by_turns(&rt, &mut state);
-    let gone = put_and_compare(&rt, &mut state, None, 0, "clock 0");
+    let gone = put_and_compare(&rt, &mut state, None, 4, "clock 4");
     check_gateway_stood(&rt, gone, true);
 }
 
@@ -276,22 +272,25 @@ fn records_are_put_and_handed_back(rt: HostRuntime) {
 fn check_put(
     rt: &(impl AllocGlobal + Abort),
     state: &mut State,
-    record: Option<AfRec>,
+    given: Option<AfRec>,
     clock: u64,
     stands: bool,
 )
-    requires { clock ≤ last_counter }
+    requires within { clock ≤ last_counter }
+    requires told { (s : Session) → ToldUpTo clock (under s (record_facts given)) }
 {
-    let stood = put_call(rt, state, "a1", record, clock);
+    let stood = put_call(rt, state, "a1", given, clock);
     check_call_stood(rt, stood, stands);
 }
 
 #[test]
+#[tactic(auto, using(crate::proofs::Putting::none_told))]
 fn calls_are_put_and_handed_back(rt: HostRuntime) {
     let mut state = State::start(rt.alloc());
-    check_put(&rt, &mut state, Some(call_record(&rt)), 2, false);
+    let record = call_record(&rt, &called(&rt), "a1", 2);
+    check_put(&rt, &mut state, record, 2, false);
     let shown = "clock 2, af a1 host af@0.2.0 media 4@0.2.0";
     compare(&rt, &state, shown);
-    check_put(&rt, &mut state, None, 0, true);
-    compare(&rt, &state, "clock 0");
+    check_put(&rt, &mut state, None, 3, true);
+    compare(&rt, &state, "clock 3");
 }

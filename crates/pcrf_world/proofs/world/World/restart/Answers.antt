@@ -1,15 +1,37 @@
-use Rattle.std.proofs.Common.{rules, ◌≡◌, Some, length, refl, slice_get, ap, sym, ◌∙◌}
+use Rattle.std.proofs.Common.{rules, ◌≡◌, Some, length, refl, slice_get, slice_set, ap, sym, ◌∙◌, subst}
 use Rattle.std.proofs.lemmas.Option.{slice_get_read}
-use Rattle.pcrf_model.specs.Worlds.{SiteView, WorldView}
-use Rattle.site_core.specs.Sites.{started_again}
+use Rattle.pcrf_world.specs.Members.{IsMember, seen_of, started_again}
 use Rattle.pcrf_world.specs.Values.{WorldValue}
-use Rattle.pcrf_world.proofs.Events.{with_site, restarted_at}
+use Rattle.pcrf_world.specs.declared.site.Member.{Member}
+use Rattle.pcrf_world.proofs.Events.{restarted_at}
+use Rattle.pcrf_world.proofs.Members.{again_member, members_at, members_set, seen_at, world_of}
 use Rattle.pcrf_world.proofs.world.World.restart.Goals as goal
+
+pub invariant_of-self-2 : goal.invariant_of-self-2
+invariant_of-self-2 c =
+    let t = c.self.inside.tables in
+    let ms = c.self.inside.sites.items in
+    let m = c.index_mut-member.result.now in
+    let at : slice_get ms c.args.i ≡ Some m = slice_get_read ms (length ms) c.args.i m refl (search rules) c.index_mut-member.ensures.value in
+    let is = members_at t ms c.args.i m c.self.invariant at in
+    let again : c.restart.new.self ≡ started_again m = search rules in
+    members_set t ms c.args.i c.restart.new.self c.self.invariant (subst (IsMember t) (sym again) (again_member t m is))
+
+pub returns-clause-answer : goal.returns-clause-answer
+returns-clause-answer c =
+    let ms = c.self.inside.sites.items in
+    let m = c.index_mut-member.result.now in
+    let at : slice_get ms c.args.i ≡ Some m = slice_get_read ms (length ms) c.args.i m refl (search rules) c.index_mut-member.ensures.value in
+    let there : slice_get c.args.self.now.seen.sites c.args.i ≡ Some (seen_of m) = ap (λ (x : WorldValue). slice_get x.seen.sites c.args.i) (sym c.self.view_is) ∙ seen_at ms c.args.i m at in
+    rw there (search rules)
 
 pub returns-clause-after : goal.returns-clause-after
 returns-clause-after c w seen =
-    let v : WorldView = record { sites = c.self.inside.sites.items; letters = c.self.inside.letters.items } in
-    let s = c.index_mut-site.result.now in
-    let at : slice_get c.self.inside.sites.items c.args.i ≡ Some s = slice_get_read c.self.inside.sites.items (length c.self.inside.sites.items) c.args.i s refl (search rules) c.index_mut-site.ensures.value in
-    let again : c.restart.new.self ≡ started_again s = search rules in
-    ap (λ (x : SiteView). with_site v c.args.i x) again ∙ restarted_at c.self.inside.tables w v (seen ∙ sym (ap (λ (x : WorldValue). x.seen) c.self.view_is)) c.args.i c.in-Some.epoch s at
+    let ms = c.self.inside.sites.items in
+    let ls = c.self.inside.letters.items in
+    let m = c.index_mut-member.result.now in
+    let at : slice_get ms c.args.i ≡ Some m = slice_get_read ms (length ms) c.args.i m refl (search rules) c.index_mut-member.ensures.value in
+    let before = seen ∙ sym (ap (λ (x : WorldValue). x.seen) c.self.view_is) in
+    let again : c.restart.new.self ≡ started_again m = search rules in
+    ap (λ (x : Member). world_of (slice_set ms c.args.i x) ls) again
+    ∙ restarted_at c.self.inside.tables w ms ls before c.args.i m at c.in-Some.epoch

@@ -1,29 +1,72 @@
-use Rattle.std.proofs.Common.{rules, ◌≡◌, List, Some, length, refl, slice_get, take, ap, sym, ◌∙◌}
-use Rattle.std.proofs.lemmas.Option.{slice_get_read}
+use Rattle.std.proofs.Common.{rules, ◌≡◌, ◌<◌, List, Some, length, refl, slice_get, slice_set, take, ap, sym, ◌∙◌, subst}
+use Rattle.std.proofs.lemmas.Option.{slice_get_read, slice_get_within}
 use Rattle.pcrf_model.specs.Operations.{Operation}
 use Rattle.pcrf_model.specs.Letters.{Range}
-use Rattle.pcrf_model.specs.Worlds.{SiteView, WorldView}
-use Rattle.site_core.specs.Sites.{with_taken}
+use Rattle.site_core.specs.Sites.{SiteValue, with_taken}
+use Rattle.pcrf_world.specs.Members.{IsMember, seen_of, with_site}
 use Rattle.pcrf_world.specs.Values.{WorldValue}
-use Rattle.pcrf_world.proofs.Events.{with_site, merged_at, merged_in_part_at}
+use Rattle.pcrf_world.proofs.Events.{merged_at, merged_in_part_at}
+use Rattle.pcrf_world.proofs.Members.{members_at, members_set, seen_at, taken_member, world_of}
 use Rattle.pcrf_world.proofs.world.World.take_letter.Goals as goal
 use Rattle.pcrf_world.proofs.world.World.take_letter.Goals.{in-Ok, in-Err}
 
-pub returns-clause-after : goal.returns-clause-after
-returns-clause-after c took seen =
-    let v : WorldView = record { sites = c.self.inside.sites.items; letters = c.self.inside.letters.items } in
-    let s = c.index_mut-site.result.now in
-    let l = c.index-letter.result.now in
+pub invariant_of-self : goal.invariant_of-self
+invariant_of-self c =
+    let t = c.self.inside.tables in
+    let ms = c.self.inside.sites.items in
+    let m = c.index_mut-member.result.now in
     let os : List Operation = c.operations.result.now in
-    let at : slice_get c.self.inside.sites.items c.args.j ≡ Some s = slice_get_read c.self.inside.sites.items (length c.self.inside.sites.items) c.args.j s refl (search rules) c.index_mut-site.ensures.value in
-    let there : slice_get c.self.inside.letters.items c.args.k ≡ Some l = slice_get_read c.self.inside.letters.items (length c.self.inside.letters.items) c.args.k l refl (search rules) c.index-letter.ensures in
-    let body : l.body ≡ Range 0 os = search rules in
+    let at : slice_get ms c.args.j ≡ Some m = slice_get_read ms (length ms) c.args.j m refl (search rules) c.index_mut-member.ensures.value in
+    let is = members_at t ms c.args.j m c.self.invariant at in
     elim c.match-take_all.branch [
       | in-Ok b ↦ (
-          let taken : c.take_all.new.self ≡ with_taken s os = search rules in
-          rw b.result-is (ap (λ (x : SiteView). with_site v c.args.j x) taken ∙ merged_at c.self.inside.tables took v (seen ∙ sym (ap (λ (x : WorldValue). x.seen) c.self.view_is)) c.args.j c.args.k s l os at there body))
+          let taken : c.take_all.new.self ≡ with_taken m.site os = search rules in
+          members_set t ms c.args.j (with_site m c.take_all.new.self) c.self.invariant (subst (λ (x : SiteValue). IsMember t (with_site m x)) (sym taken) (taken_member t m is os)))
       | in-Err b ↦ (
           let n = b.in-Err.taken in
-          let taken : c.take_all.new.self ≡ with_taken s (take n os) = search rules in
-          rw b.result-is (ap (λ (x : SiteView). with_site v c.args.j x) taken ∙ merged_in_part_at c.self.inside.tables took v (seen ∙ sym (ap (λ (x : WorldValue). x.seen) c.self.view_is)) c.args.j c.args.k n s l os at there body))
+          let taken : c.take_all.new.self ≡ with_taken m.site (take n os) = search rules in
+          members_set t ms c.args.j (with_site m c.take_all.new.self) c.self.invariant (subst (λ (x : SiteValue). IsMember t (with_site m x)) (sym taken) (taken_member t m is (take n os))))
+    ]
+
+pub returns-clause-answer : goal.returns-clause-answer
+returns-clause-answer c =
+    let ms = c.self.inside.sites.items in
+    let ls = c.self.inside.letters.items in
+    let m = c.index_mut-member.result.now in
+    let l = c.index-letter.result.now in
+    let os : List Operation = c.operations.result.now in
+    let at : slice_get ms c.args.j ≡ Some m = slice_get_read ms (length ms) c.args.j m refl (search rules) c.index_mut-member.ensures.value in
+    let there : slice_get ls c.args.k ≡ Some l = slice_get_read ls (length ls) c.args.k l refl (search rules) c.index-letter.ensures in
+    let body : l.body ≡ Range 0 os = search rules in
+    let site = ap (λ (x : WorldValue). slice_get x.seen.sites c.args.j) (sym c.self.view_is) ∙ seen_at ms c.args.j m at in
+    let letter = ap (λ (x : WorldValue). slice_get x.seen.letters c.args.k) (sym c.self.view_is) ∙ there in
+    elim c.match-take_all.branch [
+      | in-Ok b ↦ rw (b.result-is, site, letter) refl
+      | in-Err b ↦ (
+          let n = b.in-Err.taken in
+          let part : n < length os = search rules in
+          rw b.result-is (slice_get_within c.args.self.now.seen.sites c.args.j (seen_of m) site, l, letter, rw body part))
+    ]
+
+pub returns-clause-after : goal.returns-clause-after
+returns-clause-after c took seen =
+    let ms = c.self.inside.sites.items in
+    let ls = c.self.inside.letters.items in
+    let m = c.index_mut-member.result.now in
+    let l = c.index-letter.result.now in
+    let os : List Operation = c.operations.result.now in
+    let at : slice_get ms c.args.j ≡ Some m = slice_get_read ms (length ms) c.args.j m refl (search rules) c.index_mut-member.ensures.value in
+    let there : slice_get ls c.args.k ≡ Some l = slice_get_read ls (length ls) c.args.k l refl (search rules) c.index-letter.ensures in
+    let body : l.body ≡ Range 0 os = search rules in
+    let before = seen ∙ sym (ap (λ (x : WorldValue). x.seen) c.self.view_is) in
+    elim c.match-take_all.branch [
+      | in-Ok b ↦ (
+          let taken : c.take_all.new.self ≡ with_taken m.site os = search rules in
+          rw b.result-is (ap (λ (x : SiteValue). world_of (slice_set ms c.args.j (with_site m x)) ls) taken
+          ∙ merged_at c.self.inside.tables took ms ls before c.args.j m at c.args.k l os there body))
+      | in-Err b ↦ (
+          let n = b.in-Err.taken in
+          let taken : c.take_all.new.self ≡ with_taken m.site (take n os) = search rules in
+          rw b.result-is (ap (λ (x : SiteValue). world_of (slice_set ms c.args.j (with_site m x)) ls) taken
+          ∙ merged_in_part_at c.self.inside.tables took ms ls before c.args.j m at c.args.k l os there body n))
     ]

@@ -1,6 +1,6 @@
 use Rattle.std.proofs.Common.{rules, ◌≡◌, ◌∙◌, ◌+◌, ◌++◌, ◌∷◌, [], take, ap, sym}
 use Rattle.std.proofs.lemmas.List.{take_more}
-use Rattle.pcrf_model.specs.Worlds.{SiteView}
+use Rattle.site_core.specs.Sites.{SiteValue}
 use Rattle.site_core.specs.Sites.{with_one, with_taken}
 use Rattle.site_core.proofs.Taking.{takes_none, takes_more}
 use Rattle.site_core.proofs.site.Site.take_all.Goals as goal
@@ -19,4 +19,4 @@ loop-count-preserved c =
     let taken : c.take.new.self ≡ with_one c.loop-count.self o = search rules in
     let held = takes_more s.state.holding done o in
     let next : with_one (with_taken s done) o ≡ with_taken s (done ++ o ∷ []) = λ i. record s { state = record { holding = held i; log = s.state.log } } in
-    taken ∙ ap (λ (x : SiteView). with_one x o) c.loop-count.invariant ∙ next ∙ ap (with_taken s) (sym more)
+    taken ∙ ap (λ (x : SiteValue). with_one x o) c.loop-count.invariant ∙ next ∙ ap (with_taken s) (sym more)

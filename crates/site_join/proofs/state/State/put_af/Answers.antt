@@ -3,6 +3,7 @@ use Rattle.ranked.specs.Orders.{text_cmp}
 use Rattle.lattice_core.specs.Entries.{IsAscending}
 use Rattle.pcrf_model.specs.Sessions.{af}
 use Rattle.pcrf_model.specs.Holdings.{Holding, facts_on, replaced}
+use Rattle.pcrf_model.specs.ToldTags.{ToldUpTo}
 use Rattle.site_join.specs.States.{Records, record_facts, held_by}
 use Rattle.site_join.proofs.StateLaws.{reads_af}
 use Rattle.site_join.proofs.PlacedRecords.{where_refused, puts_af}
@@ -26,3 +27,11 @@ returns-in_err-stood-clause-refused_new c = where_refused c.from_residual.result
     sym (ap (λ (h : Holding). facts_on h.facts (af c.args.id.now)) c.self.view_is)
     ∙ sym (reads_af c.self.inside.gx c.self.inside.af c.self.inside.clock c.args.id.now c.note_valid.ensures)
     ∙ ap record_facts c.in_err-stood.ensures.refused_new)
+
+pub invariant_of-self-2 : goal.invariant_of-self-2
+invariant_of-self-2 c =
+    let there = c.in_ok-stood.ensures.placed in
+    let is = ap (λ (es : Records). held_by c.self.inside.gx es c.args.clock) there
+    ∙ puts_af c.self.inside.gx c.self.inside.af c.args.id.now c.args.given c.self.inside.clock c.args.clock c.note_valid.ensures.0 (subst (IsAscending text_cmp) there c.note_valid-2.ensures.0)
+    ∙ ap (λ (h : Holding). replaced h (af c.args.id.now) (record_facts c.args.given) c.args.clock) c.self.view_is in
+    (c.requires.within, subst (λ (h : Holding). ToldUpTo c.args.clock h.facts) (sym is) c.requires.told)

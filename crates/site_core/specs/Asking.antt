@@ -17,9 +17,9 @@ use Rattle.dia_base.specs.Avps.{session_id}
 use Rattle.dia_base.specs.Commands.{credit_control_command}
 use Rattle.dia_base.specs.Rows.{value_of, or_else}
 use Rattle.gx_profile.specs.Requests.{ccr_view, ccr_table_refusal, ccr_of}
-use Rattle.pcrf_wire.specs.declared.request.Request.TheVariants.{Ccr}
-use Rattle.pcrf_wire.specs.declared.reading.Asked.{Asked}
-use Rattle.pcrf_wire.specs.declared.reading.Asked.TheVariants.{Request, Refused, Silent}
+use Rattle.site_core.specs.declared.request.Request.TheVariants.{Ccr}
+use Rattle.site_core.specs.declared.reading.Asked.{Asked}
+use Rattle.site_core.specs.declared.reading.Asked.TheVariants.{Request, Refused, Silent}
 
 -- to serve a request, to be refused with the Session-Id where one is known, or nothing
 pub data AskedValue : Type 0 where

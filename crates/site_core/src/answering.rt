@@ -3,9 +3,10 @@ ghost use Rattle.std.specs.Prelude.{◌≡◌, ◌<◌, ◌&&◌, false, IfOk};
 ghost use Rattle.std.specs.Option.{option_copied};
 ghost use Rattle.dia_codec.specs.Limits.{command_bound};
 ghost use Rattle.dia_codec.specs.Spelling.{message_view};
-ghost use Rattle.pcrf_wire.specs.Answering.{answer_bytes, refusal_bytes, reply_bytes};
+ghost use Rattle.site_core.specs.Answering.{answer_bytes, refusal_bytes, reply_bytes};
 
-use crate::request::{Reply, Request};
+use crate::event::Reply;
+use crate::request::Request;
 use dia_base::{Identity, refusal_answer};
 use dia_codec::{Header, Message, WriteFault, write_message};
 use gx_profile::write_cca;
@@ -25,7 +26,7 @@ fn bytes_of(alloc: Global, answer: &Message) -> Result<Vec<u8>, AllocError>
     }
 }
 
-/// The bytes of the answer to a request that was served.
+/// The bytes of the answer to a request that was served; none where the reply is to an event of another kind.
 #[tactic(auto, unfolding(gx_profile::specs::Answers::cca))]
 pub fn write_reply(
     alloc: Global,
@@ -38,7 +39,9 @@ pub fn write_reply(
     ensures { IfOk result (λ bytes.
         bytes.items ≡ reply_bytes identity.now header.now request.now reply.now) }
 {
-    let (Request::Ccr(ccr), Reply::Gx(reply)) = (request, reply);
+    let (Request::Ccr(ccr), Reply::Gx(reply)) = (request, reply) else {
+        return Ok(Vec::new(alloc));
+    };
     let answer = write_cca(alloc, identity, header, ccr, reply)?;
     bytes_of(alloc, &answer)
 }

@@ -5,7 +5,7 @@ ghost use Rattle.dia_codec.specs.Reading.{avps_of};
 ghost use Rattle.dia_codec.specs.Spelling.{avp_views, message_view};
 ghost use Rattle.dia_base.specs.Rows.{IsFaultOf};
 ghost use Rattle.gx_profile.specs.Requests.{ccr_view, ccr_of};
-ghost use Rattle.pcrf_wire.specs.Asking.{HeaderFits, asked_value, fault_refusal, header_refusal, meaning_of_frame, meaning_of_request, message_refusal, session_among, session_if_cut};
+ghost use Rattle.site_core.specs.Asking.{HeaderFits, asked_value, fault_refusal, header_refusal, meaning_of_frame, meaning_of_request, message_refusal, session_among, session_if_cut};
 
 use crate::request::Request;
 use dia_base::codes::results::{

@@ -1,0 +1,36 @@
+-- The sites of a world: each with how often it began; all have the world's operator tables, and the names that their numbers give.
+use Rattle.std.specs.Prelude.{◌≡◌, ℕ, ◌+◌, List, [], ◌∷◌}
+use Rattle.pcrf_model.specs.Tables.{Tables}
+use Rattle.pcrf_model.specs.Worlds.{SiteView}
+use Rattle.site_core.specs.Sites.{SiteValue, new_site, emptied}
+use Rattle.pcrf_world.specs.Identities.{identity_of}
+use Rattle.pcrf_world.specs.declared.site.Member.{Member}
+
+-- what is seen of a site
+abbrev pub seen_of : Member → SiteView
+seen_of m = record { number = m.site.number; epoch = m.epoch; state = m.site.state }
+
+-- the site that is so seen in a world with these operator tables
+abbrev pub site_seen : Tables → SiteView → SiteValue
+site_seen t s = record { tables = t; identity = identity_of s.number; number = s.number; state = s.state }
+
+-- it has these operator tables, and the names that its number gives
+abbrev pub IsMember : Tables → Member → Type 0
+IsMember t m = m.site ≡ site_seen t (seen_of m)
+
+-- each is one
+abbrev pub AreMembers : Tables → List Member → Type 0
+AreMembers t [] = Unit {0}
+AreMembers t (m ∷ ms) = IsMember t m × AreMembers t ms
+
+-- a site that took nothing, in its first epoch
+abbrev pub new_member : Tables → ℕ → Member
+new_member t number = record { epoch = 1; site = new_site t (identity_of number) number }
+
+-- with this in place of its site
+abbrev pub with_site : Member → SiteValue → Member
+with_site m s = record { epoch = m.epoch; site = s }
+
+-- empty, in the next epoch
+abbrev pub started_again : Member → Member
+started_again m = record { epoch = m.epoch + 1; site = emptied m.site }

@@ -1,0 +1,27 @@
+//! What happens at a site, and what it replies.
+use crate::request::Request;
+use gx_profile::{GxReply, PushOut};
+use pcrf_values::DiameterIdentity;
+use site_join::Operation;
+
+/// What may happen at a site.
+#[derive(Drop)]
+pub enum Event {
+    /// A request is to be served.
+    Serve(Request),
+    /// A gateway of this host is to be told what it was not told yet, one of any host where none is given.
+    Push(Option<DiameterIdentity>),
+    /// Operations of a letter are to be taken.
+    Ops(Vec<Operation>),
+}
+
+/// What a site replies to an event.
+#[derive(Drop, PartialEq, Eq)]
+pub enum Reply {
+    /// To a credit control request.
+    Gx(GxReply),
+    /// What was pushed; nothing where nothing was due.
+    Pushed(Option<PushOut>),
+    /// So many operations, the first of those that were given, stand taken: less than all only where memory was refused.
+    Taken(usize),
+}
