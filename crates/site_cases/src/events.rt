@@ -8,48 +8,63 @@ use site_core::{Event, Reply, Request, Site, write_reply};
 use std::alloc::AllocGlobal;
 use std::process::Abort;
 
+/// What a reply says.
+#[derive(Clone, Copy, Debug, PartialEq, Eq)]
+enum Said {
+    /// A request is granted, and so many rules are installed.
+    Granted(usize),
+    Refused,
+    /// So many rules are installed by a push.
+    Pushed(usize),
+    NothingPushed,
+    Taken(usize),
+}
+
+/// What a reply says.
+fn said(reply: &Reply) -> Said {
+    match reply {
+        Reply::Gx(GxReply::Granted(delta, _)) => Said::Granted(delta.installed().len()),
+        Reply::Gx(GxReply::Refused(_)) => Said::Refused,
+        Reply::Pushed(Some(push)) => Said::Pushed(push.delta.installed().len()),
+        Reply::Pushed(None) => Said::NothingPushed,
+        Reply::Taken(count) => Said::Taken(*count),
+    }
+}
+
+/// An event happens at a site, which replies so.
+fn happens(rt: &(impl AllocGlobal + Abort), site: &mut Site, event: Event, wanted: Said) {
+    let reply = site.step(&event).expect(rt, "memory and a counter");
+    assert_eq!(rt; said(&reply), wanted);
+}
+
 /// An initial request.
 fn asked(rt: &(impl AllocGlobal + Abort)) -> Request {
     Request::Ccr(request(rt, initial(0, 1)))
 }
 
-/// What a site replies to an event.
-fn reply(rt: &(impl AllocGlobal + Abort), site: &mut Site, event: &Event) -> Reply {
-    site.step(event).expect(rt, "memory and a counter")
+/// A push to a host.
+fn to_host(rt: &(impl AllocGlobal + Abort), host: &[u8]) -> Event {
+    Event::Push(Some(name(rt, host)))
 }
 
-/// How many rules a push to a host, any where none is given, installs; none where nothing is pushed.
-fn installed(
-    rt: &(impl AllocGlobal + Abort),
-    site: &mut Site,
-    host: Option<&[u8]>,
-) -> Option<usize> {
-    let host = host.map(|host| name(rt, host));
-    let Reply::Pushed(push) = reply(rt, site, &Event::Push(host)) else {
-        rt.abort()
-    };
-    Some(push?.delta.installed().len())
+/// A site that serves an initial request of 41 rules, and pushes what its reply left.
+fn served(rt: &(impl AllocGlobal + Abort)) -> Site {
+    let mut site = site_with(rt, tables(rt, 41, 0), 0);
+    happens(rt, &mut site, Event::Serve(asked(rt)), Said::Granted(40));
+    happens(rt, &mut site, to_host(rt, b"other"), Said::NothingPushed);
+    happens(rt, &mut site, to_host(rt, b"gw"), Said::Pushed(1));
+    happens(rt, &mut site, Event::Push(None), Said::NothingPushed);
+    site
 }
 
 #[test]
 fn events_get_the_replies_of_their_calls(rt: HostRuntime) {
-    let mut site = site_with(&rt, tables(&rt, 41, 0), 0);
-    let served = reply(&rt, &mut site, &Event::Serve(asked(&rt)));
-    let Reply::Gx(GxReply::Granted(delta, quality)) = served else {
-        rt.abort()
-    };
-    assert_eq!(rt; (delta.removed().len(), delta.installed().len()), (0, 40));
-    assert!(rt; quality.is_none());
-    assert_eq!(rt; installed(&rt, &mut site, Some(b"other")), None);
-    assert_eq!(rt; installed(&rt, &mut site, Some(b"gw")), Some(1));
-    assert_eq!(rt; installed(&rt, &mut site, None), None);
-    let log = site.copy_of_log().expect(&rt, "memory");
-    assert_eq!(rt; log.len(), 2);
+    let site = served(&rt);
     let mut other = site_with(&rt, tables(&rt, 41, 0), 1);
-    let taken = reply(&rt, &mut other, &Event::Ops(log));
-    assert!(rt; taken == Reply::Taken(2));
+    let log = site.copy_of_log().expect(&rt, "memory");
+    happens(&rt, &mut other, Event::Ops(log), Said::Taken(2));
     assert!(rt; other.sessions().equal(site.sessions()));
-    assert_eq!(rt; installed(&rt, &mut other, None), None);
+    happens(&rt, &mut other, Event::Push(None), Said::NothingPushed);
 }
 
 /// The header of a credit control request.
@@ -68,12 +83,16 @@ fn header() -> Header {
     }
 }
 
+/// A reply to another event than a request has no answer.
+fn has_no_answer(rt: &(impl AllocGlobal + Abort), site: &Site, asked: &Request, reply: Reply) {
+    let answer = write_reply(rt.alloc(), site.identity(), &header(), asked, &reply);
+    assert!(rt; answer.expect(rt, "memory").is_empty());
+}
+
 #[test]
 fn a_reply_of_another_kind_has_no_answer(rt: HostRuntime) {
     let site = site_with(&rt, tables(&rt, 0, 0), 0);
     let asked = asked(&rt);
-    for other in [Reply::Taken(1), Reply::Pushed(None)] {
-        let answer = write_reply(rt.alloc(), site.identity(), &header(), &asked, &other);
-        assert!(rt; answer.expect(&rt, "memory").is_empty());
-    }
+    has_no_answer(&rt, &site, &asked, Reply::Taken(1));
+    has_no_answer(&rt, &site, &asked, Reply::Pushed(None));
 }

@@ -85,16 +85,20 @@ fn of_another_host() -> Sent {
     }
 }
 
-#[test]
-fn each_of_two_hosts_is_pushed_its_own(rt: HostRuntime) {
-    let mut site = site_with(&rt, tables(&rt, 41, 0), 0);
-    let first = ranges(rt.alloc(), ("", 0, 0), ("+a", 0, 40)).expect(&rt, "memory");
-    tells(&rt, &mut site, initial(0, 1), first.as_str());
-    tells(&rt, &mut site, of_another_host(), first.as_str());
-    let pushed = site.push(Some(b"pgw")).expect(&rt, "memory and a counter");
-    let push = pushed.expect(&rt, "a push");
+/// A site pushes to the other gateway.
+fn pushes_to_another(rt: &(impl AllocGlobal + Abort), site: &mut Site) {
+    let pushed = site.push(Some(b"pgw")).expect(rt, "memory and a counter");
+    let push = pushed.expect(rt, "a push");
     assert_eq!(rt; push.session.as_slice(), b"pgw;1;1".as_slice());
     assert_eq!(rt; push.host.as_slice(), b"pgw".as_slice());
+}
+
+#[test]
+fn each_of_two_hosts_is_pushed_its_own(rt: HostRuntime) {
+    let mut site = with_rest(&rt, tables(&rt, 41, 0));
+    let first = ranges(rt.alloc(), ("", 0, 0), ("+a", 0, 40)).expect(&rt, "memory");
+    tells(&rt, &mut site, of_another_host(), first.as_str());
+    pushes_to_another(&rt, &mut site);
     pushes(&rt, &mut site, Some(b"pgw"), None);
     pushes(&rt, &mut site, Some(b"gw"), Some((b"gw;1;1", "+a40")));
     pushes(&rt, &mut site, None, None);
