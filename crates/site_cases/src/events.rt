@@ -21,7 +21,7 @@ enum Said {
 }
 
 /// What a reply says.
-fn said(reply: &Reply) -> Said {
+fn meaning_of(reply: &Reply) -> Said {
     match reply {
         Reply::Gx(GxReply::Granted(delta, _)) => Said::Granted(delta.installed().len()),
         Reply::Gx(GxReply::Refused(_)) => Said::Refused,
@@ -34,7 +34,7 @@ fn said(reply: &Reply) -> Said {
 /// An event happens at a site, which replies so.
 fn happens(rt: &(impl AllocGlobal + Abort), site: &mut Site, event: Event, wanted: Said) {
     let reply = site.step(&event).expect(rt, "memory and a counter");
-    assert_eq!(rt; said(&reply), wanted);
+    assert_eq!(rt; meaning_of(&reply), wanted);
 }
 
 /// An initial request.
