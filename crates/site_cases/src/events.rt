@@ -67,9 +67,9 @@ fn events_get_the_replies_of_their_calls(rt: HostRuntime) {
     happens(&rt, &mut other, Event::Push(None), Said::NothingPushed);
 }
 
-/// The header of a credit control request.
-fn header() -> Header {
-    Header {
+/// A reply to another event than a request has no answer.
+fn has_no_answer(rt: &(impl AllocGlobal + Abort), site: &Site, asked: &Request, reply: Reply) {
+    let header = Header {
         flags: Flags {
             request: true,
             proxiable: true,
@@ -80,12 +80,8 @@ fn header() -> Header {
         application: 16_777_238,
         hop_id: 7,
         end_id: 8,
-    }
-}
-
-/// A reply to another event than a request has no answer.
-fn has_no_answer(rt: &(impl AllocGlobal + Abort), site: &Site, asked: &Request, reply: Reply) {
-    let answer = write_reply(rt.alloc(), site.identity(), &header(), asked, &reply);
+    };
+    let answer = write_reply(rt.alloc(), site.identity(), &header, asked, &reply);
     assert!(rt; answer.expect(rt, "memory").is_empty());
 }
 
