@@ -197,7 +197,8 @@ impl GxRec {
 
     /// Does nothing: its contract tells a proof that no component and no flow shows anything.
     pub fn note_places(&self)
-        ensures components { (c : ℕ) (f : ComponentField) → None ≡ shown self.now (OfComponent c f) }
+        ensures components { (c : ℕ) (f : ComponentField)
+            → None ≡ shown self.now (OfComponent c f) }
         ensures flows { (c n : ℕ) (f : FlowField) → None ≡ shown self.now (OfFlow c n f) }
     {
         self.parts.note_valid();
