@@ -5,16 +5,20 @@ use Rattle.ranked.specs.Sets.{In, greatest}
 use Rattle.ranked.proofs.Plain.{clash, is_false, some_same, came_from}
 use Rattle.ranked.proofs.SetLaws.{In-filter_map, filter_map-In, greatest-Same}
 use Rattle.pcrf_facts.specs.Facts.{Fact}
+use Rattle.pcrf_facts.specs.Held.{held, shown, removal, removed, is_ended}
 use Rattle.pcrf_facts.specs.Live.{af_is_live}
-use Rattle.pcrf_facts.specs.Places.{address}
+use Rattle.pcrf_facts.specs.Places.{Place, address}
 use Rattle.pcrf_facts.specs.Values.{Entry}
+use Rattle.pcrf_facts.proofs.JoinedLaws.{held_twice}
+use Rattle.pcrf_facts.proofs.ShownLaws.{shown-held, is_ended-held}
 use Rattle.pcrf_model.specs.Bindings.{Candidate, candidate_cmp, candidate, matches, standing, bind}
 use Rattle.pcrf_model.specs.Holdings.{SessionFact, facts_on}
 use Rattle.pcrf_model.specs.Live.{is_live}
-use Rattle.pcrf_model.specs.Sessions.{Session, gx, af}
+use Rattle.pcrf_model.specs.Sessions.{Session, Kind, Gx, Af, gx, af}
 use Rattle.pcrf_model.specs.Views.{View, view}
 use Rattle.pcrf_model.proofs.BindLaws.{candidate_ranked, of_gx, live_asking, gx_is, bind-none}
 use Rattle.site_join.specs.States.{Records}
+use Rattle.bind_index.specs.Beside.{of_kind, beside}
 use Rattle.bind_index.specs.Matches.{match_of, matches_among, best_from, one}
 use Rattle.bind_index.proofs.Entries.{AreRecordsOf, its_facts, has_record, is_there}
 
@@ -80,11 +84,44 @@ module _ (facts : List SessionFact) (es : Records) (r : AreRecordsOf gx facts es
   bound_is = ap (option_map (λ (c : Candidate). gx c.1.1))
       (greatest-Same candidate_cmp candidate_ranked.total candidate_ranked.same (filter_map (candidate v (af a)) v.sessions) (matches_among asking es) (λ c. (forth c, back c)))
 
+-- ---- what a record keeps
+
+-- a session of either kind shows the same by what is kept
+shown_by_kind : (k : Kind) (gxs afs : List Fact) (p : Place) → shown (of_kind k gxs (held afs)) p ≡ shown (of_kind k gxs afs) p
+shown_by_kind Gx gxs afs p = refl
+shown_by_kind Af gxs afs p = shown-held afs p
+
+-- and is ended alike
+ended_by_kind : (k : Kind) (gxs afs : List Fact) → is_ended (of_kind k gxs (held afs)) ≡ is_ended (of_kind k gxs afs)
+ended_by_kind Gx gxs afs = refl
+ended_by_kind Af gxs afs = is_ended-held afs
+
+-- with the same removed
+removed_by_kind : (k : Kind) (gxs afs : List Fact) → removed (of_kind k gxs (held afs)) ≡ removed (of_kind k gxs afs)
+removed_by_kind Gx gxs afs = refl
+removed_by_kind Af gxs afs = ap (filter_map removal) (held_twice afs)
+
+-- so both are read alike
+beside_held : (gxs afs : List Fact) → beside gxs (held afs) ≡ beside gxs afs
+beside_held gxs afs = λ i. record {
+  shows = λ s p. shown_by_kind s.kind gxs afs p i;
+  ended = λ s. ended_by_kind s.kind gxs afs i;
+  removals = λ s. removed_by_kind s.kind gxs afs i;
+  all = [];
+  sessions = [];
+}
+
+-- and the matches are the same
+among_held : (afs : List Fact) (es : Records) → matches_among (held afs) es ≡ matches_among afs es
+among_held afs es = λ i. filter_map (λ (e : List ℕ × List Fact). candidate (beside_held e.1 afs i) (af []) (gx e.0)) es
+
 -- what was found among the records says who is bound
 pub is_bound_by : (facts : List SessionFact) (es : Records) → AreRecordsOf gx facts es → (a : List ℕ) (asked : List Fact) (found : Option Candidate)
-    → asked ≡ facts_on facts (af a) → found ≡ greatest candidate_cmp (matches_among asked es) → option_map (λ (c : Candidate). gx c.1.1) found ≡ bind (view facts) (af a)
+    → asked ≡ held (facts_on facts (af a)) → found ≡ greatest candidate_cmp (matches_among asked es) → option_map (λ (c : Candidate). gx c.1.1) found ≡ bind (view facts) (af a)
 is_bound_by facts es r a asked found its best =
-    ap (option_map (λ (c : Candidate). gx c.1.1)) (best ∙ ap (λ (fs : List Fact). greatest candidate_cmp (matches_among fs es)) its) ∙ bound_is facts es r a
+    ap (option_map (λ (c : Candidate). gx c.1.1))
+    (best ∙ ap (λ (fs : List Fact). greatest candidate_cmp (matches_among fs es)) its ∙ ap (greatest candidate_cmp) (among_held (facts_on facts (af a)) es))
+    ∙ bound_is facts es r a
 
 -- one more match: the best so far goes on with the greater
 pub goes_on : (o : Option Candidate) (c d : Candidate) (rest : List Candidate) → Some d ≡ best_from o (one c) → best_from (Some d) rest ≡ best_from o (c ∷ rest)

@@ -1,3 +1,4 @@
+pub mod Asking
 pub mod Beside
 pub mod Matches
 pub mod Listings

@@ -6,5 +6,5 @@ mod binding;
 mod listing;
 mod matching;
 
-pub use binding::bind;
+pub use binding::{bind, bind_by};
 pub use listing::{sessions_at, sessions_of};

@@ -1,18 +1,11 @@
 -- Names of rules fit.
-use Rattle.std.proofs.Common.{◌≡◌, ℕ, ◌<◌, ◌≤◌, ◌++◌, ◌^◌, length, List, [], ◌∷◌, Some, decimal, arith}
+use Rattle.std.proofs.Common.{◌≡◌, ℕ, ◌<◌, ◌≤◌, ◌++◌, ◌^◌, length, List, decimal, arith}
 use Rattle.std.specs.Prelude.{codes}
 use Rattle.std.proofs.lemmas.Fmt.{length-decimal-le}
 use Rattle.std.proofs.lemmas.List.{length-append}
-use Rattle.pcrf_values.specs.Texts.{one_to}
-use Rattle.pcrf_values.proofs.Ranges.{one_to-if_any}
 use Rattle.pcrf_values.specs.Limits.{rule_name_limit}
 use Rattle.pcrf_model.specs.Flows.{flow_rule_name}
 use Rattle.pcc_rules.specs.FlowsAlone.{flow_of}
-
--- a list within the range is itself
-pub one_to_fits : {A : Type 0} (most : ℕ) (xs : List A) → 0 < length xs → length xs ≤ most → one_to most xs ≡ Some xs
-one_to_fits most [] some within = let no : ⊥ = omega (arith, some) in absurd no
-one_to_fits most (x ∷ xs) some within = one_to-if_any most (x ∷ xs) within
 
 -- a number of 32 bits has at most ten digits
 ten_digits : (n : ℕ) → n < 2 ^ 32 → length (decimal n) ≤ 10

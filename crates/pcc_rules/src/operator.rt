@@ -8,8 +8,7 @@ ghost use Rattle.pcc_rules.specs.Listing.{RowNamesApart, keyed};
 use crate::naming::operator_name;
 use gx_records::GxRec;
 use op_tables::{OperatorRule, Tables};
-use pcrf_values::{Filters, PermitFilters, Rule};
-use ranked::Ranked;
+use pcrf_values::{Rule, texts_of};
 use std::alloc::{AllocError, Global};
 
 /// The rules of the access point that the session shows, each with its precedence in front.
@@ -49,18 +48,4 @@ fn of_operator(alloc: Global, rule: &OperatorRule) -> Result<Rule, AllocError>
         class.qos(),
         class.precedence(),
     ))
-}
-
-/// The texts of the filters.
-fn texts_of(alloc: Global, given: &PermitFilters) -> Result<Filters, AllocError>
-    ensures { IfOk result (λ texts. texts ≡ given.now) }
-{
-    let mut texts = Vec::new(alloc);
-    for filter in given.as_slice() {
-        texts.push(filter.text().try_copy()?)?;
-    }
-    let Some(filters) = Filters::of(texts) else {
-        unreachable!()
-    };
-    Ok(filters)
 }

@@ -21,7 +21,7 @@ pub use bounded_list::{
 pub use bounded_number::{BoundedNumber, PriorityLevel, QosClass};
 pub use default_quality::{DefaultClass, DefaultQuality};
 pub use delta::Delta;
-pub use permit_filter::{PermitFilter, PermitFilters};
+pub use permit_filter::{PermitFilter, PermitFilters, texts_of};
 pub use refusal::Refusal;
 pub use request_kind::RequestKind;
 pub use rule::{FlowStatus, Preemption, RetentionPriority, Rule, RuleQos};

@@ -3,7 +3,7 @@ ghost use Rattle.std.specs.Prelude.{◌≡◌, true, false, IfOk, IfSome, IfNone
 ghost use Rattle.std.specs.List.{list_all};
 ghost use Rattle.pcrf_values.specs.Filters.{begins_as_filter, filter_of, is_filter, is_printable};
 
-use crate::bounded_list::{BoundedList, FilterText};
+use crate::bounded_list::{BoundedList, FilterText, Filters};
 use ranked::{Ranked, Text};
 use std::alloc::{AllocError, Global};
 use std::marker::Model;
@@ -107,6 +107,20 @@ impl PermitFilter {
         let PermitFilter { text } = self;
         text
     }
+}
+
+/// The texts of filters.
+pub fn texts_of(alloc: Global, given: &PermitFilters) -> Result<Filters, AllocError>
+    ensures { IfOk result (λ texts. texts ≡ given.now) }
+{
+    let mut texts = Vec::new(alloc);
+    for filter in given.as_slice() {
+        texts.push(filter.text().try_copy()?)?;
+    }
+    let Some(filters) = Filters::of(texts) else {
+        unreachable!()
+    };
+    Ok(filters)
 }
 
 impl Ranked for PermitFilter {

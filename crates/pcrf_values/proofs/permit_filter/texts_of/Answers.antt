@@ -1,7 +1,7 @@
 use Rattle.std.proofs.Common.{rules, ◌≡◌, ◌∙◌, ap}
 use Rattle.pcrf_values.specs.Texts.{one_to}
-use Rattle.pcc_rules.proofs.Names.{one_to_fits}
-use Rattle.pcc_rules.proofs.operator.texts_of.Goals as goal
+use Rattle.pcrf_values.proofs.Ranges.{one_to_fits}
+use Rattle.pcrf_values.proofs.permit_filter.texts_of.Goals as goal
 
 pub unreachable-requires : goal.unreachable-requires
 unreachable-requires c =

@@ -1,5 +1,5 @@
 use Rattle.std.proofs.Common.{◌≡◌, take}
-use Rattle.pcc_rules.proofs.operator.texts_of.Given as goal
+use Rattle.pcrf_values.proofs.permit_filter.texts_of.Given as goal
 
 -- the texts so far
 abbrev pub invariant-loop-filter : goal.invariant-loop-filter
