@@ -1,5 +1,5 @@
 -- AVPs and Command-Codes of the base protocol's own messages, by their names in RFC 6733.
-use Rattle.std.specs.Prelude.{ℕ}
+use Rattle.std.specs.Prelude.{ℕ, Bool, ◌==◌, ◌||◌}
 use Rattle.dia_codec.specs.declared.message.AvpKey.{AvpKey}
 use Rattle.dia_base.specs.Avps.{base_key}
 
@@ -13,6 +13,10 @@ device_watchdog_command = 280
 
 abbrev pub disconnect_peer_command : ℕ
 disconnect_peer_command = 282
+
+-- one of them
+abbrev pub is_base_command : ℕ → Bool
+is_base_command command = command == capabilities_exchange_command || command == device_watchdog_command || command == disconnect_peer_command
 
 -- ---- AVPs (4.5)
 

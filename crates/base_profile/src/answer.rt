@@ -28,11 +28,12 @@ fn is_common(application: ApplicationId) -> bool
     application.number == GX || application.number == RX || application.number == RELAY
 }
 
-/// The refusal of a request, if it is refused: a capabilities exchange that advertises no application in common.
-fn refusal_of(kind: &BaseKind) -> Option<Refusal>
-    ensures { result ≡ base_refusal (kind_view kind.now) }
+/// The refusal of a request that was read, if it is refused: a capabilities exchange that advertises no application in
+/// common.
+pub fn base_refusal(request: &BaseRequest) -> Option<Refusal>
+    ensures { result ≡ base_refusal (kind_view request.now.kind) }
 {
-    match kind {
+    match &request.kind {
         BaseKind::CapabilitiesExchange(applications) => refusal_among(applications.as_slice()),
         BaseKind::DeviceWatchdog | BaseKind::DisconnectPeer => None,
     }
@@ -145,7 +146,7 @@ pub fn base_answer(
     ensures { IfOk result (λ message. message_view message
         ≡ base_answer identity.now header.now (base_view request.now)) }
 {
-    let refusal = refusal_of(&request.kind);
+    let refusal = base_refusal(request);
     let mut out = AvpWriter::start(alloc);
     put_result(alloc, &mut out, refusal)?;
     put_origin(&mut out, identity)?;

@@ -7,6 +7,6 @@ mod applications;
 mod codes;
 mod request;
 
-pub use answer::base_answer;
+pub use answer::{base_answer, base_refusal};
 pub use applications::ApplicationId;
-pub use request::{BaseKind, BaseRequest, read_base};
+pub use request::{BaseKind, BaseRequest, is_base_command, read_base};

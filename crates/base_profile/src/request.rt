@@ -2,10 +2,11 @@
 ghost use Rattle.std.specs.Prelude.{◌≡◌, OnOk, IfOk, IfErr};
 ghost use Rattle.dia_codec.specs.Spelling.{avp_views};
 ghost use Rattle.dia_base.specs.Rows.{AcceptsAll, IsFaultOf, rows_refusal};
+ghost use Rattle.base_profile.specs.Avps.{is_base_command};
 ghost use Rattle.base_profile.specs.Requests.{base_of, base_rows, base_view, kind_of, kind_rows, kind_view};
 
 use crate::applications::{ApplicationId, read_applications};
-use crate::codes::commands::{CAPABILITIES_EXCHANGE, DEVICE_WATCHDOG};
+use crate::codes::commands::{CAPABILITIES_EXCHANGE, DEVICE_WATCHDOG, DISCONNECT_PEER};
 use dia_base::{Origin, ReadFault, read_origin};
 use dia_codec::{Avp, Message};
 use std::alloc::Global;
@@ -28,6 +29,13 @@ pub struct BaseRequest {
     pub kind: BaseKind,
     /// Origin-Host and Origin-Realm: the peer.
     pub origin: Origin,
+}
+
+/// Whether a command is one of these requests'.
+pub fn is_base_command(command: u32) -> bool
+    ensures { result ≡ is_base_command command }
+{
+    command == CAPABILITIES_EXCHANGE || command == DEVICE_WATCHDOG || command == DISCONNECT_PEER
 }
 
 /// Reads what a command has besides the origin.

@@ -8,3 +8,7 @@ aa_command = 265
 -- Credit-Control (RFC 8506, 3; TS 29.212, 5.6.2)
 abbrev pub credit_control_command : ℕ
 credit_control_command = 272
+
+-- Session-Termination of Rx (TS 29.214, 5.6.4)
+abbrev pub session_termination_command : ℕ
+session_termination_command = 275

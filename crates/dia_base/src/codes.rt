@@ -15,6 +15,8 @@ pub mod commands {
     pub const CREDIT_CONTROL: u32 = 272;
     /// AA of Rx.
     pub const AUTHORIZATION: u32 = 265;
+    /// Session-Termination of Rx.
+    pub const SESSION_TERMINATION: u32 = 275;
 }
 
 /// AVP codes (RFC 6733, 4.5; RFC 8506, 8; RFC 2865, 5).
@@ -80,6 +82,10 @@ pub mod results {
     pub const INVALID_SERVICE_INFORMATION: u32 = 5061;
     /// FILTER_RESTRICTIONS of 3GPP.
     pub const FILTER_RESTRICTIONS: u32 = 5062;
+    /// REQUESTED_SERVICE_NOT_AUTHORIZED of 3GPP.
+    pub const SERVICE_NOT_AUTHORIZED: u32 = 5063;
+    /// IP-CAN_SESSION_NOT_AVAILABLE of 3GPP.
+    pub const SESSION_NOT_AVAILABLE: u32 = 5065;
     /// DIAMETER_ERROR_INITIAL_PARAMETERS of 3GPP.
     pub const INITIAL_PARAMETERS: u32 = 5140;
 }

@@ -3,6 +3,7 @@ use Rattle.std.proofs.lemmas.Bool.Decides.{nat_tests}
 use Rattle.std.proofs.Common.{◌≡◌, ℕ, Bool, true, false, ◌&&◌, ◌==◌, List, [], ◌∷◌, map, Option, Some, None, refl, sym, ap, ◌∙◌, subst, option_map, flat_map, arith}
 use Rattle.std.specs.Cmp.{first_so, second_so}
 use Rattle.std.specs.List.{list_any}
+use Rattle.ranked.specs.Ascending.{ascending}
 use Rattle.ranked.specs.Sets.{In, Distinct}
 use Rattle.ranked.specs.declared.tag.Tag.{Tag}
 use Rattle.ranked.proofs.Plain.{clash, is_false, both, some_same, not_true}
@@ -11,15 +12,17 @@ use Rattle.ranked.proofs.SetLaws.{In-any}
 use Rattle.ranked.proofs.DistinctLaws.{one_of_key}
 use Rattle.pcrf_facts.specs.Places.{SessionField, ComponentField, MediaType, ComponentStatus, ComponentRateUp, ComponentRateDown, FlowField, FlowDescriptions, FlowUsage, FlowStatus, FlowRateUp, FlowRateDown, OfSession, OfComponent, OfFlow, Component, Flow, Position}
 use Rattle.pcrf_facts.specs.Values.{Value, Number, Filters}
-use Rattle.pcrf_facts.specs.Facts.{Fact, Removed, Field, position, is_shaded_by}
+use Rattle.pcrf_facts.specs.Facts.{Fact, Removed, Field, position, fact_cmp, is_shaded_by}
+use Rattle.pcrf_facts.specs.Held.{kept, held}
 use Rattle.pcrf_facts.proofs.FactLaws.{tag_ranked}
+use Rattle.pcrf_facts.proofs.JoinedLaws.{kept-In, In-kept, sorted-Same}
 use Rattle.pcrf_facts.proofs.KeyLaws.{number_is}
 use Rattle.pcrf_model.specs.Sessions.{Af}
-use Rattle.pcrf_model.specs.Requests.{FlowValue, ComponentValue}
-use Rattle.pcrf_model.specs.Making.{is_removed, flow_facts, component_facts}
+use Rattle.pcrf_model.specs.Requests.{FlowValue, ComponentValue, AarValue}
+use Rattle.pcrf_model.specs.Making.{is_removed, flow_facts, component_facts, aar_facts}
 use Rattle.pcrf_model.specs.Forms.{is_within, is_unsigned, is_none_or, is_status, is_usage, are_filters, is_tagged, fits, fits_session_field, fits_component_field, fits_flow_field, is_flow, are_apart, is_component}
 use Rattle.pcrf_model.proofs.FormReading.{each_passes}
-use Rattle.pcrf_model.proofs.MadeForms.{IsField, field, clear_fields, MayMake, Each, none, more, either, ◌and◌, all_of, all_given, given_passes, one_place, one_field, one_session_field}
+use Rattle.pcrf_model.proofs.MadeForms.{IsField, field, clear_fields, MayMake, Each, none, more, either, ◌and◌, all_of, all_given, given_passes, session_value, session_each, one_place, one_field, one_session_field}
 
 -- ---- what requests say of components and flows
 
@@ -112,6 +115,10 @@ pub record DescribesFlow (cs : List ComponentValue) (c : ComponentValue) (x : Fl
   pub there : In x c.flows
   pub status : is_removed x.status ≡ gone
 
+-- the flows of a component in form have numbers of their own
+pub its_flows_differ : (c : ComponentValue) → is_component c ≡ true → Distinct (map flow_number c.flows)
+its_flows_differ c w = numbers_differ (map flow_number c.flows) (second_so _ _ w)
+
 -- a fact of an AF's operation: a field of the session, of a component or of a flow, or that one of these is removed
 pub data IsOfFunction (k i : ℕ) (says : SessionField → Option Value) (cs : List ComponentValue) : Fact → Type 0 where
   at_session : (f : SessionField) (v : Value) → says f ≡ Some v → IsOfFunction k i says cs (Field (OfSession f) (tag k i) v)
@@ -156,7 +163,7 @@ module _ (k i : ℕ) (says : SessionField → Option Value) (cs : List Component
   pub components_each : Each Is (flat_map (component_facts (tag k i)) cs)
   components_each = all_of (component_facts (tag k i)) cs component_each
 
-  module _ (each : (c : ComponentValue) → In c cs → is_component c ≡ true) (differ : Distinct (map component_number cs)) where
+  module _ (differ : Distinct (map component_number cs)) (flows_differ : (c : ComponentValue) → In c cs → Distinct (map flow_number c.flows)) where
     -- components of one number are one
     one_component : {c d : ComponentValue} {a b : Bool} → Describes cs c a → Describes cs d b → c.number ≡ d.number → c ≡ d
     one_component {c} {d} x y e = one_of_key component_number cs differ c d x.there y.there e
@@ -169,8 +176,7 @@ module _ (k i : ℕ) (says : SessionField → Option Value) (cs : List Component
     one_flow : {c d : ComponentValue} {x y : FlowValue} {a b : Bool} → DescribesFlow cs c x a → DescribesFlow cs d y b → c.number ≡ d.number → x.number ≡ y.number → x ≡ y
     one_flow {c} {d} {x} {y} f g e h =
         let same = one_component f.component g.component e in
-        let w = second_so _ _ (each c f.component.there) in
-        one_of_key flow_number c.flows (numbers_differ (map flow_number c.flows) w) x y f.there (subst (λ (z : ComponentValue). In y z.flows) (sym same) g.there) h
+        one_of_key flow_number c.flows (flows_differ c f.component.there) x y f.there (subst (λ (z : ComponentValue). In y z.flows) (sym same) g.there) h
 
     -- so none of these both stays and is removed
     not_both_flows : {P : Type 0} {c d : ComponentValue} {x y : FlowValue} → DescribesFlow cs c x true → DescribesFlow cs d y false → c.number ≡ d.number → x.number ≡ y.number → P
@@ -225,38 +231,58 @@ module _ (k i : ℕ) (says : SessionField → Option Value) (cs : List Component
     clear f g a (at_component c x b v s) = clear_of_field f g a (field (OfComponent c.number b) (tag k i) v) (apart f g a (at_component c x b v s))
     clear f g a (at_flow c x n b v s) = clear_of_field f g a (field (OfFlow c.number x.number b) (tag k i) v) (apart f g a (at_flow c x n b v s))
 
-    -- a component's number has 32 bits
-    component_low : {c : ComponentValue} {a : Bool} → Describes cs c a → is_unsigned c.number ≡ true
-    component_low {c} x = first_so _ _ (first_so _ _ (first_so _ _ (first_so _ _ (first_so _ _ (first_so _ _ (each c x.there))))))
+    module _ (each : (c : ComponentValue) → In c cs → is_component c ≡ true) where
+      -- a component's number has 32 bits
+      component_low : {c : ComponentValue} {a : Bool} → Describes cs c a → is_unsigned c.number ≡ true
+      component_low {c} x = first_so _ _ (first_so _ _ (first_so _ _ (first_so _ _ (first_so _ _ (first_so _ _ (each c x.there))))))
 
-    -- and a flow is in form
-    flow_in : {c : ComponentValue} {x : FlowValue} {a : Bool} → DescribesFlow cs c x a → is_flow x ≡ true
-    flow_in {c} {x} n = each_passes is_flow c.flows (second_so _ _ (first_so _ _ (each c n.component.there))) x n.there
+      -- and a flow is in form
+      flow_in : {c : ComponentValue} {x : FlowValue} {a : Bool} → DescribesFlow cs c x a → is_flow x ≡ true
+      flow_in {c} {x} n = each_passes is_flow c.flows (second_so _ _ (first_so _ _ (each c n.component.there))) x n.there
 
-    -- with its number
-    flow_low : {c : ComponentValue} {x : FlowValue} {a : Bool} → DescribesFlow cs c x a → is_unsigned x.number ≡ true
-    flow_low n = first_so _ _ (first_so _ _ (first_so _ _ (first_so _ _ (first_so _ _ (flow_in n)))))
+      -- with its number
+      flow_low : {c : ComponentValue} {x : FlowValue} {a : Bool} → DescribesFlow cs c x a → is_unsigned x.number ≡ true
+      flow_low n = first_so _ _ (first_so _ _ (first_so _ _ (first_so _ _ (first_so _ _ (flow_in n)))))
 
-    module _ (fit : (f : SessionField) (v : Value) → says f ≡ Some v → fits_session_field Af f v ≡ true) where
-      -- each is in form
-      in_form : (f : Fact) → Is f → (fits Af f && is_tagged Af k i 0 f) ≡ true
-      in_form f (at_session a v s) = both _ _ (fit a v s) (eq_itself tag_ranked (tag k i))
-      in_form f (component_gone c x) = both _ _ (component_low x) refl
-      in_form f (flow_gone c x n) = both _ _ (both _ _ (component_low n.component) (flow_low n)) refl
-      in_form f (at_component c x a v s) =
-          both _ _ (both _ _ (component_low x) (component_fits c (each c x.there) x.status a v s)) (eq_itself tag_ranked (tag k i))
-      in_form f (at_flow c x n a v s) =
-          both _ _
-          (both _ _ (both _ _ (component_low n.component) (flow_low n)) (flow_fits x (flow_in n) n.status a v s))
-          (eq_itself tag_ranked (tag k i))
+      module _ (fit : (f : SessionField) (v : Value) → says f ≡ Some v → fits_session_field Af f v ≡ true) where
+        -- each is in form
+        in_form : (f : Fact) → Is f → (fits Af f && is_tagged Af k i 0 f) ≡ true
+        in_form f (at_session a v s) = both _ _ (fit a v s) (eq_itself tag_ranked (tag k i))
+        in_form f (component_gone c x) = both _ _ (component_low x) refl
+        in_form f (flow_gone c x n) = both _ _ (both _ _ (component_low n.component) (flow_low n)) refl
+        in_form f (at_component c x a v s) =
+            both _ _ (both _ _ (component_low x) (component_fits c (each c x.there) x.status a v s)) (eq_itself tag_ranked (tag k i))
+        in_form f (at_flow c x n a v s) =
+            both _ _
+            (both _ _ (both _ _ (component_low n.component) (flow_low n)) (flow_fits x (flow_in n) n.status a v s))
+            (eq_itself tag_ranked (tag k i))
 
-      -- so such facts may make an operation
-      pub function_makes : (facts : List Fact) → Each Is facts → ((f : Fact) × In f facts) → MayMake Af k i 0 facts
-      function_makes facts all one = record {
-        stand = record {
-          some = one;
-          apart = λ f g a b. apart f g (all.so f a) (all.so g b);
-          clear = λ f g a b. clear f g (all.so f a) (all.so g b);
-        };
-        each = λ f a. in_form f (all.so f a);
-      }
+        -- so such facts may make an operation
+        pub function_makes : (facts : List Fact) → Each Is facts → ((f : Fact) × In f facts) → MayMake Af k i 0 facts
+        function_makes facts all one = record {
+          stand = record {
+            some = one;
+            apart = λ f g a b. apart f g (all.so f a) (all.so g b);
+            clear = λ f g a b. clear f g (all.so f a) (all.so g b);
+          };
+          each = λ f a. in_form f (all.so f a);
+        }
+
+-- ---- an AA request
+
+-- where its numbers differ, each of its facts is kept
+pub described_is_held : (q : AarValue) (k i : ℕ) → Distinct (map component_number q.components) → ((c : ComponentValue) → In c q.components → Distinct (map flow_number c.flows))
+    → held (aar_facts q (tag k i)) ≡ ascending fact_cmp (aar_facts q (tag k i))
+described_is_held q k i differ flows_differ = sorted-Same (kept facts) facts (λ f. (λ m. (kept-In f facts m).0, is_kept f))
+  where
+    says : SessionField → Option Value
+    says = session_value q.address q.apn q.subscribers q.host q.realm 0
+
+    facts : List Fact
+    facts = aar_facts q (tag k i)
+
+    all : Each (IsOfFunction k i says q.components) facts
+    all = session_each q.address q.apn q.subscribers q.host q.realm 0 (tag k i) at_session and components_each k i says q.components
+
+    is_kept : (f : Fact) → In f facts → In f (kept facts)
+    is_kept f m = In-kept f facts m (λ g n. clear k i says q.components differ flows_differ f g (all.so f m) (all.so g n))

@@ -44,7 +44,7 @@ use Rattle.pcrf_model.proofs.FormReading.{each_passes, held_fact}
 use Rattle.pcrf_model.proofs.FormLaws.{form_by_test, with_operation_form}
 use Rattle.pcrf_model.proofs.MadeForms.{CanAdd, MayMake, made_in_form, end_in_form, Each, ◌and◌, some_left, session_value, session_each, session_some, session_fits}
 use Rattle.pcrf_model.proofs.GatewayForms.{CanTell, IsOfGateway, at_field, told_each, gateway_makes}
-use Rattle.pcrf_model.proofs.FunctionForms.{at_session, components_each, component_number, numbers_differ, function_makes}
+use Rattle.pcrf_model.proofs.FunctionForms.{at_session, components_each, component_number, numbers_differ, its_flows_differ, function_makes}
 use Rattle.pcrf_model.proofs.RuleForms.{shown_fact, can_tell}
 
 -- ---- what is left of the clock
@@ -221,7 +221,9 @@ module _ (most : ℕ) (t : Tables) (i : ℕ) (h : Holding) (tables : are_tables 
           let says : SessionField → Option Value = session_value q.address q.apn q.subscribers q.host q.realm 0 in
           let u : Tag = next_tag i h 0 in
           made_in_form i h 0 (af q.session) (aar_facts q u) can refl origin.0
-          (function_makes (h.clock + 1) i says q.components (each_passes is_component q.components parts.2) (numbers_differ (map component_number q.components) parts.3)
+          (function_makes (h.clock + 1) i says q.components (numbers_differ (map component_number q.components) parts.3)
+          (λ c j. its_flows_differ c (each_passes is_component q.components parts.2 c j))
+          (each_passes is_component q.components parts.2)
           (session_fits q.address q.apn q.subscribers q.host q.realm 0 Af parts.1 origin.1 origin.2 refl)
           (aar_facts q u)
           (session_each q.address q.apn q.subscribers q.host q.realm 0 u at_session and components_each (h.clock + 1) i says q.components)

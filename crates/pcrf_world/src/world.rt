@@ -136,7 +136,7 @@ impl World {
         ensures sites { length self.new.seen.sites ≡ length self.old.seen.sites }
     {
         match event {
-            WorldEvent::Serve(i, request) => self.reply_at(*i, request),
+            WorldEvent::Serve(i, request) => self.serve(*i, request),
             WorldEvent::Push(i, host) => self.push_at(*i, host),
             WorldEvent::Letter(i, j) => self.make_letter(*i, *j),
             WorldEvent::Merge(j, k) => self.take_letter(*j, *k),
@@ -144,8 +144,8 @@ impl World {
         }
     }
 
-    /// Has a site reply to a request.
-    fn reply_at(&mut self, i: usize, request: &Request) -> Result<WorldOutcome, WorldFault>
+    /// Has a site reply to a request, as the event of it does.
+    pub fn serve(&mut self, i: usize, request: &Request) -> Result<WorldOutcome, WorldFault>
         ensures answer { Gives (setting self.old.tables) self.old.seen
             (event_value (WorldEvent.Serve i request.now)) (answer_value result) }
         ensures after { (w : WorldTook) → world_view w ≡ self.old.seen → self.new.seen ≡ world_view

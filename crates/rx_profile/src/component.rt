@@ -2,7 +2,7 @@
 ghost use Rattle.std.specs.Prelude.{◌≡◌, ◌≤◌, false, length, None, OnOk, IfOk, IfErr, option_copied};
 ghost use Rattle.dia_base.specs.Rows.{IsFaultOf};
 ghost use Rattle.pcrf_values.specs.Limits.{components_limit, flows_limit};
-ghost use Rattle.rx_profile.specs.Services.{component_numbers, flow_numbers, repeats, services_refusal};
+ghost use Rattle.rx_profile.specs.Services.{flow_numbers, numbers_refusal, repeats, services_refusal};
 ghost use Rattle.rx_profile.specs.Values.{component_value, flow_value};
 
 use crate::judging::{FromRaw, each_from};
@@ -157,23 +157,24 @@ impl FromRaw<NumberedComponent> for Component {
     }
 }
 
-/// The components of a request, whose numbers differ, which contracts see as their list.
+/// The components of a request, which contracts see as their list. Their numbers differ, and in each of them those of its
+/// flows.
 #[derive(Drop)]
 pub struct Components {
     list: Vec<Component>,
 }
 
 impl Model for Components {
-    ghost use Rattle.std.specs.Prelude.{◌≡◌, ◌≤◌, List, false, length};
+    ghost use Rattle.std.specs.Prelude.{◌≡◌, ◌≤◌, List, None, length};
     ghost use Rattle.pcrf_model.specs.Requests.{ComponentValue};
     ghost use Rattle.pcrf_values.specs.Limits.{components_limit};
-    ghost use Rattle.rx_profile.specs.Services.{component_numbers, repeats};
+    ghost use Rattle.rx_profile.specs.Services.{numbers_refusal};
 
     ghost Value = { List ComponentValue };
 
     ghost view = { λ c. c.list.items };
 
-    ghost invariant = { λ c. (repeats (component_numbers c.list.items) ≡ false)
+    ghost invariant = { λ c. (numbers_refusal c.list.items ≡ None)
         × (length c.list.items ≤ components_limit) };
 }
 
@@ -181,7 +182,7 @@ impl Components {
     /// The components, in the order of the request.
     pub fn as_slice(&self) -> &[Component]
         ensures components { result.now ≡ self.now }
-        ensures apart { repeats (component_numbers self.now) ≡ false }
+        ensures apart { numbers_refusal self.now ≡ None }
         ensures within { length self.now ≤ components_limit }
     {
         self.list.as_slice()

@@ -15,6 +15,6 @@ mod termination;
 
 pub use answer::{write_aaa, write_sta};
 pub use component::{Component, Components, Flow};
-pub use media::{ComponentParts, FlowParts, FlowUsage, MediaStatus, Rates};
+pub use media::{ComponentParts, FlowParts, FlowUsage, MediaStatus, Rates, is_removed};
 pub use request::{Aar, read_aar};
 pub use termination::{Str, read_str};

@@ -1,6 +1,7 @@
 //! What a media component and a flow say besides their flows and filters (TS 29.214, 5.3).
 ghost use Rattle.std.specs.Prelude.{◌≡◌, ◌<◌, ◌≤◌, OnOk, IfOk, IfErr, IfSome, IfNone, Some, option_map};
 ghost use Rattle.dia_codec.specs.Spelling.{avp_views};
+ghost use Rattle.pcrf_model.specs.Making.{is_removed};
 ghost use Rattle.dia_base.specs.Rows.{Accepts, AcceptsAll, RefusesWith, number_at, rows_refusal};
 ghost use Rattle.rx_profile.specs.Avps.{flow_status, flow_usage, max_requested_bandwidth_dl, max_requested_bandwidth_ul};
 ghost use Rattle.rx_profile.specs.Numbers.{flow_usage_number, media_status_number, rate_rows, status_row, usage_row};
@@ -83,6 +84,16 @@ impl MediaStatus {
             MediaStatus::Open(status) => status.number(),
             MediaStatus::Removed => 4,
         }
+    }
+}
+
+/// A Flow-Status removes what it stands in.
+pub fn is_removed(status: Option<MediaStatus>) -> bool
+    ensures { result ≡ is_removed (option_map media_status_number status) }
+{
+    match status {
+        Some(MediaStatus::Removed) => true,
+        Some(MediaStatus::Open(_)) | None => false,
     }
 }
 

@@ -14,6 +14,9 @@ enum Said {
     /// A request is granted, and so many rules are installed.
     Granted(usize),
     Refused,
+    Done,
+    /// A Result-Code of the base protocol.
+    Code(u32),
     /// So many rules are installed by a push.
     Pushed(usize),
     NothingPushed,
@@ -24,7 +27,9 @@ enum Said {
 fn meaning_of(reply: &Reply) -> Said {
     match reply {
         Reply::Gx(GxReply::Granted(delta, _)) => Said::Granted(delta.installed().len()),
-        Reply::Gx(GxReply::Refused(_)) => Said::Refused,
+        Reply::Gx(GxReply::Refused(_)) | Reply::Refused(_) => Said::Refused,
+        Reply::Done => Said::Done,
+        Reply::Base(code) => Said::Code(*code),
         Reply::Pushed(Some(push)) => Said::Pushed(push.delta.installed().len()),
         Reply::Pushed(None) => Said::NothingPushed,
         Reply::Taken(count) => Said::Taken(*count),

@@ -1,3 +1,4 @@
+pub mod CallLaws
 pub mod Left
 pub mod Pushes
 pub mod Replies

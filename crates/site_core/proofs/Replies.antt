@@ -31,7 +31,8 @@ use Rattle.pcrf_model.specs.Serving.{delta_of, provisioned, accepted_ccr, serve_
 use Rattle.site_core.specs.Sites.{SiteValue}
 use Rattle.pcrf_model.proofs.HoldingLaws.{sorted-In}
 use Rattle.pcrf_model.proofs.ViewLaws.{view-Same, view-kept}
-use Rattle.site_core.specs.Facts.{opens, made_facts, operation_made, operation_told}
+use Rattle.site_core.specs.Facts.{opens, operation_made, operation_told}
+use Rattle.request_facts.specs.Gateway.{made_facts}
 use Rattle.site_core.specs.Replies.{told_reply}
 use Rattle.site_core.specs.Sites.{ccr_served}
 use Rattle.site_core.proofs.ToldOrder.{fields_then_told, host_is_set}

@@ -18,7 +18,7 @@ use Rattle.pcrf_model.specs.Making.{told_facts}
 use Rattle.pcrf_model.specs.ToldTags.{IsToldUpTo, ToldUpTo}
 use Rattle.pcrf_model.proofs.ProvisionLaws.{IsField, of_request}
 use Rattle.pcrf_model.proofs.ToldTagLaws.{told_under, told_difference}
-use Rattle.site_core.specs.Facts.{made_facts}
+use Rattle.request_facts.specs.Gateway.{made_facts}
 use Rattle.site_core.proofs.Restoring.{restored}
 
 -- a field of the session tells nothing of a rule's name

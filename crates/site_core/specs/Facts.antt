@@ -1,27 +1,18 @@
--- The facts that an accepted credit control request makes, by its type, and its operation.
+-- The operations that a site makes.
 use Rattle.std.specs.Prelude.{ℕ, Bool, true, false, List, [], ◌∷◌, ◌++◌, map, Option, Some, None}
 use Rattle.ranked.specs.Ascending.{ascending}
 use Rattle.ranked.specs.declared.tag.Tag.{Tag}
 use Rattle.pcrf_values.specs.declared.request_kind.RequestKind.{RequestKind}
 use Rattle.pcrf_values.specs.declared.request_kind.RequestKind.TheVariants.{Initial, Update, Termination}
 use Rattle.pcrf_values.specs.RuleValues.{RuleValue, DeltaValue}
-use Rattle.pcrf_facts.specs.Facts.{Fact, End, Field, fact_cmp}
+use Rattle.pcrf_facts.specs.Facts.{Fact, Field, fact_cmp}
 use Rattle.pcrf_facts.specs.Places.{OfRuleName}
 use Rattle.gx_records.specs.GxFacts.{told_value}
-use Rattle.pcrf_model.specs.Sessions.{gx}
+use Rattle.pcrf_model.specs.Sessions.{gx, af}
 use Rattle.pcrf_model.specs.Operations.{Operation}
 use Rattle.pcrf_model.specs.Requests.{CcrValue}
-use Rattle.pcrf_model.specs.Making.{session_fields, ccr_fields, told_facts}
-
--- the fields that a request sets, with that as the type of the last request
-abbrev pub fields_set : CcrValue → Tag → ℕ → List Fact
-fields_set q t last = session_fields t q.address q.apn q.subscribers q.host q.realm last
-
--- fields, or the end
-abbrev pub made_facts : CcrValue → RequestKind → Tag → List Fact
-made_facts q Initial t = ccr_fields q t
-made_facts q Update t = ccr_fields q t
-made_facts q Termination t = End ∷ []
+use Rattle.pcrf_model.specs.Making.{told_facts}
+use Rattle.request_facts.specs.Gateway.{made_facts}
 
 -- the request leaves its session open
 abbrev pub opens : RequestKind → Bool
@@ -80,4 +71,16 @@ operation_pushed site counter session d = record {
   number = 0;
   session = gx session;
   facts = ascending fact_cmp (told_facts (record { number = 0; counter = counter; site = site }) d);
+}
+
+-- ---- application functions
+
+-- the operation of a request on a session of an application function at a site, under a counter: with these facts
+abbrev pub operation_on_call : ℕ → ℕ → List ℕ → List Fact → Operation
+operation_on_call site counter session facts = record {
+  counter = counter;
+  site = site;
+  number = 0;
+  session = af session;
+  facts = facts;
 }

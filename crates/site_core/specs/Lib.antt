@@ -1,5 +1,6 @@
 pub mod Answering
 pub mod Asking
+pub mod Calls
 pub mod Facts
 pub mod Left
 pub mod Replies

@@ -3,11 +3,11 @@ use Rattle.std.specs.Prelude.{ℕ, ◌+◌, List, [], ◌∷◌, ◌++◌, Optio
 use Rattle.pcrf_facts.specs.Facts.{Fact}
 use Rattle.pcrf_model.specs.Limits.{delta_limit}
 use Rattle.pcrf_model.specs.Sessions.{Session}
-use Rattle.pcrf_model.specs.Holdings.{nothing_held, union, kept_of, replaced}
+use Rattle.pcrf_model.specs.Holdings.{Holding, nothing_held, union, kept_of, replaced}
 use Rattle.pcrf_model.specs.Operations.{Operation, with_operation, holding_of}
-use Rattle.pcrf_model.specs.Requests.{CcrValue, RequestValue}
+use Rattle.pcrf_model.specs.Requests.{CcrValue, AarValue, StrValue, RequestValue}
 use Rattle.pcrf_model.specs.Replies.{Outcome, ReplyValue}
-use Rattle.pcrf_model.specs.Serving.{serve, serve_ccr}
+use Rattle.pcrf_model.specs.Serving.{serve, serve_ccr, serve_aar, serve_str}
 use Rattle.pcrf_model.specs.Pushing.{push}
 use Rattle.pcrf_model.specs.Steps.{SiteState, SiteEvent, kept_state, stepped}
 use Rattle.pcrf_model.specs.Tables.{Tables}
@@ -32,6 +32,14 @@ new_site t names number = record { tables = t; identity = names; number = number
 abbrev pub ccr_served : SiteValue → CcrValue → Outcome
 ccr_served s q = serve_ccr delta_limit s.tables s.number s.state.holding q
 
+-- to an AA request
+abbrev pub aar_served : SiteValue → AarValue → Outcome
+aar_served s q = serve_aar s.tables s.number s.state.holding q
+
+-- to a session termination request
+abbrev pub str_served : SiteValue → StrValue → Outcome
+str_served s q = serve_str s.number s.state.holding q
+
 -- and to any request
 abbrev pub served : SiteValue → RequestValue → Outcome
 served s q = serve delta_limit s.tables s.number s.state.holding q
@@ -52,6 +60,10 @@ with_made s (Some o) = record s { state = record { holding = kept_of (with_opera
 -- with operations of a letter: what is kept of them is held
 abbrev pub with_taken : SiteValue → List Operation → SiteValue
 with_taken s os = record s { state = record { holding = kept_of (union s.state.holding (holding_of os)); log = s.state.log } }
+
+-- with all that another site holds: what is kept of both is held
+abbrev pub with_state : SiteValue → Holding → SiteValue
+with_state s k = record s { state = record { holding = kept_of (union s.state.holding k); log = s.state.log } }
 
 -- after an event to which it gave that reply: what is kept is held
 abbrev pub after_event : SiteValue → SiteEvent → ReplyValue → SiteValue

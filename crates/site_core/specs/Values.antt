@@ -12,6 +12,9 @@ use Rattle.pcrf_model.specs.Steps.{SiteEvent}
 use Rattle.pcrf_model.specs.Steps as events
 use Rattle.gx_profile.specs.Pushes.{push_view}
 use Rattle.gx_profile.specs.Requests.{ccr_view}
+use Rattle.rx_profile.specs.Requests.{aar_view}
+use Rattle.rx_profile.specs.Terminations.{str_view}
+use Rattle.base_profile.specs.Requests.{base_view}
 use Rattle.site_core.specs.Replies.{gx_reply_value}
 use Rattle.site_core.specs.declared.request.Request.{Request}
 use Rattle.site_core.specs.declared.request.Request.TheVariants as request
@@ -23,6 +26,9 @@ use Rattle.site_core.specs.declared.event.Reply.TheVariants as reply
 -- a request
 abbrev pub request_value : Request → RequestValue
 request_value (request.Ccr q) = requests.Ccr (ccr_view q)
+request_value (request.Aar q) = requests.Aar (aar_view q)
+request_value (request.Str q) = requests.Str (str_view q)
+request_value (request.Base q) = requests.Base (base_view q)
 
 -- an event
 abbrev pub event_value : Event → SiteEvent
@@ -33,6 +39,9 @@ event_value (event.Ops operations) = events.Ops operations.items
 -- a reply
 abbrev pub reply_value : Reply → ReplyValue
 reply_value (reply.Gx r) = gx_reply_value r
+reply_value reply.Done = replies.Done
+reply_value (reply.Refused r) = replies.Refused r
+reply_value (reply.Base code) = replies.OnBase code
 reply_value (reply.Pushed push) = replies.Pushed (option_map push_view push)
 reply_value (reply.Taken count) = replies.Taken count
 

@@ -3,14 +3,20 @@ ghost use Rattle.std.specs.Prelude.{◌≡◌, ◌<◌, ◌&&◌, false, IfOk};
 ghost use Rattle.std.specs.Option.{option_copied};
 ghost use Rattle.dia_codec.specs.Limits.{command_bound};
 ghost use Rattle.dia_codec.specs.Spelling.{message_view};
-ghost use Rattle.site_core.specs.Answering.{answer_bytes, refusal_bytes, reply_bytes};
+ghost use Rattle.gx_profile.specs.Answers.{cca};
+ghost use Rattle.rx_profile.specs.Answers.{aaa, sta};
+ghost use Rattle.base_profile.specs.Answers.{base_answer};
+ghost use Rattle.base_profile.specs.Requests.{base_view};
+ghost use Rattle.site_core.specs.Answering.{answer_bytes, base_result, bytes_by, gx_result, refusal_bytes, reply_bytes, rx_result};
 
 use crate::event::Reply;
 use crate::request::Request;
+use base_profile::{BaseRequest, base_answer};
 use dia_base::{Identity, refusal_answer};
 use dia_codec::{Header, Message, WriteFault, write_message};
-use gx_profile::write_cca;
+use gx_profile::{Ccr, write_cca};
 use pcrf_values::{Refusal, SessionId};
+use rx_profile::{write_aaa, write_sta};
 use std::alloc::{AllocError, Global};
 
 /// The bytes of an answer; none where it is longer than any message.
@@ -26,8 +32,98 @@ fn bytes_of(alloc: Global, answer: &Message) -> Result<Vec<u8>, AllocError>
     }
 }
 
-/// The bytes of the answer to a request that was served; none where the reply is to an event of another kind.
+/// The bytes of the answer to a credit control request.
 #[tactic(auto, unfolding(gx_profile::specs::Answers::cca))]
+fn write_gx(
+    alloc: Global,
+    identity: &Identity,
+    header: &Header,
+    ccr: &Ccr,
+    reply: &Reply,
+) -> Result<Vec<u8>, AllocError>
+    requires { header.now.command < command_bound }
+    ensures { IfOk result (λ bytes. bytes.items
+        ≡ bytes_by (cca identity.now header.now ccr.now) (gx_result reply.now)) }
+{
+    let Reply::Gx(reply) = reply else {
+        return Ok(Vec::new(alloc));
+    };
+    let answer = write_cca(alloc, identity, header, ccr, reply)?;
+    bytes_of(alloc, &answer)
+}
+
+/// What an application function's request came to, if that is what is replied.
+fn rx_result(reply: &Reply) -> Option<Option<Refusal>>
+    ensures { result ≡ rx_result reply.now }
+{
+    match reply {
+        Reply::Done => Some(None),
+        Reply::Refused(refusal) => Some(Some(*refusal)),
+        _ => None,
+    }
+}
+
+/// The bytes of the answer to an AA request of a session.
+#[tactic(auto, unfolding(rx_profile::specs::Answers::aaa))]
+fn write_aa(
+    alloc: Global,
+    identity: &Identity,
+    header: &Header,
+    session: &SessionId,
+    reply: &Reply,
+) -> Result<Vec<u8>, AllocError>
+    requires { header.now.command < command_bound }
+    ensures { IfOk result (λ bytes. bytes.items
+        ≡ bytes_by (aaa identity.now header.now session.now) (rx_result reply.now)) }
+{
+    let Some(refusal) = rx_result(reply) else {
+        return Ok(Vec::new(alloc));
+    };
+    let answer = write_aaa(alloc, identity, header, session, refusal)?;
+    bytes_of(alloc, &answer)
+}
+
+/// The bytes of the answer to a session termination request of a session.
+#[tactic(auto, unfolding(rx_profile::specs::Answers::sta))]
+fn write_termination(
+    alloc: Global,
+    identity: &Identity,
+    header: &Header,
+    session: &SessionId,
+    reply: &Reply,
+) -> Result<Vec<u8>, AllocError>
+    requires { header.now.command < command_bound }
+    ensures { IfOk result (λ bytes. bytes.items
+        ≡ bytes_by (sta identity.now header.now session.now) (rx_result reply.now)) }
+{
+    let Some(refusal) = rx_result(reply) else {
+        return Ok(Vec::new(alloc));
+    };
+    let answer = write_sta(alloc, identity, header, session, refusal)?;
+    bytes_of(alloc, &answer)
+}
+
+/// The bytes of the answer to a request of the base protocol.
+#[tactic(auto, unfolding(base_profile::specs::Answers::base_answer))]
+fn write_base(
+    alloc: Global,
+    identity: &Identity,
+    header: &Header,
+    request: &BaseRequest,
+    reply: &Reply,
+) -> Result<Vec<u8>, AllocError>
+    requires { header.now.command < command_bound }
+    ensures { IfOk result (λ bytes. bytes.items ≡ bytes_by
+        (λ _. base_answer identity.now header.now (base_view request.now)) (base_result reply.now)) }
+{
+    let Reply::Base(_) = reply else {
+        return Ok(Vec::new(alloc));
+    };
+    let answer = base_answer(alloc, identity, header, request)?;
+    bytes_of(alloc, &answer)
+}
+
+/// The bytes of the answer to a request that was served; none where the reply is to an event of another kind.
 pub fn write_reply(
     alloc: Global,
     identity: &Identity,
@@ -39,11 +135,12 @@ pub fn write_reply(
     ensures { IfOk result (λ bytes.
         bytes.items ≡ reply_bytes identity.now header.now request.now reply.now) }
 {
-    let (Request::Ccr(ccr), Reply::Gx(reply)) = (request, reply) else {
-        return Ok(Vec::new(alloc));
-    };
-    let answer = write_cca(alloc, identity, header, ccr, reply)?;
-    bytes_of(alloc, &answer)
+    match request {
+        Request::Ccr(ccr) => write_gx(alloc, identity, header, ccr, reply),
+        Request::Aar(aar) => write_aa(alloc, identity, header, &aar.session, reply),
+        Request::Str(call) => write_termination(alloc, identity, header, &call.session, reply),
+        Request::Base(request) => write_base(alloc, identity, header, request, reply),
+    }
 }
 
 /// The bytes of the answer to a request that could not be read.

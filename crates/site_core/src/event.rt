@@ -1,7 +1,7 @@
 //! What happens at a site, and what it replies.
 use crate::request::Request;
 use gx_profile::{GxReply, PushOut};
-use pcrf_values::DiameterIdentity;
+use pcrf_values::{DiameterIdentity, Refusal};
 use site_join::Operation;
 
 /// What may happen at a site.
@@ -20,6 +20,12 @@ pub enum Event {
 pub enum Reply {
     /// To a credit control request.
     Gx(GxReply),
+    /// To a request of an application function that is accepted.
+    Done,
+    /// To one that is refused.
+    Refused(Refusal),
+    /// To a request of the base protocol, with the Result-Code.
+    Base(u32),
     /// What was pushed; nothing where nothing was due.
     Pushed(Option<PushOut>),
     /// So many operations, the first of those that were given, stand taken: less than all only where memory was refused.

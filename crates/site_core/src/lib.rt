@@ -3,8 +3,8 @@
 #![tactic(auto)]
 
 mod answering;
+mod calls;
 mod event;
-mod facts;
 mod fault;
 mod reading;
 mod request;

@@ -4,10 +4,11 @@ ghost use Rattle.dia_codec.specs.Limits.{header_bytes, command_bound};
 ghost use Rattle.dia_codec.specs.Reading.{avps_of};
 ghost use Rattle.dia_codec.specs.Spelling.{avp_views, message_view};
 ghost use Rattle.dia_base.specs.Rows.{IsFaultOf};
-ghost use Rattle.gx_profile.specs.Requests.{ccr_view, ccr_of};
-ghost use Rattle.site_core.specs.Asking.{HeaderFits, asked_value, fault_refusal, header_refusal, meaning_of_frame, meaning_of_request, message_refusal, session_among, session_if_cut};
+ghost use Rattle.site_core.specs.Asking.{HeaderFits, ToRefuse, asked_value, command_of, fault_refusal, meaning_of_frame, meaning_of_request, meaning_of_table, request_of, session_among, session_if_cut, table_refusal};
+ghost use Rattle.site_core.specs.Values.{request_value};
 
 use crate::request::Request;
+use base_profile::{is_base_command, read_base};
 use dia_base::codes::results::{
     APPLICATION_UNSUPPORTED, COMMAND_UNSUPPORTED, INVALID_AVP_LENGTH, INVALID_HDR_BITS,
     UNSUPPORTED_VERSION,
@@ -17,8 +18,9 @@ use dia_base::{ReadFault, base_key, first_with};
 use dia_codec::{
     Avp, HEADER_BYTES, Header, Message, MsgFault, read_group, read_header, read_message_with,
 };
-use gx_profile::{Ccr, read_ccr};
+use gx_profile::read_ccr;
 use pcrf_values::{Refusal, SessionId};
+use rx_profile::{read_aar, read_str};
 use std::alloc::{AllocError, Global};
 
 /// What a frame asks for.
@@ -66,30 +68,81 @@ fn fault_refusal(fault: MsgFault) -> Refusal
     }
 }
 
-/// The refusal of a message's application or command, None where it is served.
-fn header_refusal(header: &Header) -> Option<Refusal>
-    ensures { result ≡ header_refusal header.now }
+/// What a request asks for.
+#[derive(Clone, Copy)]
+enum Command {
+    /// Credit control, under Gx.
+    CreditControl,
+    /// To set up or change a session of an application function, under Rx.
+    Authorization,
+    /// To end one, under Rx.
+    SessionTermination,
+    /// Something of the base protocol.
+    Base,
+}
+
+/// What a request asks for, by its application and its command; those that aren't served are refused.
+fn command_of(header: &Header) -> Result<Command, Refusal>
+    ensures { result ≡ command_of header.now }
 {
     let application = header.application;
     if application != 0 && application != GX && application != RX {
-        return Some(Refusal::base(APPLICATION_UNSUPPORTED));
+        return Err(Refusal::base(APPLICATION_UNSUPPORTED));
     }
     if application == GX && header.command == commands::CREDIT_CONTROL {
-        return None;
+        return Ok(Command::CreditControl);
     }
-    Some(Refusal::base(COMMAND_UNSUPPORTED))
+    if application == RX && header.command == commands::AUTHORIZATION {
+        return Ok(Command::Authorization);
+    }
+    if application == RX && header.command == commands::SESSION_TERMINATION {
+        return Ok(Command::SessionTermination);
+    }
+    if application == 0 && is_base_command(header.command) {
+        return Ok(Command::Base);
+    }
+    Err(Refusal::base(COMMAND_UNSUPPORTED))
 }
 
-/// The request that a message asks to serve.
-fn read_body(alloc: Global, message: &Message) -> Result<Ccr, ReadFault>
-    ensures served { OnOk result (message_refusal (message_view message.now) ≡ None) }
-    ensures read { IfOk result (λ ccr. ccr_view ccr ≡ ccr_of (avp_views message.now.avps.items)) }
-    ensures refused { IfErr result (IsFaultOf (message_refusal (message_view message.now))) }
+/// The request that a message of a command asks to serve.
+fn read_as(alloc: Global, command: Command, message: &Message) -> Result<Request, ReadFault>
+    ensures served { OnOk result (table_refusal command (message_view message.now) ≡ None) }
+    ensures read { IfOk result (λ request.
+        request_value request ≡ request_of command (message_view message.now)) }
+    ensures refused { IfErr result
+        (IsFaultOf (table_refusal command (message_view message.now))) }
 {
-    if let Some(refusal) = header_refusal(&message.header) {
-        return Err(ReadFault::Refused(refusal));
+    match command {
+        Command::CreditControl => Ok(Request::Ccr(read_ccr(alloc, message)?)),
+        Command::Authorization => Ok(Request::Aar(read_aar(alloc, message)?)),
+        Command::SessionTermination => Ok(Request::Str(read_str(alloc, message)?)),
+        Command::Base => Ok(Request::Base(read_base(alloc, message)?)),
     }
-    read_ccr(alloc, message)
+}
+
+/// A message that is to be refused.
+fn refused(alloc: Global, message: &Message, refusal: Refusal) -> Result<Asked, AllocError>
+    requires { message.now.header.command < command_bound }
+    ensures asked { IfOk result (λ asked. asked_value asked ≡ ToRefuse message.now.header
+        (session_among (avp_views message.now.avps.items)) refusal) }
+    ensures command { IfOk result HeaderFits }
+{
+    let session = session_among(alloc, message.avps.as_slice())?;
+    Ok(Asked::Refused(message.header, session, refusal))
+}
+
+/// What a message of a command asks for.
+fn asked_as(alloc: Global, command: Command, message: &Message) -> Result<Asked, AllocError>
+    requires { message.now.header.command < command_bound }
+    ensures asked { IfOk result (λ asked. asked_value asked ≡ meaning_of_table command
+        (message_view message.now) (table_refusal command (message_view message.now))) }
+    ensures command { IfOk result HeaderFits }
+{
+    match read_as(alloc, command, message) {
+        Ok(request) => Ok(Asked::Request(message.header, request)),
+        Err(ReadFault::NoMemory) => Err(AllocError),
+        Err(ReadFault::Refused(refusal)) => refused(alloc, message, refusal),
+    }
 }
 
 /// What a message asks for.
@@ -99,13 +152,9 @@ fn asked_by(alloc: Global, message: &Message) -> Result<Asked, AllocError>
         asked_value asked ≡ meaning_of_request [] (Ok (message_view message.now))) }
     ensures command { IfOk result HeaderFits }
 {
-    match read_body(alloc, message) {
-        Ok(ccr) => Ok(Asked::Request(message.header, Request::Ccr(ccr))),
-        Err(ReadFault::NoMemory) => Err(AllocError),
-        Err(ReadFault::Refused(refusal)) => {
-            let session = session_among(alloc, message.avps.as_slice())?;
-            Ok(Asked::Refused(message.header, session, refusal))
-        }
+    match command_of(&message.header) {
+        Ok(command) => asked_as(alloc, command, message),
+        Err(refusal) => refused(alloc, message, refusal),
     }
 }
 

@@ -9,9 +9,9 @@ ghost use Rattle.pcrf_model.specs.Limits.{delta_limit, last_counter};
 ghost use Rattle.pcrf_model.specs.Holdings.{facts_on, kept_of, replaced};
 ghost use Rattle.pcrf_model.specs.Pushing.{lacks_counter};
 ghost use Rattle.pcrf_model.specs.Replies.{OnGx, Granted, Pushed};
-ghost use Rattle.pcrf_model.specs.Serving.{delta_of, empty_delta, provisioned};
+ghost use Rattle.pcrf_model.specs.Serving.{delta_of, empty_delta, provisioned, serve_base};
 ghost use Rattle.pcrf_model.specs.Sessions.{gx};
-ghost use Rattle.pcrf_model.specs.Steps.{MayReply, Serve, Push, Ops};
+ghost use Rattle.pcrf_model.specs.Steps.{MayReply, Serve, Push, Ops, own_from};
 ghost use Rattle.pcrf_model.specs.Views.{view};
 ghost use Rattle.pcrf_model.specs.Rules.{quality_of, rules};
 ghost use Rattle.pcrf_model.specs.Differences.{rule_name_of};
@@ -22,18 +22,19 @@ ghost use Rattle.pcrf_model.specs.ToldTags.{ToldUpTo};
 ghost use Rattle.pcrf_facts.specs.FlowWords.{or_else};
 ghost use Rattle.gx_profile.specs.Pushes.{push_view};
 ghost use Rattle.gx_profile.specs.Requests.{ccr_view};
+ghost use Rattle.base_profile.specs.Requests.{base_view};
 ghost use Rattle.site_join.specs.States.{record_facts};
 ghost use Rattle.site_core.specs.Replies.{gx_reply_value};
 ghost use Rattle.site_core.specs.Values.{event_lacks_counter, event_value, reply_value, request_value};
 
 use crate::event::{Event, Reply};
-use crate::facts::facts_made;
 use crate::fault::StepFault;
 use crate::request::Request;
 use crate::told::put_told;
+use base_profile::{BaseRequest, base_refusal};
 use dia_base::Identity;
 use dia_base::codes::results::{
-    AUTHORIZATION_REJECTED, INITIAL_PARAMETERS, UNABLE_TO_COMPLY, UNKNOWN_SESSION_ID,
+    AUTHORIZATION_REJECTED, INITIAL_PARAMETERS, SUCCESS, UNABLE_TO_COMPLY, UNKNOWN_SESSION_ID,
 };
 use gx_profile::{Ccr, FirstEntries, GxReply, PushOut};
 use gx_records::GxRec;
@@ -43,20 +44,24 @@ use operator_view::{OperatorValue, bindings, value};
 use pcc_rules::derive;
 use pcrf_values::{Apn, DefaultQuality, DiameterIdentity, Refusal, RequestKind, Rule, SessionId};
 use ranked::{Ranked, Tag};
+use request_facts::facts_made;
 use rule_telling::{next_push, untold};
 use site_join::{LAST_COUNTER, Operation, SessionFacts, State};
 use std::alloc::{AllocError, Global};
 use std::marker::Model;
 
+/// How many operations are told at once.
+const RANGE: usize = 100;
+
 /// A site: the operator tables that it decides by, the names that it answers under, its number, what it holds, and the
 /// operations that it made itself since it began, in order.
 #[derive(Drop)]
 pub struct Site {
-    alloc: Global,
-    tables: Tables,
+    pub(crate) alloc: Global,
+    pub(crate) tables: Tables,
     identity: Identity,
-    number: u8,
-    state: State,
+    pub(crate) number: u8,
+    pub(crate) state: State,
     log: Vec<Operation>,
 }
 
@@ -77,7 +82,7 @@ impl Site {
     ghost use Rattle.site_core.specs.Facts.{opens, operation_made, operation_pushed, operation_told};
     ghost use Rattle.site_core.specs.Left.{ProvisionLeaves, PushLeaves, ReplyLeaves, RequestLeaves};
     ghost use Rattle.site_core.specs.Replies.{told_reply};
-    ghost use Rattle.site_core.specs.Sites.{new_site, after_event, ccr_served, emptied, pushed, served, with_made, with_one, with_record, with_taken};
+    ghost use Rattle.site_core.specs.Sites.{new_site, after_event, ccr_served, emptied, pushed, served, with_made, with_one, with_record, with_state, with_taken};
 
     /// A site that took nothing.
     pub fn start(alloc: Global, tables: Tables, identity: Identity, number: u8) -> Site
@@ -154,6 +159,36 @@ impl Site {
         copy_all(self.alloc, self.log.as_slice())
     }
 
+    /// The operations that the site made itself from a position on, the first 100 if there are more, and how many it made in
+    /// all.
+    pub fn own_since(&self, from: u64) -> Result<(Vec<Operation>, u64), AllocError>
+        ensures operations { IfOk result (λ r. r.0.items ≡ own_from self.now.state.log from) }
+        ensures length { IfOk result (λ r. r.1 ≡ length self.now.state.log) }
+    {
+        let copies = copy_all(self.alloc, part_from(self.log.as_slice(), from))?;
+        Ok((copies, self.log.len() as u64))
+    }
+
+    /// A copy of all that the site holds, and how many operations it made itself.
+    pub fn whole(&self) -> Result<(State, u64), AllocError>
+        ensures state { IfOk result (λ r. r.0 ≡ self.now.state.holding) }
+        ensures kept { IfOk result (λ r. r.0 ≡ kept_of self.now.state.holding) }
+        ensures length { IfOk result (λ r. r.1 ≡ length self.now.state.log) }
+    {
+        self.note_kept();
+        let copy = self.state.try_copy()?;
+        Ok((copy, self.log.len() as u64))
+    }
+
+    /// Takes all that another site holds, or changes nothing.
+    pub fn take_state(&mut self, state: &State) -> Result<(), AllocError>
+        ensures ok { OnOk result (self.new ≡ with_state self.old state.now) }
+        ensures err { OnErr result (self.new ≡ self.old) }
+    {
+        self.state = self.state.merged_copy(state)?;
+        Ok(())
+    }
+
     /// Makes an event happen. A fault changes nothing.
     pub fn step(&mut self, event: &Event) -> Result<Reply, StepFault>
         ensures reply { IfOk result (λ reply. MayReply delta_limit self.old.tables self.old.number
@@ -181,8 +216,12 @@ impl Site {
         ensures left { IfOk result (λ reply. ReplyLeaves self.old self.new request.now reply) }
         ensures err { OnErr result (self.new ≡ self.old) }
     {
-        let Request::Ccr(ccr) = request;
-        Ok(Reply::Gx(self.serve_ccr(ccr)?))
+        match request {
+            Request::Ccr(ccr) => Ok(Reply::Gx(self.serve_ccr(ccr)?)),
+            Request::Aar(aar) => self.serve_aar(aar),
+            Request::Str(call) => self.serve_str(call),
+            Request::Base(base) => Ok(reply_to_base(base)),
+        }
     }
 
     /// Serves a credit control request. An error changes nothing.
@@ -371,7 +410,7 @@ impl Site {
     }
 
     /// The counter of the next operation, if there is one left.
-    fn next_counter(&self) -> Option<u64>
+    pub(crate) fn next_counter(&self) -> Option<u64>
         ensures some { IfSome result (λ counter. counter ≡ self.now.state.holding.clock + 1) }
         ensures within { IfSome result (λ counter. counter ≤ last_counter) }
         ensures open { IfSome result (λ _. is_clock_full self.now.state.holding ≡ false) }
@@ -385,7 +424,7 @@ impl Site {
     }
 
     /// Adds an operation of the site's own, or changes nothing.
-    fn add(&mut self, operation: Operation) -> Result<(), AllocError>
+    pub(crate) fn add(&mut self, operation: Operation) -> Result<(), AllocError>
         ensures ok { OnOk result (self.new ≡ with_made self.old (Some operation)) }
         ensures err { OnErr result (self.new ≡ self.old) }
     {
@@ -458,7 +497,7 @@ impl Site {
     }
 
     /// Does nothing: its contract tells a proof that what is held is kept.
-    fn note_kept(&self)
+    pub(crate) fn note_kept(&self)
         ensures { kept_of self.now.state.holding ≡ self.now.state.holding }
     {
         self.state.note_kept();
@@ -531,6 +570,16 @@ impl Site {
     }
 }
 
+/// The reply to a request of the base protocol: success, or why it is refused.
+fn reply_to_base(request: &BaseRequest) -> Reply
+    ensures { reply_value result ≡ (serve_base (base_view request.now)).reply }
+{
+    match base_refusal(request) {
+        Some(refusal) => Reply::Base(refusal.code),
+        None => Reply::Base(SUCCESS),
+    }
+}
+
 /// The session has ended, as far as is known.
 fn has_ended(known: Option<&GxRec>) -> bool
     ensures { result ≡ is_ended (record_facts (option_copied known.entry)) }
@@ -566,6 +615,25 @@ fn lacks(ccr: &Ccr) -> bool
     ensures { result ≡ lacks_parameters (ccr_view ccr.now) }
 {
     ccr.address.is_none() || ccr.apn.is_none() || ccr.subscribers.is_none()
+}
+
+/// The operations from a position on, as many as are told at once.
+#[tactic(auto, using(std::proofs::lemmas::List::drop_all, std::proofs::lemmas::List::take_all))]
+fn part_from(log: &[Operation], from: u64) -> &[Operation]
+    ensures { result.now ≡ own_from log.now from }
+{
+    let Ok(start) = usize::try_from(from) else {
+        return &[];
+    };
+    if start >= log.len() {
+        return &[];
+    }
+    let (_, left) = log.split_at(start);
+    if left.len() <= RANGE {
+        return left;
+    }
+    let (part, _) = left.split_at(RANGE);
+    part
 }
 
 /// Equal operations, in order.

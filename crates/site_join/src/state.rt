@@ -156,8 +156,8 @@ impl State {
         }
     }
 
-    // What is kept of both states, which stay as they are.
-    fn merged_copy(&self, other: &State) -> Result<State, AllocError>
+    /// What is kept of both states, which stay as they are.
+    pub fn merged_copy(&self, other: &State) -> Result<State, AllocError>
         ensures { IfOk result (λ r. r ≡ kept_of (union self.now other.now)) }
     {
         self.gx.note_valid();

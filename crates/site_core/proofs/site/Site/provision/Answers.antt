@@ -19,7 +19,8 @@ use Rattle.pcrf_model.specs.Serving.{delta_of}
 use Rattle.site_core.specs.Sites.{SiteValue}
 use Rattle.gx_profile.specs.Requests.{ccr_view}
 use Rattle.site_join.specs.States.{record_facts}
-use Rattle.site_core.specs.Facts.{made_facts, operation_made, operation_told}
+use Rattle.site_core.specs.Facts.{operation_made, operation_told}
+use Rattle.request_facts.specs.Gateway.{made_facts}
 use Rattle.site_core.specs.Replies.{told_reply}
 use Rattle.site_core.specs.Sites.{with_made, with_one, with_record}
 use Rattle.site_core.proofs.Replies.{provisioned_is, host_is_made}

@@ -8,7 +8,7 @@ use Rattle.pcrf_world.specs.Members.{IsMember, with_site}
 use Rattle.pcrf_world.specs.Values.{WorldValue, setting}
 use Rattle.pcrf_world.proofs.Events.{served_at, served_gives}
 use Rattle.pcrf_world.proofs.Members.{made_member, members_at, members_set, world_of}
-use Rattle.pcrf_world.proofs.world.World.reply_at.Goals as goal
+use Rattle.pcrf_world.proofs.world.World.serve.Goals as goal
 
 pub invariant_of-self-2 : goal.invariant_of-self-2
 invariant_of-self-2 c =

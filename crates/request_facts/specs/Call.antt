@@ -1,0 +1,14 @@
+-- The facts that an accepted AA request makes at a site, under a counter (TS 29.214, 4.4.1 and 4.4.2).
+use Rattle.std.specs.Prelude.{ℕ, List}
+use Rattle.ranked.specs.declared.tag.Tag.{Tag}
+use Rattle.pcrf_facts.specs.Facts.{Fact}
+use Rattle.pcrf_model.specs.Requests.{AarValue}
+use Rattle.pcrf_model.specs.Making.{session_fields, aar_facts}
+
+-- what it describes; an AA request has no number
+abbrev pub described : ℕ → ℕ → AarValue → List Fact
+described site counter q = aar_facts q (record { number = 0; counter = counter; site = site })
+
+-- of that the fields of the session; what stands for the type of its request is 0
+abbrev pub call_fields : AarValue → Tag → List Fact
+call_fields q t = session_fields t q.address q.apn q.subscribers q.host q.realm 0

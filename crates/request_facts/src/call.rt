@@ -1,0 +1,71 @@
+//! The facts of AA requests (TS 29.214, 4.4.1 and 4.4.2).
+ghost use Rattle.std.specs.Prelude.{◌≡◌, IfOk, map};
+ghost use Rattle.ranked.specs.Ascending.{ascending};
+ghost use Rattle.pcrf_facts.specs.Facts.{fact_cmp};
+ghost use Rattle.pcrf_facts.specs.Held.{held};
+ghost use Rattle.record_levels.specs.SessionFacts.{session_fact};
+ghost use Rattle.af_records.specs.RecordFacts.{fact_of};
+ghost use Rattle.pcrf_model.specs.Making.{aar_facts};
+ghost use Rattle.rx_profile.specs.Requests.{aar_view};
+ghost use Rattle.request_facts.specs.Call.{call_fields, described};
+
+use crate::component::put_components;
+use crate::session::session_values;
+use af_records::{AfFact, AfRec, AfRequestType, SessionValue};
+use ranked::Tag;
+use rx_profile::Aar;
+use std::alloc::{AllocError, Global};
+
+/// What values say under a tag.
+fn of_values(
+    alloc: Global,
+    tag: Tag,
+    values: Vec<SessionValue<AfRequestType>>,
+) -> Result<Vec<AfFact>, AllocError>
+    ensures { IfOk result (λ facts.
+        map fact_of facts.items ≡ map (session_fact tag) values.items) }
+{
+    let mut facts = Vec::new(alloc);
+    for value in values {
+        facts.push(AfFact::Session(tag, value))?;
+    }
+    Ok(facts)
+}
+
+/// The fields of the session that a request sets. Rx has one type of request, 0 (this project's profile).
+fn fields_of(alloc: Global, aar: &Aar, tag: Tag) -> Result<Vec<AfFact>, AllocError>
+    ensures { IfOk result (λ facts. map fact_of facts.items ≡ call_fields (aar_view aar.now) tag) }
+{
+    let Some(last) = AfRequestType::of(0) else {
+        unreachable!()
+    };
+    let user = (aar.address, &aar.apn, &aar.subscribers);
+    let values = session_values(alloc, user, &aar.origin, last)?;
+    of_values(alloc, tag, values)
+}
+
+/// The facts that a request describes.
+fn facts_of(alloc: Global, aar: &Aar, tag: Tag) -> Result<Vec<AfFact>, AllocError>
+    ensures { IfOk result (λ facts. map fact_of facts.items ≡ aar_facts (aar_view aar.now) tag) }
+{
+    let mut facts = fields_of(alloc, aar, tag)?;
+    put_components(&mut facts, tag, aar.components.as_slice())?;
+    Ok(facts)
+}
+
+/// The record of what an AA request describes, as the operation of a site under a counter has it. None of its facts overshadows
+/// another, so the record has them all.
+pub fn call_of(alloc: Global, aar: &Aar, counter: u64, site: u8) -> Result<AfRec, AllocError>
+    ensures held { IfOk result (λ call. call ≡ held (described site counter (aar_view aar.now))) }
+    ensures all { IfOk result (λ call.
+        call ≡ ascending fact_cmp (described site counter (aar_view aar.now))) }
+{
+    let tag = Tag {
+        number: 0,
+        counter,
+        site,
+    };
+    let facts = facts_of(alloc, aar, tag)?;
+    let _apart = aar.components.as_slice();
+    AfRec::of_facts(alloc, facts.as_slice())
+}
