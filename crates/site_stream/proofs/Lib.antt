@@ -1,0 +1,6 @@
+pub mod Turns
+pub mod Reading
+pub mod Cutting
+pub mod Wholes
+pub mod Somes
+pub mod Values

@@ -1,0 +1,6 @@
+pub mod Limits
+pub mod Cuts
+pub mod Replies
+pub mod Frames
+pub mod Conversations
+pub mod Conversing
