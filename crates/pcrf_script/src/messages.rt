@@ -2,11 +2,12 @@
 ghost use Rattle.std.specs.Prelude.{◌≡◌, ◌≤◌, ◌<◌, length, IfOk};
 ghost use Rattle.dia_codec.specs.Limits.{command_bound, header_bytes};
 ghost use Rattle.dia_codec.specs.Spelling.{IsFrame};
+ghost use Rattle.site_core.specs.Asking.{HeaderFits};
 
 use crate::printing::{put_answer, put_outcome};
 use dia_codec::{FrameFault, Header, StreamEnd, frames_of};
 use pcrf_values::{Refusal, SessionId};
-use pcrf_world::{World, WorldEvent, WorldOutcome};
+use pcrf_world::{World, WorldFault, WorldOutcome};
 use script_lines::LineFault;
 use site_core::{Asked, Reply, Request, Site, read_request, write_refusal, write_reply};
 use std::alloc::{AllocError, Global};
@@ -52,15 +53,29 @@ fn put_message(
 ) -> Result<(), LineFault>
     requires { header_bytes ≤ length frame.now }
 {
+    let asked = read_request(alloc, frame)?;
+    put_asked(alloc, world, i, &asked, out)
+}
+
+/// Has a site do what a message asks for, and prints its answer.
+fn put_asked(
+    alloc: Global,
+    world: &mut World,
+    i: usize,
+    asked: &Asked,
+    out: &mut String,
+) -> Result<(), LineFault>
+    requires { HeaderFits asked.now }
+{
     let Some(site) = world.site(i) else {
         return Ok(out.push_str("refused NoSuchSite\n")?);
     };
-    match read_request(alloc, frame)? {
+    match asked {
         Asked::Silent => Ok(out.push_str("no answer\n")?),
         Asked::Refused(header, session, refusal) => {
-            Ok(put_refusal(alloc, site, &header, session.as_ref(), refusal, out)?)
+            Ok(put_refusal(alloc, site, header, session.as_ref(), *refusal, out)?)
         }
-        Asked::Request(header, request) => put_served(alloc, world, i, &header, request, out),
+        Asked::Request(header, request) => put_served(alloc, world, i, header, request, out),
     }
 }
 
@@ -100,18 +115,33 @@ fn put_served(
     world: &mut World,
     i: usize,
     header: &Header,
-    request: Request,
+    request: &Request,
     out: &mut String,
 ) -> Result<(), LineFault>
     requires command { header.now.command < command_bound }
     requires site { i < length world.old.seen.sites }
 {
-    let event = WorldEvent::Serve(i, request);
-    let outcome = world.step(&event);
-    let Ok(WorldOutcome::Replied(reply)) = &outcome else {
-        return Ok(put_outcome(out, &outcome)?);
+    let outcome = world.serve(i, request);
+    put_answer_of(alloc, world, i, header, request, &outcome, out)
+}
+
+/// Prints the answer by what serving a request gave.
+fn put_answer_of(
+    alloc: Global,
+    world: &World,
+    i: usize,
+    header: &Header,
+    request: &Request,
+    outcome: &Result<WorldOutcome, WorldFault>,
+    out: &mut String,
+) -> Result<(), LineFault>
+    requires command { header.now.command < command_bound }
+    requires site { i < length world.now.seen.sites }
+{
+    let Ok(WorldOutcome::Replied(reply)) = outcome else {
+        return Ok(put_outcome(out, outcome)?);
     };
-    let (Some(site), WorldEvent::Serve(_, request)) = (world.site(i), &event) else {
+    let Some(site) = world.site(i) else {
         unreachable!()
     };
     Ok(put_reply(alloc, site, header, request, reply, out)?)
