@@ -1,4 +1,4 @@
-//! Facts of requests and pushes, and states that take them. A site serves no requests of application functions yet.
+//! Facts of requests and pushes, and states that take them.
 use af_records::{AfFact, ComponentValue, FlowValue};
 use gx_records::{GxFact, SessionValue};
 use pcrf_values::{

@@ -1,4 +1,4 @@
-//! What a site pushes of a call whose operations it took: no site serves requests of application functions yet.
+//! What a site pushes of a call that another site served, and whose operations it took.
 use crate::operations::{
     application_request, call, connection, gateway_request, of_application, of_gateway, push,
     put_many, put_removal, put_status, put_voice, stamp,

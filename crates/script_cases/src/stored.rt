@@ -61,8 +61,8 @@ fn stored_answers_are_the_encoders(rt: HostRuntime) -> Result<(), Fail> {
         application: 16_777_236,
         ..HEAD
     };
-    let capabilities = Head {
-        command: 257,
+    let unknown = Head {
+        command: 300,
         application: 0,
         ..HEAD
     };
@@ -118,8 +118,8 @@ fn stored_answers_are_the_encoders(rt: HostRuntime) -> Result<(), Fail> {
             answer(rx, id, Code::Base(3001), None),
         ),
         (
-            "0100003860000101000000000000000100000002000001084000000a733000000000012840000009720000000000010c4000000c00000bb9",
-            answer(capabilities, None, Code::Base(3001), None),
+            "010000386000012c000000000000000100000002000001084000000a733000000000012840000009720000000000010c4000000c00000bb9",
+            answer(unknown, None, Code::Base(3001), None),
         ),
         (
             "0100004820000009010000160000000100000002000001074000000e67773b313b310000000001084000000a733000000000012840000009720000000000010c4000000c00000bb9",
