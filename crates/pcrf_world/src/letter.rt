@@ -4,6 +4,7 @@ ghost use Rattle.pcrf_world.specs.Letters.{letter_of_log};
 ghost use Rattle.pcrf_world.specs.Members.{seen_of};
 
 use crate::site::Member;
+use site_core::Site;
 use site_join::Operation;
 use std::alloc::AllocError;
 use std::marker::Model;
@@ -42,7 +43,7 @@ impl Letter {
             edition: member.site.tables().edition(),
             site: member.site.number(),
             epoch: member.epoch,
-            operations: member.site.copy_of_log()?,
+            operations: whole_log(&member.site)?,
         })
     }
 
@@ -52,4 +53,16 @@ impl Letter {
     {
         self.operations.as_slice()
     }
+}
+
+/// All operations that a site made itself, in order, asked for in parts.
+fn whole_log(site: &Site) -> Result<Vec<Operation>, AllocError>
+    ensures { IfOk result (λ log. log.items ≡ site.now.state.log) }
+{
+    let (mut log, length) = site.own_since(0)?;
+    while (log.len() as u64) < length {
+        let (mut part, _) = site.own_since(log.len() as u64)?;
+        log.append(&mut part)?;
+    }
+    Ok(log)
 }

@@ -31,7 +31,7 @@ pub enum WorldEvent {
 }
 
 /// What an event gave.
-#[derive(Drop, PartialEq, Eq)]
+#[derive(Drop)]
 pub enum WorldOutcome {
     /// The site's reply.
     Replied(Reply),

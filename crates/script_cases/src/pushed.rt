@@ -185,7 +185,7 @@ fn the_home_that_moved_pushes_the_end_of_a_call(rt: HostRuntime) {
     takes(&rt, &mut site, end(&rt));
     pushes(&rt, &mut site, None);
     take_voice(&rt, &mut other, 2);
-    let told = site.copy_of_log().expect(&rt, "memory");
+    let (told, _) = site.own_since(0).expect(&rt, "memory");
     assert!(rt; other.take_all(told.as_slice()).is_ok(), "memory");
     pushes(&rt, &mut other, None);
     takes(&rt, &mut other, end(&rt));

@@ -46,5 +46,6 @@ fn a_copy_of_a_site_makes_another_hold_the_same(rt: HostRuntime) {
     other.take_state(&copy).expect(&rt, "memory");
     assert!(rt; other.sessions().equal(site.sessions()));
     assert_eq!(rt; other.sessions().clock(), 1);
-    assert!(rt; other.copy_of_log().expect(&rt, "memory").is_empty());
+    let (none, made) = other.own_since(0).expect(&rt, "memory");
+    assert!(rt; none.is_empty() && made == 0);
 }

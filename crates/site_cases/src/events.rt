@@ -21,6 +21,10 @@ enum Said {
     Pushed(usize),
     NothingPushed,
     Taken(usize),
+    /// So many of its own operations, of how many.
+    Own(usize, u64),
+    /// A copy with this clock, and how many operations it made itself.
+    Copy(u64, u64),
 }
 
 /// What a reply says.
@@ -33,6 +37,8 @@ fn meaning_of(reply: &Reply) -> Said {
         Reply::Pushed(Some(push)) => Said::Pushed(push.delta.installed().len()),
         Reply::Pushed(None) => Said::NothingPushed,
         Reply::Taken(count) => Said::Taken(*count),
+        Reply::Own(operations, made) => Said::Own(operations.len(), *made),
+        Reply::Copy(state, made) => Said::Copy(state.clock(), *made),
     }
 }
 
@@ -66,10 +72,29 @@ fn served(rt: &(impl AllocGlobal + Abort)) -> Site {
 fn events_get_the_replies_of_their_calls(rt: HostRuntime) {
     let site = served(&rt);
     let mut other = site_with(&rt, tables(&rt, 41, 0), 1);
-    let log = site.copy_of_log().expect(&rt, "memory");
+    let (log, _) = site.own_since(0).expect(&rt, "memory");
     happens(&rt, &mut other, Event::Ops(log), Said::Taken(2));
     assert!(rt; other.sessions().equal(site.sessions()));
     happens(&rt, &mut other, Event::Push(None), Said::NothingPushed);
+}
+
+#[test]
+fn a_site_tells_what_it_made_and_what_it_holds(rt: HostRuntime) {
+    let mut site = served(&rt);
+    for (from, wanted) in [(0, 2), (1, 1), (2, 0), (u64::MAX, 0)] {
+        happens(&rt, &mut site, Event::AskOwn(from), Said::Own(wanted, 2));
+    }
+    happens(&rt, &mut site, Event::AskWhole, Said::Copy(2, 2));
+}
+
+#[test]
+fn a_site_takes_all_that_another_holds(rt: HostRuntime) {
+    let site = served(&rt);
+    let mut other = site_with(&rt, tables(&rt, 41, 0), 1);
+    let (copy, _) = site.whole().expect(&rt, "memory");
+    happens(&rt, &mut other, Event::Whole(copy), Said::Done);
+    assert!(rt; other.sessions().equal(site.sessions()));
+    happens(&rt, &mut other, Event::AskWhole, Said::Copy(2, 0));
 }
 
 /// A reply to another event than a request has no answer.

@@ -26,7 +26,7 @@ fn sent(kind: u32, number: u32, address: Option<u8>) -> Sent {
 
 /// What a site made last.
 fn last_made(rt: &(impl AllocGlobal + Abort), site: &Site) -> Operation {
-    let mut log = site.copy_of_log().expect(rt, "memory");
+    let (mut log, _) = site.own_since(0).expect(rt, "memory");
     log.pop().expect(rt, "an operation")
 }
 
@@ -165,7 +165,7 @@ fn made_again(rt: &(impl AllocGlobal + Abort), before: Sent, after: Sent) -> Vec
     put_made(rt, &mut letter, &mut maker, before);
     begins_again(rt, &mut maker);
     put_made(rt, &mut letter, &mut maker, after);
-    assert_eq!(rt; maker.copy_of_log().expect(rt, "memory").len(), 1);
+    assert_eq!(rt; maker.own_since(0).expect(rt, "memory").1, 1);
     letter
 }
 

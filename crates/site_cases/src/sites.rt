@@ -117,7 +117,7 @@ fn granted(rt: &impl Abort) -> Wanted {
 
 /// A site takes all that another made.
 pub fn takes(rt: &(impl AllocGlobal + Abort), site: &mut Site, maker: &Site) {
-    let log = maker.copy_of_log().expect(rt, "memory");
+    let (log, _) = maker.own_since(0).expect(rt, "memory");
     let taken = site.take_all(log.as_slice());
     assert!(rt; taken.is_ok(), "memory");
 }

@@ -35,6 +35,9 @@ abbrev pub event_value : Event → SiteEvent
 event_value (event.Serve q) = events.Serve (request_value q)
 event_value (event.Push name) = events.Push name
 event_value (event.Ops operations) = events.Ops operations.items
+event_value (event.Whole state) = events.Whole state
+event_value (event.AskOwn from) = events.AskOwn from
+event_value event.AskWhole = events.AskWhole
 
 -- a reply
 abbrev pub reply_value : Reply → ReplyValue
@@ -44,6 +47,8 @@ reply_value (reply.Refused r) = replies.Refused r
 reply_value (reply.Base code) = replies.OnBase code
 reply_value (reply.Pushed push) = replies.Pushed (option_map push_view push)
 reply_value (reply.Taken count) = replies.Taken count
+reply_value (reply.Own operations length) = replies.Own operations.items length
+reply_value (reply.Copy state length) = replies.Copy state length
 
 -- the event is a push of something that is due, and no counter is left for it
 abbrev pub event_lacks_counter : Tables → ℕ → Holding → SiteEvent → Bool

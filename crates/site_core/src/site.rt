@@ -11,7 +11,7 @@ ghost use Rattle.pcrf_model.specs.Pushing.{lacks_counter};
 ghost use Rattle.pcrf_model.specs.Replies.{OnGx, Granted, Pushed};
 ghost use Rattle.pcrf_model.specs.Serving.{delta_of, empty_delta, provisioned, serve_base};
 ghost use Rattle.pcrf_model.specs.Sessions.{gx};
-ghost use Rattle.pcrf_model.specs.Steps.{MayReply, Serve, Push, Ops, own_from};
+ghost use Rattle.pcrf_model.specs.Steps.{MayReply, Serve, Push, Ops, Whole, AskOwn, AskWhole, own_from};
 ghost use Rattle.pcrf_model.specs.Views.{view};
 ghost use Rattle.pcrf_model.specs.Rules.{quality_of, rules};
 ghost use Rattle.pcrf_model.specs.Differences.{rule_name_of};
@@ -152,13 +152,6 @@ impl Site {
         value(self.alloc, &self.tables, &self.state)
     }
 
-    /// The operations that the site made itself since it began, in order.
-    pub fn copy_of_log(&self) -> Result<Vec<Operation>, AllocError>
-        ensures { IfOk result (λ log. log.items ≡ self.now.state.log) }
-    {
-        copy_all(self.alloc, self.log.as_slice())
-    }
-
     /// The operations that the site made itself from a position on, the first 100 if there are more, and how many it made in
     /// all.
     pub fn own_since(&self, from: u64) -> Result<(Vec<Operation>, u64), AllocError>
@@ -203,6 +196,9 @@ impl Site {
             Event::Serve(request) => self.step_serve(request),
             Event::Push(host) => self.step_push(host),
             Event::Ops(operations) => Ok(self.step_take(operations.as_slice())),
+            Event::Whole(state) => self.step_whole(state),
+            Event::AskOwn(from) => self.step_ask_own(*from),
+            Event::AskWhole => self.step_ask_whole(),
         }
     }
 
@@ -566,6 +562,51 @@ impl Site {
         match self.take_all(operations) {
             Ok(()) => Reply::Taken(operations.len()),
             Err((count, _)) => Reply::Taken(count),
+        }
+    }
+
+    /// Takes the state of an event.
+    fn step_whole(&mut self, state: &State) -> Result<Reply, StepFault>
+        ensures reply { IfOk result (λ reply. MayReply delta_limit self.old.tables self.old.number
+            self.old.state (Whole state.now) (reply_value reply)) }
+        ensures ok { IfOk result (λ reply. self.new
+            ≡ after_event self.old (Whole state.now) (reply_value reply)) }
+        ensures memory { IfErr result (λ fault. fault ≡ StepFault.NoMemory) }
+        ensures err { OnErr result (self.new ≡ self.old) }
+    {
+        match self.take_state(state) {
+            Ok(()) => Ok(Reply::Done),
+            Err(_) => Err(StepFault::NoMemory),
+        }
+    }
+
+    /// Tells the operations that an event asks for.
+    fn step_ask_own(&self, from: u64) -> Result<Reply, StepFault>
+        ensures reply { IfOk result (λ reply. MayReply delta_limit self.now.tables self.now.number
+            self.now.state (AskOwn from) (reply_value reply)) }
+        ensures ok { IfOk result (λ reply. self.now
+            ≡ after_event self.now (AskOwn from) (reply_value reply)) }
+        ensures memory { IfErr result (λ fault. fault ≡ StepFault.NoMemory) }
+    {
+        self.note_kept();
+        match self.own_since(from) {
+            Ok((operations, length)) => Ok(Reply::Own(operations, length)),
+            Err(_) => Err(StepFault::NoMemory),
+        }
+    }
+
+    /// Tells all that the site holds.
+    fn step_ask_whole(&self) -> Result<Reply, StepFault>
+        ensures reply { IfOk result (λ reply. MayReply delta_limit self.now.tables self.now.number
+            self.now.state AskWhole (reply_value reply)) }
+        ensures ok { IfOk result (λ reply. self.now
+            ≡ after_event self.now AskWhole (reply_value reply)) }
+        ensures memory { IfErr result (λ fault. fault ≡ StepFault.NoMemory) }
+    {
+        self.note_kept();
+        match self.whole() {
+            Ok((state, length)) => Ok(Reply::Copy(state, length)),
+            Err(_) => Err(StepFault::NoMemory),
         }
     }
 }

@@ -1,10 +1,8 @@
 -- The bytes of an answer, by the values of what was served and replied.
-use Rattle.std.proofs.Common.{◌≡◌, ℕ, List, Option, Some, None, refl, sym, ap, ◌∙◌}
-use Rattle.pcrf_values.specs.declared.refusal.Refusal.{Refusal}
+use Rattle.std.proofs.Common.{◌≡◌, ℕ, List, Option, Some, None, refl, ap, ◌∙◌}
 use Rattle.pcrf_model.specs.Operations.{Operation}
 use Rattle.pcrf_model.specs.Replies.{ReplyValue}
 use Rattle.dia_codec.specs.declared.message.Header.{Header}
-use Rattle.dia_codec.specs.Fields.{MessageValue}
 use Rattle.dia_base.specs.declared.identity.Identity.{Identity}
 use Rattle.gx_profile.specs.Answers.{cca}
 use Rattle.gx_profile.specs.Requests.{ccr_view}
@@ -17,7 +15,7 @@ use Rattle.site_core.specs.Answering.{base_result, bytes_by, gx_result, reply_by
 use Rattle.site_core.specs.Sites.{SiteValue, with_made}
 use Rattle.site_core.specs.Values.{reply_value, request_value}
 use Rattle.site_core.specs.declared.event.Reply.{Reply}
-use Rattle.site_core.specs.declared.event.Reply.TheVariants.{Gx, Done, Refused, Base, Pushed, Taken}
+use Rattle.site_core.specs.declared.event.Reply.TheVariants.{Gx, Done, Refused, Base, Pushed, Taken, Own, Copy}
 use Rattle.site_core.specs.declared.request.Request.{Request}
 use Rattle.site_core.specs.declared.request.Request.TheVariants as request
 use Rattle.site_stream.specs.Replies.{answer_to, gx_answer, to_function, to_gateway, to_peer}
@@ -32,6 +30,8 @@ to_gateway_same i h q (Refused refusal) = refl
 to_gateway_same i h q (Base code) = refl
 to_gateway_same i h q (Pushed push) = refl
 to_gateway_same i h q (Taken count) = refl
+to_gateway_same i h q (Own operations length) = refl
+to_gateway_same i h q (Copy state length) = refl
 
 -- to an application function
 to_function_same : (r : Reply) → rx_result r ≡ to_function (reply_value r)
@@ -42,6 +42,8 @@ to_function_same (Refused refusal) = refl
 to_function_same (Base code) = refl
 to_function_same (Pushed push) = refl
 to_function_same (Taken count) = refl
+to_function_same (Own operations length) = refl
+to_function_same (Copy state length) = refl
 
 -- to a peer
 to_peer_same : (r : Reply) → base_result r ≡ to_peer (reply_value r)
@@ -52,6 +54,8 @@ to_peer_same (Refused refusal) = refl
 to_peer_same (Base code) = refl
 to_peer_same (Pushed push) = refl
 to_peer_same (Taken count) = refl
+to_peer_same (Own operations length) = refl
+to_peer_same (Copy state length) = refl
 
 -- to any request
 pub answer_same : (i : Identity) (h : Header) (q : Request) (r : Reply) → reply_bytes i h q r ≡ answer_to i h (request_value q) (reply_value r)
