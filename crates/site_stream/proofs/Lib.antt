@@ -1,4 +1,5 @@
 pub mod Turns
+pub mod Putting
 pub mod Reading
 pub mod Cutting
 pub mod Wholes
