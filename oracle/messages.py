@@ -159,7 +159,10 @@ def done(site, command):
 
 
 def refused(request, site, code, session=None):
-    """The answer to a request that was not read: of AAR under Rx and CCR under Gx a code of 5000 names the application."""
+    """The answer to a request that was not read.
+
+    With a code of 5000 it names the application, for AAR under Rx and CCR under Gx.
+    """
     flags, command = request[4], int.from_bytes(request[5:8], "big")
     app = int.from_bytes(request[8:12], "big")
     avps = [avp(263, session)] if session else []
@@ -289,7 +292,8 @@ def refusals(s):
         s.ask(0, request, refused(request, 0, code, "af;1"))
     nameless = message(0xC0, 275, RX, [avp(264, "af"), avp(296, "r")], 5, 6)
     s.ask(0, nameless, refused(nameless, 0, 5005))
-    for application, command, code in ((GX, 265, 3001), (RX, 272, 3001), (BASE, 275, 3001), (RX, 257, 3001), (9, 257, 3007)):
+    elsewhere = ((GX, 265, 3001), (RX, 272, 3001), (BASE, 275, 3001), (RX, 257, 3001), (9, 257, 3007))
+    for application, command, code in elsewhere:
         request = message(0xC0, command, application, [avp(263, "af;1"), avp(264, "af"), avp(296, "r")])
         s.ask(0, request, refused(request, 0, code, "af;1"))
 
@@ -390,7 +394,8 @@ def voice_call():
     s.note("The subscriber attaches: the gateway asks for the rules of its session gw;1;1 at the access point ims. The")
     s.note("answer installs the operator's rule op/sip, and tells the default quality of service.")
     s.attached()
-    s.note("The application function sets up the call af;1 at the subscriber's address: voice, with a flow of media and one")
+    s.note("The application function sets up the call af;1 at the subscriber's address: voice, with a flow of media "
+           "and one")
     s.note("of RTCP.")
     s.ask(0, aar("10.0.0.1", [VOICE]), aaa(0))
     s.note("The gateway is told of both by a re-authorisation request.")
@@ -403,7 +408,8 @@ def voice_call():
     seen = [live(), SIP_LINE, *VOICE_LINES, *VOICE_TOLD, "told op/sip", "af af;1 bound gw;1;1"]
     s.show(0, "clock 4", *seen)
     s.show(1, "clock 4", *seen)
-    s.note("The application function ends the call at site 1, which is not the home of the gateway's session, and pushes")
+    s.note("The application function ends the call at site 1, which is not the home of the gateway's session, "
+           "and pushes")
     s.note("nothing.")
     s.ask(1, str_(), sta(1))
     s.push(1)

@@ -1,0 +1,331 @@
+#!/usr/bin/env python3
+"""A plain model of sites, worlds of sites and streams, apart from the product.
+
+A site is the list of the operations that it took, with what it made itself; whatever it answers is found anew from all
+their facts. `plain_site.py TABLES SCRIPT` prints what a script without bad lines has to print.
+"""
+import sys
+from typing import NamedTuple
+
+from plain_answers import SUCCESS, base_answer, cca, refusal, rx_answer
+from plain_facts import (REMOVED, Fact, Session, Tag, View, apn_row, binding, difference, media_row, read_tables, rules,
+                         told)
+from plain_requests import (AAR, CCR, CER, DPR, GX, RELAY, RX, STR, Refused, cut_stream, first, first_session_id,
+                            read_header, read_request, subscribers)
+
+INITIAL, TERMINATION = 1, 3
+MOST_ENTRIES = 40
+
+
+class Operation(NamedTuple):
+    """What one accepted request or push added: its stamp, and facts on one session."""
+    counter: int
+    site: int
+    facts: tuple
+
+
+# ---- the facts of requests
+
+def ending(session):
+    """The fact that a session ended."""
+    return [Fact(session, ())]
+
+
+def ccr_fields(session, values, tag):
+    """The facts of an initial credit control request or an update (TS 29.212, 4.5.1)."""
+    named = [("host", first(values, "host")), ("realm", first(values, "realm")), ("last", first(values, "kind")),
+             ("address", first(values, "address")), ("apn", first(values, "apn")), ("subscribers", subscribers(values))]
+    return [Fact(session, (field,), tag, value) for field, value in named if value is not None]
+
+
+def flow_facts(session, component, flow, tag):
+    """The facts of a described flow, or that it is removed."""
+    place = (component, first(flow, "number"))
+    if first(flow, "status") == REMOVED:
+        return [Fact(session, place)]
+    named = [("filters", tuple(flow["filters"]) or None)]
+    named += [(field, first(flow, field)) for field in ("usage", "status", "up", "down")]
+    return [Fact(session, place + (field,), tag, value) for field, value in named if value is not None]
+
+
+def component_facts(session, component, tag):
+    """The facts of a described component and of its flows, or that it is removed."""
+    number = first(component, "number")
+    if first(component, "status") == REMOVED:
+        return [Fact(session, (number,))]
+    named = [(field, first(component, field)) for field in ("media", "status", "up", "down")]
+    facts = [Fact(session, (number, field), tag, value) for field, value in named if value is not None]
+    return facts + [fact for flow in component["flows"] for fact in flow_facts(session, number, flow, tag)]
+
+
+def aar_facts(session, values, tag):
+    """The facts of an AA request (TS 29.214, 4.4.1 and 4.4.2)."""
+    named = [("host", first(values, "host")), ("realm", first(values, "realm")), ("last", 0),
+             ("address", first(values, "address")), ("apn", first(values, "apn")), ("subscribers", subscribers(values))]
+    facts = [Fact(session, (field,), tag, value) for field, value in named if value is not None]
+    return facts + [fact for one in values["components"] for fact in component_facts(session, one, tag)]
+
+
+def told_facts(session, entries, tag):
+    """The facts that the gateway of a session was told so."""
+    return [Fact(session, ("told", name), tag, rule) for name, rule in entries]
+
+
+# ---- a site
+
+class Site:
+    """A site of a number, which took and made nothing yet."""
+
+    def __init__(self, tables, number, epoch=1):
+        self.tables, self.number, self.epoch = tables, number, epoch
+        self.operations, self.log = [], []
+
+    def copy(self):
+        """A site that took and made the same."""
+        site = Site(self.tables, self.number, self.epoch)
+        site.operations, site.log = list(self.operations), list(self.log)
+        return site
+
+    def clock(self):
+        """The greatest counter of the operations taken."""
+        return max((operation.counter for operation in self.operations), default=0)
+
+    def view(self, more=()):
+        """What the site's facts show, with more of them."""
+        return View([fact for operation in self.operations for fact in operation.facts] + list(more))
+
+    def tag(self, number=0):
+        """The tag of the facts of the next operation."""
+        return Tag(number, self.clock() + 1, self.number)
+
+    def add(self, facts):
+        """Makes an operation of facts."""
+        operation = Operation(self.clock() + 1, self.number, tuple(facts))
+        self.take([operation])
+        self.log.append(operation)
+
+    def take(self, operations):
+        """Takes operations; one that was taken changes nothing."""
+        self.operations += [operation for operation in operations if operation not in self.operations]
+
+    def serve(self, frame):
+        """The answer to a frame, None if it gets none."""
+        header = read_header(frame)
+        if not header.is_request:
+            return None
+        try:
+            values = read_request(frame).values
+        except Refused as refused:
+            return refusal(self.number, header, refused.code, first_session_id(frame))
+        if header.command == CCR:
+            return self.serve_ccr(header, values)
+        if header.command in (AAR, STR):
+            return self.serve_rx(header, values)
+        return base_answer(self.number, header, capabilities(values) if header.command == CER else SUCCESS)
+
+    def judge_ccr(self, session, values):
+        """Refuses a credit control request by what is held."""
+        view, kind, apn = self.view(), first(values, "kind"), first(values, "apn")
+        if view.ended(session) if kind == INITIAL else not view.live(session):
+            raise Refused(5002)
+        if kind == INITIAL and None in (first(values, "address"), apn, subscribers(values)):
+            raise Refused(5140)
+        if kind != TERMINATION and apn is not None and apn_row(self.tables, apn) is None:
+            raise Refused(5003)
+
+    def serve_ccr(self, header, values):
+        """Serves a credit control request that was read (TS 29.212, 4.5.1 to 4.5.7)."""
+        session = Session("gx", first(values, "session"))
+        try:
+            self.judge_ccr(session, values)
+        except Refused as refused:
+            return cca(self.number, header, values, refused.code)
+        if first(values, "kind") == TERMINATION:
+            self.add(ending(session))
+            return cca(self.number, header, values, SUCCESS)
+        fields = ccr_fields(session, values, self.tag(first(values, "number")))
+        view = self.view(fields)
+        entries = difference(self.tables, view, session)[:MOST_ENTRIES]
+        self.add(fields + told_facts(session, entries, self.tag()))
+        default = apn_row(self.tables, view.value(session, "apn")).get("default")
+        return cca(self.number, header, values, SUCCESS, entries, default)
+
+    def judge_aar(self, session, values):
+        """Refuses an AA request by what is held and what it describes."""
+        view = self.view()
+        if view.ended(session):
+            raise Refused(5002)
+        if not view.live(session) and first(values, "address") is None:
+            raise Refused(5005)
+        kept = [one for one in values["components"] if first(one, "status") != REMOVED]
+        media = [first(one, "media") for one in kept if first(one, "media") is not None]
+        if any(media_row(self.tables, media_type) is None for media_type in media):
+            raise Refused(5063)
+        if binding(self.view(aar_facts(session, values, self.tag())), session) is None:
+            raise Refused(5065)
+
+    def serve_rx(self, header, values):
+        """Serves an AA or a session termination request that was read (TS 29.214, 4.4)."""
+        session = Session("af", first(values, "session"))
+        try:
+            if header.command == AAR:
+                self.judge_aar(session, values)
+                self.add(aar_facts(session, values, self.tag()))
+            elif self.view().live(session):
+                self.add(ending(session))
+            else:
+                raise Refused(5002)
+        except Refused as refused:
+            return rx_answer(self.number, header, values, refused.code)
+        return rx_answer(self.number, header, values, SUCCESS)
+
+    def push(self):
+        """Tells the gateway of the first session that is due: the session with its entries, None if none is due."""
+        view = self.view()
+        for session in view.all_live("gx"):
+            entries = difference(self.tables, view, session)[:MOST_ENTRIES]
+            if view.home(session) == self.number and entries:
+                self.add(told_facts(session, entries, self.tag()))
+                return session, entries
+        return None
+
+    def show(self):
+        """What a script shows of a site."""
+        view = self.view()
+        lines = [f"clock {self.clock()}"]
+        for session in view.sessions:
+            lines += show_gx(self.tables, view, session) if session.kind == "gx" else []
+        lines += [show_af(view, session) for session in view.sessions if session.kind == "af"]
+        return lines + ["end"]
+
+
+def capabilities(values):
+    """The result of a capabilities exchange: whether Gx, Rx or a relay is advertised (RFC 6733, 5.3)."""
+    advertised = values["application"] + [number for one in values["vendor"] for number in one["application"]]
+    return SUCCESS if {GX, RX, RELAY} & set(advertised) else 5010
+
+
+def converse(site, stream):
+    """Answers a stream: all that is written, and how it ends."""
+    frames, left = cut_stream(stream)
+    written = b""
+    for frame in frames:
+        written += site.serve(frame) or b""
+        if disconnects(frame):
+            return written, "disconnected"
+    return written, {None: "closed", "Cut": "cut"}.get(left, f"frame {left}")
+
+
+def disconnects(frame):
+    """Whether a frame is a Disconnect-Peer-Request that is granted (RFC 6733, 5.4)."""
+    try:
+        return read_header(frame).is_request and read_request(frame).command == DPR
+    except Refused:
+        return False
+
+
+# ---- what a script prints
+
+def printed(octets):
+    """A text of any bytes as a script prints it."""
+    return "".join(chr(octet) if 0x21 <= octet <= 0x7E and octet != 0x5C else f"\\x{octet:02x}" for octet in octets)
+
+
+def state(view, session):
+    """Whether a session is live, ended or neither."""
+    return "ended" if view.ended(session) else "live" if view.live(session) else "partial"
+
+
+def show_gx(tables, view, session):
+    """The lines of a session of a gateway."""
+    line = f"gx {printed(session.id)} {state(view, session)}"
+    if not view.live(session):
+        return [line]
+    address = ".".join(str(octet) for octet in view.value(session, "address"))
+    lines = [f"{line} {address} {printed(view.value(session, 'apn'))} home {view.home(session)}"]
+    lines += [f"rule {rule.precedence} {printed(rule.name)} {rule.status} {rule.qci} {rule.max_ul} {rule.max_dl}"
+              for rule in rules(tables, view, session)]
+    return lines + [f"told {printed(name)}" for name in sorted(told(view, session))]
+
+
+def show_af(view, session):
+    """The line of a session of an application function."""
+    line = f"af {printed(session.id)}"
+    if not view.live(session):
+        return f"{line} {state(view, session)}"
+    gx = binding(view, session)
+    return f"{line} unbound" if gx is None else f"{line} bound {printed(gx.id)}"
+
+
+class World:
+    """Sites of equal tables, and the letters that they made."""
+
+    def __init__(self, tables, count):
+        self.tables = tables
+        self.sites = [Site(tables, number) for number in range(count)]
+        self.letters = []
+
+    def obey(self, line):
+        """Does what a line behind `sites` says, and gives the lines that it prints."""
+        word, *words = line.split(" ")
+        sites = [int(one) for one in words[:2 if word == "letter" else 1]]
+        if any(site >= len(self.sites) for site in sites):
+            return ["refused NoSuchSite"]
+        return getattr(self, word)(*sites, *words[len(sites):])
+
+    def msg(self, site, digits):
+        """A site is given bytes."""
+        frames, left = cut_stream(bytes.fromhex(digits))
+        answers = [self.sites[site].serve(frame) for frame in frames]
+        lines = ["no answer" if one is None else f"answer {one.hex()}" for one in answers]
+        return lines + ([] if left is None else [f"frame {left}"])
+
+    def push(self, site):
+        """A site pushes."""
+        pushed = self.sites[site].push()
+        if pushed is None:
+            return ["none"]
+        session, entries = pushed
+        names = [("-" if rule is None else "+") + printed(name) for name, rule in entries]
+        return [" ".join(["push", printed(session.id)] + names)]
+
+    def letter(self, maker, _peer):
+        """A site makes a letter of all that it made since it began."""
+        self.letters.append(list(self.sites[maker].log))
+        return [f"letter {len(self.letters) - 1}"]
+
+    def merge(self, site, letter):
+        """A site takes a letter."""
+        if int(letter) >= len(self.letters):
+            return ["refused NoSuchLetter"]
+        self.sites[site].take(self.letters[int(letter)])
+        return ["merged"]
+
+    def restart(self, site):
+        """A site begins anew."""
+        epoch = self.sites[site].epoch + 1
+        self.sites[site] = Site(self.tables, site, epoch)
+        return [f"restart {site} epoch {epoch}"]
+
+    def show(self, site):
+        """A site is shown."""
+        return self.sites[site].show()
+
+
+def run_script(tables, lines):
+    """What a script without bad lines prints."""
+    world, prints = None, []
+    for line in lines:
+        if not line or line.startswith("#"):
+            continue
+        if world is None:
+            world = World(tables, int(line.split(" ")[1]))
+            prints.append(line)
+        else:
+            prints += world.obey(line)
+    return prints
+
+
+if __name__ == "__main__":
+    with open(sys.argv[2], encoding="utf-8") as script:
+        print("\n".join(run_script(read_tables(sys.argv[1]), script.read().split("\n"))))
