@@ -12,7 +12,7 @@ use std::net::Ipv4Addr;
 use std::process::Abort;
 use test_messages::put_hexadecimal;
 
-/// Operator tables without access points.
+/// Operator tables with one access point, which has neither rules nor a default.
 const TABLES: &str = "edition = 1
 rtcp_bps = 5000
 [signalling]
@@ -23,6 +23,8 @@ vulnerability = 0
 max_ul = 32000
 max_dl = 32000
 precedence = 50
+[[apn]]
+name = \"ims\"
 ";
 
 /// A Device-Watchdog-Request of `gw` of the realm `r`.
@@ -47,19 +49,19 @@ const TOLD: &str = "01000030 40000102 01000016 00000003 00000004 \
 
 /// How a stream's bytes come and its answers go.
 #[derive(Clone, Copy)]
-struct Way {
+pub struct Way {
     /// How many bytes are read at once.
-    read: usize,
+    pub read: usize,
     /// Whether the reader fails behind the last.
-    fails: bool,
+    pub fails: bool,
     /// How many bytes are written at once.
-    written: usize,
+    pub written: usize,
     /// How many calls the writer takes.
-    calls: usize,
+    pub calls: usize,
 }
 
 /// All at once.
-const PLAIN: Way = Way {
+pub const PLAIN: Way = Way {
     read: 4096,
     fails: false,
     written: 4096,
@@ -67,7 +69,7 @@ const PLAIN: Way = Way {
 };
 
 /// Messages one after another.
-fn bytes(rt: &(impl AllocGlobal + Abort), parts: &[&str]) -> Vec<u8> {
+pub fn bytes(rt: &(impl AllocGlobal + Abort), parts: &[&str]) -> Vec<u8> {
     let mut digits = String::new(rt.alloc());
     for part in parts {
         for word in part.split(' ') {
@@ -84,7 +86,7 @@ fn name(rt: &(impl AllocGlobal + Abort), text: &[u8]) -> DiameterIdentity {
 }
 
 /// The site `s0` of the realm `r`, which took nothing.
-fn site(rt: &(impl AllocGlobal + Abort)) -> Site {
+pub fn site(rt: &(impl AllocGlobal + Abort)) -> Site {
     let identity = Identity {
         host: name(rt, b"s0"),
         realm: name(rt, b"r"),
@@ -94,9 +96,14 @@ fn site(rt: &(impl AllocGlobal + Abort)) -> Site {
     Site::start(rt.alloc(), tables, identity, 0)
 }
 
-/// Has a new site answer a stream: how it ends, with what was written.
-fn answered(rt: &(impl AllocGlobal + Abort), stream: &[u8], way: Way, kept: &mut Vec<u8>) -> Ended {
-    let mut site = site(rt);
+/// Has a site answer a stream: how it ends, with what was written.
+pub fn answered(
+    rt: &(impl AllocGlobal + Abort),
+    site: &mut Site,
+    stream: &[u8],
+    way: Way,
+    kept: &mut Vec<u8>,
+) -> Ended {
     let mut reader = Counted::start(Source {
         left: stream,
         most: way.read,
@@ -107,20 +114,21 @@ fn answered(rt: &(impl AllocGlobal + Abort), stream: &[u8], way: Way, kept: &mut
         most: way.written,
         calls: way.calls,
     });
-    converse(rt.alloc(), &mut site, &mut reader, &mut writer)
+    converse(rt.alloc(), site, &mut reader, &mut writer)
 }
 
 /// Bytes as digits.
-fn digits(rt: &(impl AllocGlobal + Abort), bytes: &[u8]) -> String {
+pub fn digits(rt: &(impl AllocGlobal + Abort), bytes: &[u8]) -> String {
     let mut text = String::new(rt.alloc());
     put_hexadecimal(&mut text, bytes).expect(rt, "memory");
     text
 }
 
-/// A stream ends so, and these answers are written.
+/// At a new site a stream ends so, and these answers are written.
 fn tells(rt: &(impl AllocGlobal + Abort), stream: &[u8], way: Way, ended: Ended, answers: &[u8]) {
+    let mut site = site(rt);
     let mut kept = Vec::new(rt.alloc());
-    let told = answered(rt, stream, way, &mut kept);
+    let told = answered(rt, &mut site, stream, way, &mut kept);
     assert!(rt; told == ended);
     let written = digits(rt, kept.as_slice());
     assert_eq!(rt; written.as_str(), digits(rt, answers).as_str());

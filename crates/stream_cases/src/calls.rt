@@ -1,0 +1,158 @@
+//! A site with a call: its copy; and its clock at the end, where requests that would add an operation are refused with
+//! DIAMETER_UNABLE_TO_COMPLY (5012), behind every other cause, and change nothing.
+use crate::streams::{PLAIN, answered, bytes, digits, site};
+use gx_records::GxFact;
+use pcrf_values::{BoundedText, SessionId};
+use site_core::Site;
+use site_join::{LAST_COUNTER, Operation, SessionFacts};
+use site_stream::Ended;
+use std::alloc::AllocGlobal;
+use std::process::Abort;
+
+/// The initial request of `gw;1;1`.
+const ATTACH: &str =
+    "010000c8 c0000110 01000016 00000001 00000002 00000107 4000000e 67773b31 3b310000 00000108 \
+    4000000a 67770000 00000128 40000009 72000000 00000102 4000000c 01000016 000001a0 4000000c \
+    00000001 0000019f 4000000c 00000000 000001bb 4000002c 000001c2 4000000c 00000001 000001bc \
+    40000017 30303130 31303030 30303030 30303100 000001bb 40000024 000001c2 4000000c 00000000 \
+    000001bc 40000010 31353535 30303031 00000008 4000000c 0a000001 0000001e 4000000b 696d7300";
+
+/// It is granted.
+const ATTACHED: &str =
+    "0100006c 40000110 01000016 00000001 00000002 00000107 4000000e 67773b31 3b310000 00000102 \
+    4000000c 01000016 00000108 4000000a 73300000 00000128 40000009 72000000 0000010c 4000000c \
+    000007d1 000001a0 4000000c 00000001 0000019f 4000000c 00000000";
+
+/// An AA request of `af;1` with the session's address.
+const CALL: &str =
+    "01000050 c0000109 01000014 00000005 00000006 00000107 4000000c 61663b31 00000102 4000000c \
+    01000014 00000108 4000000a 61660000 00000128 40000009 72000000 00000008 4000000c 0a000001";
+
+/// It is done.
+const SET_UP: &str =
+    "01000050 40000109 01000014 00000005 00000006 00000107 4000000c 61663b31 00000102 4000000c \
+    01000014 00000108 4000000a 73300000 00000128 40000009 72000000 0000010c 4000000c 000007d1";
+
+/// An update of `gw;1;1`.
+const UPDATE: &str =
+    "01000060 c0000110 01000016 00000001 00000002 00000107 4000000e 67773b31 3b310000 00000108 \
+    4000000a 67770000 00000128 40000009 72000000 00000102 4000000c 01000016 000001a0 4000000c \
+    00000002 0000019f 4000000c 00000001";
+
+/// There is no counter for it.
+const NOT_UPDATED: &str =
+    "0100006c 40000110 01000016 00000001 00000002 00000107 4000000e 67773b31 3b310000 00000102 \
+    4000000c 01000016 00000108 4000000a 73300000 00000128 40000009 72000000 0000010c 4000000c \
+    00001394 000001a0 4000000c 00000002 0000019f 4000000c 00000001";
+
+/// A termination of `gw;1;1`.
+const DETACH: &str =
+    "01000060 c0000110 01000016 00000001 00000002 00000107 4000000e 67773b31 3b310000 00000108 \
+    4000000a 67770000 00000128 40000009 72000000 00000102 4000000c 01000016 000001a0 4000000c \
+    00000003 0000019f 4000000c 00000001";
+
+/// There is no counter for it.
+const NOT_DETACHED: &str =
+    "0100006c 40000110 01000016 00000001 00000002 00000107 4000000e 67773b31 3b310000 00000102 \
+    4000000c 01000016 00000108 4000000a 73300000 00000128 40000009 72000000 0000010c 4000000c \
+    00001394 000001a0 4000000c 00000003 0000019f 4000000c 00000001";
+
+/// There is no counter for an AA request.
+const NOT_CHANGED: &str =
+    "01000050 40000109 01000014 00000005 00000006 00000107 4000000c 61663b31 00000102 4000000c \
+    01000014 00000108 4000000a 73300000 00000128 40000009 72000000 0000010c 4000000c 00001394";
+
+/// An AA request of `af;1` with an address that no session has.
+const AWAY: &str =
+    "01000050 c0000109 01000014 00000005 00000006 00000107 4000000c 61663b31 00000102 4000000c \
+    01000014 00000108 4000000a 61660000 00000128 40000009 72000000 00000008 4000000c 0a090909";
+
+/// That it would be bound to none comes first.
+const NOT_BOUND: &str =
+    "01000064 40000109 01000014 00000005 00000006 00000107 4000000c 61663b31 00000102 4000000c \
+    01000014 00000108 4000000a 73300000 00000128 40000009 72000000 00000129 40000020 0000010a \
+    4000000c 000028af 0000012a 4000000c 000013c9";
+
+/// A session termination request of `af;1`.
+const END: &str =
+    "01000038 c0000113 01000014 00000005 00000006 00000107 4000000c 61663b31 00000108 4000000a \
+    61660000 00000128 40000009 72000000";
+
+/// There is no counter for it.
+const NOT_ENDED: &str =
+    "01000044 40000113 01000014 00000005 00000006 00000107 4000000c 61663b31 00000108 4000000a \
+    73300000 00000128 40000009 72000000 0000010c 4000000c 00001394";
+
+/// A session termination request of a session that isn't known.
+const UNKNOWN: &str =
+    "01000038 c0000113 01000014 00000005 00000006 00000107 4000000c 61663b32 00000108 4000000a \
+    61660000 00000128 40000009 72000000";
+
+/// That comes first.
+const NOT_KNOWN: &str =
+    "01000044 40000113 01000014 00000005 00000006 00000107 4000000c 61663b32 00000108 4000000a \
+    73300000 00000128 40000009 72000000 0000010c 4000000c 0000138a";
+
+/// A site answers a stream so.
+fn answers(rt: &(impl AllocGlobal + Abort), site: &mut Site, stream: &[&str], wanted: &[&str]) {
+    let mut kept = Vec::new(rt.alloc());
+    let ended = answered(rt, site, bytes(rt, stream).as_slice(), PLAIN, &mut kept);
+    assert!(rt; ended == Ended::Closed);
+    let written = digits(rt, kept.as_slice());
+    let wanted = bytes(rt, wanted);
+    assert_eq!(rt; written.as_str(), digits(rt, wanted.as_slice()).as_str());
+}
+
+/// A site takes an operation with the last counter, on another session.
+fn takes_last(rt: &(impl AllocGlobal + Abort), site: &mut Site) {
+    let read: Option<SessionId> = BoundedText::read(rt.alloc(), b"gw;9;9").expect(rt, "memory");
+    let session = read.expect(rt, "a Session-Id");
+    let mut facts = Vec::new(rt.alloc());
+    facts.push(GxFact::End).expect(rt, "memory");
+    let made = Operation::of(LAST_COUNTER, 2, 1, SessionFacts::Gx(session, facts));
+    let mut letter = Vec::new(rt.alloc());
+    letter
+        .push(made.expect(rt, "an operation"))
+        .expect(rt, "memory");
+    assert!(rt; site.take_all(letter.as_slice()).is_ok(), "memory");
+}
+
+#[test]
+fn at_the_end_of_the_clock_nothing_is_granted(rt: HostRuntime) {
+    let mut site = site(&rt);
+    answers(&rt, &mut site, &[ATTACH, CALL], &[ATTACHED, SET_UP]);
+    takes_last(&rt, &mut site);
+    let (before, _) = site.whole().expect(&rt, "memory");
+    answers(
+        &rt,
+        &mut site,
+        &[UPDATE, DETACH],
+        &[NOT_UPDATED, NOT_DETACHED],
+    );
+    answers(&rt, &mut site, &[CALL, END], &[NOT_CHANGED, NOT_ENDED]);
+    answers(&rt, &mut site, &[AWAY, UNKNOWN], &[NOT_BOUND, NOT_KNOWN]);
+    assert!(rt; site.sessions().equal(&before));
+}
+
+/// A site's one call is bound to the session of its address.
+fn has_one_call(rt: &(impl AllocGlobal + Abort), site: &Site) {
+    let bindings = site.bindings().expect(rt, "memory");
+    assert_eq!(rt; bindings.len(), 1);
+    let (call, session) = bindings.first().expect(rt, "a call");
+    assert_eq!(rt; call.as_slice(), b"af;1".as_slice());
+    let session = session.as_ref().expect(rt, "a session");
+    assert_eq!(rt; session.as_slice(), b"gw;1;1".as_slice());
+}
+
+#[test]
+fn a_copy_of_a_site_with_a_call_shows_the_same(rt: HostRuntime) {
+    let mut first = site(&rt);
+    answers(&rt, &mut first, &[ATTACH, CALL], &[ATTACHED, SET_UP]);
+    has_one_call(&rt, &first);
+    let (copy, made) = first.whole().expect(&rt, "memory");
+    assert_eq!(rt; made, 2);
+    let mut other = site(&rt);
+    other.take_state(&copy).expect(&rt, "memory");
+    assert!(rt; other.sessions().equal(first.sessions()));
+    has_one_call(&rt, &other);
+}
