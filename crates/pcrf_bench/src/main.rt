@@ -8,10 +8,12 @@ mod gateway;
 mod map;
 mod records;
 mod report;
+mod requests;
 mod rules;
 mod rx;
 mod sites;
 mod states;
+mod streams;
 mod tables;
 
 use std::alloc::AllocGlobal;
@@ -30,6 +32,7 @@ fn measure(rt: &(impl AllocGlobal + Clock + Print), name: &str, size: u32) -> io
         "sites" => sites::measure(rt, size),
         "states" => states::measure(rt, size),
         "states_kept" => states::keep(rt, size),
+        "streams" => streams::measure(rt, size),
         "tables" => tables::measure(rt, size),
         _ => Err(io::Error::other("there is no such measure")),
     }

@@ -287,9 +287,15 @@ struct Load {
     pushes: u32,
 }
 
+/// A site that took nothing.
+pub fn new_site(alloc: Global) -> io::Result<Site> {
+    let identity = identity(alloc)?;
+    Ok(Site::start(alloc, tables(alloc)?, identity, 0))
+}
+
 /// A site with the sessions and the calls.
 fn site_of(alloc: Global, load: Load) -> io::Result<Site> {
-    let mut site = Site::start(alloc, tables(alloc)?, identity(alloc)?, 0);
+    let mut site = new_site(alloc)?;
     take_each(alloc, &mut site, Made::Session, load.sessions)?;
     take_each(alloc, &mut site, Made::Call, load.calls)?;
     take_each(alloc, &mut site, Made::Push, load.calls)?;

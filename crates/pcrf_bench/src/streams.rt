@@ -1,0 +1,212 @@
+//! Requests of each kind as a stream of bytes (`site_stream`: `converse`), at a site with so many sessions, and as many
+//! read, served and answered one after the other, each timed apart.
+ghost use Rattle.std.specs.Prelude.{◌<◌};
+ghost use Rattle.dia_codec.specs.Limits.{command_bound};
+ghost use Rattle.dia_codec.specs.Spelling.{IsFrame};
+ghost use Rattle.site_core.specs.Asking.{HeaderFits};
+
+use crate::report::print_each;
+use crate::requests::{Kind, requests};
+use crate::sites::new_site;
+use dia_codec::{Assembler, Counted, Header};
+use gx_profile::GxReply;
+use site_core::{Asked, Reply, Request, Site, read_request, write_reply};
+use site_stream::{Ended, converse};
+use std::alloc::{AllocGlobal, Global};
+use std::io::{self, Print, Write};
+use std::time::{Clock, Duration, Instant};
+
+/// How many sessions' initial requests are one stream.
+const BATCH: u32 = 1_000;
+
+/// How many requests of a kind are timed.
+const TIMED: u32 = 100;
+
+/// A writer that counts bytes, and keeps none.
+#[derive(Drop)]
+struct Count {
+    bytes: usize,
+}
+
+impl Write for Count {
+    fn write(&mut self, buf: &[u8]) -> io::Result<usize> {
+        self.bytes = self.bytes.saturating_add(buf.len());
+        Ok(buf.len())
+    }
+
+    fn flush(&mut self) -> io::Result<()> {
+        Ok(())
+    }
+}
+
+/// A site answers a whole stream.
+fn answer_stream(alloc: Global, site: &mut Site, stream: &[u8]) -> io::Result<()> {
+    let mut reader = Counted::start(stream);
+    let mut writer = Counted::start(Count { bytes: 0 });
+    match converse(alloc, site, &mut reader, &mut writer) {
+        Ended::Closed => Ok(()),
+        _ => Err(io::Error::other("a stream is not answered to its end")),
+    }
+}
+
+/// Each of so many new sessions attaches.
+fn attach(alloc: Global, site: &mut Site, sessions: u32) -> io::Result<()> {
+    for turn in 0..sessions.div_ceil(BATCH) {
+        let first = turn.saturating_mul(BATCH);
+        let count = BATCH.min(sessions.saturating_sub(first));
+        let stream = requests(alloc, Kind::Initial, first, count)?;
+        answer_stream(alloc, site, stream.as_slice())?;
+    }
+    Ok(())
+}
+
+/// How long reading, serving and answering took.
+#[derive(Clone, Copy)]
+struct Times {
+    reading: Duration,
+    serving: Duration,
+    writing: Duration,
+}
+
+/// Serves a request, and adds how long that takes.
+fn serve(
+    rt: &(impl AllocGlobal + Clock),
+    site: &mut Site,
+    request: &Request,
+    times: &mut Times,
+) -> io::Result<Reply> {
+    let start = Instant::now(rt)?;
+    let reply = site.serve(request)?;
+    times.serving = times.serving.saturating_add(start.elapsed(rt)?);
+    Ok(reply)
+}
+
+/// Whether a request is refused.
+fn is_refused(reply: &Reply) -> bool {
+    matches!(reply, Reply::Refused(_) | Reply::Gx(GxReply::Refused(_)))
+}
+
+/// Writes an answer, and adds how long that takes.
+fn write(
+    rt: &(impl AllocGlobal + Clock),
+    site: &Site,
+    header: &Header,
+    request: &Request,
+    reply: &Reply,
+    times: &mut Times,
+) -> io::Result<()>
+    requires { header.now.command < command_bound }
+{
+    let start = Instant::now(rt)?;
+    let bytes = write_reply(rt.alloc(), site.identity(), header, request, reply)?;
+    times.writing = times.writing.saturating_add(start.elapsed(rt)?);
+    if bytes.is_empty() || is_refused(reply) {
+        return Err(io::Error::other("a request is refused"));
+    }
+    Ok(())
+}
+
+/// Serves and answers what a frame asks for.
+fn answer_asked(
+    rt: &(impl AllocGlobal + Clock),
+    site: &mut Site,
+    asked: &Asked,
+    times: &mut Times,
+) -> io::Result<()>
+    requires { HeaderFits asked.now }
+{
+    let Asked::Request(header, request) = asked else {
+        return Err(io::Error::other("a request is refused"));
+    };
+    let reply = serve(rt, site, request, times)?;
+    write(rt, site, header, request, &reply, times)
+}
+
+/// Reads, serves and answers a frame.
+fn answer_frame(
+    rt: &(impl AllocGlobal + Clock),
+    site: &mut Site,
+    frame: &[u8],
+    times: &mut Times,
+) -> io::Result<()>
+    requires { IsFrame frame.now }
+{
+    let start = Instant::now(rt)?;
+    let asked = read_request(rt.alloc(), frame)?;
+    times.reading = times.reading.saturating_add(start.elapsed(rt)?);
+    answer_asked(rt, site, &asked, times)
+}
+
+/// Reads, serves and answers so many frames of a stream.
+fn answer_frames(
+    rt: &(impl AllocGlobal + Clock),
+    site: &mut Site,
+    assembler: &mut Assembler,
+    times: &mut Times,
+) -> io::Result<()> {
+    for _ in 0..TIMED {
+        let Ok(Some(frame)) = assembler.next() else {
+            return Err(io::Error::other("a frame is missing"));
+        };
+        answer_frame(rt, site, frame.as_slice(), times)?;
+    }
+    Ok(())
+}
+
+/// Reads, serves and answers a stream, and tells how long each took.
+fn time_apart(
+    rt: &(impl AllocGlobal + Clock),
+    site: &mut Site,
+    stream: &[u8],
+) -> io::Result<Times> {
+    let mut times = Times {
+        reading: Duration::ZERO,
+        serving: Duration::ZERO,
+        writing: Duration::ZERO,
+    };
+    let mut assembler = Assembler::start(rt.alloc());
+    if assembler.feed(stream).is_err() {
+        return Err(io::Error::other("a stream is not cut"));
+    }
+    answer_frames(rt, site, &mut assembler, &mut times)?;
+    Ok(times)
+}
+
+/// Prints what requests of a kind take in one stream, and then as many of the next sessions apart.
+fn measure_kind(
+    rt: &(impl AllocGlobal + Clock + Print),
+    site: &mut Site,
+    kind: Kind,
+    first: u32,
+) -> io::Result<()> {
+    let stream = requests(rt.alloc(), kind, first, TIMED)?;
+    let start = Instant::now(rt)?;
+    answer_stream(rt.alloc(), site, stream.as_slice())?;
+    let whole = start.elapsed(rt)?;
+    let stream = requests(rt.alloc(), kind, first.saturating_add(TIMED), TIMED)?;
+    let times = time_apart(rt, site, stream.as_slice())?;
+    println!(rt; "streams: {}", kind.name())?;
+    print_each(rt, "streams:   all of it", TIMED, whole)?;
+    print_each(rt, "streams:   reading", TIMED, times.reading)?;
+    print_each(rt, "streams:   serving", TIMED, times.serving)?;
+    print_each(rt, "streams:   writing", TIMED, times.writing)
+}
+
+/// Prints the microseconds that a request of each kind takes at a site with so many sessions: those of gateways first, while
+/// there are no calls, which make them dearer.
+pub fn measure(rt: &(impl AllocGlobal + Clock + Print), sessions: u32) -> io::Result<()> {
+    let mut site = new_site(rt.alloc())?;
+    attach(rt.alloc(), &mut site, sessions)?;
+    println!(rt; "streams: {sessions} sessions")?;
+    for (kind, first) in [
+        (Kind::Watchdog, 0),
+        (Kind::Update, 0),
+        (Kind::Initial, sessions),
+        (Kind::Termination, sessions),
+        (Kind::Call, 0),
+        (Kind::CallEnd, 0),
+    ] {
+        measure_kind(rt, &mut site, kind, first)?;
+    }
+    Ok(())
+}
