@@ -66,6 +66,7 @@ pub fn call_of(alloc: Global, aar: &Aar, counter: u64, site: u8) -> Result<AfRec
         site,
     };
     let facts = facts_of(alloc, aar, tag)?;
+    // Its contract tells the proof that the numbers differ, so that no fact overshadows another.
     let _apart = aar.components.as_slice();
     AfRec::of_facts(alloc, facts.as_slice())
 }

@@ -50,8 +50,8 @@ use site_join::{LAST_COUNTER, Operation, SessionFacts, State};
 use std::alloc::{AllocError, Global};
 use std::marker::Model;
 
-/// How many operations are told at once.
-const RANGE: usize = 100;
+/// The most operations that are told at once.
+const RANGE_LIMIT: usize = 100;
 
 /// A site: the operator tables that it decides by, the names that it answers under, its number, what it holds, and the
 /// operations that it made itself since it began, in order.
@@ -670,10 +670,10 @@ fn part_from(log: &[Operation], from: u64) -> &[Operation]
         return &[];
     }
     let (_, left) = log.split_at(start);
-    if left.len() <= RANGE {
+    if left.len() <= RANGE_LIMIT {
         return left;
     }
-    let (part, _) = left.split_at(RANGE);
+    let (part, _) = left.split_at(RANGE_LIMIT);
     part
 }
 
