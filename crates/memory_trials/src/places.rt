@@ -42,11 +42,19 @@ impl Place {
         }
     }
 
+    /// A value of the others, of which those that fill a block own no memory.
+    fn other<M: Named>(self, alloc: Global) -> Result<M::Value, AllocError> {
+        match self {
+            Place::Present | Place::First => M::Value::theirs(alloc),
+            Place::FullBlock => Ok(M::Value::light(alloc)),
+        }
+    }
+
     /// The map with the others alone.
     fn rest<M: Named>(self, alloc: Global) -> Result<M, AllocError> {
         let mut map = M::empty(alloc);
         for name in self.others::<M>() {
-            add_to(&mut map, alloc, *name, M::Value::theirs(alloc)?)?;
+            add_to(&mut map, alloc, *name, self.other::<M>(alloc)?)?;
         }
         Ok(map)
     }

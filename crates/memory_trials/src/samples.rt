@@ -14,6 +14,9 @@ pub trait Sample: Join + Fingerprint {
 
     /// What their join has to be.
     fn joined(alloc: Global) -> Result<Self, AllocError>;
+
+    /// A value that owns no memory, of which many fill a block.
+    fn light(alloc: Global) -> Self;
 }
 
 /// A map, to which a value is joined under a name of one byte.
@@ -80,6 +83,10 @@ impl Sample for Reg<Text> {
 
     fn joined(alloc: Global) -> Result<Reg<Text>, AllocError> {
         held(alloc, 7, b"y")
+    }
+
+    fn light(_alloc: Global) -> Reg<Text> {
+        Reg::start()
     }
 }
 
@@ -164,6 +171,10 @@ impl<V: Sample> Sample for JoinMap<u32, V> {
     fn joined(alloc: Global) -> Result<JoinMap<u32, V>, AllocError> {
         joined_of::<JoinMap<u32, V>>(alloc)
     }
+
+    fn light(alloc: Global) -> JoinMap<u32, V> {
+        JoinMap::start(alloc)
+    }
 }
 
 impl<V: Sample> Sample for JoinTree<Text, V> {
@@ -178,6 +189,10 @@ impl<V: Sample> Sample for JoinTree<Text, V> {
     fn joined(alloc: Global) -> Result<JoinTree<Text, V>, AllocError> {
         joined_of::<JoinTree<Text, V>>(alloc)
     }
+
+    fn light(alloc: Global) -> JoinTree<Text, V> {
+        JoinTree::start(alloc)
+    }
 }
 
 impl<V: Sample> Sample for Tombed<V> {
@@ -191,5 +206,9 @@ impl<V: Sample> Sample for Tombed<V> {
 
     fn joined(alloc: Global) -> Result<Tombed<V>, AllocError> {
         Ok(Tombed::Live(V::joined(alloc)?))
+    }
+
+    fn light(alloc: Global) -> Tombed<V> {
+        Tombed::Live(V::light(alloc))
     }
 }

@@ -1,10 +1,9 @@
 //! Calls: application functions' sessions of one flow, each bound to a gateway's session by its address, and the rule of the
 //! flow that the gateway was told.
 use crate::gateway::{address, realm, session_id};
-use crate::report::{add, given, text};
+use crate::report::{add, given, only, text};
 use crate::rules::{filters, told_rule};
 use af_records::{AfFact, ComponentValue, FlowValue, SessionValue};
-use gx_records::GxFact;
 use lattice_core::Tag;
 use pcrf_values::{BoundedNumber, RuleName, SessionId};
 use site_join::{Operation, SessionFacts};
@@ -62,20 +61,26 @@ fn put_audio(alloc: Global, facts: &mut Vec<AfFact>, at: Tag) -> io::Result<()> 
     add(facts, Ok(AfFact::Flow(1, 1, at, described)))
 }
 
-/// The request of the call of a place, for the address of the gateway's session of that place.
-pub fn call(alloc: Global, at: Tag, place: u32) -> io::Result<Operation> {
+/// What the request of the call of a place says.
+fn call_facts(alloc: Global, at: Tag, place: u32) -> io::Result<Vec<AfFact>> {
     let mut facts = Vec::new(alloc);
     put_session(alloc, &mut facts, at, place)?;
     put_audio(alloc, &mut facts, at)?;
-    let facts = SessionFacts::Af(call_id(alloc, place)?, facts);
+    Ok(facts)
+}
+
+/// The request of the call of a place, for the address of the gateway's session of that place.
+pub fn call(alloc: Global, at: Tag, place: u32) -> io::Result<Operation> {
+    let id = call_id(alloc, place)?;
+    let facts = SessionFacts::Af(id, call_facts(alloc, at, place)?);
     given(Operation::of(at.counter, at.site, at.number, facts))
 }
 
 /// The push of the rule of its flow.
 pub fn push(alloc: Global, at: Tag, place: u32) -> io::Result<Operation> {
-    let mut facts: Vec<GxFact> = Vec::new(alloc);
+    let id = session_id(alloc, place)?;
     let name = rule_name(alloc, place)?;
-    add(&mut facts, told_rule(alloc, at, name))?;
-    let facts = SessionFacts::Gx(session_id(alloc, place)?, facts);
+    let told = told_rule(alloc, at, name)?;
+    let facts = SessionFacts::Gx(id, only(alloc, told)?);
     given(Operation::of(at.counter, at.site, at.number, facts))
 }

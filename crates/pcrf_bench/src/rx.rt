@@ -93,7 +93,7 @@ fn read(alloc: Global, request: &Message) -> io::Result<Aar> {
 /// Reads the request again and again.
 fn read_again(alloc: Global, request: &Message) -> io::Result<()> {
     for _ in 0..ROUNDS {
-        read(alloc, request)?;
+        std::mem::drop(read(alloc, request)?);
     }
     Ok(())
 }
@@ -104,23 +104,39 @@ fn count_kept(alloc: Global, request: &Message) -> io::Result<usize> {
     for _ in 0..ROUNDS {
         add(&mut kept, read(alloc, request))?;
     }
-    Ok(kept.len())
+    let count = kept.len();
+    std::mem::drop(kept);
+    Ok(count)
+}
+
+/// Keeps what the request of these bytes says, and tells how often.
+fn count_kept_of(alloc: Global, bytes: &[u8]) -> io::Result<usize> {
+    let request = message_of(alloc, bytes)?;
+    let kept = count_kept(alloc, &request);
+    std::mem::drop(request);
+    kept
 }
 
 /// Prints how many copies of what a request of so many components says are kept; the process's memory tells their size.
 pub fn keep(rt: &(impl AllocGlobal + Print), components: u32) -> io::Result<()> {
     let bytes = request(rt.alloc(), components)?;
-    let request = message_of(rt.alloc(), bytes.as_slice())?;
-    let kept = count_kept(rt.alloc(), &request)?;
+    let kept = count_kept_of(rt.alloc(), bytes.as_slice())?;
     println!(rt; "rx: {components} components: {kept} requests kept")
+}
+
+/// Reads a request again and again, and tells how long that takes.
+fn time_request(rt: &(impl AllocGlobal + Clock), request: &Message) -> io::Result<Duration> {
+    let start = Instant::now(rt)?;
+    read_again(rt.alloc(), request)?;
+    start.elapsed(rt)
 }
 
 /// Reads the request of these bytes again and again, and tells how long that takes.
 fn time_reading(rt: &(impl AllocGlobal + Clock), bytes: &[u8]) -> io::Result<Duration> {
     let request = message_of(rt.alloc(), bytes)?;
-    let start = Instant::now(rt)?;
-    read_again(rt.alloc(), &request)?;
-    start.elapsed(rt)
+    let time = time_request(rt, &request);
+    std::mem::drop(request);
+    time
 }
 
 /// Prints how long a request of so many components is, and the microseconds that its reading takes.

@@ -6,6 +6,7 @@ use crate::report::{add, given, print_each, text};
 use crate::rules::told_rule;
 use dia_base::{Identity, Origin};
 use gx_profile::{Ccr, FirstEntries, GxReply, RequestKind};
+use gx_records::GxFact;
 use lattice_core::Tag;
 use op_tables::{Tables, read_tables};
 use site_core::{Reply, Request, Site};
@@ -113,13 +114,24 @@ enum Made {
     Push,
 }
 
+/// What the gateway of a session was told.
+fn told(alloc: Global, at: Tag) -> io::Result<GxFact> {
+    let name = text(alloc, b"op/sip")?;
+    told_rule(alloc, at, name)
+}
+
+/// The facts of an initial request, and of the rule that its answer tells.
+fn connection_facts(alloc: Global, at: Tag, place: u32) -> io::Result<Vec<GxFact>> {
+    let mut facts = initial_request_of(alloc, at, host_of(place), place)?;
+    add(&mut facts, told(alloc, at))?;
+    Ok(facts)
+}
+
 /// The operation of an initial request, and of the rule that its answer tells.
 fn connection(alloc: Global, place: u32) -> io::Result<Operation> {
     let at = stamp(1);
-    let mut facts = initial_request_of(alloc, at, host_of(place), place)?;
-    let name = text(alloc, b"op/sip")?;
-    add(&mut facts, told_rule(alloc, at, name))?;
-    let facts = SessionFacts::Gx(session_id(alloc, place)?, facts);
+    let id = session_id(alloc, place)?;
+    let facts = SessionFacts::Gx(id, connection_facts(alloc, at, place)?);
     given(Operation::of(at.counter, at.site, at.number, facts))
 }
 
@@ -153,7 +165,9 @@ fn take(site: &mut Site, operations: &[Operation]) -> Result<(), AllocError> {
 fn take_each(alloc: Global, site: &mut Site, made: Made, count: u32) -> io::Result<()> {
     for turn in 0..count.div_ceil(BATCH) {
         let operations = batch(alloc, made, count, turn.saturating_mul(BATCH))?;
-        take(site, operations.as_slice())?;
+        let taken = take(site, operations.as_slice());
+        std::mem::drop(operations);
+        taken?;
     }
     Ok(())
 }
@@ -181,13 +195,20 @@ fn update(alloc: Global, place: u32) -> io::Result<Ccr> {
 
 /// The initial request of a session.
 fn initial(alloc: Global, place: u32) -> io::Result<Ccr> {
+    let apn = apn(alloc)?;
+    let subscribers = subscribers(alloc, place)?;
     let mut ccr = update(alloc, place)?;
     ccr.kind = RequestKind::Initial;
     ccr.number = 0;
     ccr.address = Some(address(place));
-    ccr.apn = Some(apn(alloc)?);
-    ccr.subscribers = Some(subscribers(alloc, place)?);
+    ccr.apn = Some(apn);
+    ccr.subscribers = Some(subscribers);
     Ok(ccr)
+}
+
+/// A credit control request, as a site is asked to serve it.
+fn asked(made: io::Result<Ccr>) -> io::Result<Request> {
+    Ok(Request::Ccr(made?))
 }
 
 /// The initial requests of so many sessions, from a place on.
@@ -195,7 +216,7 @@ fn initials(alloc: Global, first: u32, count: u32) -> io::Result<Vec<Request>> {
     let mut requests = Vec::new(alloc);
     for turn in 0..count {
         let place = first.saturating_add(turn);
-        add(&mut requests, Ok(Request::Ccr(initial(alloc, place)?)))?;
+        add(&mut requests, asked(initial(alloc, place)))?;
     }
     Ok(requests)
 }
@@ -206,7 +227,7 @@ fn updates(alloc: Global, sessions: u32, count: u32) -> io::Result<Vec<Request>>
     for turn in 0..count {
         let place = u64::from(turn) * 15_485_863 % u64::from(sessions.max(1));
         let place = u32::try_from(place).unwrap_or(0);
-        add(&mut requests, Ok(Request::Ccr(update(alloc, place)?)))?;
+        add(&mut requests, asked(update(alloc, place)))?;
     }
     Ok(requests)
 }
@@ -217,14 +238,30 @@ fn count_told(delta: &FirstEntries) -> usize {
     removed.saturating_add(installed)
 }
 
+/// How many rules a reply tells, if it grants the request.
+fn count_granted(reply: &Reply) -> Option<usize> {
+    match reply {
+        Reply::Gx(GxReply::Granted(delta, _)) => Some(count_told(delta)),
+        _ => None,
+    }
+}
+
+/// A site serves a request: how many rules it tells.
+fn serve_one(site: &mut Site, request: &Request) -> io::Result<usize> {
+    let reply = site.serve(request)?;
+    let told = count_granted(&reply);
+    std::mem::drop(reply);
+    match told {
+        Some(told) => Ok(told),
+        None => Err(io::Error::other("a request is refused")),
+    }
+}
+
 /// A site serves requests: how many rules it tells.
 fn serve_all(site: &mut Site, requests: &[Request]) -> io::Result<usize> {
     let mut told = 0_usize;
     for request in requests {
-        match site.serve(request)? {
-            Reply::Gx(GxReply::Granted(delta, _)) => told = told.saturating_add(count_told(&delta)),
-            _ => return Err(io::Error::other("a request is refused")),
-        }
+        told = told.saturating_add(serve_one(site, request)?);
     }
     Ok(told)
 }
@@ -247,14 +284,25 @@ fn measure_serving(
     print_each(rt, what, count, time)
 }
 
+/// A site looks for a push, and finds none.
+fn push_once(site: &mut Site, host: Option<&[u8]>) -> io::Result<()> {
+    let pushed = site.push(host);
+    let none = match &pushed {
+        Ok(None) => Ok(()),
+        Ok(Some(_)) => Err("something is due"),
+        Err(_) => Err("a push failed"),
+    };
+    std::mem::drop(pushed);
+    match none {
+        Ok(()) => Ok(()),
+        Err(why) => Err(io::Error::other(why)),
+    }
+}
+
 /// A site looks for a push so many times, and finds none.
 fn push_nothing(site: &mut Site, host: Option<&[u8]>, count: u32) -> io::Result<()> {
     for _ in 0..count {
-        match site.push(host) {
-            Ok(None) => {}
-            Ok(Some(_)) => return Err(io::Error::other("something is due")),
-            Err(_) => return Err(io::Error::other("a push failed")),
-        }
+        push_once(site, host)?;
     }
     Ok(())
 }
@@ -293,38 +341,60 @@ pub fn new_site(alloc: Global) -> io::Result<Site> {
     Ok(Site::start(alloc, tables(alloc)?, identity, 0))
 }
 
-/// A site with the sessions and the calls.
-fn site_of(alloc: Global, load: Load) -> io::Result<Site> {
-    let mut site = new_site(alloc)?;
-    take_each(alloc, &mut site, Made::Session, load.sessions)?;
-    take_each(alloc, &mut site, Made::Call, load.calls)?;
-    take_each(alloc, &mut site, Made::Push, load.calls)?;
-    Ok(site)
+/// A site takes the sessions and the calls.
+fn take_load(alloc: Global, site: &mut Site, load: Load) -> io::Result<()> {
+    take_each(alloc, site, Made::Session, load.sessions)?;
+    take_each(alloc, site, Made::Call, load.calls)?;
+    take_each(alloc, site, Made::Push, load.calls)
 }
 
-/// Prints what requests take; the initial ones are of new sessions.
-fn measure_requests(
+/// Prints what updates take.
+fn measure_updates(
     rt: &(impl AllocGlobal + Clock + Print),
     site: &mut Site,
     load: Load,
 ) -> io::Result<()> {
     let requests = updates(rt.alloc(), load.sessions, load.requests)?;
-    let what = "sites: update";
-    measure_serving(rt, site, what, requests.as_slice(), 0)?;
+    let measured = measure_serving(rt, site, "sites: update", requests.as_slice(), 0);
+    std::mem::drop(requests);
+    measured
+}
+
+/// Prints what initial requests of new sessions take.
+fn measure_initials(
+    rt: &(impl AllocGlobal + Clock + Print),
+    site: &mut Site,
+    load: Load,
+) -> io::Result<()> {
     let requests = initials(rt.alloc(), load.sessions, load.requests)?;
-    let what = "sites: initial request";
-    measure_serving(rt, site, what, requests.as_slice(), load.requests)
+    let (what, asked) = ("sites: initial request", requests.as_slice());
+    let measured = measure_serving(rt, site, what, asked, load.requests);
+    std::mem::drop(requests);
+    measured
+}
+
+/// Prints what pushes and requests take at a site, which takes the sessions and the calls first.
+fn measure_at(
+    rt: &(impl AllocGlobal + Clock + Print),
+    site: &mut Site,
+    load: Load,
+) -> io::Result<()> {
+    take_load(rt.alloc(), site, load)?;
+    println!(rt; "sites: {} sessions, {} calls", load.sessions, load.calls)?;
+    if load.calls == 0 || load.sessions <= PUSHED_TO_ALL {
+        measure_pushing(rt, site, None, load.pushes)?;
+    }
+    measure_pushing(rt, site, Some(SECOND), load.pushes)?;
+    measure_updates(rt, site, load)?;
+    measure_initials(rt, site, load)
 }
 
 /// Prints what pushes and requests take.
 fn measure_beside(rt: &(impl AllocGlobal + Clock + Print), load: Load) -> io::Result<()> {
-    let mut site = site_of(rt.alloc(), load)?;
-    println!(rt; "sites: {} sessions, {} calls", load.sessions, load.calls)?;
-    if load.calls == 0 || load.sessions <= PUSHED_TO_ALL {
-        measure_pushing(rt, &mut site, None, load.pushes)?;
-    }
-    measure_pushing(rt, &mut site, Some(SECOND), load.pushes)?;
-    measure_requests(rt, &mut site, load)
+    let mut site = new_site(rt.alloc())?;
+    let measured = measure_at(rt, &mut site, load);
+    std::mem::drop(site);
+    measured
 }
 
 /// Prints the microseconds that a request and a push take beside so many sessions, first without calls and then with some.

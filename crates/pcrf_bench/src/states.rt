@@ -96,18 +96,22 @@ fn take_all(
     let mut time = Duration::ZERO;
     for place in 0..size.div_ceil(BATCH) {
         let operations = batch(rt.alloc(), kind, size, place.saturating_mul(BATCH))?;
-        let spent = take_batch(rt, state, operations.as_slice())?;
-        time = time.saturating_add(spent);
+        let spent = take_batch(rt, state, operations.as_slice());
+        std::mem::drop(operations);
+        time = time.saturating_add(spent?);
     }
     Ok(time)
 }
 
 /// Merges two states.
 fn merge(ours: State, theirs: State) -> Result<(), AllocError> {
-    match ours.merge(theirs) {
+    let merged = ours.merge(theirs);
+    let done = match &merged {
         Ok(_) => Ok(()),
-        Err((refused, _, _)) => Err(refused),
-    }
+        Err((refused, _, _)) => Err(*refused),
+    };
+    std::mem::drop(merged);
+    done
 }
 
 /// Merges a state with an equal one, and tells how long that takes.
@@ -126,10 +130,20 @@ struct Times {
     merge: Duration,
 }
 
+/// How long all initial requests take, and then all updates.
+fn times_taking(
+    rt: &(impl AllocGlobal + Clock),
+    state: &mut State,
+    size: u32,
+) -> io::Result<(Duration, Duration)> {
+    let initial = take_all(rt, state, Kind::Initial, size)?;
+    let update = take_all(rt, state, Kind::Update, size)?;
+    Ok((initial, update))
+}
+
 fn times_once(rt: &(impl AllocGlobal + Clock), size: u32) -> io::Result<Times> {
     let mut state = State::start(rt.alloc());
-    let initial = take_all(rt, &mut state, Kind::Initial, size)?;
-    let update = take_all(rt, &mut state, Kind::Update, size)?;
+    let (initial, update) = times_taking(rt, &mut state, size)?;
     let merge = merge_equal(rt, state)?;
     Ok(Times {
         initial,
@@ -169,14 +183,23 @@ pub fn measure(rt: &(impl AllocGlobal + Clock + Print), size: u32) -> io::Result
 fn take_each(alloc: Global, state: &mut State, size: u32) -> io::Result<()> {
     for turn in 0..size {
         let operation = operation(alloc, Kind::Initial, size, turn)?;
-        state.take(&operation)?;
+        let taken = state.take(&operation);
+        std::mem::drop(operation);
+        taken?;
     }
     Ok(())
+}
+
+/// Takes an initial request on each session, and prints how many there are.
+fn keep_in(rt: &(impl AllocGlobal + Print), state: &mut State, size: u32) -> io::Result<()> {
+    take_each(rt.alloc(), state, size)?;
+    println!(rt; "states: {} sessions kept", state.all_gx().count())
 }
 
 /// Keeps a state of so many sessions, and prints how many; the process's memory tells its size.
 pub fn keep(rt: &(impl AllocGlobal + Print), size: u32) -> io::Result<()> {
     let mut state = State::start(rt.alloc());
-    take_each(rt.alloc(), &mut state, size)?;
-    println!(rt; "states: {} sessions kept", state.all_gx().count())
+    let kept = keep_in(rt, &mut state, size);
+    std::mem::drop(state);
+    kept
 }

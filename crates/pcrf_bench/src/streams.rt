@@ -77,8 +77,16 @@ fn serve(
 ) -> io::Result<Reply> {
     let start = Instant::now(rt)?;
     let reply = site.serve(request)?;
-    times.serving = times.serving.saturating_add(start.elapsed(rt)?);
-    Ok(reply)
+    match start.elapsed(rt) {
+        Ok(time) => {
+            times.serving = times.serving.saturating_add(time);
+            Ok(reply)
+        }
+        Err(error) => {
+            std::mem::drop(reply);
+            Err(error)
+        }
+    }
 }
 
 /// Whether a request is refused.
@@ -119,7 +127,9 @@ fn answer_asked(
         return Err(io::Error::other("a request is refused"));
     };
     let reply = serve(rt, site, request, times)?;
-    write(rt, site, header, request, &reply, times)
+    let written = write(rt, site, header, request, &reply, times);
+    std::mem::drop(reply);
+    written
 }
 
 /// Reads, serves and answers a frame.
@@ -133,8 +143,15 @@ fn answer_frame(
 {
     let start = Instant::now(rt)?;
     let asked = read_request(rt.alloc(), frame)?;
-    times.reading = times.reading.saturating_add(start.elapsed(rt)?);
-    answer_asked(rt, site, &asked, times)
+    let answered = match start.elapsed(rt) {
+        Ok(time) => {
+            times.reading = times.reading.saturating_add(time);
+            answer_asked(rt, site, &asked, times)
+        }
+        Err(error) => Err(error),
+    };
+    std::mem::drop(asked);
+    answered
 }
 
 /// Reads, serves and answers so many frames of a stream.
@@ -172,6 +189,39 @@ fn time_apart(
     Ok(times)
 }
 
+/// Answers a stream, and tells how long all of that took.
+fn time_whole(
+    rt: &(impl AllocGlobal + Clock),
+    site: &mut Site,
+    stream: &[u8],
+) -> io::Result<Duration> {
+    let start = Instant::now(rt)?;
+    answer_stream(rt.alloc(), site, stream)?;
+    start.elapsed(rt)
+}
+
+/// Answers requests of a kind in one stream, and tells how long all of that took.
+fn time_together(
+    rt: &(impl AllocGlobal + Clock),
+    site: &mut Site,
+    kind: Kind,
+    first: u32,
+) -> io::Result<Duration> {
+    let stream = requests(rt.alloc(), kind, first, TIMED)?;
+    time_whole(rt, site, stream.as_slice())
+}
+
+/// Answers as many requests of the next sessions, and tells how long each part took.
+fn time_next(
+    rt: &(impl AllocGlobal + Clock),
+    site: &mut Site,
+    kind: Kind,
+    first: u32,
+) -> io::Result<Times> {
+    let stream = requests(rt.alloc(), kind, first.saturating_add(TIMED), TIMED)?;
+    time_apart(rt, site, stream.as_slice())
+}
+
 /// Prints what requests of a kind take in one stream, and then as many of the next sessions apart.
 fn measure_kind(
     rt: &(impl AllocGlobal + Clock + Print),
@@ -179,12 +229,8 @@ fn measure_kind(
     kind: Kind,
     first: u32,
 ) -> io::Result<()> {
-    let stream = requests(rt.alloc(), kind, first, TIMED)?;
-    let start = Instant::now(rt)?;
-    answer_stream(rt.alloc(), site, stream.as_slice())?;
-    let whole = start.elapsed(rt)?;
-    let stream = requests(rt.alloc(), kind, first.saturating_add(TIMED), TIMED)?;
-    let times = time_apart(rt, site, stream.as_slice())?;
+    let whole = time_together(rt, site, kind, first)?;
+    let times = time_next(rt, site, kind, first)?;
     println!(rt; "streams: {}", kind.name())?;
     print_each(rt, "streams:   all of it", TIMED, whole)?;
     print_each(rt, "streams:   reading", TIMED, times.reading)?;
@@ -192,11 +238,14 @@ fn measure_kind(
     print_each(rt, "streams:   writing", TIMED, times.writing)
 }
 
-/// Prints the microseconds that a request of each kind takes at a site with so many sessions: those of gateways first, while
-/// there are no calls, which make them dearer.
-pub fn measure(rt: &(impl AllocGlobal + Clock + Print), sessions: u32) -> io::Result<()> {
-    let mut site = new_site(rt.alloc())?;
-    attach(rt.alloc(), &mut site, sessions)?;
+/// Prints the microseconds that a request of each kind takes at a site to which so many sessions attach: those of gateways
+/// first, while there are no calls, which make them dearer.
+fn measure_at(
+    rt: &(impl AllocGlobal + Clock + Print),
+    site: &mut Site,
+    sessions: u32,
+) -> io::Result<()> {
+    attach(rt.alloc(), site, sessions)?;
     println!(rt; "streams: {sessions} sessions")?;
     for (kind, first) in [
         (Kind::Watchdog, 0),
@@ -206,7 +255,15 @@ pub fn measure(rt: &(impl AllocGlobal + Clock + Print), sessions: u32) -> io::Re
         (Kind::Call, 0),
         (Kind::CallEnd, 0),
     ] {
-        measure_kind(rt, &mut site, kind, first)?;
+        measure_kind(rt, site, kind, first)?;
     }
     Ok(())
+}
+
+/// Prints the microseconds that a request of each kind takes at a site with so many sessions.
+pub fn measure(rt: &(impl AllocGlobal + Clock + Print), sessions: u32) -> io::Result<()> {
+    let mut site = new_site(rt.alloc())?;
+    let measured = measure_at(rt, &mut site, sessions);
+    std::mem::drop(site);
+    measured
 }

@@ -63,7 +63,7 @@ fn read(alloc: Global, text: &str) -> io::Result<Tables> {
 /// Reads the text again and again, and gives the tables that it read last.
 fn read_again(alloc: Global, text: &str) -> io::Result<Tables> {
     for _ in 1..ROUNDS {
-        read(alloc, text)?;
+        std::mem::drop(read(alloc, text)?);
     }
     read(alloc, text)
 }
@@ -71,7 +71,7 @@ fn read_again(alloc: Global, text: &str) -> io::Result<Tables> {
 /// Copies the tables again and again.
 fn copy_again(alloc: Global, tables: &Tables) -> Result<(), AllocError> {
     for _ in 0..ROUNDS {
-        tables.try_copy(alloc)?;
+        std::mem::drop(tables.try_copy(alloc)?);
     }
     Ok(())
 }
@@ -105,19 +105,38 @@ fn look_again(tables: &Tables, names: &[Apn]) -> u32 {
     found
 }
 
+/// Prints what each of the rounds took since they began.
+fn print_since(rt: &(impl Clock + Print), what: &str, start: Instant) -> io::Result<()> {
+    print_each(rt, what, ROUNDS, start.elapsed(rt)?)
+}
+
 /// Prints what the reading of the text takes, and gives the tables that it has.
 fn measure_reading(rt: &(impl AllocGlobal + Clock + Print), text: &str) -> io::Result<Tables> {
     let start = Instant::now(rt)?;
     let tables = read_again(rt.alloc(), text)?;
-    print_each(rt, "tables: reading the text", ROUNDS, start.elapsed(rt)?)?;
-    Ok(tables)
+    match print_since(rt, "tables: reading the text", start) {
+        Ok(()) => Ok(tables),
+        Err(error) => {
+            std::mem::drop(tables);
+            Err(error)
+        }
+    }
 }
 
 /// Prints what a copy of the tables takes.
 fn measure_copying(rt: &(impl AllocGlobal + Clock + Print), tables: &Tables) -> io::Result<()> {
     let start = Instant::now(rt)?;
     copy_again(rt.alloc(), tables)?;
-    print_each(rt, "tables: copying the tables", ROUNDS, start.elapsed(rt)?)
+    print_since(rt, "tables: copying the tables", start)
+}
+
+/// Prints what a look-up of one of these access points takes.
+fn measure_names(rt: &(impl Clock + Print), tables: &Tables, names: &[Apn]) -> io::Result<()> {
+    let start = Instant::now(rt)?;
+    let found = look_again(tables, names);
+    let time = start.elapsed(rt)?;
+    println!(rt; "tables: {found} found")?;
+    print_each(rt, "tables: looking an access point up", found, time)
 }
 
 /// Prints what a look-up takes.
@@ -127,11 +146,19 @@ fn measure_look_up(
     points: u32,
 ) -> io::Result<()> {
     let names = names_of(rt.alloc(), points)?;
-    let start = Instant::now(rt)?;
-    let found = look_again(tables, names.as_slice());
-    let time = start.elapsed(rt)?;
-    println!(rt; "tables: {found} found")?;
-    print_each(rt, "tables: looking an access point up", found, time)
+    let measured = measure_names(rt, tables, names.as_slice());
+    std::mem::drop(names);
+    measured
+}
+
+/// Prints what a copy of the tables and a look-up take.
+fn measure_tables(
+    rt: &(impl AllocGlobal + Clock + Print),
+    tables: &Tables,
+    points: u32,
+) -> io::Result<()> {
+    measure_copying(rt, tables)?;
+    measure_look_up(rt, tables, points)
 }
 
 /// Prints how long a text of so many access points is, and the microseconds that its reading, a copy of the tables and a
@@ -140,6 +167,7 @@ pub fn measure(rt: &(impl AllocGlobal + Clock + Print), points: u32) -> io::Resu
     let text = text_of(rt.alloc(), points)?;
     println!(rt; "tables: {points} access points: {} bytes", text.len())?;
     let tables = measure_reading(rt, text.as_str())?;
-    measure_copying(rt, &tables)?;
-    measure_look_up(rt, &tables, points)
+    let measured = measure_tables(rt, &tables, points);
+    std::mem::drop(tables);
+    measured
 }

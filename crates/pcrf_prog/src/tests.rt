@@ -1,6 +1,9 @@
 //! What the program prints on its faults, and its exit status.
 use crate::run::{no_words, run};
+use std::alloc::{AllocError, Global};
 use std::io::{self, ErrorKind, Read, Write};
+use std::mem::drop;
+use std::process::Abort;
 use std::test::Fail;
 use std::{env, fs, process};
 
@@ -107,20 +110,46 @@ struct Ended {
     status: u8,
 }
 
-/// Runs a script with these words behind the program's name.
-fn run_words(rt: &HostRuntime, words: &[&str], script: &str) -> Result<Ended, Fail> {
-    let mut all = vec![in rt.alloc(); String::from_str(rt.alloc(), "pcrf")?]?;
+/// Puts a word behind others.
+fn put_word(alloc: Global, all: &mut Vec<String>, word: &str) -> Result<(), AllocError> {
+    Ok(all.push(String::from_str(alloc, word)?)?)
+}
+
+/// The program's name, and these words.
+fn all_words(alloc: Global, words: &[&str]) -> Result<Vec<String>, AllocError> {
+    let mut all = Vec::new(alloc);
+    put_word(alloc, &mut all, "pcrf")?;
     for word in words {
-        all.push(String::from_str(rt.alloc(), word)?)?;
+        put_word(alloc, &mut all, word)?;
     }
+    Ok(all)
+}
+
+/// Runs a script with all these words.
+fn run_all(rt: &HostRuntime, words: &[String], script: &[u8]) -> Ended {
     let (mut printed, mut told) = (Vec::new(rt.alloc()), Vec::new(rt.alloc()));
-    let script = script.as_bytes();
-    let status = run(rt, all.as_slice(), script, &mut printed, &mut told);
-    Ok(Ended {
+    let status = run(rt, words, script, &mut printed, &mut told);
+    Ended {
         printed,
         told,
         status,
-    })
+    }
+}
+
+/// Runs a script with these words behind the program's name.
+fn run_words(rt: &HostRuntime, words: &[&str], script: &str) -> Result<Ended, AllocError> {
+    let all = all_words(rt.alloc(), words)?;
+    let ended = run_all(rt, all.as_slice(), script.as_bytes());
+    drop(all);
+    Ok(ended)
+}
+
+/// Compares how a run of a case ended with the status, what is printed and what is told that are wanted.
+fn check(rt: &impl Abort, case: &str, ended: &Ended, wanted: (u8, &str, &str)) {
+    let (status, printed, told) = wanted;
+    assert_eq!(rt; ended.status, status, "{case:?}");
+    assert_eq!(rt; ended.printed.as_slice(), printed.as_bytes(), "{case:?}");
+    assert_eq!(rt; ended.told.as_slice(), told.as_bytes(), "{case:?}");
 }
 
 /// The path of a file of a test, which no other run has.
@@ -144,7 +173,7 @@ fn run_file(rt: &HostRuntime, name: &str, bytes: &[u8], script: &str) -> Result<
 }
 
 #[test]
-fn scripts_end_with_their_status(rt: HostRuntime) -> Result<(), Fail> {
+fn scripts_end_with_their_status(rt: HostRuntime) {
     let cases = [
         ("", "", 0, ""),
         (SCRIPT, SCRIPT, 0, ""),
@@ -156,28 +185,39 @@ fn scripts_end_with_their_status(rt: HostRuntime) -> Result<(), Fail> {
         ),
     ];
     for (script, printed, status, told) in cases {
-        let ended = run_words(&rt, &[], script)?;
-        assert_eq!(rt; ended.status, status, "{script:?}");
-        assert_eq!(rt; ended.printed.as_slice(), printed.as_bytes(), "{script:?}");
-        assert_eq!(rt; ended.told.as_slice(), told.as_bytes(), "{script:?}");
+        let ended = run_words(&rt, &[], script).expect(&rt, "memory");
+        check(&rt, script, &ended, (status, printed, told));
+        drop(ended);
     }
-    Ok(())
 }
 
 #[test]
-fn failed_input_and_output_are_told(rt: HostRuntime) -> Result<(), Fail> {
+fn failed_input_is_told(rt: HostRuntime) {
     let (mut out, mut faults) = (Vec::new(rt.alloc()), Vec::new(rt.alloc()));
-    assert_eq!(rt; run(&rt, &[], Failing, &mut out, &mut faults), 3);
+    let status = run(&rt, &[], Failing, &mut out, &mut faults);
+    drop(out);
+    assert_eq!(rt; status, 3);
     assert_eq!(rt; faults.as_slice(), b"pcrf: input failed\n".as_slice());
-    let mut faults = Vec::new(rt.alloc());
-    let script = SCRIPT.as_bytes();
-    assert_eq!(rt; run(&rt, &[], script, Failing, &mut faults), 3);
-    assert_eq!(rt; faults.as_slice(), b"pcrf: output failed\n".as_slice());
-    Ok(())
 }
 
 #[test]
-fn words_are_read(rt: HostRuntime) -> Result<(), Fail> {
+fn failed_output_is_told(rt: HostRuntime) {
+    let mut faults = Vec::new(rt.alloc());
+    let status = run(&rt, &[], SCRIPT.as_bytes(), Failing, &mut faults);
+    assert_eq!(rt; status, 3);
+    assert_eq!(rt; faults.as_slice(), b"pcrf: output failed\n".as_slice());
+}
+
+/// Compares the status of a run for which words are wanted, and that it prints nothing and tells of this name.
+fn check_words(rt: &(impl AllocGlobal + Abort), ended: &Ended, named: &str) {
+    assert_eq!(rt; ended.status, 2, "{named}");
+    assert!(rt; ended.printed.is_empty(), "{named}");
+    let told = String::from_utf8_lossy(rt.alloc(), ended.told.as_slice()).expect(rt, "memory");
+    assert!(rt; told.as_str().contains(named), "{named}: {told}");
+}
+
+#[test]
+fn words_are_read(rt: HostRuntime) {
     let cases: [(&[&str], &str); 7] = [
         (&["bogus"], "bogus"),
         (&["world"], "<TABLES>"),
@@ -188,13 +228,10 @@ fn words_are_read(rt: HostRuntime) -> Result<(), Fail> {
         (&["world", "--help"], "operator tables, in TOML"),
     ];
     for (words, named) in cases {
-        let ended = run_words(&rt, words, SCRIPT)?;
-        assert_eq!(rt; ended.status, 2, "{words:?}");
-        assert!(rt; ended.printed.is_empty(), "{words:?}");
-        let told = String::from_utf8_lossy(rt.alloc(), ended.told.as_slice())?;
-        assert!(rt; told.as_str().contains(named), "{words:?}: {told}");
+        let ended = run_words(&rt, words, SCRIPT).expect(&rt, "memory");
+        check_words(&rt, &ended, named);
+        drop(ended);
     }
-    Ok(())
 }
 
 #[test]
@@ -224,9 +261,8 @@ fn faults_of_tables_are_told_before_the_script_runs(rt: HostRuntime) -> Result<(
     ];
     for (bytes, told) in cases {
         let ended = run_file(&rt, "faults", bytes, SCRIPT)?;
-        assert_eq!(rt; ended.status, 1, "{told:?}");
-        assert_eq!(rt; ended.told.as_slice(), told.as_bytes());
-        assert!(rt; ended.printed.is_empty(), "{told:?}");
+        check(&rt, told, &ended, (1, "", told));
+        drop(ended);
     }
     Ok(())
 }
@@ -235,23 +271,23 @@ fn faults_of_tables_are_told_before_the_script_runs(rt: HostRuntime) -> Result<(
 fn a_row_that_stands_twice_is_told(rt: HostRuntime) -> Result<(), Fail> {
     let tables = format!(in rt.alloc(); "{TELEPHONY}[[apn]]\nname = \"IMS\"\n")?;
     let ended = run_file(&rt, "twice", tables.as_bytes(), SCRIPT)?;
-    assert_eq!(rt; ended.status, 1);
-    assert_eq!(rt;
-        ended.told.as_slice(),
-        b"pcrf: tables: duplicate row\n".as_slice()
+    check(
+        &rt,
+        "twice",
+        &ended,
+        (1, "", "pcrf: tables: duplicate row\n"),
     );
-    assert!(rt; ended.printed.is_empty());
+    drop(ended);
     Ok(())
 }
 
 /// Whether tables at this path are told to be unreadable, before the script runs.
-fn is_unreadable(rt: &HostRuntime, path: &str) -> Result<bool, Fail> {
+fn is_unreadable(rt: &HostRuntime, path: &str) -> Result<bool, AllocError> {
     let ended = run_words(rt, &["world", path], SCRIPT)?;
-    Ok(
-        ended.status == 1
-            && ended.told.as_slice() == b"pcrf: tables: unreadable\n".as_slice()
-            && ended.printed.is_empty(),
-    )
+    let is_told = ended.told.as_slice() == b"pcrf: tables: unreadable\n".as_slice();
+    let is_first = ended.status == 1 && ended.printed.is_empty();
+    drop(ended);
+    Ok(is_told && is_first)
 }
 
 #[test]
@@ -280,21 +316,14 @@ fn a_file_has_at_most_64_mebibytes(rt: HostRuntime) -> Result<(), Fail> {
 #[test]
 fn sites_have_the_tables_of_the_file(rt: HostRuntime) -> Result<(), Fail> {
     let ended = run_file(&rt, "telephony", TELEPHONY.as_bytes(), REQUESTS)?;
-    assert_eq!(rt; ended.status, 0);
-    assert!(rt; ended.told.is_empty());
-    let printed = String::from_utf8_lossy(rt.alloc(), ended.printed.as_slice())?;
-    assert_eq!(rt; printed.as_str(), ANSWERS);
+    check(&rt, "telephony", &ended, (0, ANSWERS, ""));
+    drop(ended);
     Ok(())
 }
 
 #[test]
-fn sites_of_a_run_without_words_have_the_tables_of_the_program(
-    rt: HostRuntime,
-) -> Result<(), Fail> {
-    let ended = run_words(&rt, &[], REQUESTS)?;
-    assert_eq!(rt; ended.status, 0);
-    assert!(rt; ended.told.is_empty());
-    let printed = String::from_utf8_lossy(rt.alloc(), ended.printed.as_slice())?;
-    assert_eq!(rt; printed.as_str(), HELD_ANSWERS);
-    Ok(())
+fn sites_of_a_run_without_words_have_the_tables_of_the_program(rt: HostRuntime) {
+    let ended = run_words(&rt, &[], REQUESTS).expect(&rt, "memory");
+    check(&rt, "no words", &ended, (0, HELD_ANSWERS, ""));
+    drop(ended);
 }

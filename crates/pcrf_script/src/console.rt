@@ -7,6 +7,7 @@ use pcrf_show::show_state;
 use pcrf_world::{World, WorldEvent};
 use script_lines::{LineFault, Obey};
 use std::alloc::Global;
+use std::mem::drop;
 
 /// A world that a line starts, and that further lines change and show.
 #[derive(Drop)]
@@ -19,17 +20,18 @@ pub(crate) struct Console {
 impl Obey for Console {
     fn obey(&mut self, line: &[u8], out: &mut String) -> Result<(), LineFault> {
         let line = read_line(self.alloc, line)?;
-        match &line {
-            Line::Nothing => Ok(()),
-            Line::Sites(n) => self.start_world(*n, out),
-            Line::Message(i, bytes) => self.give(*i, bytes.as_slice(), out),
-            Line::Push(i) => self.happen(&WorldEvent::Push(*i, None), out),
-            Line::Letter(i, j) => self.happen(&WorldEvent::Letter(*i, *j), out),
-            Line::Merge(j, k) => self.happen(&WorldEvent::Merge(*j, *k), out),
-            Line::Restart(i) => self.restart(*i, out),
-            Line::Show(i) => self.show(*i, out),
-        }
+        let obeyed = self.obey_line(&line, out);
+        drop(line);
+        obeyed
     }
+}
+
+/// Has an event happen in a world, and prints its answer.
+fn step(world: &mut World, event: &WorldEvent, out: &mut String) -> Result<(), LineFault> {
+    let answer = world.step(event);
+    let printed = put_outcome(out, &answer);
+    drop(answer);
+    Ok(printed?)
 }
 
 impl Console {
@@ -42,13 +44,28 @@ impl Console {
         }
     }
 
+    /// Does what a line asks for.
+    fn obey_line(&mut self, line: &Line, out: &mut String) -> Result<(), LineFault> {
+        match line {
+            Line::Nothing => Ok(()),
+            Line::Sites(n) => self.start_world(*n, out),
+            Line::Message(i, bytes) => self.give(*i, bytes.as_slice(), out),
+            Line::Push(i) => self.happen(WorldEvent::Push(*i, None), out),
+            Line::Letter(i, j) => self.happen(WorldEvent::Letter(*i, *j), out),
+            Line::Merge(j, k) => self.happen(WorldEvent::Merge(*j, *k), out),
+            Line::Restart(i) => self.restart(*i, out),
+            Line::Show(i) => self.show(*i, out),
+        }
+    }
+
     /// Starts the world, which only one line may do.
     fn start_world(&mut self, n: u8, out: &mut String) -> Result<(), LineFault> {
         if self.world.is_some() {
             return Err(LineFault::Bad);
         }
         let tables = self.tables.try_copy(self.alloc)?;
-        self.world = Some(World::start(self.alloc, tables, n)?);
+        let world = World::start(self.alloc, tables, n)?;
+        drop(self.world.replace(world));
         Ok(writeln!(out, "sites {n}")?)
     }
 
@@ -61,11 +78,13 @@ impl Console {
     }
 
     /// Has a push, or a letter made or taken.
-    fn happen(&mut self, event: &WorldEvent, out: &mut String) -> Result<(), LineFault> {
-        let Some(world) = &mut self.world else {
-            return Err(LineFault::Bad);
+    fn happen(&mut self, event: WorldEvent, out: &mut String) -> Result<(), LineFault> {
+        let happened = match &mut self.world {
+            Some(world) => step(world, &event, out),
+            None => Err(LineFault::Bad),
         };
-        Ok(put_outcome(out, &world.step(event))?)
+        drop(event);
+        happened
     }
 
     /// Has a site start again.
@@ -73,8 +92,12 @@ impl Console {
         let Some(world) = &mut self.world else {
             return Err(LineFault::Bad);
         };
-        let answer = world.step(&WorldEvent::Restart(i));
-        Ok(put_restart(out, i, &answer)?)
+        let event = WorldEvent::Restart(i);
+        let answer = world.step(&event);
+        drop(event);
+        let printed = put_restart(out, i, &answer);
+        drop(answer);
+        Ok(printed?)
     }
 
     /// Shows a site.

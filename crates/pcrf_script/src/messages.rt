@@ -11,6 +11,7 @@ use pcrf_world::{World, WorldFault, WorldOutcome};
 use script_lines::LineFault;
 use site_core::{Asked, Reply, Request, Site, read_request, write_refusal, write_reply};
 use std::alloc::{AllocError, Global};
+use std::mem::drop;
 
 /// Gives a site the bytes of a stream: prints a line for each message, and one for what is left of the stream. An
 /// unknown site is told once, whatever the bytes.
@@ -54,7 +55,9 @@ fn put_message(
     requires { header_bytes ≤ length frame.now }
 {
     let asked = read_request(alloc, frame)?;
-    put_asked(alloc, world, i, &asked, out)
+    let put = put_asked(alloc, world, i, &asked, out);
+    drop(asked);
+    put
 }
 
 /// Has a site do what a message asks for, and prints its answer.
@@ -122,7 +125,9 @@ fn put_served(
     requires site { i < length world.old.seen.sites }
 {
     let outcome = world.serve(i, request);
-    put_answer_of(alloc, world, i, header, request, &outcome, out)
+    let put = put_answer_of(alloc, world, i, header, request, &outcome, out);
+    drop(outcome);
+    put
 }
 
 /// Prints the answer by what serving a request gave.

@@ -93,6 +93,11 @@ pub fn gx_host(rt: &(impl AllocGlobal + Abort), at: Tag) -> GxFact {
     GxFact::Field(at, SessionValue::Host(identity(rt, "gw")))
 }
 
+/// The realm of the gateway.
+pub fn gx_realm(rt: &(impl AllocGlobal + Abort), at: Tag) -> GxFact {
+    GxFact::Field(at, SessionValue::Realm(identity(rt, "r")))
+}
+
 /// The type of the last request.
 pub fn gx_last(rt: &(impl AllocGlobal + Abort), at: Tag, kind: u32) -> GxFact {
     let last = BoundedNumber::of(kind).expect(rt, "1 or 2");
@@ -101,12 +106,7 @@ pub fn gx_last(rt: &(impl AllocGlobal + Abort), at: Tag, kind: u32) -> GxFact {
 
 /// The fields that every credit control request gives.
 pub fn of_each_request(rt: &(impl AllocGlobal + Abort), at: Tag, kind: u32) -> [GxFact; 3] {
-    let realm = SessionValue::Realm(identity(rt, "r"));
-    [
-        gx_host(rt, at),
-        GxFact::Field(at, realm),
-        gx_last(rt, at, kind),
-    ]
+    [gx_host(rt, at), gx_realm(rt, at), gx_last(rt, at, kind)]
 }
 
 /// The address.
@@ -119,13 +119,12 @@ pub fn gx_address(at: Tag, last_octet: u8) -> GxFact {
 
 /// What an initial request gives, and the rule that its answer installs.
 pub fn initial_request(rt: &(impl AllocGlobal + Abort), at: Tag, last_octet: u8) -> [GxFact; 7] {
-    let [host, realm, last] = of_each_request(rt, at, 1);
     let told = Some(rule(rt, "op/sip", 40));
     [
         GxFact::Told(at, rule_name(rt, "op/sip"), told),
-        last,
-        realm,
-        host,
+        gx_last(rt, at, 1),
+        gx_realm(rt, at),
+        gx_host(rt, at),
         GxFact::Field(at, SessionValue::Subscribers(subscribers(rt))),
         GxFact::Field(at, SessionValue::Apn(apn(rt, "IMS"))),
         gx_address(at, last_octet),

@@ -1,8 +1,8 @@
 //! What a record holds of a Gx session.
 use crate::building::{
-    gx_address, gx_host, gx_last, initial_request, of_each_request, rule, rule_name, tag,
+    gx_address, gx_host, gx_last, gx_realm, initial_request, of_each_request, rule, rule_name, tag,
 };
-use crate::text::gx_text;
+use crate::text::{compare_text, gx_text};
 use gx_records::{GxFact, GxRec};
 use lattice_core::Join;
 use std::alloc::AllocGlobal;
@@ -22,13 +22,18 @@ fn copies_of(rt: &(impl AllocGlobal + Abort), facts: &[GxFact]) -> Vec<GxFact> {
 fn join_part(rt: &(impl AllocGlobal + Abort), record: &mut GxRec, facts: &[GxFact]) {
     let copies = copies_of(rt, facts);
     let part = GxRec::of_facts(rt.alloc(), copies.as_slice()).expect(rt, "memory");
-    assert!(rt; record.join_in(part).is_ok());
+    drop(copies);
+    let joined = record.join_in(part);
+    let is_joined = joined.is_ok();
+    drop(joined);
+    assert!(rt; is_joined);
 }
 
 /// Whether a record shows this.
 fn compare(rt: &(impl AllocGlobal + Abort), record: &GxRec, want: &str) {
     let text = gx_text(rt.alloc(), record).expect(rt, "memory");
-    assert_eq!(rt; text.as_str(), want);
+    compare_text(rt, text.as_str(), want);
+    drop(text);
 }
 
 /// Whether records of two parts, each joined twice, show this.
@@ -45,6 +50,7 @@ fn compare_joined(
     join_part(rt, &mut record, first);
     join_part(rt, &mut record, second);
     compare(rt, &record, want);
+    drop(record);
 }
 
 /// Whether they do so in either order.
@@ -63,6 +69,7 @@ fn an_initial_request_is_live(rt: HostRuntime) {
         "live address 10.0.0.1@0.1.0 apn ims@0.1.0 subscribers 0:15550001 1:001010000000001@0.1.0 \
          host gw@0.1.0 realm r@0.1.0 last 1@0.1.0 home 0 told op/sip@0.1.0:40 rule op/sip:40",
     );
+    drop(facts);
 }
 
 #[test]
@@ -76,48 +83,69 @@ fn a_session_without_a_realm_is_partial(rt: HostRuntime) {
         &second,
         "partial address 10.0.0.1@0.1.0 host gw@0.1.0 last 1@0.1.0 home 0",
     );
+    drop(second);
+    drop(first);
 }
 
 // An update of a lower number comes last: the address, the host and the home of the greater number stay.
 #[test]
 fn the_greatest_request_number_gives_the_address(rt: HostRuntime) {
-    let [host, realm, last] = of_each_request(&rt, tag(2, 2, 0), 2);
-    let second_update = [gx_address(tag(2, 2, 0), 2), host, realm, last];
-    let [host, realm, last] = of_each_request(&rt, tag(1, 3, 1), 2);
-    let late_update = [host, realm, last, gx_address(tag(1, 3, 1), 3)];
+    let at = tag(2, 2, 0);
+    let second_update = [
+        gx_address(at, 2),
+        gx_host(&rt, at),
+        gx_realm(&rt, at),
+        gx_last(&rt, at, 2),
+    ];
+    let at = tag(1, 3, 1);
+    let late_update = [
+        gx_host(&rt, at),
+        gx_realm(&rt, at),
+        gx_last(&rt, at, 2),
+        gx_address(at, 3),
+    ];
     check(
         &rt,
         &second_update,
         &late_update,
         "partial address 10.0.0.2@2.2.0 host gw@2.2.0 realm r@2.2.0 last 2@2.2.0 home 0",
     );
+    drop(late_update);
+    drop(second_update);
 }
 
 #[test]
 fn nothing_revives_an_ended_session(rt: HostRuntime) {
+    let end = [GxFact::End];
     let update = of_each_request(&rt, tag(9, 2, 1), 2);
-    check(&rt, &[GxFact::End], &update, "ended");
+    check(&rt, &end, &update, "ended");
+    drop(update);
     let initial = initial_request(&rt, tag(0, 1, 0), 1);
-    check(&rt, &initial, &[GxFact::End], "ended");
+    check(&rt, &initial, &end, "ended");
+    drop(initial);
+    drop(end);
+}
+
+/// Whether records of two facts, in either order, show this.
+fn check_two(rt: &(impl AllocGlobal + Abort), first: GxFact, second: GxFact, want: &str) {
+    let first = [first];
+    let second = [second];
+    check(rt, &first, &second, want);
+    drop(second);
+    drop(first);
 }
 
 // Two lives of one site made their first operations under equal stamps.
 #[test]
 fn of_equal_tags_the_greater_value_counts(rt: HostRuntime) {
     let at = tag(0, 1, 0);
-    check(
-        &rt,
-        &[gx_address(at, 1)],
-        &[gx_address(at, 9)],
-        "partial address 10.0.0.9@0.1.0",
-    );
-    let told = Some(rule(&rt, "op/sip", 40));
-    check(
-        &rt,
-        &[GxFact::Told(at, rule_name(&rt, "op/sip"), told)],
-        &[GxFact::Told(at, rule_name(&rt, "op/sip"), None)],
-        "partial told op/sip@0.1.0:40 rule op/sip:40",
-    );
+    let want = "partial address 10.0.0.9@0.1.0";
+    check_two(&rt, gx_address(at, 1), gx_address(at, 9), want);
+    let rule = Some(rule(&rt, "op/sip", 40));
+    let told = GxFact::Told(at, rule_name(&rt, "op/sip"), rule);
+    let removed = GxFact::Told(at, rule_name(&rt, "op/sip"), None);
+    let want = "partial told op/sip@0.1.0:40 rule op/sip:40";
+    check_two(&rt, told, removed, want);
 }
 
 #[test]
@@ -135,12 +163,15 @@ fn a_rule_that_was_removed_is_told_no_more(rt: HostRuntime) {
         &second,
         "partial told af/1@0.1.0:100 told op/sip@0.2.1:- rule af/1:100",
     );
+    drop(second);
+    drop(first);
 }
 
 /// Whether the join of a record and its copy shows this.
 fn compare_joined_copy(rt: &(impl AllocGlobal + Abort), record: &GxRec, copy: &GxRec, want: &str) {
     let both = record.joined_copy(copy).expect(rt, "memory");
     compare(rt, &both, want);
+    drop(both);
 }
 
 /// Whether a copy of a record shows this, and the join of both.
@@ -148,17 +179,22 @@ fn compare_copies(rt: &(impl AllocGlobal + Abort), record: &GxRec, want: &str) {
     let copy = record.try_copy().expect(rt, "memory");
     compare(rt, &copy, want);
     compare_joined_copy(rt, record, &copy, want);
+    drop(copy);
 }
 
 /// Whether copies of a record show what it shows.
 fn compare_with_copies(rt: &(impl AllocGlobal + Abort), record: &GxRec) {
     let want = gx_text(rt.alloc(), record).expect(rt, "memory");
     compare_copies(rt, record, want.as_str());
+    drop(want);
 }
 
 #[test]
 fn a_copy_and_a_joined_copy_show_the_same(rt: HostRuntime) {
     let mut record = GxRec::start(rt.alloc());
-    join_part(&rt, &mut record, &initial_request(&rt, tag(0, 1, 0), 1));
+    let facts = initial_request(&rt, tag(0, 1, 0), 1);
+    join_part(&rt, &mut record, &facts);
+    drop(facts);
     compare_with_copies(&rt, &record);
+    drop(record);
 }

@@ -6,6 +6,7 @@ use pcrf_values::{Apn, DiameterIdentity, Filters, Rule, RuleName, Subscribers};
 use std::alloc::{AllocError, Global};
 use std::fmt::Write as _;
 use std::net::Ipv4Addr;
+use std::process::Abort;
 
 /// Bytes of ASCII.
 fn put_text(out: &mut String, bytes: &[u8]) -> Result<(), AllocError> {
@@ -13,6 +14,11 @@ fn put_text(out: &mut String, bytes: &[u8]) -> Result<(), AllocError> {
         out.push(char::from(byte))?;
     }
     Ok(())
+}
+
+/// Whether a text is this one.
+pub fn compare_text(rt: &impl Abort, text: &str, want: &str) {
+    assert_eq!(rt; text, want);
 }
 
 fn put_tag(out: &mut String, tag: Tag) -> Result<(), AllocError> {
@@ -132,7 +138,9 @@ fn put_gx(out: &mut String, alloc: Global, record: &GxRec) -> Result<(), AllocEr
     put_gx_fields(out, record)?;
     put_told(out, record)?;
     let told = record.told(alloc)?;
-    put_rules(out, told.as_slice())
+    let put = put_rules(out, told.as_slice());
+    drop(told);
+    put
 }
 
 /// What a Gx record shows.
@@ -200,6 +208,16 @@ fn put_flow_fields(
 fn put_flow(out: &mut String, record: &AfRec, component: u32, flow: u32) -> Result<(), AllocError> {
     write!(out, "; flow {component}/{flow}")?;
     put_flow_fields(out, record, component, flow)?;
+    put_shown(out, record, component, flow)
+}
+
+/// The status and the rates that a flow shows.
+fn put_shown(
+    out: &mut String,
+    record: &AfRec,
+    component: u32,
+    flow: u32,
+) -> Result<(), AllocError> {
     let rates = record.flow_rates(component, flow);
     let status = record.flow_status(component, flow).number();
     write!(out, " shows {status}")?;

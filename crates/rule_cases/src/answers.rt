@@ -5,7 +5,7 @@ use crate::tables::tables;
 use crate::words::{address, subscriber, text};
 use bind_index::{bind, sessions_at, sessions_of};
 use pcc_rules::derive;
-use pcrf_values::{Rule, SessionId};
+use pcrf_values::{Rule, RuleQos, SessionId};
 use site_join::State;
 use std::alloc::{AllocError, AllocGlobal};
 use std::fmt::Write as _;
@@ -28,21 +28,22 @@ fn put_sessions(out: &mut String, sessions: &[SessionId]) -> Result<(), AllocErr
     Ok(())
 }
 
+/// The class, the rates up and down, and the priority.
+fn put_qos(out: &mut String, qos: RuleQos) -> Result<(), AllocError> {
+    write!(out, " {}", qos.class.get())?;
+    write!(out, " {} {}", qos.max_uplink, qos.max_downlink)?;
+    let level = qos.priority.level.get();
+    let capability = qos.priority.capability.number();
+    let vulnerability = qos.priority.vulnerability.number();
+    write!(out, " {level}/{capability}/{vulnerability}")
+}
+
 /// A line with the precedence, the name, the status, the class, the rates up and down, the priority and the filters.
 pub fn put_rule(out: &mut String, rule: &Rule) -> Result<(), AllocError> {
-    let qos = rule.qos();
-    let priority = qos.priority;
     write!(out, "\n> {} ", rule.precedence())?;
     put_text(out, rule.name().as_slice())?;
-    write!(out, " {} {}", rule.status().number(), qos.class.get())?;
-    write!(out, " {} {}", qos.max_uplink, qos.max_downlink)?;
-    let capability = priority.capability.number();
-    let vulnerability = priority.vulnerability.number();
-    write!(
-        out,
-        " {}/{capability}/{vulnerability}",
-        priority.level.get()
-    )?;
+    write!(out, " {}", rule.status().number())?;
+    put_qos(out, rule.qos())?;
     for filter in rule.filters().as_slice() {
         out.push_str(" ")?;
         put_text(out, filter.as_slice())?;
@@ -52,30 +53,53 @@ pub fn put_rule(out: &mut String, rule: &Rule) -> Result<(), AllocError> {
 
 /// The gateway's session to which a call is bound.
 pub fn put_bound(rt: &(impl AllocGlobal + Abort), state: &State, id: &str, out: &mut String) {
-    if let Some(session) = bind(state, &text(rt, id)) {
+    let id = text(rt, id);
+    if let Some(session) = bind(state, &id) {
         out.push_str(" ").expect(rt, "memory");
         put_text(out, session.as_slice()).expect(rt, "memory");
     }
+    drop(id);
 }
 
 /// The live sessions that have an address.
 fn put_at(rt: &(impl AllocGlobal + Abort), state: &State, word: &str, out: &mut String) {
     let sessions = sessions_at(rt.alloc(), state, address(rt, word)).expect(rt, "memory");
     put_sessions(out, sessions.as_slice()).expect(rt, "memory");
+    drop(sessions);
 }
 
 /// The live sessions that have a subscriber.
 fn put_of(rt: &(impl AllocGlobal + Abort), state: &State, word: &str, out: &mut String) {
-    let sessions = sessions_of(rt.alloc(), state, &subscriber(rt, word)).expect(rt, "memory");
+    let subscriber = subscriber(rt, word);
+    let sessions = sessions_of(rt.alloc(), state, &subscriber).expect(rt, "memory");
+    drop(subscriber);
     put_sessions(out, sessions.as_slice()).expect(rt, "memory");
+    drop(sessions);
 }
 
 /// The rules of a gateway's session.
-fn put_rules(rt: &(impl AllocGlobal + Abort), state: &State, id: &str, out: &mut String) {
-    let rules = derive(rt.alloc(), &tables(rt), state, &text(rt, id)).expect(rt, "memory");
-    for rule in &rules {
-        put_rule(out, rule).expect(rt, "memory");
+fn rules_of(rt: &(impl AllocGlobal + Abort), state: &State, id: &str) -> Vec<Rule> {
+    let tables = tables(rt);
+    let id = text(rt, id);
+    let rules = derive(rt.alloc(), &tables, state, &id).expect(rt, "memory");
+    drop(id);
+    drop(tables);
+    rules
+}
+
+/// These rules.
+pub fn put_rules(out: &mut String, rules: &[Rule]) -> Result<(), AllocError> {
+    for rule in rules {
+        put_rule(out, rule)?;
     }
+    Ok(())
+}
+
+/// The rules of a gateway's session.
+fn put_rules_of(rt: &(impl AllocGlobal + Abort), state: &State, id: &str, out: &mut String) {
+    let rules = rules_of(rt, state, id);
+    put_rules(out, rules.as_slice()).expect(rt, "memory");
+    drop(rules);
 }
 
 /// The answer to a question.
@@ -84,7 +108,7 @@ pub fn put_answer(rt: &(impl AllocGlobal + Abort), state: &State, asked: &str, o
         ("bound", id) => put_bound(rt, state, id, out),
         ("at", word) => put_at(rt, state, word, out),
         ("of", word) => put_of(rt, state, word, out),
-        ("rules", id) => put_rules(rt, state, id, out),
+        ("rules", id) => put_rules_of(rt, state, id, out),
         ("bindings", _) => put_bindings(rt, state, out),
         ("value", _) => put_value(rt, state, out),
         _ => panic!(rt; "{asked}"),

@@ -117,19 +117,23 @@ fn part(case: &str, at: usize) -> &str {
 /// Whether a difference is the one that a case has.
 fn compare(rt: &(impl AllocGlobal + Abort), case: &str, delta: &Delta) {
     let removed = names(rt, part(case, 2));
-    assert!(rt; delta.removed() == removed.as_slice(), "removed: {case}");
+    let is_same = delta.removed() == removed.as_slice();
+    drop(removed);
+    assert!(rt; is_same, "removed: {case}");
     let installed = rules(rt, part(case, 3));
-    assert!(rt;
-        delta.installed() == installed.as_slice(),
-        "installed: {case}"
-    );
+    let is_same = delta.installed() == installed.as_slice();
+    drop(installed);
+    assert!(rt; is_same, "installed: {case}");
 }
 
 /// Whether a gateway has afterwards what a case has.
 fn compare_after(rt: &(impl AllocGlobal + Abort), case: &str, before: &Told, delta: &Delta) {
     let after = apply(rt.alloc(), before, delta).expect(rt, "memory");
     let wanted = told(rt, part(case, 4));
-    assert!(rt; after.as_slice() == wanted.as_slice(), "afterwards: {case}");
+    let is_same = after.as_slice() == wanted.as_slice();
+    drop(wanted);
+    drop(after);
+    assert!(rt; is_same, "afterwards: {case}");
 }
 
 /// Tries one case.
@@ -137,8 +141,11 @@ fn check(rt: &(impl AllocGlobal + Abort), case: &str) {
     let before = told(rt, part(case, 0));
     let wanted = rules(rt, part(case, 1));
     let delta = difference(rt.alloc(), &before, wanted.as_slice()).expect(rt, "memory");
+    drop(wanted);
     compare(rt, case, &delta);
     compare_after(rt, case, &before, &delta);
+    drop(delta);
+    drop(before);
 }
 
 #[test]
@@ -157,16 +164,34 @@ fn words_of(rt: &(impl AllocGlobal + Abort), count: u32) -> String {
     words
 }
 
-/// How many rules the first forty entries install, and then the next, where so many are to be installed.
+/// The first forty entries of what a gateway is to be told.
+fn first_told(rt: &(impl AllocGlobal + Abort), told: &Told, wanted: &[Rule]) -> Delta {
+    let delta = difference(rt.alloc(), told, wanted).expect(rt, "memory");
+    delta.first(40)
+}
+
+/// How many rules the first forty entries install, and then the next, where these are to be installed.
+fn installed_in_turn(rt: &(impl AllocGlobal + Abort), wanted: &[Rule]) -> (usize, usize) {
+    let none = told(rt, "");
+    let first = first_told(rt, &none, wanted);
+    let after = apply(rt.alloc(), &none, &first).expect(rt, "memory");
+    drop(none);
+    let next = first_told(rt, &after, wanted);
+    drop(after);
+    let counts = (first.installed().len(), next.installed().len());
+    drop(next);
+    drop(first);
+    counts
+}
+
+/// How many they are, where so many are to be installed.
 fn told_in_turn(rt: &(impl AllocGlobal + Abort), count: u32) -> (usize, usize) {
     let words = words_of(rt, count);
     let wanted = rules(rt, words.as_str());
-    let none = told(rt, "");
-    let delta = difference(rt.alloc(), &none, wanted.as_slice()).expect(rt, "memory");
-    let first = delta.first(40);
-    let after = apply(rt.alloc(), &none, &first).expect(rt, "memory");
-    let rest = difference(rt.alloc(), &after, wanted.as_slice()).expect(rt, "memory");
-    (first.installed().len(), rest.first(40).installed().len())
+    drop(words);
+    let counts = installed_in_turn(rt, wanted.as_slice());
+    drop(wanted);
+    counts
 }
 
 #[test]

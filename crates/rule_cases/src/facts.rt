@@ -133,8 +133,8 @@ fn alone<F: Drop>(rt: &(impl AllocGlobal + Abort), fact: F) -> Vec<F> {
     facts
 }
 
-/// Takes the operation of a line.
-pub fn take(rt: &(impl AllocGlobal + Abort), state: &mut State, line: &str) {
+/// The operation of a line.
+fn operation(rt: &(impl AllocGlobal + Abort), line: &str) -> Operation {
     let (request, rest) = parted(rt, line, ' ');
     let (id, rest) = parted(rt, rest, ' ');
     let (stamp, words) = rest.split_once(' ').unwrap_or((rest, ""));
@@ -147,6 +147,12 @@ pub fn take(rt: &(impl AllocGlobal + Abort), state: &mut State, line: &str) {
         _ => SessionFacts::Gx(text(rt, id), gateway_facts(rt, request, at, words)),
     };
     let made = Operation::of(at.counter, at.site, at.number, facts);
-    let made = made.expect(rt, "an operation");
+    made.expect(rt, "an operation")
+}
+
+/// Takes the operation of a line.
+pub fn take(rt: &(impl AllocGlobal + Abort), state: &mut State, line: &str) {
+    let made = operation(rt, line);
     state.take(&made).expect(rt, "memory");
+    drop(made);
 }

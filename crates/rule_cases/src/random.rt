@@ -107,7 +107,15 @@ fn end_one(rt: &(impl AllocGlobal + Abort), place: u64, list: &mut [Session], st
         let id = ended.id;
         let line = format!(in rt.alloc(); "terminate {id:08x} @1.9.0").expect(rt, "memory");
         take(rt, state, line.as_str());
+        drop(line);
     }
+}
+
+/// Takes the request that makes a session.
+fn take_request(rt: &(impl AllocGlobal + Abort), state: &mut State, request: &str, made: Session) {
+    let line = line(rt, request, made);
+    take(rt, state, line.as_str());
+    drop(line);
 }
 
 /// Whether a gateway's session has what a call asks for.
@@ -128,16 +136,30 @@ fn bound(list: &[Session], call: Session) -> Option<(u64, u64, u32)> {
     best
 }
 
+/// Whether a call is bound so.
+fn compare_bound(rt: &impl Abort, call: &str, given: &str, wanted: &str) {
+    assert_eq!(rt; given, wanted, "the call {call}");
+}
+
+/// The gateway's session to which a state binds a call.
+fn bound_in(rt: &(impl AllocGlobal + Abort), state: &State, call: &str) -> String {
+    let mut given = String::new(rt.alloc());
+    put_bound(rt, state, call, &mut given);
+    given
+}
+
 /// Whether a state binds a call so.
 fn compare(rt: &(impl AllocGlobal + Abort), state: &State, call: u32, wanted: Option<u32>) {
     let call = format!(in rt.alloc(); "{call:08x}").expect(rt, "memory");
-    let mut given = String::new(rt.alloc());
-    put_bound(rt, state, call.as_str(), &mut given);
+    let given = bound_in(rt, state, call.as_str());
     let wanted = match wanted {
         Some(id) => format!(in rt.alloc(); " {id:08x}").expect(rt, "memory"),
         None => String::new(rt.alloc()),
     };
-    assert_eq!(rt; given.as_str(), wanted.as_str(), "the call {call}");
+    compare_bound(rt, call.as_str(), given.as_str(), wanted.as_str());
+    drop(wanted);
+    drop(given);
+    drop(call);
 }
 
 /// Another session that matches has an address of the same counter and site, so that the Session-Id decides.
@@ -185,16 +207,19 @@ fn calls_drawn_from_a_seed_are_bound_as_a_plain_list_has_it(rt: HostRuntime) {
     let mut counts = Counts::default();
     for number in 0..300u32 {
         let made = gateway(&mut draws, number.wrapping_mul(0x9e37_79b1));
-        take(&rt, &mut state, line(&rt, "initial", made).as_str());
+        take_request(&rt, &mut state, "initial", made);
         list.push(made).expect(&rt, "memory");
         end_one(&rt, draws.below(400), list.as_mut_slice(), &mut state);
         let asking = call(&mut draws, number);
-        take(&rt, &mut state, line(&rt, "call", asking).as_str());
+        take_request(&rt, &mut state, "call", asking);
         calls.push(asking).expect(&rt, "memory");
         if number % 60 == 59 {
             compare_all(&rt, &state, list.as_slice(), calls.as_slice(), &mut counts);
         }
     }
+    drop(calls);
+    drop(list);
+    drop(state);
     assert_eq!(rt; counts.compared, 900);
     assert!(rt; counts.bound >= 200 && counts.bound <= 700, "{counts:?}");
     assert!(rt; counts.by_id >= 20, "{counts:?}");

@@ -20,32 +20,43 @@ fn obey(rt: &(impl AllocGlobal + Abort), state: &mut State, line: &str, out: &mu
     }
 }
 
-/// A transcript with the answers that are given in the place of those that it has.
-fn answered(rt: &(impl AllocGlobal + Abort), transcript: &str) -> String {
-    let mut out = String::new(rt.alloc());
+/// Forgets all that a state took.
+fn clear(rt: &(impl AllocGlobal + Abort), state: &mut State) {
+    *state = State::start(rt.alloc());
+}
+
+/// Writes a transcript with the answers that are given in the place of those that it has.
+fn put_answered(rt: &(impl AllocGlobal + Abort), transcript: &str, out: &mut String) {
     let mut state = State::start(rt.alloc());
     for line in transcript.lines() {
         if line.starts_with("> ") {
             continue;
         }
         if line.starts_with("# ") {
-            state = State::start(rt.alloc());
+            clear(rt, &mut state);
         }
-        obey(rt, &mut state, line, &mut out);
+        obey(rt, &mut state, line, out);
         out.push_str("\n").expect(rt, "memory");
     }
-    out
+    drop(state);
 }
 
-/// Whether each answer is the one that the transcript has.
-pub fn replay(rt: &(impl AllocGlobal + Abort), transcript: &str) {
-    let given = answered(rt, transcript);
+/// Whether a transcript with the given answers is the transcript.
+fn compare(rt: &impl Abort, given: &str, transcript: &str) {
     let pairs = given.lines().zip(transcript.lines());
     let common = pairs.take_while(|(got, want)| got == want).count();
     let got = given.lines().nth(common).unwrap_or("nothing");
     let want = transcript.lines().nth(common).unwrap_or("nothing");
     assert!(rt;
-        given.as_str() == transcript,
+        given == transcript,
         "line {common}:\n{got}\nin place of\n{want}"
     );
+}
+
+/// Whether each answer is the one that the transcript has.
+pub fn replay(rt: &(impl AllocGlobal + Abort), transcript: &str) {
+    let mut given = String::new(rt.alloc());
+    put_answered(rt, transcript, &mut given);
+    compare(rt, given.as_str(), transcript);
+    drop(given);
 }

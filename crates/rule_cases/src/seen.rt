@@ -1,11 +1,13 @@
 //! What an operator sees: `bindings`, and `value` with a line for the clock and for each session; behind a live one stand
 //! its fields, a gateway's home, rules and told rules, and a call's binding.
-use crate::answers::put_rule;
+use crate::answers::{put_rule, put_rules};
 use crate::replay::replay;
 use crate::tables::tables;
 use af_records::{ComponentValue, FlowValue};
-use operator_view::{AfField, AfSeen, GxSeen, SessionSeen, bindings, value};
-use pcrf_values::{SessionId, Subscriber};
+use operator_view::{
+    AfField, AfSeen, GxClient, GxSeen, GxUser, OperatorValue, SessionSeen, bindings, value,
+};
+use pcrf_values::{Rule, RuleName, SessionId, Subscriber};
 use ranked::Ranked;
 use record_levels::SessionValue;
 use site_join::State;
@@ -39,32 +41,56 @@ fn put_binding(out: &mut String, binding: &Option<SessionId>) -> Result<(), Allo
     }
 }
 
+/// Each call with its binding.
+fn put_all_bindings(
+    out: &mut String,
+    found: &[(SessionId, Option<SessionId>)],
+) -> Result<(), AllocError> {
+    for (session, binding) in found {
+        put_word(out, "", session.as_slice())?;
+        put_binding(out, binding)?;
+    }
+    Ok(())
+}
+
 /// Each live call with its binding.
 pub fn put_bindings(rt: &(impl AllocGlobal + Abort), state: &State, out: &mut String) {
     let found = bindings(rt.alloc(), state).expect(rt, "memory");
-    for (session, binding) in &found {
-        put_word(out, "", session.as_slice()).expect(rt, "memory");
-        put_binding(out, binding).expect(rt, "memory");
-    }
+    put_all_bindings(out, found.as_slice()).expect(rt, "memory");
+    drop(found);
 }
 
-/// What a gateway's live session shows.
-fn put_gateway(out: &mut String, seen: &GxSeen) -> Result<(), AllocError> {
-    write!(out, " {}", seen.user.address)?;
-    put_word(out, "", seen.user.apn.as_slice())?;
-    put_subscribers(out, seen.user.subscribers.as_slice())?;
-    put_word(out, "", seen.client.host.as_slice())?;
-    put_word(out, "", seen.client.realm.as_slice())?;
-    write!(out, " {} home {}", seen.client.last.get(), seen.home)?;
-    for rule in &seen.rules {
-        put_rule(out, rule)?;
-    }
-    for (name, rule) in seen.told.as_slice() {
+/// The user of a gateway's live session.
+fn put_user(out: &mut String, user: &GxUser) -> Result<(), AllocError> {
+    write!(out, " {}", user.address)?;
+    put_word(out, "", user.apn.as_slice())?;
+    put_subscribers(out, user.subscribers.as_slice())
+}
+
+/// The gateway of a live session.
+fn put_client(out: &mut String, client: &GxClient) -> Result<(), AllocError> {
+    put_word(out, "", client.host.as_slice())?;
+    put_word(out, "", client.realm.as_slice())?;
+    write!(out, " {}", client.last.get())
+}
+
+/// The rules that a gateway was told.
+fn put_told(out: &mut String, told: &[(RuleName, Rule)]) -> Result<(), AllocError> {
+    for (name, rule) in told {
         out.push_str("\n>")?;
         put_word(out, "told ", name.as_slice())?;
         put_rule(out, rule)?;
     }
     Ok(())
+}
+
+/// What a gateway's live session shows.
+fn put_gateway(out: &mut String, seen: &GxSeen) -> Result<(), AllocError> {
+    put_user(out, &seen.user)?;
+    put_client(out, &seen.client)?;
+    write!(out, " home {}", seen.home)?;
+    put_rules(out, seen.rules.as_slice())?;
+    put_told(out, seen.told.as_slice())
 }
 
 /// A field of a session.
@@ -119,30 +145,55 @@ fn put_call(out: &mut String, seen: &AfSeen) -> Result<(), AllocError> {
     Ok(())
 }
 
+/// What gateways' sessions show.
+fn put_gateways(
+    out: &mut String,
+    sessions: &[(SessionId, SessionSeen<GxSeen>)],
+) -> Result<(), AllocError> {
+    for (session, seen) in sessions {
+        out.push_str("\n>")?;
+        put_word(out, "", session.as_slice())?;
+        match seen {
+            SessionSeen::Ended => out.push_str(" ended")?,
+            SessionSeen::Partial => out.push_str(" partial")?,
+            SessionSeen::Live(shown) => put_gateway(out, shown)?,
+        }
+    }
+    Ok(())
+}
+
+/// What calls show.
+fn put_calls(
+    out: &mut String,
+    sessions: &[(SessionId, SessionSeen<AfSeen>)],
+) -> Result<(), AllocError> {
+    for (session, seen) in sessions {
+        out.push_str("\n>")?;
+        put_word(out, "", session.as_slice())?;
+        match seen {
+            SessionSeen::Ended => out.push_str(" ended")?,
+            SessionSeen::Partial => out.push_str(" partial")?,
+            SessionSeen::Live(shown) => put_call(out, shown)?,
+        }
+    }
+    Ok(())
+}
+
 /// All that is seen.
+fn seen(rt: &(impl AllocGlobal + Abort), state: &State) -> OperatorValue {
+    let tables = tables(rt);
+    let seen = value(rt.alloc(), &tables, state).expect(rt, "memory");
+    drop(tables);
+    seen
+}
+
+/// Puts all that is seen.
 pub fn put_value(rt: &(impl AllocGlobal + Abort), state: &State, out: &mut String) {
-    let seen = value(rt.alloc(), &tables(rt), state).expect(rt, "memory");
+    let seen = seen(rt, state);
     write!(out, " {}", seen.clock).expect(rt, "memory");
-    for (session, seen) in &seen.gx {
-        out.push_str("\n>").expect(rt, "memory");
-        put_word(out, "", session.as_slice()).expect(rt, "memory");
-        match seen {
-            SessionSeen::Ended => out.push_str(" ended"),
-            SessionSeen::Partial => out.push_str(" partial"),
-            SessionSeen::Live(shown) => put_gateway(out, shown),
-        }
-        .expect(rt, "memory");
-    }
-    for (session, seen) in &seen.af {
-        out.push_str("\n>").expect(rt, "memory");
-        put_word(out, "", session.as_slice()).expect(rt, "memory");
-        match seen {
-            SessionSeen::Ended => out.push_str(" ended"),
-            SessionSeen::Partial => out.push_str(" partial"),
-            SessionSeen::Live(shown) => put_call(out, shown),
-        }
-        .expect(rt, "memory");
-    }
+    put_gateways(out, seen.gx.as_slice()).expect(rt, "memory");
+    put_calls(out, seen.af.as_slice()).expect(rt, "memory");
+    drop(seen);
 }
 
 const SEEN: &str = r"

@@ -23,20 +23,25 @@ fn told(words: &str) -> Option<Refusal> {
     Some(refusal(words))
 }
 
+/// A host or a realm.
+fn name(alloc: Global, text: &[u8]) -> Result<DiameterIdentity, AllocError> {
+    DiameterIdentity::read(alloc, text)?.ok_or(AllocError)
+}
+
 /// Who answers.
-fn identity(alloc: Global) -> Result<Option<Identity>, AllocError> {
-    let Some(host) = DiameterIdentity::read(alloc, b"s0")? else {
-        return Ok(None);
-    };
-    let Some(realm) = DiameterIdentity::read(alloc, b"r")? else {
-        return Ok(None);
-    };
-    let address = Ipv4Addr::new(192, 0, 2, 1);
-    Ok(Some(Identity {
+fn identity(alloc: Global) -> Result<Identity, AllocError> {
+    let host = name(alloc, b"s0")?;
+    let realm = name(alloc, b"r")?;
+    Ok(Identity {
         host,
         realm,
-        address,
-    }))
+        address: Ipv4Addr::new(192, 0, 2, 1),
+    })
+}
+
+/// The session of the answers that are written.
+fn session(alloc: Global) -> Result<SessionId, AllocError> {
+    SessionId::read(alloc, b"af;1")?.ok_or(AllocError)
 }
 
 /// The header of the request, with P.
@@ -55,21 +60,34 @@ fn header(command: u32) -> Header {
     }
 }
 
-/// The answer that a line asks for.
-fn answer(alloc: Global, line: &str) -> Result<Option<Message>, AllocError> {
-    let Some(identity) = identity(alloc)? else {
-        return Ok(None);
-    };
-    let Some(session) = SessionId::read(alloc, b"af;1")? else {
-        return Ok(None);
-    };
+/// The answer that a line asks for, in a session.
+fn answer_in(
+    alloc: Global,
+    identity: &Identity,
+    session: &SessionId,
+    line: &str,
+) -> Result<Message, AllocError> {
     if let Some(words) = line.strip_prefix("aaa ") {
-        let message = write_aaa(alloc, &identity, &header(265), &session, told(words))?;
-        return Ok(Some(message));
+        return write_aaa(alloc, identity, &header(265), session, told(words));
     }
     let words = line.strip_prefix("sta ").unwrap_or("");
-    let message = write_sta(alloc, &identity, &header(275), &session, told(words))?;
-    Ok(Some(message))
+    write_sta(alloc, identity, &header(275), session, told(words))
+}
+
+/// The answer that a line asks for, by who answers.
+fn answer_by(alloc: Global, identity: &Identity, line: &str) -> Result<Message, AllocError> {
+    let session = session(alloc)?;
+    let answer = answer_in(alloc, identity, &session, line);
+    drop(session);
+    answer
+}
+
+/// The answer that a line asks for.
+fn answer(alloc: Global, line: &str) -> Result<Message, AllocError> {
+    let identity = identity(alloc)?;
+    let answer = answer_by(alloc, &identity, line);
+    drop(identity);
+    answer
 }
 
 /// The bytes of an answer; none where it is no answer.
@@ -78,17 +96,20 @@ fn bytes_of(alloc: Global, message: &Message) -> Vec<u8> {
     if header.flags.request || header.command >= 1 << 24 {
         return Vec::new(alloc);
     }
-    write_message(alloc, message)
-        .ok()
-        .unwrap_or(Vec::new(alloc))
+    match write_message(alloc, message) {
+        Ok(bytes) => bytes,
+        Err(_) => Vec::new(alloc),
+    }
 }
 
 /// Writes the answer that a line asks for.
 pub fn put_answer(alloc: Global, line: &str, out: &mut String) -> Result<(), AllocError> {
-    let Some(message) = answer(alloc, line)? else {
-        return out.push_str("no answer");
-    };
-    put_hexadecimal(out, bytes_of(alloc, &message).as_slice())
+    let message = answer(alloc, line)?;
+    let bytes = bytes_of(alloc, &message);
+    drop(message);
+    let put = put_hexadecimal(out, bytes.as_slice());
+    drop(bytes);
+    put
 }
 
 /// The Session-Id that an answer repeats.
@@ -106,14 +127,29 @@ fn session_of(request: &Message) -> Option<&[u8]> {
     None
 }
 
-/// The bytes of the answer that refuses a request.
-fn refused(alloc: Global, request: &Message, refusal: Refusal) -> Result<Vec<u8>, AllocError> {
-    let Some(identity) = identity(alloc)? else {
-        return Ok(Vec::new(alloc));
-    };
+/// The answer that refuses a request.
+fn refused(alloc: Global, request: &Message, refusal: Refusal) -> Result<Message, AllocError> {
+    let identity = identity(alloc)?;
     let session = session_of(request);
-    let answer = refusal_answer(alloc, &identity, &request.header, refusal, session)?;
-    Ok(bytes_of(alloc, &answer))
+    let answer = refusal_answer(alloc, &identity, &request.header, refusal, session);
+    drop(identity);
+    answer
+}
+
+/// Whether an answer has these bytes.
+fn has_bytes(alloc: Global, answer: &Message, wanted: &[u8]) -> bool {
+    let written = bytes_of(alloc, answer);
+    let is_same = written.as_slice() == wanted;
+    drop(written);
+    is_same
+}
+
+/// Whether an answer has the bytes that the encoder of `test_messages` gives.
+fn is_wanted(alloc: Global, answer: &Message, wanted: SiteAnswer) -> Result<bool, AllocError> {
+    let bytes = wanted.bytes(alloc)?;
+    let is_same = has_bytes(alloc, answer, bytes.as_slice());
+    drop(bytes);
+    Ok(is_same)
 }
 
 /// Whether the answer that refuses a request has the bytes that the encoder of `test_messages` gives.
@@ -134,7 +170,8 @@ pub fn is_answered(
         },
         served: None,
     };
-    let wanted = wanted.bytes(alloc)?;
-    let written = refused(alloc, request, refusal)?;
-    Ok(written == wanted)
+    let answer = refused(alloc, request, refusal)?;
+    let is_answered = is_wanted(alloc, &answer, wanted);
+    drop(answer);
+    is_answered
 }

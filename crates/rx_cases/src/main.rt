@@ -38,11 +38,20 @@ fn head(command: u32) -> Head {
     }
 }
 
-/// A request of Rx with a command, and the AVPs that the words say.
-fn request(alloc: Global, command: u32, words: &str) -> Result<Option<Message>, AllocError> {
+/// The bytes of a request of Rx with a command, and the AVPs that the words say.
+fn bytes_of(alloc: Global, command: u32, words: &str) -> Result<Vec<u8>, AllocError> {
     let avps = avps_of(alloc, words)?;
-    let bytes = message(alloc, &head(command), &avps)?;
-    Ok(read_message(alloc, bytes.as_slice()).ok())
+    let bytes = message(alloc, &head(command), &avps);
+    drop(avps);
+    bytes
+}
+
+/// That request.
+fn request(alloc: Global, command: u32, words: &str) -> Result<Option<Message>, AllocError> {
+    let bytes = bytes_of(alloc, command, words)?;
+    let request = read_message(alloc, bytes.as_slice()).ok();
+    drop(bytes);
+    Ok(request)
 }
 
 /// The fault, and whether the bytes of its answer are others than they have to be.
@@ -64,48 +73,64 @@ fn put_refused(
 }
 
 /// What an AA request is read as.
-fn put_read_aar(alloc: Global, words: &str, out: &mut String) -> Result<(), AllocError> {
-    let Some(request) = request(alloc, AUTHORIZATION, words)? else {
-        return out.push_str("no message");
+fn put_read_aar(alloc: Global, request: &Message, out: &mut String) -> Result<(), AllocError> {
+    let read = read_aar(alloc, request);
+    let put = match &read {
+        Ok(aar) => put_aar(out, aar),
+        Err(fault) => put_refused(alloc, request, AUTHORIZATION, *fault, out),
     };
-    match read_aar(alloc, &request) {
-        Ok(aar) => put_aar(out, &aar),
-        Err(fault) => put_refused(alloc, &request, AUTHORIZATION, fault, out),
-    }
+    drop(read);
+    put
 }
 
 /// What a session termination request is read as.
-fn put_read_str(alloc: Global, words: &str, out: &mut String) -> Result<(), AllocError> {
-    let Some(request) = request(alloc, TERMINATION, words)? else {
-        return out.push_str("no message");
+fn put_read_str(alloc: Global, request: &Message, out: &mut String) -> Result<(), AllocError> {
+    let read = read_str(alloc, request);
+    let put = match &read {
+        Ok(termination) => put_str(out, termination),
+        Err(fault) => put_refused(alloc, request, TERMINATION, *fault, out),
     };
-    match read_str(alloc, &request) {
-        Ok(termination) => put_str(out, &termination),
-        Err(fault) => put_refused(alloc, &request, TERMINATION, fault, out),
-    }
+    drop(read);
+    put
 }
 
-/// What a line makes.
-fn line_of(alloc: Global, line: &str) -> Result<String, AllocError> {
-    let mut out = String::new(alloc);
+/// What a request with a command is read as.
+fn put_read(alloc: Global, command: u32, words: &str, out: &mut String) -> Result<(), AllocError> {
+    let request = request(alloc, command, words)?;
+    let put = match &request {
+        None => out.push_str("no message"),
+        Some(request) if command == AUTHORIZATION => put_read_aar(alloc, request, out),
+        Some(request) => put_read_str(alloc, request, out),
+    };
+    drop(request);
+    put
+}
+
+/// Puts what a line makes.
+fn put_line(alloc: Global, line: &str, out: &mut String) -> Result<(), AllocError> {
     if let Some(words) = line.strip_prefix("aar ") {
-        put_read_aar(alloc, words, &mut out)?;
-    } else if let Some(words) = line.strip_prefix("str ") {
-        put_read_str(alloc, words, &mut out)?;
-    } else if line.starts_with("aaa ") || line.starts_with("sta ") {
-        put_answer(alloc, line, &mut out)?;
-    } else {
-        out.push_str(line)?;
+        return put_read(alloc, AUTHORIZATION, words, out);
     }
-    Ok(out)
+    if let Some(words) = line.strip_prefix("str ") {
+        return put_read(alloc, TERMINATION, words, out);
+    }
+    if line.starts_with("aaa ") || line.starts_with("sta ") {
+        return put_answer(alloc, line, out);
+    }
+    out.push_str(line)
+}
+
+/// Writes what a line makes.
+fn print_line(rt: &HostRuntime, line: &str) -> io::Result<()> {
+    let mut out = String::new(rt.alloc());
+    put_line(rt.alloc(), line, &mut out)?;
+    println!(rt; "{out}")
 }
 
 /// Reads the lines, and writes what each makes.
 fn run(rt: &HostRuntime) -> io::Result<()> {
     for line in rt.lines(rt.alloc()) {
-        let line = line?;
-        let out = line_of(rt.alloc(), line.as_str())?;
-        println!(rt; "{out}")?;
+        print_line(rt, line?.as_str())?;
     }
     Ok(())
 }

@@ -61,31 +61,73 @@ fn ended_filter(alloc: Global, byte: u32) -> Result<Vec<u8>, AllocError> {
     Ok(bytes)
 }
 
+/// Puts an AVP that has a value.
+fn put_value(avps: &mut Avps, code: &str, value: Vec<u8>) -> Result<(), AllocError> {
+    let put = put_named(avps, code, value.as_slice());
+    drop(value);
+    put
+}
+
 /// Puts the AVP that a word says.
 fn put_word(alloc: Global, avps: &mut Avps, word: &str) -> Result<(), AllocError> {
     if let Some((code, text)) = word.split_once('=') {
-        let value = spaced(alloc, text)?;
-        return put_named(avps, code, value.as_slice());
+        return put_value(avps, code, spaced(alloc, text)?);
     }
     if let Some((code, count)) = word.split_once('*') {
-        let value = long_filter(alloc, number(count))?;
-        return put_named(avps, code, value.as_slice());
+        return put_value(avps, code, long_filter(alloc, number(count))?);
     }
     if let Some((code, byte)) = word.split_once('^') {
-        let value = ended_filter(alloc, number(byte))?;
-        return put_named(avps, code, value.as_slice());
+        return put_value(avps, code, ended_filter(alloc, number(byte))?);
     }
     let (code, digits) = word.split_once(':').unwrap_or((word, ""));
     put_named(avps, code, &number(digits).to_be_bytes())
 }
 
+/// Begins a group.
+fn start_group(alloc: Global, levels: &mut Vec<Level>, code: u32) -> Result<(), AllocError> {
+    let avps = Avps::start(alloc);
+    levels.push(Level { code, avps })?;
+    Ok(())
+}
+
+/// Puts a group that is ended into the one round it.
+fn put_group(levels: &mut [Level], inner: &Level) -> Result<(), AllocError> {
+    match levels.last_mut() {
+        Some(outer) => put(&mut outer.avps, inner.code, inner.avps.as_slice()),
+        None => Ok(()),
+    }
+}
+
 /// Ends the innermost group.
 fn end_group(levels: &mut Vec<Level>) -> Result<(), AllocError> {
-    let Some(inner) = levels.pop() else {
-        return Ok(());
+    let inner = levels.pop();
+    let put = match &inner {
+        Some(inner) => put_group(levels.as_mut_slice(), inner),
+        None => Ok(()),
     };
-    if let Some(outer) = levels.last_mut() {
-        put(&mut outer.avps, inner.code, inner.avps.as_slice())?;
+    drop(inner);
+    put
+}
+
+/// Puts what a word says.
+fn put_next(alloc: Global, levels: &mut Vec<Level>, word: &str) -> Result<(), AllocError> {
+    if let Some(code) = word.strip_suffix("(") {
+        return start_group(alloc, levels, number(code));
+    }
+    if word == ")" {
+        return end_group(levels);
+    }
+    match levels.last_mut() {
+        Some(level) => put_word(alloc, &mut level.avps, word),
+        None => Ok(()),
+    }
+}
+
+/// Puts what the words say into the message itself.
+fn put_all(alloc: Global, levels: &mut Vec<Level>, words: &str) -> Result<(), AllocError> {
+    start_group(alloc, levels, 0)?;
+    for word in words.split(' ') {
+        put_next(alloc, levels, word)?;
     }
     Ok(())
 }
@@ -93,23 +135,10 @@ fn end_group(levels: &mut Vec<Level>) -> Result<(), AllocError> {
 /// The AVPs that the words say.
 pub fn avps_of(alloc: Global, words: &str) -> Result<Avps, AllocError> {
     let mut levels = Vec::new(alloc);
-    levels.push(Level {
-        code: 0,
-        avps: Avps::start(alloc),
-    })?;
-    for word in words.split(' ') {
-        if let Some(code) = word.strip_suffix("(") {
-            levels.push(Level {
-                code: number(code),
-                avps: Avps::start(alloc),
-            })?;
-        } else if word == ")" {
-            end_group(&mut levels)?;
-        } else if let Some(level) = levels.last_mut() {
-            put_word(alloc, &mut level.avps, word)?;
-        }
-    }
-    match levels.pop() {
+    put_all(alloc, &mut levels, words)?;
+    let whole = levels.pop();
+    drop(levels);
+    match whole {
         Some(level) => Ok(level.avps),
         None => Ok(Avps::start(alloc)),
     }

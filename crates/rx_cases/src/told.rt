@@ -1,5 +1,6 @@
 //! What was read, as a line of text.
-use dia_base::ReadFault;
+use dia_base::{Origin, ReadFault};
+use pcrf_values::SessionId;
 use rx_profile::{Aar, Component, Flow, FlowUsage, MediaStatus, Rates, Str};
 use std::alloc::AllocError;
 use std::fmt::Write as _;
@@ -30,14 +31,23 @@ pub fn put_fault(out: &mut String, fault: ReadFault) -> Result<(), AllocError> {
     write!(out, "{fault}")
 }
 
+/// A word of ASCII.
+fn put_word(out: &mut String, bytes: &[u8]) -> Result<(), AllocError> {
+    out.push_str(" ")?;
+    put_text(out, bytes)
+}
+
+/// The session and its origin.
+fn put_session(out: &mut String, session: &SessionId, origin: &Origin) -> Result<(), AllocError> {
+    put_word(out, session.as_slice())?;
+    put_word(out, origin.host.as_slice())?;
+    put_word(out, origin.realm.as_slice())
+}
+
 /// The session and its origin.
 pub fn put_str(out: &mut String, termination: &Str) -> Result<(), AllocError> {
-    out.push_str("str ")?;
-    put_text(out, termination.session.as_slice())?;
-    out.push_str(" ")?;
-    put_text(out, termination.origin.host.as_slice())?;
-    out.push_str(" ")?;
-    put_text(out, termination.origin.realm.as_slice())
+    out.push_str("str")?;
+    put_session(out, &termination.session, &termination.origin)
 }
 
 /// The number, the usage, the status, the rates and the filters of a flow.
@@ -92,12 +102,8 @@ fn put_access(out: &mut String, aar: &Aar) -> Result<(), AllocError> {
 
 /// The session, its origin, whom it serves, and its components.
 pub fn put_aar(out: &mut String, aar: &Aar) -> Result<(), AllocError> {
-    out.push_str("aar ")?;
-    put_text(out, aar.session.as_slice())?;
-    out.push_str(" ")?;
-    put_text(out, aar.origin.host.as_slice())?;
-    out.push_str(" ")?;
-    put_text(out, aar.origin.realm.as_slice())?;
+    out.push_str("aar")?;
+    put_session(out, &aar.session, &aar.origin)?;
     put_access(out, aar)?;
     for component in aar.components.as_slice() {
         put_component(out, component)?;

@@ -2,9 +2,9 @@
 use dia_codec::Counted;
 use op_tables::{Tables, read_tables};
 use pcrf_script::{ScriptEnd, run_script};
-use std::alloc::{AllocError, Global};
+use std::alloc::{AllocError, AllocGlobal, Global};
 use std::fmt::Write as _;
-use std::test::Fail;
+use std::process::Abort;
 use test_messages::{Avps, GX, Head, message, put_hexadecimal};
 
 /// What stands before the access points.
@@ -52,12 +52,9 @@ fn tables_text(alloc: Global) -> Result<String, AllocError> {
     Ok(text)
 }
 
-fn tables(alloc: Global) -> Result<Tables, Fail> {
-    let text = tables_text(alloc)?;
-    match read_tables(alloc, text.as_str()) {
-        Ok(tables) => Ok(tables),
-        Err(_) => Err(Fail::from("tables")),
-    }
+fn tables(rt: &(impl AllocGlobal + Abort)) -> Tables {
+    let text = tables_text(rt.alloc()).expect(rt, "memory");
+    read_tables(rt.alloc(), text.as_str()).expect(rt, "tables")
 }
 
 /// A request of the session: its CC-Request-Type and CC-Request-Number, and its access point name.
@@ -111,20 +108,22 @@ fn put_request(alloc: Global, script: &mut String, sent: Sent) -> Result<(), All
     script.push_str("\n")
 }
 
-/// What a script prints, without the bytes of its answers.
-fn printed(alloc: Global, script: &str) -> Result<String, Fail> {
-    let mut out = Vec::new(alloc);
+/// What a script prints, which ends well.
+fn all_printed(rt: &(impl AllocGlobal + Abort), script: &str) -> String {
+    let mut out = Vec::new(rt.alloc());
     let end = {
         let mut reader = Counted::start(script.as_bytes());
         let mut writer = Counted::start(&mut out);
-        run_script(alloc, tables(alloc)?, &mut reader, &mut writer)
+        run_script(rt.alloc(), tables(rt), &mut reader, &mut writer)
     };
-    if end != ScriptEnd::Done {
-        return Err(Fail::from("a script that ends"));
-    }
-    let all = String::from_utf8(out).ok().ok_or("text")?;
+    assert_eq!(rt; end, ScriptEnd::Done);
+    String::from_utf8(out).ok().expect(rt, "text")
+}
+
+/// Lines without the bytes of answers.
+fn without_bytes(alloc: Global, all: &str) -> Result<String, AllocError> {
     let mut text = String::new(alloc);
-    for line in all.as_str().lines() {
+    for line in all.lines() {
         let word = if line.starts_with("answer ") {
             "answer"
         } else {
@@ -133,6 +132,13 @@ fn printed(alloc: Global, script: &str) -> Result<String, Fail> {
         writeln!(text, "{word}")?;
     }
     Ok(text)
+}
+
+/// Compares what a script prints, without the bytes of its answers.
+fn prints(rt: &(impl AllocGlobal + Abort), script: &str, wanted: &str) {
+    let all = all_printed(rt, script);
+    let text = without_bytes(rt.alloc(), all.as_str()).expect(rt, "memory");
+    assert_eq!(rt; text.as_str(), wanted);
 }
 
 /// A session whose name has bytes that are printed by their numbers.
@@ -151,14 +157,20 @@ const MOVED: Sent = Sent {
     ..INITIAL
 };
 
+/// A session begins and moves, with two pushes behind each.
+fn moving(alloc: Global) -> Result<String, AllocError> {
+    let mut script = String::from_str(alloc, "sites 1\n")?;
+    put_request(alloc, &mut script, INITIAL)?;
+    script.push_str("push 0\npush 0\n")?;
+    put_request(alloc, &mut script, MOVED)?;
+    script.push_str("push 0\npush 0\nshow 0\n")?;
+    Ok(script)
+}
+
 /// What an answer left of what it installs, and of what it removes, in which it gets to no rule that it installs.
 #[test]
-fn a_push_prints_what_an_answer_left(rt: HostRuntime) -> Result<(), Fail> {
-    let mut script = String::from_str(rt.alloc(), "sites 1\n")?;
-    put_request(rt.alloc(), &mut script, INITIAL)?;
-    script.push_str("push 0\npush 0\n")?;
-    put_request(rt.alloc(), &mut script, MOVED)?;
-    script.push_str("push 0\npush 0\nshow 0\n")?;
+fn a_push_prints_what_an_answer_left(rt: HostRuntime) {
+    let script = moving(rt.alloc()).expect(&rt, "memory");
     let wanted = "sites 1
 answer
 push gw;\\x5c\\x201 +op/r40 +op/a\\x5cb
@@ -172,17 +184,23 @@ rule 100 op/n 2 5 32000 32000
 told op/n
 end
 ";
-    assert_eq!(rt; printed(rt.alloc(), script.as_str())?.as_str(), wanted);
-    Ok(())
+    prints(&rt, script.as_str(), wanted);
+}
+
+/// A site that isn't the session's home pushes before it takes what the home made, and after that, and one that isn't there
+/// pushes.
+fn pushing_elsewhere(alloc: Global) -> Result<String, AllocError> {
+    let mut script = String::from_str(alloc, "sites 2\npush 1\n")?;
+    put_request(alloc, &mut script, INITIAL)?;
+    script.push_str("letter 0 1\nmerge 1 0\npush 1\npush 2\npush 18446744073709551616\n")?;
+    script.push_str("push 0\nletter 0 1\nmerge 1 1\npush 1\n")?;
+    Ok(script)
 }
 
 /// A site that knows the session and isn't its home pushes nothing, and one that isn't there is refused.
 #[test]
-fn only_the_home_of_a_session_pushes(rt: HostRuntime) -> Result<(), Fail> {
-    let mut script = String::from_str(rt.alloc(), "sites 2\npush 1\n")?;
-    put_request(rt.alloc(), &mut script, INITIAL)?;
-    script.push_str("letter 0 1\nmerge 1 0\npush 1\npush 2\npush 18446744073709551616\n")?;
-    script.push_str("push 0\nletter 0 1\nmerge 1 1\npush 1\n")?;
+fn only_the_home_of_a_session_pushes(rt: HostRuntime) {
+    let script = pushing_elsewhere(rt.alloc()).expect(&rt, "memory");
     let wanted = "sites 2
 none
 answer
@@ -196,21 +214,26 @@ letter 1
 merged
 none
 ";
-    assert_eq!(rt; printed(rt.alloc(), script.as_str())?.as_str(), wanted);
-    Ok(())
+    prints(&rt, script.as_str(), wanted);
 }
 
-/// Of two sessions the one with the lesser Session-Id is pushed first, whichever was asked for first.
-#[test]
-fn the_least_session_is_pushed_first(rt: HostRuntime) -> Result<(), Fail> {
+/// Two sessions begin, the one with the lesser Session-Id last, and three pushes come behind.
+fn two_sessions(alloc: Global) -> Result<String, AllocError> {
     let lesser = Sent {
         session: b"gw;1;1",
         ..INITIAL
     };
-    let mut script = String::from_str(rt.alloc(), "sites 1\n")?;
-    put_request(rt.alloc(), &mut script, INITIAL)?;
-    put_request(rt.alloc(), &mut script, lesser)?;
+    let mut script = String::from_str(alloc, "sites 1\n")?;
+    put_request(alloc, &mut script, INITIAL)?;
+    put_request(alloc, &mut script, lesser)?;
     script.push_str("push 0\npush 0\npush 0\n")?;
+    Ok(script)
+}
+
+/// Of two sessions the one with the lesser Session-Id is pushed first, whichever was asked for first.
+#[test]
+fn the_least_session_is_pushed_first(rt: HostRuntime) {
+    let script = two_sessions(rt.alloc()).expect(&rt, "memory");
     let wanted = "sites 1
 answer
 answer
@@ -218,6 +241,5 @@ push gw;1;1 +op/r40 +op/a\\x5cb
 push gw;\\x5c\\x201 +op/r40 +op/a\\x5cb
 none
 ";
-    assert_eq!(rt; printed(rt.alloc(), script.as_str())?.as_str(), wanted);
-    Ok(())
+    prints(&rt, script.as_str(), wanted);
 }

@@ -17,12 +17,25 @@ use std::fmt::Write as _;
 use std::net::Ipv4Addr;
 use std::process::Abort;
 
+/// A site takes operations.
+fn take_all(rt: &impl Abort, site: &mut Site, operations: &[Operation]) {
+    let is_taken = site.take_all(operations).is_ok();
+    assert!(rt; is_taken, "memory");
+}
+
+/// A site takes all that another made.
+fn take_made(rt: &(impl AllocGlobal + Abort), site: &mut Site, maker: &Site) {
+    let (told, _) = maker.own_since(0).expect(rt, "memory");
+    take_all(rt, site, told.as_slice());
+    std::mem::drop(told);
+}
+
 /// A site takes an operation.
 fn takes(rt: &(impl AllocGlobal + Abort), site: &mut Site, operation: Operation) {
     let mut letter = Vec::new(rt.alloc());
     letter.push(operation).expect(rt, "memory");
-    let taken = site.take_all(letter.as_slice());
-    assert!(rt; taken.is_ok(), "memory");
+    take_all(rt, site, letter.as_slice());
+    std::mem::drop(letter);
 }
 
 /// The initial request of `gw;1;1` at site 0, whose answer installed `op/sip`.
@@ -83,24 +96,30 @@ fn new_site(rt: &(impl AllocGlobal + Abort), number: u8) -> Site {
     Site::start(rt.alloc(), tables, names, number)
 }
 
+/// Compares what a push tells.
+fn tells(rt: &(impl AllocGlobal + Abort), push: &PushOut, wanted: Option<&str>) {
+    assert_eq!(rt; push.session.as_slice(), b"gw;1;1".as_slice());
+    let told = line(rt.alloc(), push).expect(rt, "memory");
+    assert_eq!(rt; Some(told.as_str()), wanted);
+}
+
 /// Has a site push, and compares the names that it tells; `None` where it pushes nothing.
 fn pushes(rt: &(impl AllocGlobal + Abort), site: &mut Site, wanted: Option<&str>) {
     let pushed = site.push(None).expect(rt, "memory and a counter");
-    let Some(push) = pushed else {
-        assert!(rt; wanted.is_none());
-        return;
-    };
-    assert_eq!(rt; push.session.as_slice(), b"gw;1;1".as_slice());
-    let told = line(rt.alloc(), &push).expect(rt, "memory");
-    assert_eq!(rt; Some(told.as_str()), wanted);
+    match &pushed {
+        Some(push) => tells(rt, push, wanted),
+        None => assert!(rt; wanted.is_none()),
+    }
+    std::mem::drop(pushed);
 }
 
 /// How many rules a push installs.
 fn installs(rt: &(impl AllocGlobal + Abort), site: &mut Site, wanted: usize) {
     let pushed = site.push(None).expect(rt, "memory and a counter");
     let push = pushed.expect(rt, "a push");
-    assert!(rt; push.delta.removed().is_empty());
-    assert_eq!(rt; push.delta.installed().len(), wanted);
+    let (removed, installed) = (push.delta.removed().len(), push.delta.installed().len());
+    std::mem::drop(push);
+    assert_eq!(rt; (removed, installed), (0, wanted));
 }
 
 const VOICE: &str = " +af/af;1/1/1 2 41000 64000 +af/af;1/1/2 2 5000 5000";
@@ -125,6 +144,7 @@ fn a_call_is_pushed_changed_and_removed(rt: HostRuntime) {
     pushes(&rt, &mut site, Some(" -af/af;1/1/1 -af/af;1/1/2"));
     take_voice(&rt, &mut site, 8);
     pushes(&rt, &mut site, None);
+    std::mem::drop(site);
 }
 
 #[test]
@@ -138,6 +158,7 @@ fn fifty_flows_are_pushed_in_two_messages(rt: HostRuntime) {
     installs(&rt, &mut site, 40);
     installs(&rt, &mut site, 10);
     pushes(&rt, &mut site, None);
+    std::mem::drop(site);
 }
 
 // The call comes before the session that it is bound to, and only the session's home pushes.
@@ -152,6 +173,8 @@ fn only_the_home_pushes_a_call(rt: HostRuntime) {
     take_gateway(&rt, &mut site);
     take_voice(&rt, &mut site, 2);
     pushes(&rt, &mut site, Some(VOICE));
+    std::mem::drop(other);
+    std::mem::drop(site);
 }
 
 /// An update of `gw;1;1` that site 2 accepted, which makes it the session's home.
@@ -185,10 +208,11 @@ fn the_home_that_moved_pushes_the_end_of_a_call(rt: HostRuntime) {
     takes(&rt, &mut site, end(&rt));
     pushes(&rt, &mut site, None);
     take_voice(&rt, &mut other, 2);
-    let (told, _) = site.own_since(0).expect(&rt, "memory");
-    assert!(rt; other.take_all(told.as_slice()).is_ok(), "memory");
+    take_made(&rt, &mut other, &site);
+    std::mem::drop(site);
     pushes(&rt, &mut other, None);
     takes(&rt, &mut other, end(&rt));
     pushes(&rt, &mut other, Some(" -af/af;1/1/1 -af/af;1/1/2"));
     pushes(&rt, &mut other, None);
+    std::mem::drop(other);
 }

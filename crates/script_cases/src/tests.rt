@@ -1,25 +1,32 @@
 //! Scripts that end otherwise than by their end.
 use crate::operator_tables::TABLES;
 use dia_codec::Counted;
-use op_tables::{TableFault, read_tables};
+use op_tables::read_tables;
 use pcrf_script::{ScriptEnd, run_script};
-use std::alloc::{AllocError, Global};
-use std::test::Fail;
+use std::alloc::{AllocError, AllocGlobal, Global};
+use std::process::Abort;
 
 /// How a script ends, and what it has printed by then.
-fn run(alloc: Global, script: &[u8]) -> Result<(ScriptEnd, Vec<u8>), TableFault> {
-    let tables = read_tables(alloc, TABLES)?;
-    let mut out = Vec::new(alloc);
+fn run(rt: &(impl AllocGlobal + Abort), script: &[u8]) -> (ScriptEnd, Vec<u8>) {
+    let tables = read_tables(rt.alloc(), TABLES).expect(rt, "tables");
+    let mut out = Vec::new(rt.alloc());
     let end = {
         let mut reader = Counted::start(script);
         let mut writer = Counted::start(&mut out);
-        run_script(alloc, tables, &mut reader, &mut writer)
+        run_script(rt.alloc(), tables, &mut reader, &mut writer)
     };
-    Ok((end, out))
+    (end, out)
+}
+
+/// Compares how a script ends, and what it prints.
+fn ends(rt: &(impl AllocGlobal + Abort), script: &str, wanted: ScriptEnd, printed: &str) {
+    let (end, out) = run(rt, script.as_bytes());
+    assert_eq!(rt; end, wanted, "{script:?}");
+    assert_eq!(rt; out.as_slice(), printed.as_bytes(), "{script:?}");
 }
 
 #[test]
-fn a_bad_line_stops_the_script(rt: HostRuntime) -> Result<(), Fail> {
+fn a_bad_line_stops_the_script(rt: HostRuntime) {
     let cases: [(&str, u64, &str); 30] = [
         ("show 0\n", 1, ""),
         ("bogus\nsites 1\n", 1, ""),
@@ -57,15 +64,12 @@ fn a_bad_line_stops_the_script(rt: HostRuntime) -> Result<(), Fail> {
         ("sites 1\nack 0 0", 2, "sites 1\n"),
     ];
     for (script, line, printed) in cases {
-        let (end, out) = run(rt.alloc(), script.as_bytes())?;
-        assert_eq!(rt; end, ScriptEnd::BadLine(line), "{script:?}");
-        assert_eq!(rt; out.as_slice(), printed.as_bytes(), "{script:?}");
+        ends(&rt, script, ScriptEnd::BadLine(line), printed);
     }
-    Ok(())
 }
 
 #[test]
-fn lines_that_are_skipped(rt: HostRuntime) -> Result<(), Fail> {
+fn lines_that_are_skipped(rt: HostRuntime) {
     let cases = [
         ("", ""),
         ("\n\n# nothing\n", ""),
@@ -74,11 +78,8 @@ fn lines_that_are_skipped(rt: HostRuntime) -> Result<(), Fail> {
         ("\n#\nsites 1\n\nshow 0\n", "sites 1\nclock 0\nend\n"),
     ];
     for (script, printed) in cases {
-        let (end, out) = run(rt.alloc(), script.as_bytes())?;
-        assert_eq!(rt; end, ScriptEnd::Done, "{script:?}");
-        assert_eq!(rt; out.as_slice(), printed.as_bytes(), "{script:?}");
+        ends(&rt, script, ScriptEnd::Done, printed);
     }
-    Ok(())
 }
 
 /// A comment of so many bytes.
@@ -91,13 +92,11 @@ fn comment(alloc: Global, length: usize) -> Result<Vec<u8>, AllocError> {
 }
 
 #[test]
-fn lines_have_at_most_so_many_bytes(rt: HostRuntime) -> Result<(), Fail> {
-    let longest = comment(rt.alloc(), 200_000)?;
-    assert_eq!(rt; run(rt.alloc(), longest.as_slice())?.0, ScriptEnd::Done);
-    let longer = comment(rt.alloc(), 200_001)?;
-    assert_eq!(rt;
-        run(rt.alloc(), longer.as_slice())?.0,
-        ScriptEnd::BadLine(1)
-    );
-    Ok(())
+fn lines_have_at_most_so_many_bytes(rt: HostRuntime) {
+    let cases = [(200_000, ScriptEnd::Done), (200_001, ScriptEnd::BadLine(1))];
+    for (length, wanted) in cases {
+        let line = comment(rt.alloc(), length).expect(&rt, "memory");
+        let (end, _) = run(&rt, line.as_slice());
+        assert_eq!(rt; end, wanted);
+    }
 }

@@ -6,6 +6,7 @@ use dia_codec::{Flags, Header};
 use gx_profile::GxReply;
 use site_core::{Event, Reply, Request, Site, write_reply};
 use std::alloc::AllocGlobal;
+use std::mem::drop;
 use std::process::Abort;
 
 /// What a reply says.
@@ -42,15 +43,24 @@ fn meaning_of(reply: &Reply) -> Said {
     }
 }
 
+/// What a site replies to an event.
+fn reply_to(rt: &(impl AllocGlobal + Abort), site: &mut Site, event: Event) -> Reply {
+    let reply = site.step(&event);
+    drop(event);
+    reply.expect(rt, "memory and a counter")
+}
+
 /// An event happens at a site, which replies so.
 fn happens(rt: &(impl AllocGlobal + Abort), site: &mut Site, event: Event, wanted: Said) {
-    let reply = site.step(&event).expect(rt, "memory and a counter");
-    assert_eq!(rt; meaning_of(&reply), wanted);
+    let reply = reply_to(rt, site, event);
+    let said = meaning_of(&reply);
+    drop(reply);
+    assert_eq!(rt; said, wanted);
 }
 
 /// An initial request.
 fn asked(rt: &(impl AllocGlobal + Abort)) -> Request {
-    Request::Ccr(request(rt, initial(0, 1)))
+    request(rt, initial(0, 1))
 }
 
 /// A push to a host.
@@ -58,24 +68,53 @@ fn to_host(rt: &(impl AllocGlobal + Abort), host: &[u8]) -> Event {
     Event::Push(Some(name(rt, host)))
 }
 
-/// A site that serves an initial request of 41 rules, and pushes what its reply left.
+/// A site serves an initial request of 41 rules, and pushes what its reply left.
+fn serves_and_pushes(rt: &(impl AllocGlobal + Abort), site: &mut Site) {
+    happens(rt, site, Event::Serve(asked(rt)), Said::Granted(40));
+    happens(rt, site, to_host(rt, b"other"), Said::NothingPushed);
+    happens(rt, site, to_host(rt, b"gw"), Said::Pushed(1));
+    happens(rt, site, Event::Push(None), Said::NothingPushed);
+}
+
+/// A site that did so.
 fn served(rt: &(impl AllocGlobal + Abort)) -> Site {
     let mut site = site_with(rt, tables(rt, 41, 0), 0);
-    happens(rt, &mut site, Event::Serve(asked(rt)), Said::Granted(40));
-    happens(rt, &mut site, to_host(rt, b"other"), Said::NothingPushed);
-    happens(rt, &mut site, to_host(rt, b"gw"), Said::Pushed(1));
-    happens(rt, &mut site, Event::Push(None), Said::NothingPushed);
+    serves_and_pushes(rt, &mut site);
     site
+}
+
+/// A letter of all that a site made.
+fn letter_of(rt: &(impl AllocGlobal + Abort), site: &Site) -> Event {
+    let (log, _) = site.own_since(0).expect(rt, "memory");
+    Event::Ops(log)
+}
+
+/// A copy of all that a site holds.
+fn copy_of(rt: &(impl AllocGlobal + Abort), site: &Site) -> Event {
+    let (copy, _) = site.whole().expect(rt, "memory");
+    Event::Whole(copy)
+}
+
+/// At a new site events happen that make it hold what another holds: the first takes it, the second comes then.
+fn comes_to_hold(
+    rt: &(impl AllocGlobal + Abort),
+    site: &Site,
+    first: (Event, Said),
+    second: (Event, Said),
+) {
+    let mut other = site_with(rt, tables(rt, 41, 0), 1);
+    happens(rt, &mut other, first.0, first.1);
+    assert!(rt; other.sessions().equal(site.sessions()));
+    happens(rt, &mut other, second.0, second.1);
+    drop(other);
 }
 
 #[test]
 fn events_get_the_replies_of_their_calls(rt: HostRuntime) {
     let site = served(&rt);
-    let mut other = site_with(&rt, tables(&rt, 41, 0), 1);
-    let (log, _) = site.own_since(0).expect(&rt, "memory");
-    happens(&rt, &mut other, Event::Ops(log), Said::Taken(2));
-    assert!(rt; other.sessions().equal(site.sessions()));
-    happens(&rt, &mut other, Event::Push(None), Said::NothingPushed);
+    let taken = (letter_of(&rt, &site), Said::Taken(2));
+    comes_to_hold(&rt, &site, taken, (Event::Push(None), Said::NothingPushed));
+    drop(site);
 }
 
 #[test]
@@ -85,16 +124,15 @@ fn a_site_tells_what_it_made_and_what_it_holds(rt: HostRuntime) {
         happens(&rt, &mut site, Event::AskOwn(from), Said::Own(wanted, 2));
     }
     happens(&rt, &mut site, Event::AskWhole, Said::Copy(2, 2));
+    drop(site);
 }
 
 #[test]
 fn a_site_takes_all_that_another_holds(rt: HostRuntime) {
     let site = served(&rt);
-    let mut other = site_with(&rt, tables(&rt, 41, 0), 1);
-    let (copy, _) = site.whole().expect(&rt, "memory");
-    happens(&rt, &mut other, Event::Whole(copy), Said::Done);
-    assert!(rt; other.sessions().equal(site.sessions()));
-    happens(&rt, &mut other, Event::AskWhole, Said::Copy(2, 0));
+    let taken = (copy_of(&rt, &site), Said::Done);
+    comes_to_hold(&rt, &site, taken, (Event::AskWhole, Said::Copy(2, 0)));
+    drop(site);
 }
 
 /// A reply to another event than a request has no answer.
@@ -112,7 +150,9 @@ fn has_no_answer(rt: &(impl AllocGlobal + Abort), site: &Site, asked: &Request, 
         end_id: 8,
     };
     let answer = write_reply(rt.alloc(), site.identity(), &header, asked, &reply);
-    assert!(rt; answer.expect(rt, "memory").is_empty());
+    drop(reply);
+    let answer = answer.expect(rt, "memory");
+    assert!(rt; answer.is_empty());
 }
 
 #[test]
@@ -121,4 +161,6 @@ fn a_reply_of_another_kind_has_no_answer(rt: HostRuntime) {
     let asked = asked(&rt);
     has_no_answer(&rt, &site, &asked, Reply::Taken(1));
     has_no_answer(&rt, &site, &asked, Reply::Pushed(None));
+    drop(asked);
+    drop(site);
 }

@@ -2,13 +2,39 @@
 use crate::requests::Sent;
 use crate::sites::{end, initial, site_with, takes};
 use crate::told::{names, ranges, tables, tells, told_count};
+use gx_profile::PushOut;
 use gx_records::GxFact;
 use op_tables::Tables;
 use pcrf_values::{BoundedText, SessionId};
 use site_core::{Site, StepFault};
 use site_join::{LAST_COUNTER, Operation, SessionFacts};
 use std::alloc::AllocGlobal;
+use std::mem::drop;
 use std::process::Abort;
+
+/// Compares a push to the gateway `gw` with the session and the names that are told.
+fn check_push(rt: &(impl AllocGlobal + Abort), push: &PushOut, wanted: (&[u8], &str)) {
+    let (session, told) = wanted;
+    assert_eq!(rt; push.session.as_slice(), session);
+    assert_eq!(rt;
+        (push.host.as_slice(), push.realm.as_slice()),
+        (b"gw".as_slice(), b"r".as_slice())
+    );
+    let names = names(rt.alloc(), &push.delta).expect(rt, "memory");
+    assert_eq!(rt; names.as_str(), told);
+}
+
+/// Compares what is pushed, if anything.
+fn check_pushed(
+    rt: &(impl AllocGlobal + Abort),
+    pushed: Option<&PushOut>,
+    wanted: Option<(&[u8], &str)>,
+) {
+    assert_eq!(rt; pushed.is_some(), wanted.is_some());
+    if let (Some(push), Some(wanted)) = (pushed, wanted) {
+        check_push(rt, push, wanted);
+    }
+}
 
 /// Has a site push to a host, and compares the session and the names that are told; `None` where nothing is pushed.
 fn pushes(
@@ -18,18 +44,8 @@ fn pushes(
     wanted: Option<(&[u8], &str)>,
 ) {
     let pushed = site.push(host).expect(rt, "memory and a counter");
-    let Some((session, told)) = wanted else {
-        assert!(rt; pushed.is_none());
-        return;
-    };
-    let push = pushed.expect(rt, "a push");
-    assert_eq!(rt; push.session.as_slice(), session);
-    assert_eq!(rt;
-        (push.host.as_slice(), push.realm.as_slice()),
-        (b"gw".as_slice(), b"r".as_slice())
-    );
-    let names = names(rt.alloc(), &push.delta).expect(rt, "memory");
-    assert_eq!(rt; names.as_str(), told);
+    check_pushed(rt, pushed.as_ref(), wanted);
+    drop(pushed);
 }
 
 /// An initial request of a second session.
@@ -63,6 +79,7 @@ fn a_push_tells_what_an_answer_left(rt: HostRuntime) {
     assert_eq!(rt; told_count(&rt, &site), 64);
     pushes(&rt, &mut site, None, None);
     assert_eq!(rt; site.sessions().clock(), 2);
+    drop(site);
 }
 
 #[test]
@@ -74,6 +91,7 @@ fn the_least_session_is_pushed_first(rt: HostRuntime) {
     pushes(&rt, &mut site, None, Some((b"gw;1;0", "+a40")));
     pushes(&rt, &mut site, None, Some((b"gw;1;1", "+a40")));
     pushes(&rt, &mut site, None, None);
+    drop(site);
 }
 
 /// An initial request of another gateway's session.
@@ -85,12 +103,23 @@ fn of_another_host() -> Sent {
     }
 }
 
+/// Whether the session of the other gateway is pushed, to that gateway.
+fn is_to_another(pushed: Option<&PushOut>) -> bool {
+    match pushed {
+        Some(push) => {
+            let named = (push.session.as_slice(), push.host.as_slice());
+            named == (b"pgw;1;1".as_slice(), b"pgw".as_slice())
+        }
+        None => false,
+    }
+}
+
 /// A site pushes to the other gateway.
 fn pushes_to_another(rt: &(impl AllocGlobal + Abort), site: &mut Site) {
     let pushed = site.push(Some(b"pgw")).expect(rt, "memory and a counter");
-    let push = pushed.expect(rt, "a push");
-    assert_eq!(rt; push.session.as_slice(), b"pgw;1;1".as_slice());
-    assert_eq!(rt; push.host.as_slice(), b"pgw".as_slice());
+    let is_its_own = is_to_another(pushed.as_ref());
+    drop(pushed);
+    assert!(rt; is_its_own);
 }
 
 #[test]
@@ -102,16 +131,24 @@ fn each_of_two_hosts_is_pushed_its_own(rt: HostRuntime) {
     pushes(&rt, &mut site, Some(b"pgw"), None);
     pushes(&rt, &mut site, Some(b"gw"), Some((b"gw;1;1", "+a40")));
     pushes(&rt, &mut site, None, None);
+    drop(site);
+}
+
+/// A new site that takes what another made pushes nothing.
+fn pushes_nothing_of(rt: &(impl AllocGlobal + Abort), maker: &Site) {
+    let mut other = site_with(rt, tables(rt, 41, 0), 1);
+    takes(rt, &mut other, maker);
+    pushes(rt, &mut other, None, None);
+    drop(other);
 }
 
 #[test]
 fn another_sites_home_and_an_ended_session_are_not_pushed(rt: HostRuntime) {
     let mut site = with_rest(&rt, tables(&rt, 41, 0));
-    let mut other = site_with(&rt, tables(&rt, 41, 0), 1);
-    takes(&rt, &mut other, &site);
-    pushes(&rt, &mut other, None, None);
+    pushes_nothing_of(&rt, &site);
     tells(&rt, &mut site, end(1), "");
     pushes(&rt, &mut site, None, None);
+    drop(site);
 }
 
 /// An operation with the last counter, on another session.
@@ -129,15 +166,27 @@ fn takes_last(rt: &(impl AllocGlobal + Abort), site: &mut Site) {
     let mut letter = Vec::new(rt.alloc());
     letter.push(last_operation(rt)).expect(rt, "memory");
     let taken = site.take_all(letter.as_slice());
+    drop(letter);
     assert!(rt; taken.is_ok(), "memory");
+}
+
+/// Why a site doesn't push to a host, if it is refused.
+fn push_refused(site: &mut Site, host: &[u8]) -> Option<StepFault> {
+    let pushed = site.push(Some(host));
+    let refused = match &pushed {
+        Ok(_) => None,
+        Err(fault) => Some(*fault),
+    };
+    drop(pushed);
+    refused
 }
 
 #[test]
 fn at_the_end_of_the_clock_only_what_is_due_is_refused(rt: HostRuntime) {
     let mut site = with_rest(&rt, tables(&rt, 41, 0));
     takes_last(&rt, &mut site);
-    assert!(rt; site.push(Some(b"other")).is_ok());
-    let refused = site.push(Some(b"gw")).err();
-    assert_eq!(rt; refused, Some(StepFault::ClockFull));
+    assert_eq!(rt; push_refused(&mut site, b"other"), None);
+    assert_eq!(rt; push_refused(&mut site, b"gw"), Some(StepFault::ClockFull));
     assert_eq!(rt; told_count(&rt, &site), 40);
+    drop(site);
 }

@@ -7,6 +7,7 @@ use pcrf_values::{
     RetentionPriority, Rule, RuleName, RuleQos,
 };
 use std::alloc::{AllocError, AllocGlobal, Global};
+use std::mem::drop;
 use std::net::Ipv4Addr;
 use std::process::Abort;
 use test_messages::{Avps, GX, Head, TGPP, message, put_hexadecimal};
@@ -75,12 +76,17 @@ fn text<const MOST: usize>(rt: &(impl AllocGlobal + Abort), bytes: &[u8]) -> Bou
     read.expect(rt, "a text")
 }
 
-/// A rule with a class of guaranteed bit rate.
-fn rule(rt: &(impl AllocGlobal + Abort)) -> Rule {
+/// A filter that lets all through.
+fn filters(rt: &(impl AllocGlobal + Abort)) -> Filters {
     let filter: FilterText = text(rt, b"permit out ip from any to any");
     let mut filters = Vec::new(rt.alloc());
     filters.push(filter).expect(rt, "memory");
-    let qos = RuleQos {
+    Filters::of(filters).expect(rt, "filters")
+}
+
+/// A class of guaranteed bit rate.
+fn quality(rt: &impl Abort) -> RuleQos {
+    RuleQos {
         class: QosClass::of(1).expect(rt, "a class"),
         priority: RetentionPriority {
             level: PriorityLevel::of(2).expect(rt, "a level"),
@@ -89,25 +95,37 @@ fn rule(rt: &(impl AllocGlobal + Abort)) -> Rule {
         },
         max_uplink: 41_000,
         max_downlink: 64_000,
-    };
-    let filters = Filters::of(filters).expect(rt, "filters");
+    }
+}
+
+/// A rule with that filter and that class.
+fn rule(rt: &(impl AllocGlobal + Abort)) -> Rule {
     Rule::of(
         text(rt, b"af/af;1/1/1"),
         FlowStatus::Enabled,
-        filters,
-        qos,
+        filters(rt),
+        quality(rt),
         100,
     )
 }
 
-/// What is told: a name is removed, and a rule installed.
-fn entries(rt: &(impl AllocGlobal + Abort)) -> FirstEntries {
-    let name: RuleName = text(rt, b"op/sip");
+/// The name that is removed.
+fn removed(rt: &(impl AllocGlobal + Abort)) -> Vec<RuleName> {
     let mut removed = Vec::new(rt.alloc());
-    removed.push(name).expect(rt, "memory");
+    removed.push(text(rt, b"op/sip")).expect(rt, "memory");
+    removed
+}
+
+/// The rule that is installed.
+fn installed(rt: &(impl AllocGlobal + Abort)) -> Vec<Rule> {
     let mut installed = Vec::new(rt.alloc());
     installed.push(rule(rt)).expect(rt, "memory");
-    FirstEntries::of(Delta::of(removed, installed))
+    installed
+}
+
+/// What is told.
+fn entries(rt: &(impl AllocGlobal + Abort)) -> FirstEntries {
+    FirstEntries::of(Delta::of(removed(rt), installed(rt)))
 }
 
 /// The site that pushes.
@@ -142,10 +160,19 @@ fn request_bytes(
     write_message(alloc, &request)
 }
 
+/// The bytes of the push by the site.
+fn pushed_bytes(rt: &(impl AllocGlobal + Abort)) -> Vec<u8> {
+    let identity = identity(rt);
+    let push = push(rt);
+    let bytes = request_bytes(rt.alloc(), &identity, &push);
+    drop(push);
+    drop(identity);
+    bytes.expect(rt, "a message")
+}
+
 #[test]
 fn a_re_authorisation_request_has_these_bytes(rt: HostRuntime) {
-    let (identity, push) = (identity(&rt), push(&rt));
-    let bytes = request_bytes(rt.alloc(), &identity, &push).expect(&rt, "a message");
+    let bytes = pushed_bytes(&rt);
     let mut told = String::new(rt.alloc());
     put_hexadecimal(&mut told, bytes.as_slice()).expect(&rt, "memory");
     let wanted = digits(rt.alloc()).expect(&rt, "memory");
@@ -175,13 +202,13 @@ fn answer_avps(
     Ok(avps)
 }
 
-/// An answer as it is read.
-fn read(
+/// The bytes of an answer.
+fn answer_bytes(
     rt: &(impl AllocGlobal + Abort),
     session: Option<&[u8]>,
     base: Option<u32>,
     experimental: Option<u32>,
-) -> Result<Raa, ReadFault> {
+) -> Vec<u8> {
     let head = Head {
         flags: 0x40,
         command: 258,
@@ -190,25 +217,39 @@ fn read(
         end_id: 8,
     };
     let avps = answer_avps(rt.alloc(), session, base, experimental).expect(rt, "memory");
-    let bytes = message(rt.alloc(), &head, &avps).expect(rt, "memory");
-    let whole = read_message(rt.alloc(), bytes.as_slice());
-    let Ok(whole) = whole else { rt.abort() };
-    read_raa(rt.alloc(), &whole)
+    message(rt.alloc(), &head, &avps).expect(rt, "memory")
+}
+
+/// An answer as it is read.
+fn read(rt: &(impl AllocGlobal + Abort), bytes: &[u8]) -> Result<Raa, ReadFault> {
+    let whole = read_message(rt.alloc(), bytes).expect(rt, "a message");
+    let read = read_raa(rt.alloc(), &whole);
+    drop(whole);
+    read
+}
+
+/// An answer of the first session is read with the results that it gives.
+fn gives(rt: &(impl AllocGlobal + Abort), base: Option<u32>, experimental: Option<u32>) {
+    let bytes = answer_bytes(rt, Some(b"gw;1;1"), base, experimental);
+    let answer = read(rt, bytes.as_slice()).expect(rt, "an answer");
+    assert_eq!(rt; answer.session.as_slice(), b"gw;1;1".as_slice());
+    assert_eq!(rt; (answer.result, answer.experimental), (base, experimental));
+}
+
+/// Why an answer is not read, if it is not.
+fn fault_of(read: &Result<Raa, ReadFault>) -> Option<ReadFault> {
+    match read {
+        Ok(_) => None,
+        Err(fault) => Some(*fault),
+    }
 }
 
 #[test]
 fn a_re_authorisation_answer_is_read(rt: HostRuntime) {
-    let Ok(plain) = read(&rt, Some(b"gw;1;1"), Some(2001), None) else {
-        rt.abort()
-    };
-    assert_eq!(rt; plain.session.as_slice(), b"gw;1;1".as_slice());
-    assert_eq!(rt; (plain.result, plain.experimental), (Some(2001), None));
-    let Ok(failed) = read(&rt, Some(b"gw;1;1"), None, Some(5065)) else {
-        rt.abort()
-    };
-    assert_eq!(rt; (failed.result, failed.experimental), (None, Some(5065)));
-    let Err(ReadFault::Refused(refusal)) = read(&rt, None, Some(2001), None) else {
-        rt.abort()
-    };
-    assert_eq!(rt; refusal, Refusal::base(5005));
+    gives(&rt, Some(2001), None);
+    gives(&rt, None, Some(5065));
+    let bytes = answer_bytes(&rt, None, Some(2001), None);
+    let read = read(&rt, bytes.as_slice());
+    let refused = ReadFault::Refused(Refusal::base(5005));
+    assert_eq!(rt; fault_of(&read), Some(refused));
 }

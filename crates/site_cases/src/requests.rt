@@ -1,5 +1,4 @@
 //! Credit control requests of gateways.
-use gx_profile::Ccr;
 use site_core::{Asked, Request, read_request};
 use std::alloc::AllocGlobal;
 use std::process::Abort;
@@ -34,22 +33,26 @@ fn put_session(rt: &impl Abort, avps: &mut Avps, sent: Sent) {
     avps.number(415, sent.number).expect(rt, "memory");
 }
 
+/// A subscriber, and an address by its last octet.
+fn put_user(rt: &(impl AllocGlobal + Abort), avps: &mut Avps, last: u8) {
+    let group = subscriber(rt);
+    avps.group(443, &group).expect(rt, "memory");
+    avps.text(8, &[10, 0, 0, last]).expect(rt, "memory");
+}
+
 /// What a request carries.
-fn avps(rt: &(impl AllocGlobal + Abort), sent: Sent) -> Avps {
-    let mut avps = Avps::start(rt.alloc());
-    put_session(rt, &mut avps, sent);
+fn put_all(rt: &(impl AllocGlobal + Abort), avps: &mut Avps, sent: Sent) {
+    put_session(rt, avps, sent);
     if let Some(last) = sent.address {
-        avps.group(443, &subscriber(rt)).expect(rt, "memory");
-        avps.text(8, &[10, 0, 0, last]).expect(rt, "memory");
+        put_user(rt, avps, last);
     }
     if let Some(apn) = sent.apn {
         avps.text(30, apn).expect(rt, "memory");
     }
-    avps
 }
 
-/// The request as it is read.
-pub fn request(rt: &(impl AllocGlobal + Abort), sent: Sent) -> Ccr {
+/// The bytes of the request.
+fn request_bytes(rt: &(impl AllocGlobal + Abort), sent: Sent) -> Vec<u8> {
     let head = Head {
         flags: 0xc0,
         command: 272,
@@ -57,11 +60,22 @@ pub fn request(rt: &(impl AllocGlobal + Abort), sent: Sent) -> Ccr {
         hop_id: 1,
         end_id: 2,
     };
-    let avps = avps(rt, sent);
-    let bytes = message(rt.alloc(), &head, &avps).expect(rt, "memory");
+    let mut avps = Avps::start(rt.alloc());
+    put_all(rt, &mut avps, sent);
+    message(rt.alloc(), &head, &avps).expect(rt, "memory")
+}
+
+/// What a site reads.
+fn asked(rt: &(impl AllocGlobal + Abort), sent: Sent) -> Asked {
+    let bytes = request_bytes(rt, sent);
     assert!(rt; bytes.len() >= 20, "a whole header");
-    match read_request(rt.alloc(), bytes.as_slice()).expect(rt, "memory") {
-        Asked::Request(_, Request::Ccr(ccr)) => ccr,
+    read_request(rt.alloc(), bytes.as_slice()).expect(rt, "memory")
+}
+
+/// The request as it is read.
+pub fn request(rt: &(impl AllocGlobal + Abort), sent: Sent) -> Request {
+    match asked(rt, sent) {
+        Asked::Request(_, request) => request,
         _ => rt.abort(),
     }
 }

@@ -7,8 +7,9 @@ use gx_profile::GxReply;
 use gx_records::GxRec;
 use op_tables::Tables;
 use pcrf_values::{BoundedText, DefaultQuality, DiameterIdentity, Refusal, SessionId};
-use site_core::{Reply, Request, Site};
+use site_core::{Reply, Site};
 use std::alloc::AllocGlobal;
+use std::mem::drop;
 use std::net::Ipv4Addr;
 use std::process::Abort;
 
@@ -82,26 +83,36 @@ pub fn new_site(rt: &(impl AllocGlobal + Abort), number: u8) -> Site {
 }
 
 /// What a site replies to a request of a gateway.
-pub fn reply_to(rt: &(impl AllocGlobal + Abort), site: &mut Site, sent: Sent) -> GxReply {
-    let request = Request::Ccr(request(rt, sent));
-    let Reply::Gx(reply) = site.serve(&request).expect(rt, "memory") else {
-        rt.abort()
-    };
-    reply
+pub fn reply_to(rt: &(impl AllocGlobal + Abort), site: &mut Site, sent: Sent) -> Reply {
+    let request = request(rt, sent);
+    let served = site.serve(&request);
+    drop(request);
+    served.expect(rt, "memory")
+}
+
+/// Whether a reply is as wanted.
+fn is_wanted(reply: &Reply, wanted: Wanted) -> bool {
+    match (reply, wanted) {
+        (Reply::Gx(GxReply::Granted(delta, told)), Wanted::Granted(quality)) => {
+            delta.removed().is_empty() && delta.installed().is_empty() && *told == quality
+        }
+        (Reply::Gx(GxReply::Refused(refused)), Wanted::Refused(refusal)) => *refused == refusal,
+        _ => false,
+    }
 }
 
 /// Has a site serve a request, and compares its reply.
 pub fn serves(rt: &(impl AllocGlobal + Abort), site: &mut Site, sent: Sent, wanted: Wanted) {
     let reply = reply_to(rt, site, sent);
-    match (&reply, wanted) {
-        (GxReply::Granted(delta, told), Wanted::Granted(quality)) => {
-            assert!(rt; delta.removed().is_empty() && delta.installed().is_empty());
-            assert_eq!(rt; *told, quality);
-        }
-        (GxReply::Refused(refused), Wanted::Refused(refusal)) => {
-            assert_eq!(rt; *refused, refusal);
-        }
-        _ => rt.abort(),
+    let is_wanted = is_wanted(&reply, wanted);
+    drop(reply);
+    assert!(rt; is_wanted);
+}
+
+/// Has a site serve requests, one after another, and compares its replies.
+pub fn serves_all(rt: &(impl AllocGlobal + Abort), site: &mut Site, rows: &[(Sent, Wanted)]) {
+    for (sent, wanted) in rows {
+        serves(rt, site, *sent, *wanted);
     }
 }
 
@@ -119,6 +130,7 @@ fn granted(rt: &impl Abort) -> Wanted {
 pub fn takes(rt: &(impl AllocGlobal + Abort), site: &mut Site, maker: &Site) {
     let (log, _) = maker.own_since(0).expect(rt, "memory");
     let taken = site.take_all(log.as_slice());
+    drop(log);
     assert!(rt; taken.is_ok(), "memory");
 }
 
@@ -145,9 +157,9 @@ fn shown(rt: &(impl AllocGlobal + Abort), site: &Site) -> Option<(u8, u8)> {
 /// The first session has ended at a site, and no request shows it again.
 fn stays_ended(rt: &(impl AllocGlobal + Abort), site: &mut Site) {
     compare(rt, site, "clock 2, gw;1;1 ended");
-    serves(rt, site, initial(0, 1), unknown());
-    serves(rt, site, update(10, Some(4)), unknown());
-    serves(rt, site, end(4), unknown());
+    for sent in [initial(0, 1), update(10, Some(4)), end(4)] {
+        serves(rt, site, sent, unknown());
+    }
     compare(rt, site, "clock 2, gw;1;1 ended");
 }
 
@@ -157,53 +169,71 @@ fn initial_requests_are_granted_or_lack_parameters(rt: HostRuntime) {
     let mut lacking = initial(0, 1);
     lacking.address = None;
     lacking.apn = None;
-    serves(
-        &rt,
-        &mut site,
-        lacking,
-        Wanted::Refused(Refusal::experimental(5140)),
-    );
-    assert_eq!(rt; site.sessions().clock(), 0);
-    serves(&rt, &mut site, initial(0, 1), granted(&rt));
-    serves(&rt, &mut site, initial(0, 1), granted(&rt));
-    assert_eq!(rt; site.sessions().clock(), 2);
+    let refused = Wanted::Refused(Refusal::experimental(5140));
+    for (sent, wanted, clock) in [
+        (lacking, refused, 0),
+        (initial(0, 1), granted(&rt), 1),
+        (initial(0, 1), granted(&rt), 2),
+    ] {
+        serves(&rt, &mut site, sent, wanted);
+        assert_eq!(rt; site.sessions().clock(), clock);
+    }
     assert_eq!(rt; shown(&rt, &site), Some((1, 0)));
+    drop(site);
 }
 
 #[test]
 fn a_late_update_with_a_lower_number_leaves_the_address(rt: HostRuntime) {
     let mut site = new_site(&rt, 0);
-    serves(&rt, &mut site, update(1, Some(1)), unknown());
-    serves(&rt, &mut site, initial(0, 1), granted(&rt));
-    serves(&rt, &mut site, update(2, Some(2)), granted(&rt));
-    serves(&rt, &mut site, update(1, Some(3)), granted(&rt));
+    let rows = [
+        (update(1, Some(1)), unknown()),
+        (initial(0, 1), granted(&rt)),
+        (update(2, Some(2)), granted(&rt)),
+        (update(1, Some(3)), granted(&rt)),
+    ];
+    serves_all(&rt, &mut site, rows.as_slice());
     assert_eq!(rt; shown(&rt, &site), Some((2, 0)));
     assert_eq!(rt; site.sessions().clock(), 3);
+    drop(site);
+}
+
+/// A site ends the first session, of which another that doesn't know of the end serves an update; then each takes all.
+fn end_beside(rt: &(impl AllocGlobal + Abort), site: &mut Site, other: &mut Site) {
+    serves(rt, site, initial(0, 1), granted(rt));
+    takes(rt, other, site);
+    serves(rt, other, update(9, None), granted(rt));
+    serves(rt, site, end(3), Wanted::Granted(None));
+    serves(rt, site, initial(0, 1), unknown());
+    takes(rt, site, other);
+    takes(rt, other, site);
 }
 
 #[test]
 fn an_ended_session_is_never_revived(rt: HostRuntime) {
     let mut site = new_site(&rt, 0);
     let mut other = new_site(&rt, 1);
-    serves(&rt, &mut site, initial(0, 1), granted(&rt));
-    takes(&rt, &mut other, &site);
-    serves(&rt, &mut other, update(9, None), granted(&rt));
-    serves(&rt, &mut site, end(3), Wanted::Granted(None));
-    serves(&rt, &mut site, initial(0, 1), unknown());
-    takes(&rt, &mut site, &other);
-    takes(&rt, &mut other, &site);
+    end_beside(&rt, &mut site, &mut other);
     stays_ended(&rt, &mut site);
     stays_ended(&rt, &mut other);
+    drop(other);
+    drop(site);
+}
+
+/// A new site becomes the home of the first session by an update, once it knows what another made.
+fn becomes_home(rt: &(impl AllocGlobal + Abort), maker: &Site) {
+    let mut other = new_site(rt, 1);
+    serves(rt, &mut other, update(1, None), unknown());
+    takes(rt, &mut other, maker);
+    serves(rt, &mut other, update(1, None), granted(rt));
+    assert_eq!(rt; shown(rt, &other), Some((1, 1)));
+    assert_eq!(rt; other.sessions().clock(), 2);
+    drop(other);
 }
 
 #[test]
 fn the_home_moves_with_the_session(rt: HostRuntime) {
     let mut site = new_site(&rt, 0);
-    let mut other = new_site(&rt, 1);
     serves(&rt, &mut site, initial(0, 1), granted(&rt));
-    serves(&rt, &mut other, update(1, None), unknown());
-    takes(&rt, &mut other, &site);
-    serves(&rt, &mut other, update(1, None), granted(&rt));
-    assert_eq!(rt; shown(&rt, &other), Some((1, 1)));
-    assert_eq!(rt; other.sessions().clock(), 2);
+    becomes_home(&rt, &site);
+    drop(site);
 }

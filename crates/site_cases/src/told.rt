@@ -3,9 +3,10 @@ use crate::requests::Sent;
 use crate::sites::{end, first_session, initial, reply_to, site_with, takes, update};
 use gx_profile::{FirstEntries, GxReply};
 use op_tables::{Tables, read_tables};
-use site_core::Site;
+use site_core::{Reply, Site};
 use std::alloc::{AllocError, AllocGlobal, Global};
 use std::fmt::Write as _;
+use std::mem::drop;
 use std::process::Abort;
 
 const HEAD: &str = r#"
@@ -104,14 +105,27 @@ pub fn ranges(
     Ok(text)
 }
 
+/// The names that a reply tells.
+fn names_of(rt: &(impl AllocGlobal + Abort), reply: &Reply) -> String {
+    match reply {
+        Reply::Gx(GxReply::Granted(delta, _)) => names(rt.alloc(), delta).expect(rt, "memory"),
+        _ => rt.abort(),
+    }
+}
+
 /// Has a site serve a request, which tells just these names.
 pub fn tells(rt: &(impl AllocGlobal + Abort), site: &mut Site, sent: Sent, wanted: &str) {
     let reply = reply_to(rt, site, sent);
-    let GxReply::Granted(delta, _) = &reply else {
-        rt.abort()
-    };
-    let told = names(rt.alloc(), delta).expect(rt, "memory");
+    let told = names_of(rt, &reply);
+    drop(reply);
     assert_eq!(rt; told.as_str(), wanted);
+}
+
+/// Has a site serve requests, one after another, which tell just these names.
+fn tells_all(rt: &(impl AllocGlobal + Abort), site: &mut Site, rows: &[(Sent, &str)]) {
+    for (sent, wanted) in rows {
+        tells(rt, site, *sent, wanted);
+    }
 }
 
 /// Has a site serve an update of the first session, which tells the names of two ranges.
@@ -129,7 +143,8 @@ fn tells_ranges(
 pub fn told_count(rt: &(impl AllocGlobal + Abort), site: &Site) -> usize {
     let session = first_session(rt);
     let known = site.sessions().gx(&session).expect(rt, "a record");
-    known.told(rt.alloc()).expect(rt, "memory").as_slice().len()
+    let told = known.told(rt.alloc()).expect(rt, "memory");
+    told.as_slice().len()
 }
 
 /// An update that gives an access point.
@@ -143,49 +158,69 @@ fn moves(number: u32, apn: &'static [u8]) -> Sent {
 #[test]
 fn a_rule_is_installed_once_and_removed_with_its_access_point(rt: HostRuntime) {
     let mut site = site_with(&rt, tables(&rt, 2, 1), 0);
-    tells(&rt, &mut site, initial(0, 1), "+a00+a01");
-    assert_eq!(rt; told_count(&rt, &site), 2);
-    tells(&rt, &mut site, initial(0, 1), "");
-    tells(&rt, &mut site, moves(1, b"net"), "-a00-a01+b00");
-    tells(&rt, &mut site, moves(2, b"bare"), "-b00");
-    assert_eq!(rt; told_count(&rt, &site), 0);
-    tells(&rt, &mut site, moves(3, b"IMS"), "+a00+a01");
+    for (sent, wanted, count) in [
+        (initial(0, 1), "+a00+a01", 2),
+        (initial(0, 1), "", 2),
+        (moves(1, b"net"), "-a00-a01+b00", 1),
+        (moves(2, b"bare"), "-b00", 0),
+        (moves(3, b"IMS"), "+a00+a01", 2),
+    ] {
+        tells(&rt, &mut site, sent, wanted);
+        assert_eq!(rt; told_count(&rt, &site), count);
+    }
     tells(&rt, &mut site, end(4), "");
+    drop(site);
 }
 
 #[test]
 fn a_rule_that_differs_in_one_field_is_installed_again(rt: HostRuntime) {
     let mut site = site_with(&rt, tables(&rt, 1, 0), 0);
-    tells(&rt, &mut site, initial(0, 1), "+a00");
-    tells(&rt, &mut site, moves(1, b"fast"), "+a00");
-    tells(&rt, &mut site, moves(2, b"fast"), "");
+    let rows = [
+        (initial(0, 1), "+a00"),
+        (moves(1, b"fast"), "+a00"),
+        (moves(2, b"fast"), ""),
+    ];
+    tells_all(&rt, &mut site, rows.as_slice());
     assert_eq!(rt; told_count(&rt, &site), 1);
+    drop(site);
+}
+
+/// A new site takes what another made, and serves requests, which tell just these names; then the other takes what it made.
+fn tells_elsewhere(rt: &(impl AllocGlobal + Abort), site: &mut Site, rows: &[(Sent, &str)]) {
+    let mut other = site_with(rt, tables(rt, 2, 1), 1);
+    takes(rt, &mut other, site);
+    tells_all(rt, &mut other, rows);
+    takes(rt, site, &other);
+    drop(other);
 }
 
 #[test]
 fn another_site_tells_what_was_not_told(rt: HostRuntime) {
     let mut site = site_with(&rt, tables(&rt, 2, 1), 0);
-    let mut other = site_with(&rt, tables(&rt, 2, 1), 1);
     tells(&rt, &mut site, initial(0, 1), "+a00+a01");
-    takes(&rt, &mut other, &site);
-    tells(&rt, &mut other, update(1, None), "");
-    tells(&rt, &mut other, moves(2, b"net"), "-a00-a01+b00");
-    takes(&rt, &mut site, &other);
+    let rows = [(update(1, None), ""), (moves(2, b"net"), "-a00-a01+b00")];
+    tells_elsewhere(&rt, &mut site, rows.as_slice());
     tells(&rt, &mut site, update(3, None), "");
+    drop(site);
 }
 
 #[test]
 fn a_reply_tells_40_entries_and_later_ones_the_rest(rt: HostRuntime) {
     let mut site = site_with(&rt, tables(&rt, 64, 41), 0);
     let none = ("", 0, 0);
-    tells_ranges(&rt, &mut site, initial(0, 1), [none, ("+a", 0, 40)]);
-    assert_eq!(rt; told_count(&rt, &site), 40);
-    tells_ranges(&rt, &mut site, update(1, None), [none, ("+a", 40, 64)]);
-    let both = [("-a", 0, 40), none];
-    tells_ranges(&rt, &mut site, moves(2, b"net"), both);
-    let both = [("-a", 40, 64), ("+b", 0, 16)];
-    tells_ranges(&rt, &mut site, update(3, None), both);
-    tells_ranges(&rt, &mut site, update(4, None), [none, ("+b", 16, 41)]);
-    tells(&rt, &mut site, update(5, None), "");
+    for (sent, ranged) in [
+        (initial(0, 1), [none, ("+a", 0, 40)]),
+        (update(1, None), [none, ("+a", 40, 64)]),
+        (moves(2, b"net"), [("-a", 0, 40), none]),
+        (update(3, None), [("-a", 40, 64), ("+b", 0, 16)]),
+        (update(4, None), [none, ("+b", 16, 41)]),
+        (update(5, None), [none, none]),
+    ] {
+        tells_ranges(&rt, &mut site, sent, ranged);
+        if sent.kind == 1 {
+            assert_eq!(rt; told_count(&rt, &site), 40);
+        }
+    }
     assert_eq!(rt; told_count(&rt, &site), 41);
+    drop(site);
 }

@@ -125,6 +125,12 @@ pub fn call_fact(
     Operation::of(counter, 0, 0, facts).expect(rt, "an operation")
 }
 
+/// Takes an operation.
+pub fn take(rt: &(impl AllocGlobal + Abort), state: &mut State, made: Operation) {
+    state.take(&made).expect(rt, "memory");
+    drop(made);
+}
+
 /// That a gateway was told to remove the rule of this name.
 pub fn told_nothing(rt: &(impl AllocGlobal + Abort), at: Tag, name: &str) -> GxFact {
     let read = BoundedText::read(rt.alloc(), name.as_bytes()).expect(rt, "memory");
@@ -206,10 +212,14 @@ pub fn put_call(
 
 /// Whether a record of a gateway's session stood.
 pub fn check_gateway_stood(rt: &impl Abort, stood: Option<GxRec>, want: bool) {
-    assert_eq!(rt; stood.is_some(), want);
+    let is_there = stood.is_some();
+    drop(stood);
+    assert_eq!(rt; is_there, want);
 }
 
 /// Whether a record of a call stood.
 pub fn check_call_stood(rt: &impl Abort, stood: Option<AfRec>, want: bool) {
-    assert_eq!(rt; stood.is_some(), want);
+    let is_there = stood.is_some();
+    drop(stood);
+    assert_eq!(rt; is_there, want);
 }

@@ -4,7 +4,7 @@ ghost use Rattle.pcrf_model.specs.Limits.{last_counter};
 
 use crate::building::{
     call, call_fact, check_call_stood, check_gateway_stood, gateway_fact, put_call, put_gateway,
-    told_nothing, update,
+    take, told_nothing, update,
 };
 use af_records::{AfFact, AfRec, ComponentValue, FlowValue};
 use gx_records::{GxFact, GxRec};
@@ -23,10 +23,8 @@ const BESIDE: Tag = Tag {
 /// A state of one session of each kind, whose clock is 2.
 fn small_state(rt: &(impl AllocGlobal + Abort)) -> State {
     let mut state = State::start(rt.alloc());
-    let moved = update(rt, "g1", 0, 1, 0, "a");
-    state.take(&moved).expect(rt, "memory");
-    let made = call(rt, "a1", 2, 0, 0);
-    state.take(&made).expect(rt, "memory");
+    take(rt, &mut state, update(rt, "g1", 0, 1, 0, "a"));
+    take(rt, &mut state, call(rt, "a1", 2, 0, 0));
     state
 }
 
@@ -36,7 +34,7 @@ fn check_equal(rt: &(impl AllocGlobal + Abort), ours: &State, theirs: &State, wa
 }
 
 /// Whether an operation at no later counter sets a state apart from one that didn't take it.
-fn check_more(rt: &(impl AllocGlobal + Abort), more: &Operation) {
+fn check_apart(rt: &(impl AllocGlobal + Abort), more: &Operation) {
     let mut state = small_state(rt);
     let mut other = small_state(rt);
     check_equal(rt, &state, &other, true);
@@ -44,27 +42,36 @@ fn check_more(rt: &(impl AllocGlobal + Abort), more: &Operation) {
     check_equal(rt, &state, &other, false);
     state.take(more).expect(rt, "memory");
     check_equal(rt, &state, &other, true);
+    drop(other);
+    drop(state);
+}
+
+/// Whether this operation does so.
+fn check_more(rt: &(impl AllocGlobal + Abort), more: Operation) {
+    check_apart(rt, &more);
+    drop(more);
 }
 
 fn check_gateway(rt: &(impl AllocGlobal + Abort), id: &str, fact: GxFact) {
-    let more = gateway_fact(rt, id, 1, fact);
-    check_more(rt, &more);
+    check_more(rt, gateway_fact(rt, id, 1, fact));
 }
 
 fn check_call(rt: &(impl AllocGlobal + Abort), id: &str, fact: AfFact) {
-    let more = call_fact(rt, id, 1, fact);
-    check_more(rt, &more);
+    check_more(rt, call_fact(rt, id, 1, fact));
 }
 
 /// Whether a state is equal to one that holds nothing.
-fn check_nothing(rt: &(impl AllocGlobal + Abort), other: &State, want: bool) {
-    check_equal(rt, &State::start(rt.alloc()), other, want);
+fn check_nothing(rt: &(impl AllocGlobal + Abort), other: State, want: bool) {
+    let nothing = State::start(rt.alloc());
+    check_equal(rt, &nothing, &other, want);
+    drop(nothing);
+    drop(other);
 }
 
 #[test]
 fn nothing_held_is_equal(rt: HostRuntime) {
-    check_nothing(&rt, &State::start(rt.alloc()), true);
-    check_nothing(&rt, &small_state(&rt), false);
+    check_nothing(&rt, State::start(rt.alloc()), true);
+    check_nothing(&rt, small_state(&rt), false);
 }
 
 #[test]
@@ -72,6 +79,8 @@ fn copies_are_equal(rt: HostRuntime) {
     let state = small_state(&rt);
     let copy = state.try_copy().expect(&rt, "memory");
     check_equal(&rt, &state, &copy, true);
+    drop(copy);
+    drop(state);
 }
 
 /// Sets the clock alone: no record is put in the place of none.
@@ -91,18 +100,20 @@ fn another_clock_alone_sets_apart(rt: HostRuntime) {
     check_equal(&rt, &state, &other, false);
     set_clock(&rt, &mut state, 3);
     check_equal(&rt, &state, &other, true);
+    drop(other);
+    drop(state);
 }
 
 #[test]
 fn another_fact_alone_sets_apart(rt: HostRuntime) {
-    check_more(&rt, &update(&rt, "g1", 0, 1, 0, "b"));
-    check_more(&rt, &call(&rt, "a1", 2, 0, 1));
+    check_more(&rt, update(&rt, "g1", 0, 1, 0, "b"));
+    check_more(&rt, call(&rt, "a1", 2, 0, 1));
 }
 
 #[test]
 fn a_session_more_sets_apart(rt: HostRuntime) {
-    check_more(&rt, &update(&rt, "g2", 0, 1, 0, "a"));
-    check_more(&rt, &call(&rt, "a2", 2, 0, 0));
+    check_more(&rt, update(&rt, "g2", 0, 1, 0, "a"));
+    check_more(&rt, call(&rt, "a2", 2, 0, 0));
     check_gateway(&rt, "g0", GxFact::End);
     check_call(&rt, "a0", AfFact::End);
 }
@@ -148,4 +159,6 @@ fn a_record_without_facts_is_as_good_as_none(rt: HostRuntime) {
     let mut other = small_state(&rt);
     put_empty_records(&rt, &mut other);
     check_equal(&rt, &state, &other, true);
+    drop(other);
+    drop(state);
 }

@@ -42,7 +42,9 @@ fn function(rt: &(impl AllocGlobal + Abort), stamp: Tag, facts: Vec<AfFact>) -> 
 
 /// Whether these parts make an operation.
 fn check(rt: &(impl AllocGlobal + Abort), made: Option<Operation>, stands: bool) {
-    assert_eq!(rt; made.is_some(), stands);
+    let is_made = made.is_some();
+    drop(made);
+    assert_eq!(rt; is_made, stands);
 }
 
 /// Whether two facts of a call, in that order, make an operation.
@@ -161,7 +163,9 @@ fn the_parts_are_read_back(rt: HostRuntime) {
     let made = gateway(&rt, STAMP, update_facts(&rt, STAMP, "gw"));
     let made = made.expect(&rt, "an update");
     check_parts(&rt, &made, b"g1");
-    assert_eq!(&rt; made.number(), 7);
+    let number = made.number();
+    drop(made);
+    assert_eq!(&rt; number, 7);
 }
 
 #[test]
@@ -169,7 +173,9 @@ fn the_parts_of_a_call_are_read_back(rt: HostRuntime) {
     let made = function(&rt, UNNUMBERED, call_facts(&rt, UNNUMBERED, 1));
     let made = made.expect(&rt, "a call");
     check_parts(&rt, &made, b"a1");
-    assert_eq!(&rt; made.number(), 0);
+    let number = made.number();
+    drop(made);
+    assert_eq!(&rt; number, 0);
 }
 
 #[test]

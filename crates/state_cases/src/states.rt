@@ -8,7 +8,7 @@ ghost use Rattle.site_join.specs.States.{record_facts};
 
 use crate::building::{
     call, call_end, call_record, check_call_stood, check_gateway_stood, gateway_end,
-    gateway_record, put_call, put_gateway, update,
+    gateway_record, put_call, put_gateway, take, update,
 };
 use crate::text::state_text;
 use af_records::AfRec;
@@ -60,24 +60,24 @@ fn take_both(
 }
 
 fn take_first_letter(rt: &(impl AllocGlobal + Abort), state: &mut State) {
-    let moved = update(rt, "g1", 0, 1, 0, "a");
-    take_both(rt, state, &moved, &call(rt, "a1", 2, 0, 0));
+    take(rt, state, update(rt, "g1", 0, 1, 0, "a"));
+    take(rt, state, call(rt, "a1", 2, 0, 0));
 }
 
 fn take_second_letter(rt: &(impl AllocGlobal + Abort), state: &mut State) {
-    let moved = update(rt, "g1", 3, 2, 1, "b");
-    take_both(rt, state, &moved, &gateway_end(rt, "g2", 3, 1));
+    take(rt, state, update(rt, "g1", 3, 2, 1, "b"));
+    take(rt, state, gateway_end(rt, "g2", 3, 1));
 }
 
 /// The update has a lower number than that of the second letter.
 fn take_third_letter(rt: &(impl AllocGlobal + Abort), state: &mut State) {
-    let late = update(rt, "g1", 1, 5, 2, "c");
-    take_both(rt, state, &late, &call(rt, "a1", 4, 2, 1));
+    take(rt, state, update(rt, "g1", 1, 5, 2, "c"));
+    take(rt, state, call(rt, "a1", 4, 2, 1));
 }
 
 fn take_fourth_letter(rt: &(impl AllocGlobal + Abort), state: &mut State) {
-    let late = update(rt, "g2", 0, 6, 3, "d");
-    take_both(rt, state, &late, &call_end(rt, "a2", 7, 3));
+    take(rt, state, update(rt, "g2", 0, 6, 3, "d"));
+    take(rt, state, call_end(rt, "a2", 7, 3));
 }
 
 fn take_letter(rt: &(impl AllocGlobal + Abort), state: &mut State, at: u8) {
@@ -89,9 +89,14 @@ fn take_letter(rt: &(impl AllocGlobal + Abort), state: &mut State, at: u8) {
     }
 }
 
+fn compare_text(rt: &impl Abort, text: &str, want: &str) {
+    assert_eq!(rt; text, want);
+}
+
 fn compare(rt: &(impl AllocGlobal + Abort), state: &State, want: &str) {
     let text = state_text(rt.alloc(), state).expect(rt, "memory");
-    assert_eq!(rt; text.as_str(), want);
+    compare_text(rt, text.as_str(), want);
+    drop(text);
 }
 
 fn take_letters(rt: &(impl AllocGlobal + Abort), state: &mut State, order: [u8; 4]) {
@@ -109,16 +114,14 @@ fn of_all_letters(rt: &(impl AllocGlobal + Abort), order: [u8; 4]) -> State {
 
 /// What two states merge to.
 fn merged(rt: &(impl AllocGlobal + Abort), ours: State, theirs: State) -> State {
-    let Ok(both) = ours.merge(theirs) else {
-        panic!(rt; "memory");
-    };
-    both
+    ours.merge(theirs).ok().expect(rt, "memory")
 }
 
 fn compare_taken(rt: &(impl AllocGlobal + Abort), one: &Operation, other: &Operation, want: &str) {
     let mut state = State::start(rt.alloc());
     take_both(rt, &mut state, one, other);
     compare(rt, &state, want);
+    drop(state);
 }
 
 /// Whether two operations show this in either order.
@@ -127,12 +130,18 @@ fn check(rt: &(impl AllocGlobal + Abort), first: &Operation, second: &Operation,
     compare_taken(rt, second, first, want);
 }
 
+/// Whether a state is equal to another.
+fn compare_states(rt: &impl Abort, state: &State, want: &State) {
+    assert!(rt; state.equal(want));
+}
+
 /// Whether the letters lead to a state in an order, taken once and again.
 fn check_order(rt: &(impl AllocGlobal + Abort), order: [u8; 4], want: &State) {
     let mut state = of_all_letters(rt, order);
-    assert!(rt; state.equal(want));
+    compare_states(rt, &state, want);
     take_letters(rt, &mut state, order);
-    assert!(rt; state.equal(want));
+    compare_states(rt, &state, want);
+    drop(state);
 }
 
 #[test]
@@ -142,6 +151,7 @@ fn letters_lead_to_the_same_in_any_order(rt: HostRuntime) {
     for order in ORDERS {
         check_order(&rt, order, &first);
     }
+    drop(first);
 }
 
 /// A state that took two letters.
@@ -154,9 +164,11 @@ fn of_two_letters(rt: &(impl AllocGlobal + Abort), first: u8, second: u8) -> Sta
 
 /// Whether a state is equal to another, and so is what it merges to with its copy.
 fn check_merged(rt: &(impl AllocGlobal + Abort), both: State, want: &State) {
-    assert!(rt; both.equal(want));
+    compare_states(rt, &both, want);
     let again = both.try_copy().expect(rt, "memory");
-    assert!(rt; merged(rt, both, again).equal(want));
+    let merged = merged(rt, both, again);
+    compare_states(rt, &merged, want);
+    drop(merged);
 }
 
 #[test]
@@ -167,6 +179,7 @@ fn merged_states_show_both(rt: HostRuntime) {
         let theirs = of_two_letters(&rt, third, fourth);
         check_merged(&rt, merged(&rt, ours, theirs), &all);
     }
+    drop(all);
 }
 
 #[test]
@@ -174,6 +187,8 @@ fn an_ended_session_stays_ended(rt: HostRuntime) {
     let late = update(&rt, "g1", 9, 9, 1, "a");
     let end = gateway_end(&rt, "g1", 2, 0);
     check(&rt, &end, &late, "clock 9, gx g1 ended");
+    drop(end);
+    drop(late);
 }
 
 #[test]
@@ -181,6 +196,8 @@ fn an_ended_call_stays_ended(rt: HostRuntime) {
     let late = call(&rt, "a1", 9, 1, 0);
     let end = call_end(&rt, "a1", 2, 0);
     check(&rt, &end, &late, "clock 9, af a1 ended");
+    drop(end);
+    drop(late);
 }
 
 /// What this update of `b` shows with one of `g1` that has the same stamp.
@@ -188,6 +205,8 @@ fn check_same_stamp(rt: &(impl AllocGlobal + Abort), id: &str, want: &str) {
     let first = update(rt, "g1", 0, 1, 0, "a");
     let other = update(rt, id, 0, 1, 0, "b");
     check(rt, &first, &other, want);
+    drop(other);
+    drop(first);
 }
 
 #[test]
@@ -198,37 +217,37 @@ fn equal_stamps_with_different_contents(rt: HostRuntime) {
     check_same_stamp(&rt, "g2", both);
 }
 
-/// The copy of an operation.
-fn copied(rt: &(impl AllocGlobal + Abort), operation: &Operation) -> Operation {
-    operation.try_copy().expect(rt, "memory")
+/// Takes the copy of an operation.
+fn take_copy(rt: &(impl AllocGlobal + Abort), state: &mut State, made: Operation) {
+    let copy = made.try_copy().expect(rt, "memory");
+    drop(made);
+    take(rt, state, copy);
 }
 
 #[test]
 fn copies_of_operations_are_taken_as_they_are(rt: HostRuntime) {
     let mut state = State::start(rt.alloc());
-    let moved = copied(&rt, &update(&rt, "g1", 0, 1, 0, "a"));
-    let made = copied(&rt, &call(&rt, "a1", 2, 0, 4));
-    take_both(&rt, &mut state, &moved, &made);
+    take_copy(&rt, &mut state, update(&rt, "g1", 0, 1, 0, "a"));
+    take_copy(&rt, &mut state, call(&rt, "a1", 2, 0, 4));
     compare(
         &rt,
         &state,
         "clock 2, gx g1 host a@0.1.0 last 2@0.1.0, af a1 host af@0.2.0 media 4@0.2.0",
     );
+    drop(state);
 }
 
 /// A state that took one update, under this counter.
 fn updated(rt: &(impl AllocGlobal + Abort), counter: u64, host: &str) -> State {
     let mut state = State::start(rt.alloc());
-    let made = update(rt, "g1", 0, counter, 0, host);
-    state.take(&made).expect(rt, "memory");
+    take(rt, &mut state, update(rt, "g1", 0, counter, 0, host));
     state
 }
 
 /// A state that took one call, under the counter 2.
 fn called(rt: &(impl AllocGlobal + Abort)) -> State {
     let mut state = State::start(rt.alloc());
-    let made = call(rt, "a1", 2, 0, 4);
-    state.take(&made).expect(rt, "memory");
+    take(rt, &mut state, call(rt, "a1", 2, 0, 4));
     state
 }
 
@@ -251,7 +270,9 @@ fn put_and_compare(
 
 /// Puts another record, and then the one again that stood.
 fn put_by_turns(rt: &(impl AllocGlobal + Abort), state: &mut State) {
-    let other = gateway_record(rt, &updated(rt, 2, "b"), "g1", 3);
+    let beside = updated(rt, 2, "b");
+    let other = gateway_record(rt, &beside, "g1", 3);
+    drop(beside);
     let first = "clock 3, gx g1 host b@0.2.0 last 2@0.2.0";
     let stood = put_and_compare(rt, state, other, 3, first);
     let again = "clock 3, gx g1 host a@0.3.0 last 2@0.3.0";
@@ -266,6 +287,7 @@ fn records_are_put_and_handed_back(rt: HostRuntime) {
     put_by_turns(&rt, &mut state);
     let gone = put_and_compare(&rt, &mut state, None, 4, "clock 4");
     check_gateway_stood(&rt, gone, true);
+    drop(state);
 }
 
 /// Whether the record of a call stood where this one is put, or none.
@@ -287,10 +309,13 @@ fn check_put(
 #[tactic(auto, using(crate::proofs::Putting::none_told))]
 fn calls_are_put_and_handed_back(rt: HostRuntime) {
     let mut state = State::start(rt.alloc());
-    let record = call_record(&rt, &called(&rt), "a1", 2);
+    let beside = called(&rt);
+    let record = call_record(&rt, &beside, "a1", 2);
+    drop(beside);
     check_put(&rt, &mut state, record, 2, false);
     let shown = "clock 2, af a1 host af@0.2.0 media 4@0.2.0";
     compare(&rt, &state, shown);
     check_put(&rt, &mut state, None, 3, true);
     compare(&rt, &state, "clock 3");
+    drop(state);
 }

@@ -4,7 +4,7 @@
 //!
 //! A message is made from the inside: fill `Avps`, nest them by `Avps::group`, and put a `Head` before them by
 //! `message`. `put_hexadecimal` writes bytes as a script has them. `SiteAnswer` writes what a site has to answer, as the
-//! `answer` lines of a script's output give it: `script_cases` and `random_scripts` compare with it. `SiteAnswer::bytes_telling`
+//! `answer` lines of a script's output give it: `script_cases` compares with it. `SiteAnswer::bytes_telling`
 //! adds a `Quality`, and `SiteAnswer::bytes_of_rules` the rules that are removed and installed besides.
 #![tactic(auto)]
 

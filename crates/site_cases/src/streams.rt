@@ -8,6 +8,7 @@ use pcrf_values::{BoundedText, DiameterIdentity};
 use site_core::Site;
 use site_stream::{Ended, converse};
 use std::alloc::AllocGlobal;
+use std::mem::drop;
 use std::net::Ipv4Addr;
 use std::process::Abort;
 use test_messages::put_hexadecimal;
@@ -118,20 +119,38 @@ pub fn answered(
 }
 
 /// Bytes as digits.
-pub fn digits(rt: &(impl AllocGlobal + Abort), bytes: &[u8]) -> String {
+fn digits(rt: &(impl AllocGlobal + Abort), bytes: &[u8]) -> String {
     let mut text = String::new(rt.alloc());
     put_hexadecimal(&mut text, bytes).expect(rt, "memory");
     text
 }
 
+/// What was written is what is wanted.
+pub fn same_bytes(rt: &(impl AllocGlobal + Abort), written: &[u8], wanted: &[u8]) {
+    let written = digits(rt, written);
+    let wanted = digits(rt, wanted);
+    assert_eq!(rt; written.as_str(), wanted.as_str());
+}
+
+/// Has a new site answer a stream: how it ends, with what was written.
+fn answered_anew(
+    rt: &(impl AllocGlobal + Abort),
+    stream: &[u8],
+    way: Way,
+    kept: &mut Vec<u8>,
+) -> Ended {
+    let mut site = site(rt);
+    let ended = answered(rt, &mut site, stream, way, kept);
+    drop(site);
+    ended
+}
+
 /// At a new site a stream ends so, and these answers are written.
 fn tells(rt: &(impl AllocGlobal + Abort), stream: &[u8], way: Way, ended: Ended, answers: &[u8]) {
-    let mut site = site(rt);
     let mut kept = Vec::new(rt.alloc());
-    let told = answered(rt, &mut site, stream, way, &mut kept);
+    let told = answered_anew(rt, stream, way, &mut kept);
     assert!(rt; told == ended);
-    let written = digits(rt, kept.as_slice());
-    assert_eq!(rt; written.as_str(), digits(rt, answers).as_str());
+    same_bytes(rt, kept.as_slice(), answers);
 }
 
 #[test]

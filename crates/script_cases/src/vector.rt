@@ -1,9 +1,8 @@
 //! One request and its answer, whose bytes were written out by hand, AVP by AVP.
-use crate::tables::tables;
-use crate::tests::run;
+use crate::drawn_scripts::run;
+use crate::drawn_tables::tables;
 use pcrf_script::ScriptEnd;
 use std::alloc::{AllocError, Global};
-use std::test::Fail;
 
 /// An initial request of a gateway `gw` of the realm `r`.
 const REQUEST: [&str; 11] = [
@@ -149,12 +148,11 @@ fn lines_of(alloc: Global, word: &str, lines: &[&str]) -> Result<String, AllocEr
 }
 
 #[test]
-fn an_answer_with_rules_and_a_default_quality_has_these_bytes(rt: HostRuntime) -> Result<(), Fail> {
-    let script = lines_of(rt.alloc(), "msg 0", &REQUEST)?;
-    let wanted = lines_of(rt.alloc(), "answer", &ANSWER)?;
-    let (end, out) = run(rt.alloc(), tables(rt.alloc())?, script.as_bytes())?;
+fn an_answer_with_rules_and_a_default_quality_has_these_bytes(rt: HostRuntime) {
+    let script = lines_of(rt.alloc(), "msg 0", &REQUEST).expect(&rt, "memory");
+    let wanted = lines_of(rt.alloc(), "answer", &ANSWER).expect(&rt, "memory");
+    let (end, out) = run(rt.alloc(), tables(&rt), script.as_bytes());
     assert_eq!(rt; end, ScriptEnd::Done);
-    let printed = String::from_utf8(out).ok().ok_or("text")?;
+    let printed = String::from_utf8(out).ok().expect(&rt, "text");
     assert_eq!(rt; printed.as_str(), wanted.as_str());
-    Ok(())
 }

@@ -1,12 +1,13 @@
 //! A site with a call: its copy; and its clock at the end, where requests that would add an operation are refused with
 //! DIAMETER_UNABLE_TO_COMPLY (5012), behind every other cause, and change nothing.
-use crate::streams::{PLAIN, answered, bytes, digits, site};
+use crate::streams::{PLAIN, answered, bytes, same_bytes, site};
 use gx_records::GxFact;
 use pcrf_values::{BoundedText, SessionId};
 use site_core::Site;
 use site_join::{LAST_COUNTER, Operation, SessionFacts};
 use site_stream::Ended;
 use std::alloc::AllocGlobal;
+use std::mem::drop;
 use std::process::Abort;
 
 /// The initial request of `gw;1;1`.
@@ -95,26 +96,51 @@ const NOT_KNOWN: &str =
 
 /// A site answers a stream so.
 fn answers(rt: &(impl AllocGlobal + Abort), site: &mut Site, stream: &[&str], wanted: &[&str]) {
+    let stream = bytes(rt, stream);
     let mut kept = Vec::new(rt.alloc());
-    let ended = answered(rt, site, bytes(rt, stream).as_slice(), PLAIN, &mut kept);
+    let ended = answered(rt, site, stream.as_slice(), PLAIN, &mut kept);
     assert!(rt; ended == Ended::Closed);
-    let written = digits(rt, kept.as_slice());
     let wanted = bytes(rt, wanted);
-    assert_eq!(rt; written.as_str(), digits(rt, wanted.as_slice()).as_str());
+    same_bytes(rt, kept.as_slice(), wanted.as_slice());
 }
 
-/// A site takes an operation with the last counter, on another session.
-fn takes_last(rt: &(impl AllocGlobal + Abort), site: &mut Site) {
-    let read: Option<SessionId> = BoundedText::read(rt.alloc(), b"gw;9;9").expect(rt, "memory");
-    let session = read.expect(rt, "a Session-Id");
+/// A session's facts: that it ended.
+fn end_facts(rt: &(impl AllocGlobal + Abort)) -> Vec<GxFact> {
     let mut facts = Vec::new(rt.alloc());
     facts.push(GxFact::End).expect(rt, "memory");
-    let made = Operation::of(LAST_COUNTER, 2, 1, SessionFacts::Gx(session, facts));
+    facts
+}
+
+/// An operation with the last counter, on another session.
+fn last_operation(rt: &(impl AllocGlobal + Abort)) -> Operation {
+    let read: Option<SessionId> = BoundedText::read(rt.alloc(), b"gw;9;9").expect(rt, "memory");
+    let session = read.expect(rt, "a Session-Id");
+    let made = Operation::of(LAST_COUNTER, 2, 1, SessionFacts::Gx(session, end_facts(rt)));
+    made.expect(rt, "an operation")
+}
+
+/// A site takes it.
+fn takes_last(rt: &(impl AllocGlobal + Abort), site: &mut Site) {
     let mut letter = Vec::new(rt.alloc());
-    letter
-        .push(made.expect(rt, "an operation"))
-        .expect(rt, "memory");
-    assert!(rt; site.take_all(letter.as_slice()).is_ok(), "memory");
+    letter.push(last_operation(rt)).expect(rt, "memory");
+    let taken = site.take_all(letter.as_slice());
+    drop(letter);
+    assert!(rt; taken.is_ok(), "memory");
+}
+
+/// No request is granted that would add an operation, and none changes the site.
+fn grants_nothing(rt: &(impl AllocGlobal + Abort), site: &mut Site) {
+    let (before, _) = site.whole().expect(rt, "memory");
+    for (stream, wanted) in [
+        ([UPDATE, DETACH], [NOT_UPDATED, NOT_DETACHED]),
+        ([CALL, END], [NOT_CHANGED, NOT_ENDED]),
+        ([AWAY, UNKNOWN], [NOT_BOUND, NOT_KNOWN]),
+    ] {
+        answers(rt, site, stream.as_slice(), wanted.as_slice());
+    }
+    let unchanged = site.sessions().equal(&before);
+    drop(before);
+    assert!(rt; unchanged);
 }
 
 #[test]
@@ -122,21 +148,12 @@ fn at_the_end_of_the_clock_nothing_is_granted(rt: HostRuntime) {
     let mut site = site(&rt);
     answers(&rt, &mut site, &[ATTACH, CALL], &[ATTACHED, SET_UP]);
     takes_last(&rt, &mut site);
-    let (before, _) = site.whole().expect(&rt, "memory");
-    answers(
-        &rt,
-        &mut site,
-        &[UPDATE, DETACH],
-        &[NOT_UPDATED, NOT_DETACHED],
-    );
-    answers(&rt, &mut site, &[CALL, END], &[NOT_CHANGED, NOT_ENDED]);
-    answers(&rt, &mut site, &[AWAY, UNKNOWN], &[NOT_BOUND, NOT_KNOWN]);
-    assert!(rt; site.sessions().equal(&before));
+    grants_nothing(&rt, &mut site);
+    drop(site);
 }
 
-/// A site's one call is bound to the session of its address.
-fn has_one_call(rt: &(impl AllocGlobal + Abort), site: &Site) {
-    let bindings = site.bindings().expect(rt, "memory");
+/// The one call is bound to the session of its address.
+fn is_one_call(rt: &impl Abort, bindings: &[(SessionId, Option<SessionId>)]) {
     assert_eq!(rt; bindings.len(), 1);
     let (call, session) = bindings.first().expect(rt, "a call");
     assert_eq!(rt; call.as_slice(), b"af;1".as_slice());
@@ -144,15 +161,36 @@ fn has_one_call(rt: &(impl AllocGlobal + Abort), site: &Site) {
     assert_eq!(rt; session.as_slice(), b"gw;1;1".as_slice());
 }
 
+/// A site has that call alone.
+fn has_one_call(rt: &(impl AllocGlobal + Abort), site: &Site) {
+    let bindings = site.bindings().expect(rt, "memory");
+    is_one_call(rt, bindings.as_slice());
+    drop(bindings);
+}
+
+/// A site takes a copy of all that another holds, which made two operations.
+fn takes_copy(rt: &(impl AllocGlobal + Abort), site: &mut Site, other: &Site) {
+    let (copy, made) = other.whole().expect(rt, "memory");
+    let taken = site.take_state(&copy);
+    drop(copy);
+    assert_eq!(rt; made, 2);
+    assert!(rt; taken.is_ok(), "memory");
+}
+
+/// A new site that takes a copy of another shows the same.
+fn copy_shows_the_same(rt: &(impl AllocGlobal + Abort), first: &Site) {
+    let mut other = site(rt);
+    takes_copy(rt, &mut other, first);
+    assert!(rt; other.sessions().equal(first.sessions()));
+    has_one_call(rt, &other);
+    drop(other);
+}
+
 #[test]
 fn a_copy_of_a_site_with_a_call_shows_the_same(rt: HostRuntime) {
     let mut first = site(&rt);
     answers(&rt, &mut first, &[ATTACH, CALL], &[ATTACHED, SET_UP]);
     has_one_call(&rt, &first);
-    let (copy, made) = first.whole().expect(&rt, "memory");
-    assert_eq!(rt; made, 2);
-    let mut other = site(&rt);
-    other.take_state(&copy).expect(&rt, "memory");
-    assert!(rt; other.sessions().equal(first.sessions()));
-    has_one_call(&rt, &other);
+    copy_shows_the_same(&rt, &first);
+    drop(first);
 }

@@ -1,10 +1,11 @@
 //! What a script has to print, by the model, and a count of what happened.
+use crate::drawn_tables::rules_of;
 use crate::events::{Event, Kind, Request, Script};
 use crate::messages::answer_bytes;
-use crate::model::{Missing, Push, Reply, Site, Tag, World};
-use crate::tables::rules_of;
-use std::alloc::{AllocError, Global};
+use crate::model::{Missing, Push, Reply, Site, Tag, Told, World};
+use std::alloc::{AllocError, AllocGlobal, Global};
 use std::fmt::Write as _;
+use std::process::Abort;
 use test_messages::{Rule, put_hexadecimal};
 
 /// How often things happened in scripts.
@@ -64,14 +65,15 @@ fn count(number: &mut u64) {
 }
 
 /// What a script has to print.
-pub fn expected(alloc: Global, script: &Script, counts: &mut Counts) -> Result<String, AllocError> {
+pub fn expected(rt: &(impl Abort + AllocGlobal), script: &Script, counts: &mut Counts) -> String {
     let sites = script.sites;
-    let mut world = World::start(alloc, sites)?;
-    let mut text = format!(in alloc; "sites {sites}\n")?;
+    let mut world = World::start(rt.alloc(), sites).expect(rt, "memory");
+    let mut text = format!(in rt.alloc(); "sites {sites}\n").expect(rt, "memory");
     for event in &script.events {
-        put_event(alloc, &mut text, &mut world, event, counts)?;
+        put_event(rt.alloc(), &mut text, &mut world, event, counts).expect(rt, "memory");
     }
-    Ok(text)
+    std::mem::drop(world);
+    text
 }
 
 /// Has an event happen, and writes what it has to print.
@@ -84,40 +86,74 @@ fn put_event(
 ) -> Result<(), AllocError> {
     match event {
         Event::Send(i, request) => put_answer(alloc, text, world, *i, request, counts),
-        Event::Letter(i, j) => match world.letter(*i, *j)? {
-            Ok(k) => {
-                count(&mut counts.letters);
-                writeln!(text, "letter {k}")
-            }
-            Err(missing) => put_refused(text, missing, counts),
-        },
-        Event::Merge(j, k) => match world.merge(*j, *k)? {
-            Ok(0) => {
-                count(&mut counts.repeats);
-                text.push_str("merged\n")
-            }
-            Ok(_) => {
-                count(&mut counts.news);
-                text.push_str("merged\n")
-            }
-            Err(missing) => put_refused(text, missing, counts),
-        },
-        Event::Restart(i) => match world.restart(*i) {
-            Ok(epoch) => {
-                count(&mut counts.restarts);
-                writeln!(text, "restart {i} epoch {epoch}")
-            }
-            Err(missing) => put_refused(text, missing, counts),
-        },
-        Event::Push(i) => match world.push(*i)? {
-            Ok(push) => put_push(text, push.as_ref(), counts),
-            Err(missing) => put_refused(text, missing, counts),
-        },
+        Event::Letter(i, j) => put_letter(text, world.letter(*i, *j)?, counts),
+        Event::Merge(j, k) => put_merge(text, world.merge(*j, *k)?, counts),
+        Event::Restart(i) => put_restart(text, *i, world.restart(*i), counts),
+        Event::Push(i) => put_pushed(text, world.push(*i)?, counts),
         Event::Show(i) => match world.sites.get(*i) {
             Some(site) => put_site(alloc, text, site, counts),
             None => put_refused(text, Missing::Site, counts),
         },
     }
+}
+
+/// Writes the number of a letter that was made, if it was.
+fn put_letter(
+    text: &mut String,
+    made: Result<usize, Missing>,
+    counts: &mut Counts,
+) -> Result<(), AllocError> {
+    match made {
+        Ok(k) => {
+            count(&mut counts.letters);
+            writeln!(text, "letter {k}")
+        }
+        Err(missing) => put_refused(text, missing, counts),
+    }
+}
+
+/// Writes that a letter was taken, if it was, and counts whether it brought something new.
+fn put_merge(
+    text: &mut String,
+    taken: Result<usize, Missing>,
+    counts: &mut Counts,
+) -> Result<(), AllocError> {
+    match taken {
+        Ok(0) => count(&mut counts.repeats),
+        Ok(_) => count(&mut counts.news),
+        Err(missing) => return put_refused(text, missing, counts),
+    }
+    text.push_str("merged\n")
+}
+
+/// Writes the epoch that a site began, if it did.
+fn put_restart(
+    text: &mut String,
+    i: usize,
+    began: Result<u64, Missing>,
+    counts: &mut Counts,
+) -> Result<(), AllocError> {
+    match began {
+        Ok(epoch) => {
+            count(&mut counts.restarts);
+            writeln!(text, "restart {i} epoch {epoch}")
+        }
+        Err(missing) => put_refused(text, missing, counts),
+    }
+}
+
+/// Writes what a site pushes, if it is there.
+fn put_pushed(
+    text: &mut String,
+    pushed: Result<Option<Push>, Missing>,
+    counts: &mut Counts,
+) -> Result<(), AllocError> {
+    let put = match &pushed {
+        Ok(push) => put_push(text, push.as_ref(), counts),
+        Err(missing) => put_refused(text, *missing, counts),
+    };
+    std::mem::drop(pushed);
+    put
 }
 
 /// Writes that a site or a letter is not there.
@@ -174,17 +210,37 @@ fn put_answer(
     request: &Request,
     counts: &mut Counts,
 ) -> Result<(), AllocError> {
-    let reply = match world.serve(i, request)? {
-        Ok(reply) => reply,
-        Err(missing) => return put_refused(text, missing, counts),
+    let replied = world.serve(i, request)?;
+    let put = match &replied {
+        Ok(reply) => {
+            count_served(world, i, request, reply, counts);
+            put_reply(alloc, text, i, request, reply)
+        }
+        Err(missing) => put_refused(text, *missing, counts),
     };
-    count_reply(&reply, request.kind, counts);
+    std::mem::drop(replied);
+    put
+}
+
+/// Counts a reply of a site, and whether its request is a late update.
+fn count_served(world: &World, i: usize, request: &Request, reply: &Reply, counts: &mut Counts) {
+    count_reply(reply, request.kind, counts);
     if let Some(site) = world.sites.get(i)
-        && is_late(site, request, &reply)
+        && is_late(site, request, reply)
     {
         count(&mut counts.late);
     }
-    let bytes = answer_bytes(alloc, i, request, &reply)?;
+}
+
+/// Writes the answer that a reply makes.
+fn put_reply(
+    alloc: Global,
+    text: &mut String,
+    i: usize,
+    request: &Request,
+    reply: &Reply,
+) -> Result<(), AllocError> {
+    let bytes = answer_bytes(alloc, i, request, reply)?;
     text.push_str("answer ")?;
     put_hexadecimal(text, bytes.as_slice())?;
     text.push_str("\n")
@@ -199,15 +255,25 @@ fn put_push(text: &mut String, push: Option<&Push>, counts: &mut Counts) -> Resu
     count(&mut counts.pushed);
     text.push_str("push ")?;
     put_text(text, push.session)?;
-    for name in &push.told.removed {
-        text.push_str(" -")?;
-        put_text(text, name)?;
-    }
-    for rule in &push.told.installed {
-        text.push_str(" +")?;
-        put_text(text, rule.name)?;
-    }
+    put_entries(text, &push.told)?;
     text.push_str("\n")
+}
+
+/// Writes the names of what a push removes and installs.
+fn put_entries(text: &mut String, told: &Told) -> Result<(), AllocError> {
+    for name in &told.removed {
+        put_entry(text, " -", name)?;
+    }
+    for rule in &told.installed {
+        put_entry(text, " +", rule.name)?;
+    }
+    Ok(())
+}
+
+/// Writes a name behind its sign.
+fn put_entry(text: &mut String, sign: &str, name: &[u8]) -> Result<(), AllocError> {
+    text.push_str(sign)?;
+    put_text(text, name)
 }
 
 /// Writes the clock of a site and its sessions.
@@ -220,12 +286,24 @@ fn put_site(
     let clock = site.clock();
     writeln!(text, "clock {clock}")?;
     let sessions = site.sessions(alloc)?;
-    for session in &sessions {
+    put_sessions(alloc, text, site, sessions.as_slice(), counts)?;
+    text.push_str("end\n")
+}
+
+/// Writes the sessions of a site.
+fn put_sessions(
+    alloc: Global,
+    text: &mut String,
+    site: &Site,
+    sessions: &[&'static [u8]],
+    counts: &mut Counts,
+) -> Result<(), AllocError> {
+    for session in sessions {
         put_session(alloc, text, site, session, counts)?;
         let tags = site.tags(alloc, session)?;
         count_deciders(tags.as_slice(), counts);
     }
-    text.push_str("end\n")
+    Ok(())
 }
 
 /// Writes the line of a session, and behind that of a live one its rules and what its gateway was told.

@@ -1,9 +1,9 @@
 //! The same events handed to `World::run`: each answer, and what each site holds at the end, compared with the model's.
+use crate::drawn_tables::tables;
 use crate::events::{Event, Request as Sent, Script};
 use crate::generator::{Plan, script};
 use crate::messages::request_bytes;
 use crate::model;
-use crate::tables::tables;
 use dia_codec::HEADER_BYTES;
 use gx_profile::{FirstEntries, GxReply, PushOut};
 use gx_records::GxRec;
@@ -13,22 +13,20 @@ use pcrf_values::{
 };
 use pcrf_world::{World, WorldEvent, WorldFault, WorldOutcome};
 use site_core::{Asked, Reply, Request, Site, read_request};
-use std::alloc::{AllocError, Global};
+use site_join::State;
+use std::alloc::{AllocError, AllocGlobal, Global};
 use std::process::Abort;
-use std::test::Fail;
 use test_messages::{Quality, Rule};
 
 type Answer = Result<WorldOutcome, WorldFault>;
 
 /// The request as a site is asked to serve it.
-fn request(alloc: Global, sent: &Sent) -> Result<Request, Fail> {
-    let bytes = request_bytes(alloc, sent)?;
-    if bytes.len() < HEADER_BYTES {
-        return Err(Fail::from("a whole header"));
-    }
-    match read_request(alloc, bytes.as_slice())? {
-        Asked::Request(_, request) => Ok(request),
-        _ => Err(Fail::from("a request that can be read")),
+fn request(rt: &(impl Abort + AllocGlobal), sent: &Sent) -> Request {
+    let bytes = request_bytes(rt.alloc(), sent).expect(rt, "memory");
+    assert!(rt; bytes.len() >= HEADER_BYTES, "a whole header");
+    match read_request(rt.alloc(), bytes.as_slice()).expect(rt, "memory") {
+        Asked::Request(_, request) => request,
+        _ => rt.abort(),
     }
 }
 
@@ -40,20 +38,30 @@ fn host(alloc: Global, site: usize) -> Result<Option<DiameterIdentity>, AllocErr
     }
 }
 
+/// What happens by a command of a script; nothing by one that only shows.
+fn world_event(rt: &(impl Abort + AllocGlobal), event: &Event) -> Option<WorldEvent> {
+    match event {
+        Event::Send(i, sent) => Some(WorldEvent::Serve(*i, request(rt, sent))),
+        Event::Letter(i, j) => Some(WorldEvent::Letter(*i, *j)),
+        Event::Merge(j, k) => Some(WorldEvent::Merge(*j, *k)),
+        Event::Restart(i) => Some(WorldEvent::Restart(*i)),
+        Event::Push(i) => {
+            let host = host(rt.alloc(), *i).expect(rt, "memory");
+            Some(WorldEvent::Push(*i, host))
+        }
+        Event::Show(_) => None,
+    }
+}
+
 /// What happens in a script, but for what it shows.
-fn world_events(alloc: Global, script: &Script) -> Result<Vec<WorldEvent>, Fail> {
-    let mut events = Vec::new(alloc);
+fn world_events(rt: &(impl Abort + AllocGlobal), script: &Script) -> Vec<WorldEvent> {
+    let mut events = Vec::new(rt.alloc());
     for event in &script.events {
-        match event {
-            Event::Send(i, sent) => events.push(WorldEvent::Serve(*i, request(alloc, sent)?))?,
-            Event::Letter(i, j) => events.push(WorldEvent::Letter(*i, *j))?,
-            Event::Merge(j, k) => events.push(WorldEvent::Merge(*j, *k))?,
-            Event::Restart(i) => events.push(WorldEvent::Restart(*i))?,
-            Event::Push(i) => events.push(WorldEvent::Push(*i, host(alloc, *i)?))?,
-            Event::Show(_) => {}
+        if let Some(event) = world_event(rt, event) {
+            events.push(event).expect(rt, "memory");
         }
     }
-    Ok(events)
+    events
 }
 
 /// What the model gives for an event.
@@ -232,17 +240,17 @@ fn answer(world: &mut model::World, event: &Event) -> Result<Option<Wanted>, All
 
 /// The model's answers, in order.
 fn model_answers(
-    alloc: Global,
+    rt: &(impl Abort + AllocGlobal),
     world: &mut model::World,
     script: &Script,
-) -> Result<Vec<Wanted>, AllocError> {
-    let mut answers = Vec::new(alloc);
+) -> Vec<Wanted> {
+    let mut answers = Vec::new(rt.alloc());
     for event in &script.events {
-        if let Some(answer) = answer(world, event)? {
-            answers.push(answer)?;
+        if let Some(answer) = answer(world, event).expect(rt, "memory") {
+            answers.push(answer).expect(rt, "memory");
         }
     }
-    Ok(answers)
+    answers
 }
 
 /// Whether a session is held as the model has it.
@@ -263,53 +271,87 @@ fn shows(held: &GxRec, site: &model::Site, session: &[u8]) -> bool {
         && held.home().map(usize::from) == site.home(session)
 }
 
+/// Whether a state holds these sessions of the model's, and no other.
+fn holds_each(state: &State, wanted: &model::Site, sessions: &[&'static [u8]]) -> bool {
+    let mut count = 0usize;
+    for (id, held) in state.all_gx() {
+        let Some(session) = sessions.get(count) else {
+            return false;
+        };
+        if !is_held(id, held, wanted, session) {
+            return false;
+        }
+        count = count.saturating_add(1);
+    }
+    count == sessions.len()
+}
+
 /// Whether a site holds what the model has of it.
 fn holds(alloc: Global, site: &Site, wanted: &model::Site) -> Result<bool, AllocError> {
     let state = site.sessions();
     let sessions = wanted.sessions(alloc)?;
-    let mut count = 0usize;
-    for (id, held) in state.all_gx() {
-        let Some(session) = sessions.get(count) else {
-            return Ok(false);
-        };
-        if !is_held(id, held, wanted, session) {
-            return Ok(false);
-        }
-        count = count.saturating_add(1);
+    Ok(state.clock() == wanted.clock() && holds_each(state, wanted, sessions.as_slice()))
+}
+
+/// Runs the world of a script: it, and its answers.
+fn run_world(rt: &(impl Abort + AllocGlobal), script: &Script) -> (World, Vec<Answer>) {
+    let sites = u8::try_from(script.sites).unwrap_or(1);
+    let events = world_events(rt, script);
+    let ran = World::run(rt.alloc(), tables(rt), sites, events.as_slice());
+    std::mem::drop(events);
+    ran.expect(rt, "memory")
+}
+
+/// Compares the answers of a world with the model's.
+fn compare_answers(rt: &impl Abort, seed: u64, answers: &[Answer], wanted: &[Wanted]) {
+    assert_eq!(rt; answers.len(), wanted.len(), "seed {seed}");
+    for (i, (answer, wanted)) in answers.iter().zip(wanted).enumerate() {
+        assert!(rt; is_answer(answer, wanted), "seed {seed}, event {i}");
     }
-    Ok(state.clock() == wanted.clock() && count == sessions.len())
+}
+
+/// Compares what the sites of a world hold with what the model has of them.
+fn compare_sites(rt: &(impl Abort + AllocGlobal), seed: u64, world: &World, model: &model::World) {
+    for (i, wanted) in model.sites.iter().enumerate() {
+        let site = world.site(i).expect(rt, "a site");
+        let same = holds(rt.alloc(), site, wanted).expect(rt, "memory");
+        assert!(rt; same, "seed {seed}, site {i}");
+    }
 }
 
 /// Runs the world of a script, and compares it with the model's.
-fn run_one(rt: &(impl Abort + AllocGlobal), seed: u64, plan: Plan) -> Result<(), Fail> {
-    let script = script(rt.alloc(), seed, plan)?;
-    let mut model = model::World::start(rt.alloc(), script.sites)?;
-    let wanted = model_answers(rt.alloc(), &mut model, &script)?;
-    let sites = u8::try_from(script.sites).unwrap_or(1);
-    let events = world_events(rt.alloc(), &script)?;
-    let tables = tables(rt.alloc())?;
-    let (world, answers) = World::run(rt.alloc(), tables, sites, events.as_slice())?;
-    assert_eq!(rt; answers.len(), wanted.len(), "seed {seed}");
-    for (i, (answer, wanted)) in answers.iter().zip(&wanted).enumerate() {
-        assert!(rt; is_answer(answer, wanted), "seed {seed}, event {i}");
-    }
-    for (i, wanted) in model.sites.iter().enumerate() {
-        let site = world.site(i).ok_or("a site")?;
-        let same = holds(rt.alloc(), site, wanted)?;
-        assert!(rt; same, "seed {seed}, site {i}");
-    }
-    Ok(())
+fn compare_run(
+    rt: &(impl Abort + AllocGlobal),
+    seed: u64,
+    script: &Script,
+    model: &model::World,
+    wanted: &[Wanted],
+) {
+    let (world, answers) = run_world(rt, script);
+    compare_answers(rt, seed, answers.as_slice(), wanted);
+    compare_sites(rt, seed, &world, model);
+    std::mem::drop(answers);
+    std::mem::drop(world);
+}
+
+/// Runs the world of a seed's script, and the model's.
+fn run_one(rt: &(impl Abort + AllocGlobal), seed: u64, plan: Plan) {
+    let script = script(rt.alloc(), seed, plan).expect(rt, "memory");
+    let mut model = model::World::start(rt.alloc(), script.sites).expect(rt, "memory");
+    let wanted = model_answers(rt, &mut model, &script);
+    compare_run(rt, seed, &script, &model, wanted.as_slice());
+    std::mem::drop(wanted);
+    std::mem::drop(model);
 }
 
 #[test]
-fn runs_of_worlds_give_what_the_model_gives(rt: HostRuntime) -> Result<(), Fail> {
+fn runs_of_worlds_give_what_the_model_gives(rt: HostRuntime) {
     let plan = Plan {
         sites: [1, 2, 3, 16],
         exchanges: true,
         restarts: true,
     };
     for seed in 3001..3101 {
-        run_one(&rt, seed, plan)?;
+        run_one(&rt, seed, plan);
     }
-    Ok(())
 }

@@ -1,20 +1,14 @@
-//! Has sites answer whole streams: its words name a file of operator tables, and a file with a stream on each line, as
-//! hexadecimal digits. A new site answers each, and a line tells how the stream ended, and what was written, where
-//! anything was. Every second stream comes in small pieces.
-#![tactic(auto)]
-
-mod pieces;
-
+//! Whole streams that a site answers: each line is one, as hexadecimal digits. A new site answers each, and a line tells how
+//! the stream ended, and what was written, where anything was. Every second stream comes in small pieces.
+use crate::pieces::Pieces;
 use dia_base::Identity;
 use dia_codec::{Counted, FrameFault};
 use op_tables::read_tables;
 use pcrf_values::{BoundedText, DiameterIdentity};
-use pieces::Pieces;
 use site_core::Site;
 use site_stream::{Ended, converse};
+use std::io;
 use std::net::Ipv4Addr;
-use std::process::ExitCode;
-use std::{env, fs, io};
 
 /// How many bytes of a stream are read at once.
 fn piece_bytes(line: usize) -> usize {
@@ -75,31 +69,13 @@ fn answer_stream(rt: &HostRuntime, tables: &str, stream: &[u8], most: usize) -> 
     println!(rt; "{} {}", name_of(ended), digits.as_str())
 }
 
-/// Answers the streams of a file, with the tables of another.
-fn run(rt: &HostRuntime, tables: &str, streams: &str) -> io::Result<()> {
-    let tables = fs::read_to_string(rt, tables)?;
-    let lines = fs::read_to_string(rt, streams)?;
-    for (at, line) in lines.as_str().lines().enumerate() {
+/// Answers each stream of these lines with these operator tables, and answers whether all lines are streams.
+pub fn run(rt: &HostRuntime, tables: &str, lines: &str) -> io::Result<bool> {
+    for (at, line) in lines.lines().enumerate() {
         let Ok(stream) = hex::decode(rt.alloc(), line) else {
-            return Err(io::Error::other("not hexadecimal digits"));
+            return Ok(false);
         };
-        answer_stream(rt, tables.as_str(), stream.as_slice(), piece_bytes(at))?;
+        answer_stream(rt, tables, stream.as_slice(), piece_bytes(at))?;
     }
-    Ok(())
-}
-
-/// Reads the words, and does what they ask for.
-fn run_words(rt: &HostRuntime) -> io::Result<()> {
-    let mut words = env::args(rt)?.skip(1);
-    let (Some(tables), Some(streams)) = (words.next(), words.next()) else {
-        return Err(io::Error::other("two files are wanted"));
-    };
-    run(rt, tables.as_str(), streams.as_str())
-}
-
-fn main(rt: HostRuntime) -> ExitCode {
-    match run_words(&rt) {
-        Ok(()) => ExitCode::SUCCESS,
-        Err(_) => ExitCode::FAILURE,
-    }
+    Ok(true)
 }

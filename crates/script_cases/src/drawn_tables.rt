@@ -1,8 +1,8 @@
 //! The operator tables of the scripts, as a text that the program reads, and what the model knows of them.
 use op_tables::{Tables, read_tables};
-use std::alloc::{AllocError, Global};
+use std::alloc::{AllocError, AllocGlobal, Global};
 use std::fmt::Write as _;
-use std::test::Fail;
+use std::process::Abort;
 use test_messages::{Quality, Rule};
 
 /// Three access points: two with defaults that have no number in common and with rules, and one with a name alone, which
@@ -247,12 +247,9 @@ fn text(alloc: Global) -> Result<String, AllocError> {
 }
 
 /// The tables of the scripts' sites.
-pub fn tables(alloc: Global) -> Result<Tables, Fail> {
-    let text = text(alloc)?;
-    match read_tables(alloc, text.as_str()) {
-        Ok(tables) => Ok(tables),
-        Err(_) => Err(Fail::from("tables")),
-    }
+pub fn tables(rt: &(impl Abort + AllocGlobal)) -> Tables {
+    let text = text(rt.alloc()).expect(rt, "memory");
+    read_tables(rt.alloc(), text.as_str()).expect(rt, "tables")
 }
 
 /// Whether a name has a row, whatever its letters' case.
@@ -260,22 +257,25 @@ pub fn has_row(name: &[u8]) -> bool {
     ROWS.iter().any(|row| row.name.eq_ignore_ascii_case(name))
 }
 
-/// The default of an access point, if it has one.
-pub fn default_of(name: &[u8]) -> Option<Quality> {
+/// The row of a name in small letters, if it has one.
+fn row_of(name: &[u8]) -> Option<Row> {
     for row in &ROWS {
         if row.name == name {
-            return row.default;
+            return Some(*row);
         }
     }
     None
 }
 
+/// The default of an access point, if it has one.
+pub fn default_of(name: &[u8]) -> Option<Quality> {
+    row_of(name)?.default
+}
+
 /// The rules of an access point.
 pub fn rules_of(name: &[u8]) -> &'static [Rule] {
-    for row in &ROWS {
-        if row.name == name {
-            return row.rules;
-        }
+    match row_of(name) {
+        Some(row) => row.rules,
+        None => &[],
     }
-    &[]
 }

@@ -1,6 +1,6 @@
 //! The definitions, over plain lists: which operations a site took, and what follows from them.
+use crate::drawn_tables::{default_of, has_row, rules_of};
 use crate::events::{Kind, Request};
-use crate::tables::{default_of, has_row, rules_of};
 use std::alloc::{AllocError, Global};
 use test_messages::{Quality, Rule};
 
@@ -286,28 +286,54 @@ impl Site {
     fn untold(&self, alloc: Global, session: &[u8]) -> Result<Told, AllocError> {
         let apn = self.apn(session);
         let rules: &'static [Rule] = apn.map_or(&[], |apn| rules_of(apn));
+        Ok(Told {
+            removed: self.removed(alloc, session, rules)?,
+            installed: self.installed(alloc, session, rules)?,
+            quality: apn.and_then(|apn| default_of(apn)),
+        })
+    }
+
+    /// The names that the gateway was told and that its rules lack.
+    fn removed(
+        &self,
+        alloc: Global,
+        session: &[u8],
+        rules: &[Rule],
+    ) -> Result<Vec<&'static [u8]>, AllocError> {
         let mut removed = Vec::new(alloc);
         for name in &self.told_names(alloc, session)? {
             if !rules.iter().any(|rule| rule.name == *name) {
                 removed.push(*name)?;
             }
         }
+        Ok(removed)
+    }
+
+    /// The rules that the gateway doesn't have just so.
+    fn installed(
+        &self,
+        alloc: Global,
+        session: &[u8],
+        rules: &[Rule],
+    ) -> Result<Vec<Rule>, AllocError> {
         let mut installed = Vec::new(alloc);
         for rule in rules {
             if self.told_under(session, rule.name) != Some(*rule) {
                 installed.push(*rule)?;
             }
         }
-        Ok(Told {
-            removed,
-            installed,
-            quality: apn.and_then(|apn| default_of(apn)),
-        })
+        Ok(installed)
+    }
+
+    /// Takes an operation.
+    fn take(&mut self, operation: &Operation) -> Result<(), AllocError> {
+        self.taken.push(operation.clone()?)?;
+        Ok(())
     }
 
     /// Takes an operation that the site makes itself.
     fn make(&mut self, operation: Operation) -> Result<(), AllocError> {
-        self.taken.push(operation.clone()?)?;
+        self.take(&operation)?;
         self.log.push(operation)?;
         Ok(())
     }
@@ -320,31 +346,45 @@ impl Site {
         request: &Request,
     ) -> Result<Told, AllocError> {
         let mut operation = self.fields(alloc, site, request)?;
-        self.taken.push(operation.clone()?)?;
-        let mut told = Told {
-            removed: Vec::new(alloc),
-            installed: Vec::new(alloc),
-            quality: None,
-        };
-        if request.kind != Kind::Termination {
-            told = self.untold(alloc, request.session)?;
-        }
-        self.taken.pop();
-        told.keep_first();
+        let told = self.told_after(alloc, &operation)?;
         operation.tell(&told)?;
         self.make(operation)?;
         Ok(told)
     }
 
+    /// What the gateway is told once the operation of its request is taken: nothing at the end of its session.
+    fn told_after(&mut self, alloc: Global, operation: &Operation) -> Result<Told, AllocError> {
+        if operation.kept == Kept::End {
+            return Ok(Told {
+                removed: Vec::new(alloc),
+                installed: Vec::new(alloc),
+                quality: None,
+            });
+        }
+        self.take(operation)?;
+        let mut told = self.untold(alloc, operation.session)?;
+        self.taken.pop();
+        told.keep_first();
+        Ok(told)
+    }
+
     /// Pushes what the gateway of a session was not told, of the live sessions whose home is this site the least.
     fn push(&mut self, alloc: Global, site: usize) -> Result<Option<Push>, AllocError> {
+        let Some((session, told)) = self.due(alloc, site)? else {
+            return Ok(None);
+        };
+        Ok(Some(self.push_to(alloc, site, session, told)?))
+    }
+
+    /// The least live session whose home is this site and whose gateway was not told all, and what it is to be told.
+    fn due(&self, alloc: Global, site: usize) -> Result<Option<(&'static [u8], Told)>, AllocError> {
         for session in &self.sessions(alloc)? {
             if !self.is_live(session) || self.home(session) != Some(site) {
                 continue;
             }
             let told = self.untold(alloc, session)?;
             if !told.is_empty() {
-                return Ok(Some(self.push_to(alloc, site, session, told)?));
+                return Ok(Some((*session, told)));
             }
         }
         Ok(None)
@@ -501,7 +541,7 @@ impl World {
         for operation in letter {
             if !site.has(operation) {
                 new = new.saturating_add(1);
-                site.taken.push(operation.clone()?)?;
+                site.take(operation)?;
             }
         }
         Ok(Ok(new))
