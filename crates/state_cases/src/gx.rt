@@ -1,8 +1,8 @@
 //! What a record holds of a Gx session.
-use crate::building::{
+use crate::record_building::{
     gx_address, gx_host, gx_last, gx_realm, initial_request, of_each_request, rule, rule_name, tag,
 };
-use crate::text::{compare_text, gx_text};
+use crate::record_text::{compare_text, gx_text};
 use gx_records::{GxFact, GxRec};
 use lattice_core::Join;
 use std::alloc::AllocGlobal;

@@ -1,6 +1,6 @@
 //! What a record holds of an AF session.
-use crate::building::{filters, identity, tag};
-use crate::text::{af_text, compare_text};
+use crate::record_building::{filters, identity, tag};
+use crate::record_text::{af_text, compare_text};
 use af_records::{AfFact, AfRec, ComponentValue, FlowValue, SessionValue};
 use lattice_core::{Join, Tag};
 use pcrf_values::BoundedNumber;
