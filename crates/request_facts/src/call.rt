@@ -5,7 +5,6 @@ ghost use Rattle.pcrf_facts.specs.Facts.{fact_cmp};
 ghost use Rattle.pcrf_facts.specs.Held.{held};
 ghost use Rattle.record_levels.specs.SessionFacts.{session_fact};
 ghost use Rattle.af_records.specs.RecordFacts.{fact_of};
-ghost use Rattle.pcrf_model.specs.Making.{aar_facts};
 ghost use Rattle.rx_profile.specs.Requests.{aar_view};
 ghost use Rattle.request_facts.specs.Call.{call_fields, described};
 
@@ -44,15 +43,6 @@ fn fields_of(alloc: Global, aar: &Aar, tag: Tag) -> Result<Vec<AfFact>, AllocErr
     of_values(alloc, tag, values)
 }
 
-/// The facts that a request describes.
-fn facts_of(alloc: Global, aar: &Aar, tag: Tag) -> Result<Vec<AfFact>, AllocError>
-    ensures { IfOk result (λ facts. map fact_of facts.items ≡ aar_facts (aar_view aar.now) tag) }
-{
-    let mut facts = fields_of(alloc, aar, tag)?;
-    put_components(&mut facts, tag, aar.components.as_slice())?;
-    Ok(facts)
-}
-
 /// The record of what an AA request describes, as the operation of a site under a counter has it. None of its facts overshadows
 /// another, so the record has them all.
 pub fn call_of(alloc: Global, aar: &Aar, counter: u64, site: u8) -> Result<AfRec, AllocError>
@@ -65,8 +55,8 @@ pub fn call_of(alloc: Global, aar: &Aar, counter: u64, site: u8) -> Result<AfRec
         counter,
         site,
     };
-    let facts = facts_of(alloc, aar, tag)?;
-    // Its contract tells the proof that the numbers differ, so that no fact overshadows another.
-    let _apart = aar.components.as_slice();
+    let components = aar.components.as_slice();
+    let mut facts = fields_of(alloc, aar, tag)?;
+    put_components(&mut facts, tag, components)?;
     AfRec::of_facts(alloc, facts.as_slice())
 }
