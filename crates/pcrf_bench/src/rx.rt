@@ -93,7 +93,7 @@ fn read(alloc: Global, request: &Message) -> io::Result<Aar> {
 /// Reads the request again and again.
 fn read_again(alloc: Global, request: &Message) -> io::Result<()> {
     for _ in 0..ROUNDS {
-        std::mem::drop(read(alloc, request)?);
+        drop(read(alloc, request)?);
     }
     Ok(())
 }
@@ -105,7 +105,7 @@ fn count_kept(alloc: Global, request: &Message) -> io::Result<usize> {
         add(&mut kept, read(alloc, request))?;
     }
     let count = kept.len();
-    std::mem::drop(kept);
+    drop(kept);
     Ok(count)
 }
 
@@ -113,7 +113,7 @@ fn count_kept(alloc: Global, request: &Message) -> io::Result<usize> {
 fn count_kept_of(alloc: Global, bytes: &[u8]) -> io::Result<usize> {
     let request = message_of(alloc, bytes)?;
     let kept = count_kept(alloc, &request);
-    std::mem::drop(request);
+    drop(request);
     kept
 }
 
@@ -135,7 +135,7 @@ fn time_request(rt: &(impl AllocGlobal + Clock), request: &Message) -> io::Resul
 fn time_reading(rt: &(impl AllocGlobal + Clock), bytes: &[u8]) -> io::Result<Duration> {
     let request = message_of(rt.alloc(), bytes)?;
     let time = time_request(rt, &request);
-    std::mem::drop(request);
+    drop(request);
     time
 }
 

@@ -166,7 +166,7 @@ fn take_each(alloc: Global, site: &mut Site, made: Made, count: u32) -> io::Resu
     for turn in 0..count.div_ceil(BATCH) {
         let operations = batch(alloc, made, count, turn.saturating_mul(BATCH))?;
         let taken = take(site, operations.as_slice());
-        std::mem::drop(operations);
+        drop(operations);
         taken?;
     }
     Ok(())
@@ -250,7 +250,7 @@ fn count_granted(reply: &Reply) -> Option<usize> {
 fn serve_one(site: &mut Site, request: &Request) -> io::Result<usize> {
     let reply = site.serve(request)?;
     let told = count_granted(&reply);
-    std::mem::drop(reply);
+    drop(reply);
     match told {
         Some(told) => Ok(told),
         None => Err(io::Error::other("a request is refused")),
@@ -292,7 +292,7 @@ fn push_once(site: &mut Site, host: Option<&[u8]>) -> io::Result<()> {
         Ok(Some(_)) => Err("something is due"),
         Err(_) => Err("a push failed"),
     };
-    std::mem::drop(pushed);
+    drop(pushed);
     match none {
         Ok(()) => Ok(()),
         Err(why) => Err(io::Error::other(why)),
@@ -356,7 +356,7 @@ fn measure_updates(
 ) -> io::Result<()> {
     let requests = updates(rt.alloc(), load.sessions, load.requests)?;
     let measured = measure_serving(rt, site, "sites: update", requests.as_slice(), 0);
-    std::mem::drop(requests);
+    drop(requests);
     measured
 }
 
@@ -369,7 +369,7 @@ fn measure_initials(
     let requests = initials(rt.alloc(), load.sessions, load.requests)?;
     let (what, asked) = ("sites: initial request", requests.as_slice());
     let measured = measure_serving(rt, site, what, asked, load.requests);
-    std::mem::drop(requests);
+    drop(requests);
     measured
 }
 
@@ -393,7 +393,7 @@ fn measure_at(
 fn measure_beside(rt: &(impl AllocGlobal + Clock + Print), load: Load) -> io::Result<()> {
     let mut site = new_site(rt.alloc())?;
     let measured = measure_at(rt, &mut site, load);
-    std::mem::drop(site);
+    drop(site);
     measured
 }
 

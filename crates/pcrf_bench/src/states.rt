@@ -97,7 +97,7 @@ fn take_all(
     for place in 0..size.div_ceil(BATCH) {
         let operations = batch(rt.alloc(), kind, size, place.saturating_mul(BATCH))?;
         let spent = take_batch(rt, state, operations.as_slice());
-        std::mem::drop(operations);
+        drop(operations);
         time = time.saturating_add(spent?);
     }
     Ok(time)
@@ -110,7 +110,7 @@ fn merge(ours: State, theirs: State) -> Result<(), AllocError> {
         Ok(_) => Ok(()),
         Err((refused, _, _)) => Err(*refused),
     };
-    std::mem::drop(merged);
+    drop(merged);
     done
 }
 
@@ -184,7 +184,7 @@ fn take_each(alloc: Global, state: &mut State, size: u32) -> io::Result<()> {
     for turn in 0..size {
         let operation = operation(alloc, Kind::Initial, size, turn)?;
         let taken = state.take(&operation);
-        std::mem::drop(operation);
+        drop(operation);
         taken?;
     }
     Ok(())
@@ -200,6 +200,6 @@ fn keep_in(rt: &(impl AllocGlobal + Print), state: &mut State, size: u32) -> io:
 pub fn keep(rt: &(impl AllocGlobal + Print), size: u32) -> io::Result<()> {
     let mut state = State::start(rt.alloc());
     let kept = keep_in(rt, &mut state, size);
-    std::mem::drop(state);
+    drop(state);
     kept
 }

@@ -83,7 +83,7 @@ fn serve(
             Ok(reply)
         }
         Err(error) => {
-            std::mem::drop(reply);
+            drop(reply);
             Err(error)
         }
     }
@@ -128,7 +128,7 @@ fn answer_asked(
     };
     let reply = serve(rt, site, request, times)?;
     let written = write(rt, site, header, request, &reply, times);
-    std::mem::drop(reply);
+    drop(reply);
     written
 }
 
@@ -150,7 +150,7 @@ fn answer_frame(
         }
         Err(error) => Err(error),
     };
-    std::mem::drop(asked);
+    drop(asked);
     answered
 }
 
@@ -264,6 +264,6 @@ fn measure_at(
 pub fn measure(rt: &(impl AllocGlobal + Clock + Print), sessions: u32) -> io::Result<()> {
     let mut site = new_site(rt.alloc())?;
     let measured = measure_at(rt, &mut site, sessions);
-    std::mem::drop(site);
+    drop(site);
     measured
 }

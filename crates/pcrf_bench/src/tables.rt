@@ -63,7 +63,7 @@ fn read(alloc: Global, text: &str) -> io::Result<Tables> {
 /// Reads the text again and again, and gives the tables that it read last.
 fn read_again(alloc: Global, text: &str) -> io::Result<Tables> {
     for _ in 1..ROUNDS {
-        std::mem::drop(read(alloc, text)?);
+        drop(read(alloc, text)?);
     }
     read(alloc, text)
 }
@@ -71,7 +71,7 @@ fn read_again(alloc: Global, text: &str) -> io::Result<Tables> {
 /// Copies the tables again and again.
 fn copy_again(alloc: Global, tables: &Tables) -> Result<(), AllocError> {
     for _ in 0..ROUNDS {
-        std::mem::drop(tables.try_copy(alloc)?);
+        drop(tables.try_copy(alloc)?);
     }
     Ok(())
 }
@@ -117,7 +117,7 @@ fn measure_reading(rt: &(impl AllocGlobal + Clock + Print), text: &str) -> io::R
     match print_since(rt, "tables: reading the text", start) {
         Ok(()) => Ok(tables),
         Err(error) => {
-            std::mem::drop(tables);
+            drop(tables);
             Err(error)
         }
     }
@@ -147,7 +147,7 @@ fn measure_look_up(
 ) -> io::Result<()> {
     let names = names_of(rt.alloc(), points)?;
     let measured = measure_names(rt, tables, names.as_slice());
-    std::mem::drop(names);
+    drop(names);
     measured
 }
 
@@ -168,6 +168,6 @@ pub fn measure(rt: &(impl AllocGlobal + Clock + Print), points: u32) -> io::Resu
     println!(rt; "tables: {points} access points: {} bytes", text.len())?;
     let tables = measure_reading(rt, text.as_str())?;
     let measured = measure_tables(rt, &tables, points);
-    std::mem::drop(tables);
+    drop(tables);
     measured
 }

@@ -2,7 +2,6 @@
 use crate::run::{no_words, run};
 use std::alloc::{AllocError, Global};
 use std::io::{self, ErrorKind, Read, Write};
-use std::mem::drop;
 use std::process::Abort;
 use std::test::Fail;
 use std::{env, fs, process};

@@ -7,7 +7,6 @@ use pcrf_show::show_state;
 use pcrf_world::{World, WorldEvent};
 use script_lines::{LineFault, Obey};
 use std::alloc::Global;
-use std::mem::drop;
 
 /// A world that a line starts, and that further lines change and show.
 #[derive(Drop)]

@@ -11,7 +11,6 @@ use pcrf_world::{World, WorldFault, WorldOutcome};
 use script_lines::LineFault;
 use site_core::{Asked, Reply, Request, Site, read_request, write_refusal, write_reply};
 use std::alloc::{AllocError, Global};
-use std::mem::drop;
 
 /// Gives a site the bytes of a stream: prints a line for each message, and one for what is left of the stream. An
 /// unknown site is told once, whatever the bytes.

@@ -136,7 +136,7 @@ fn bound(list: &[Session], call: Session) -> Option<(u64, u64, u32)> {
     best
 }
 
-/// Whether a call is bound so.
+/// Compares what a call is bound to with what is wanted.
 fn compare_bound(rt: &impl Abort, call: &str, given: &str, wanted: &str) {
     assert_eq!(rt; given, wanted, "the call {call}");
 }

@@ -41,7 +41,7 @@ fn put_answered(rt: &(impl AllocGlobal + Abort), transcript: &str, out: &mut Str
     drop(state);
 }
 
-/// Whether a transcript with the given answers is the transcript.
+/// Compares a transcript that has the given answers with the transcript.
 fn compare(rt: &impl Abort, given: &str, transcript: &str) {
     let pairs = given.lines().zip(transcript.lines());
     let common = pairs.take_while(|(got, want)| got == want).count();

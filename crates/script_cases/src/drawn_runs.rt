@@ -298,7 +298,7 @@ fn run_world(rt: &(impl Abort + AllocGlobal), script: &Script) -> (World, Vec<An
     let sites = u8::try_from(script.sites).unwrap_or(1);
     let events = world_events(rt, script);
     let ran = World::run(rt.alloc(), tables(rt), sites, events.as_slice());
-    std::mem::drop(events);
+    drop(events);
     ran.expect(rt, "memory")
 }
 
@@ -330,8 +330,8 @@ fn compare_run(
     let (world, answers) = run_world(rt, script);
     compare_answers(rt, seed, answers.as_slice(), wanted);
     compare_sites(rt, seed, &world, model);
-    std::mem::drop(answers);
-    std::mem::drop(world);
+    drop(answers);
+    drop(world);
 }
 
 /// Runs the world of a seed's script, and the model's.
@@ -340,8 +340,8 @@ fn run_one(rt: &(impl Abort + AllocGlobal), seed: u64, plan: Plan) {
     let mut model = model::World::start(rt.alloc(), script.sites).expect(rt, "memory");
     let wanted = model_answers(rt, &mut model, &script);
     compare_run(rt, seed, &script, &model, wanted.as_slice());
-    std::mem::drop(wanted);
-    std::mem::drop(model);
+    drop(wanted);
+    drop(model);
 }
 
 #[test]

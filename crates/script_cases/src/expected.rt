@@ -72,7 +72,7 @@ pub fn expected(rt: &(impl Abort + AllocGlobal), script: &Script, counts: &mut C
     for event in &script.events {
         put_event(rt.alloc(), &mut text, &mut world, event, counts).expect(rt, "memory");
     }
-    std::mem::drop(world);
+    drop(world);
     text
 }
 
@@ -152,7 +152,7 @@ fn put_pushed(
         Ok(push) => put_push(text, push.as_ref(), counts),
         Err(missing) => put_refused(text, *missing, counts),
     };
-    std::mem::drop(pushed);
+    drop(pushed);
     put
 }
 
@@ -218,7 +218,7 @@ fn put_answer(
         }
         Err(missing) => put_refused(text, *missing, counts),
     };
-    std::mem::drop(replied);
+    drop(replied);
     put
 }
 

@@ -239,7 +239,7 @@ pub fn take_gateway(
 ) {
     let taken = of_gateway(rt, at, session, facts);
     state.take(&taken).expect(rt, "memory");
-    std::mem::drop(taken);
+    drop(taken);
 }
 
 /// A state takes an operation on an application function's session.
@@ -252,7 +252,7 @@ pub fn take_application(
 ) {
     let taken = of_application(rt, at, session, facts);
     state.take(&taken).expect(rt, "memory");
-    std::mem::drop(taken);
+    drop(taken);
 }
 
 /// A gateway's session ends.

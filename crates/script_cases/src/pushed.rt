@@ -27,7 +27,7 @@ fn take_all(rt: &impl Abort, site: &mut Site, operations: &[Operation]) {
 fn take_made(rt: &(impl AllocGlobal + Abort), site: &mut Site, maker: &Site) {
     let (told, _) = maker.own_since(0).expect(rt, "memory");
     take_all(rt, site, told.as_slice());
-    std::mem::drop(told);
+    drop(told);
 }
 
 /// A site takes an operation.
@@ -35,7 +35,7 @@ fn takes(rt: &(impl AllocGlobal + Abort), site: &mut Site, operation: Operation)
     let mut letter = Vec::new(rt.alloc());
     letter.push(operation).expect(rt, "memory");
     take_all(rt, site, letter.as_slice());
-    std::mem::drop(letter);
+    drop(letter);
 }
 
 /// The initial request of `gw;1;1` at site 0, whose answer installed `op/sip`.
@@ -110,7 +110,7 @@ fn pushes(rt: &(impl AllocGlobal + Abort), site: &mut Site, wanted: Option<&str>
         Some(push) => tells(rt, push, wanted),
         None => assert!(rt; wanted.is_none()),
     }
-    std::mem::drop(pushed);
+    drop(pushed);
 }
 
 /// How many rules a push installs.
@@ -118,7 +118,7 @@ fn installs(rt: &(impl AllocGlobal + Abort), site: &mut Site, wanted: usize) {
     let pushed = site.push(None).expect(rt, "memory and a counter");
     let push = pushed.expect(rt, "a push");
     let (removed, installed) = (push.delta.removed().len(), push.delta.installed().len());
-    std::mem::drop(push);
+    drop(push);
     assert_eq!(rt; (removed, installed), (0, wanted));
 }
 
@@ -144,7 +144,7 @@ fn a_call_is_pushed_changed_and_removed(rt: HostRuntime) {
     pushes(&rt, &mut site, Some(" -af/af;1/1/1 -af/af;1/1/2"));
     take_voice(&rt, &mut site, 8);
     pushes(&rt, &mut site, None);
-    std::mem::drop(site);
+    drop(site);
 }
 
 #[test]
@@ -158,7 +158,7 @@ fn fifty_flows_are_pushed_in_two_messages(rt: HostRuntime) {
     installs(&rt, &mut site, 40);
     installs(&rt, &mut site, 10);
     pushes(&rt, &mut site, None);
-    std::mem::drop(site);
+    drop(site);
 }
 
 // The call comes before the session that it is bound to, and only the session's home pushes.
@@ -173,8 +173,8 @@ fn only_the_home_pushes_a_call(rt: HostRuntime) {
     take_gateway(&rt, &mut site);
     take_voice(&rt, &mut site, 2);
     pushes(&rt, &mut site, Some(VOICE));
-    std::mem::drop(other);
-    std::mem::drop(site);
+    drop(other);
+    drop(site);
 }
 
 /// An update of `gw;1;1` that site 2 accepted, which makes it the session's home.
@@ -209,10 +209,10 @@ fn the_home_that_moved_pushes_the_end_of_a_call(rt: HostRuntime) {
     pushes(&rt, &mut site, None);
     take_voice(&rt, &mut other, 2);
     take_made(&rt, &mut other, &site);
-    std::mem::drop(site);
+    drop(site);
     pushes(&rt, &mut other, None);
     takes(&rt, &mut other, end(&rt));
     pushes(&rt, &mut other, Some(" -af/af;1/1/1 -af/af;1/1/2"));
     pushes(&rt, &mut other, None);
-    std::mem::drop(other);
+    drop(other);
 }

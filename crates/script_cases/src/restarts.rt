@@ -11,8 +11,8 @@ fn begins(world: &mut World, site: usize) -> Result<u16, Option<WorldFault>> {
         Ok(_) => Err(None),
         Err(fault) => Err(Some(*fault)),
     };
-    std::mem::drop(answer);
-    std::mem::drop(event);
+    drop(answer);
+    drop(event);
     began
 }
 
@@ -25,5 +25,5 @@ fn the_last_epoch_is_65_535(rt: HostRuntime) {
     assert!(rt; begins(&mut world, 3) == Ok(65_535));
     assert!(rt; begins(&mut world, 3) == Err(Some(WorldFault::EpochFull)));
     assert!(rt; begins(&mut world, 2) == Ok(2));
-    std::mem::drop(world);
+    drop(world);
 }

@@ -122,7 +122,7 @@ fn check(rt: &(impl AllocGlobal + Abort), state: &State, wanted: &str) {
     let tables = read_tables(rt.alloc(), TABLES).expect(rt, "tables");
     let mut out = String::new(rt.alloc());
     show_state(rt.alloc(), &mut out, &tables, state).expect(rt, "memory");
-    std::mem::drop(tables);
+    drop(tables);
     assert_eq!(rt; out.as_str(), wanted);
 }
 
@@ -130,7 +130,7 @@ fn check(rt: &(impl AllocGlobal + Abort), state: &State, wanted: &str) {
 fn a_voice_call_shows_its_rules_and_its_binding(rt: HostRuntime) {
     let state = voice_call(&rt);
     check(&rt, &state, VOICE_CALL);
-    std::mem::drop(state);
+    drop(state);
 }
 
 #[test]
@@ -142,5 +142,5 @@ fn each_kind_of_session_has_its_lines(rt: HostRuntime) {
     take_gateways_not_live(&rt, &mut state, stamp(6, 0));
     take_without_binding(&rt, &mut state, stamp(10, 0));
     check(&rt, &state, EACH_KIND);
-    std::mem::drop(state);
+    drop(state);
 }

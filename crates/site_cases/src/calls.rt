@@ -7,7 +7,6 @@ use site_core::Site;
 use site_join::{LAST_COUNTER, Operation, SessionFacts};
 use site_stream::Ended;
 use std::alloc::AllocGlobal;
-use std::mem::drop;
 use std::process::Abort;
 
 /// The initial request of `gw;1;1`.

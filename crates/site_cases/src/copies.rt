@@ -4,7 +4,6 @@ use gx_profile::GxReply;
 use site_core::{Reply, Site};
 use site_join::Operation;
 use std::alloc::AllocGlobal;
-use std::mem::drop;
 use std::process::Abort;
 
 /// A site that served an initial request and 100 updates.

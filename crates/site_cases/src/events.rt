@@ -6,7 +6,6 @@ use dia_codec::{Flags, Header};
 use gx_profile::GxReply;
 use site_core::{Event, Reply, Request, Site, write_reply};
 use std::alloc::AllocGlobal;
-use std::mem::drop;
 use std::process::Abort;
 
 /// What a reply says.

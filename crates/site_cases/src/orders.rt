@@ -6,7 +6,6 @@ use crate::text::compare;
 use site_core::Site;
 use site_join::Operation;
 use std::alloc::AllocGlobal;
-use std::mem::drop;
 use std::process::Abort;
 
 /// A request of the first session, of a CC-Request-Type and with a CC-Request-Number.

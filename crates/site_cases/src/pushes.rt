@@ -9,7 +9,6 @@ use pcrf_values::{BoundedText, SessionId};
 use site_core::{Site, StepFault};
 use site_join::{LAST_COUNTER, Operation, SessionFacts};
 use std::alloc::AllocGlobal;
-use std::mem::drop;
 use std::process::Abort;
 
 /// Compares a push to the gateway `gw` with the session and the names that are told.

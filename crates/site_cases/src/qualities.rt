@@ -6,7 +6,6 @@ use crate::text::compare;
 use pcrf_values::Refusal;
 use site_core::Site;
 use std::alloc::AllocGlobal;
-use std::mem::drop;
 use std::process::Abort;
 
 /// The request with this access point name in the place of its own.

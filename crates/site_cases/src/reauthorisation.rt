@@ -7,7 +7,6 @@ use pcrf_values::{
     RetentionPriority, Rule, RuleName, RuleQos,
 };
 use std::alloc::{AllocError, AllocGlobal, Global};
-use std::mem::drop;
 use std::net::Ipv4Addr;
 use std::process::Abort;
 use test_messages::{Avps, GX, Head, TGPP, message, put_hexadecimal};

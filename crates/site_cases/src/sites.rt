@@ -9,7 +9,6 @@ use op_tables::Tables;
 use pcrf_values::{BoundedText, DefaultQuality, DiameterIdentity, Refusal, SessionId};
 use site_core::{Reply, Site};
 use std::alloc::AllocGlobal;
-use std::mem::drop;
 use std::net::Ipv4Addr;
 use std::process::Abort;
 

@@ -8,7 +8,6 @@ use pcrf_values::{BoundedText, DiameterIdentity};
 use site_core::Site;
 use site_stream::{Ended, converse};
 use std::alloc::AllocGlobal;
-use std::mem::drop;
 use std::net::Ipv4Addr;
 use std::process::Abort;
 use test_messages::put_hexadecimal;
@@ -125,7 +124,7 @@ fn digits(rt: &(impl AllocGlobal + Abort), bytes: &[u8]) -> String {
     text
 }
 
-/// What was written is what is wanted.
+/// Compares what was written with what is wanted.
 pub fn same_bytes(rt: &(impl AllocGlobal + Abort), written: &[u8], wanted: &[u8]) {
     let written = digits(rt, written);
     let wanted = digits(rt, wanted);

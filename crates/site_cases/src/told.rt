@@ -6,7 +6,6 @@ use op_tables::{Tables, read_tables};
 use site_core::{Reply, Site};
 use std::alloc::{AllocError, AllocGlobal, Global};
 use std::fmt::Write as _;
-use std::mem::drop;
 use std::process::Abort;
 
 const HEAD: &str = r#"

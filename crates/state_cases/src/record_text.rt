@@ -16,7 +16,7 @@ fn put_text(out: &mut String, bytes: &[u8]) -> Result<(), AllocError> {
     Ok(())
 }
 
-/// Whether a text is this one.
+/// Compares a text with the one that is wanted.
 pub fn compare_text(rt: &impl Abort, text: &str, want: &str) {
     assert_eq!(rt; text, want);
 }

@@ -130,7 +130,7 @@ fn check(rt: &(impl AllocGlobal + Abort), first: &Operation, second: &Operation,
     compare_taken(rt, second, first, want);
 }
 
-/// Whether a state is equal to another.
+/// Compares a state with another.
 fn compare_states(rt: &impl Abort, state: &State, want: &State) {
     assert!(rt; state.equal(want));
 }
