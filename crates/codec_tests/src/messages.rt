@@ -3,10 +3,34 @@ use crate::vectors::{
     AA_REFUSAL, DEVICE_WATCHDOG_REQUEST, FREELY_SPELLED_REQUEST, INITIAL_GX_REQUEST,
 };
 use dia_codec::{
-    Avp, AvpKey, Flags, HEADER_BYTES, Header, MsgFault, WriteFault, read_header, read_message,
-    write_message,
+    Avp, AvpKey, Flags, HEADER_BYTES, Header, Message, MsgFault, WriteFault, read_header,
+    read_message, write_message,
 };
+use std::alloc::AllocGlobal;
 use std::net::Ipv4Addr;
+use std::process::Abort;
+
+/// The message of these bytes.
+pub fn message_of(rt: &(impl AllocGlobal + Abort), bytes: &[u8]) -> Message {
+    read_message(rt.alloc(), bytes).expect(rt, "a message")
+}
+
+/// These bytes are read as a message.
+fn is_read_as(rt: &(impl AllocGlobal + Abort), bytes: &[u8], message: &Message) {
+    let read = message_of(rt, bytes);
+    let is_same = read == *message;
+    drop(read);
+    assert!(rt; is_same);
+}
+
+/// A message is read, written as these bytes, and these are read as the same.
+fn is_written_again(rt: &(impl AllocGlobal + Abort), bytes: &[u8], written: &[u8]) {
+    let message = read_message(rt.alloc(), bytes).expect(rt, "a message");
+    let again = write_message(rt.alloc(), &message).expect(rt, "memory");
+    is_read_as(rt, again.as_slice(), &message);
+    drop(message);
+    assert_eq!(rt; again.as_slice(), written);
+}
 
 // Reserved bits and padding are written as zero.
 #[test]
@@ -23,34 +47,26 @@ fn messages_are_read_and_written_again(rt: HostRuntime) {
             DEVICE_WATCHDOG_REQUEST.as_slice(),
         ),
     ] {
-        let message = read_message(rt.alloc(), bytes).expect(&rt, "a message");
-        let again = write_message(rt.alloc(), &message).expect(&rt, "memory");
-        assert_eq!(rt; again.as_slice(), written);
-        let same = read_message(rt.alloc(), again.as_slice()).expect(&rt, "a message");
-        assert!(rt; same == message);
+        is_written_again(&rt, bytes, written);
     }
 }
 
-#[test]
-fn the_initial_gx_request_says_what_was_sent(rt: HostRuntime) {
-    let header = Header {
-        flags: Flags {
-            request: true,
-            proxiable: true,
-            error: false,
-            retransmitted: false,
-        },
-        command: 272,
-        application: 16_777_238,
-        hop_id: 1,
-        end_id: 2,
-    };
-    let (first, _) = INITIAL_GX_REQUEST
-        .split_first_chunk::<HEADER_BYTES>()
-        .expect(&rt, "a header");
-    assert_eq!(rt; read_header(first), header);
-    let message = read_message(rt.alloc(), &INITIAL_GX_REQUEST).expect(&rt, "a message");
-    assert_eq!(rt; message.header, header);
+/// The header of the initial request.
+const INITIAL: Header = Header {
+    flags: Flags {
+        request: true,
+        proxiable: true,
+        error: false,
+        retransmitted: false,
+    },
+    command: 272,
+    application: 16_777_238,
+    hop_id: 1,
+    end_id: 2,
+};
+
+/// The AVPs of the initial request say what was sent.
+fn has_what_was_sent(rt: &impl Abort, message: &Message) {
     assert_eq!(rt; message.avps.len(), 9);
     for (at, code, text, number, address) in [
         (0, 263, b"gw;1;1".as_slice(), None, None),
@@ -88,6 +104,18 @@ fn the_initial_gx_request_says_what_was_sent(rt: HostRuntime) {
 }
 
 #[test]
+fn the_initial_gx_request_says_what_was_sent(rt: HostRuntime) {
+    let (first, _) = INITIAL_GX_REQUEST
+        .split_first_chunk::<HEADER_BYTES>()
+        .expect(&rt, "a header");
+    assert_eq!(rt; read_header(first), INITIAL);
+    let message = message_of(&rt, &INITIAL_GX_REQUEST);
+    assert_eq!(rt; message.header, INITIAL);
+    has_what_was_sent(&rt, &message);
+    drop(message);
+}
+
+#[test]
 fn the_first_fault_is_told(rt: HostRuntime) {
     // how many bytes of the watchdog request there are, which of them are set, and the fault that counts
     for (length, changes, fault) in [
@@ -112,29 +140,30 @@ fn the_first_fault_is_told(rt: HostRuntime) {
     }
 }
 
+/// A Session-Id of so many bytes.
+fn long_avp(rt: &(impl AllocGlobal + Abort), bytes: usize) -> Avp {
+    Avp {
+        code: 263,
+        vendor: None,
+        mandatory: true,
+        protected: false,
+        value: vec![in rt.alloc(); 0; bytes].expect(rt, "memory"),
+    }
+}
+
+/// How many bytes a message is written as that has this alone, or why it isn't written.
+fn written_bytes(rt: &(impl AllocGlobal + Abort), bytes: usize) -> Result<usize, WriteFault> {
+    let read = read_message(rt.alloc(), &DEVICE_WATCHDOG_REQUEST);
+    let mut message = read.expect(rt, "a message");
+    message.avps.clear();
+    message.avps.push(long_avp(rt, bytes)).expect(rt, "memory");
+    let written = write_message(rt.alloc(), &message).map(|written| written.len());
+    drop(message);
+    written
+}
+
 #[test]
 fn a_message_has_at_most_65532_bytes(rt: HostRuntime) {
-    let mut message = read_message(rt.alloc(), &DEVICE_WATCHDOG_REQUEST).expect(&rt, "a message");
-    message.avps.clear();
-    let avp = Avp {
-        code: 263,
-        vendor: None,
-        mandatory: true,
-        protected: false,
-        value: vec![in rt.alloc(); 0; 65_504].expect(&rt, "memory"),
-    };
-    message.avps.push(avp).expect(&rt, "memory");
-    let longest = write_message(rt.alloc(), &message).expect(&rt, "the longest message");
-    assert_eq!(rt; longest.len(), 65_532);
-    message.avps.clear();
-    let avp = Avp {
-        code: 263,
-        vendor: None,
-        mandatory: true,
-        protected: false,
-        value: vec![in rt.alloc(); 0; 65_505].expect(&rt, "memory"),
-    };
-    message.avps.push(avp).expect(&rt, "memory");
-    let refused = write_message(rt.alloc(), &message).err();
-    assert!(rt; refused == Some(WriteFault::TooLong));
+    assert!(rt; written_bytes(&rt, 65_504) == Ok(65_532));
+    assert!(rt; written_bytes(&rt, 65_505) == Err(WriteFault::TooLong));
 }

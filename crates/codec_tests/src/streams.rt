@@ -1,6 +1,15 @@
 //! Streams that come in pieces.
 use crate::vectors::{AA_REFUSAL, DEVICE_WATCHDOG_REQUEST, INITIAL_GX_REQUEST};
-use dia_codec::{Assembler, FrameFault, StreamEnd, frames_of};
+use dia_codec::{Assembler, FrameFault, FramedStream, StreamEnd, frames_of};
+use std::alloc::AllocGlobal;
+use std::process::Abort;
+
+/// A stream that is whole, and of these bytes alone, cut so.
+fn is_one_frame(rt: &impl Abort, stream: &FramedStream, whole: &[u8], at: usize) {
+    assert!(rt; stream.end == StreamEnd::Whole, "cut at {at}");
+    assert_eq!(rt; stream.frames.len(), 1, "cut at {at}");
+    assert_eq!(rt; stream.frames[0].as_slice(), whole, "cut at {at}");
+}
 
 #[test]
 fn the_initial_gx_request_comes_in_two_pieces(rt: HostRuntime) {
@@ -8,26 +17,31 @@ fn the_initial_gx_request_comes_in_two_pieces(rt: HostRuntime) {
     for at in 0..=whole.len() {
         let (first, last) = whole.split_at(at);
         let stream = frames_of(rt.alloc(), &[first, last]).expect(&rt, "memory");
-        assert!(rt; stream.end == StreamEnd::Whole, "cut at {at}");
-        assert_eq!(rt; stream.frames.len(), 1, "cut at {at}");
-        assert_eq!(rt; stream.frames[0].as_slice(), whole, "cut at {at}");
+        is_one_frame(&rt, &stream, whole, at);
+        drop(stream);
     }
+}
+
+/// Gives an assembler a byte, and compares the frame that it gives, if any; whether it gave one.
+fn gives_frame(rt: &impl Abort, assembler: &mut Assembler, byte: u8) -> bool {
+    assembler.feed(&[byte]).expect(rt, "memory");
+    let next = assembler.next().expect(rt, "memory");
+    let Some(frame) = next else {
+        return false;
+    };
+    assert_eq!(rt; frame.as_slice(), INITIAL_GX_REQUEST.as_slice());
+    true
 }
 
 #[test]
 fn the_initial_gx_request_comes_in_single_bytes(rt: HostRuntime) {
     let mut assembler = Assembler::start(rt.alloc());
-    let mut frames = 0;
     for (at, byte) in INITIAL_GX_REQUEST.iter().enumerate() {
-        assembler.feed(&[*byte]).expect(&rt, "memory");
-        if let Some(frame) = assembler.next().expect(&rt, "memory") {
-            assert_eq!(rt; at, 163);
-            assert_eq!(rt; frame.as_slice(), INITIAL_GX_REQUEST.as_slice());
-            frames = 1;
-        }
+        assert_eq!(rt; gives_frame(&rt, &mut assembler, *byte), at == 163);
     }
-    assert_eq!(rt; frames, 1);
-    assert!(rt; assembler.is_empty());
+    let is_empty = assembler.is_empty();
+    drop(assembler);
+    assert!(rt; is_empty);
 }
 
 /// Whether an assembler answers a fault, whatever it is asked.
@@ -36,6 +50,14 @@ fn is_stopped_by(assembler: &mut Assembler, fault: FrameFault) -> bool {
     let fed = assembler.feed(&DEVICE_WATCHDOG_REQUEST).err();
     let later = assembler.next().err();
     next == Some(fault) && fed == Some(fault) && later == Some(fault)
+}
+
+/// An assembler gives the watchdog request next, and then nothing.
+fn gives_watchdog(rt: &impl Abort, assembler: &mut Assembler) {
+    let frame = assembler.next().expect(rt, "memory");
+    let frame = frame.expect(rt, "the frame before");
+    assert_eq!(rt; frame.as_slice(), DEVICE_WATCHDOG_REQUEST.as_slice());
+    assert!(rt; assembler.next().expect(rt, "memory").is_none());
 }
 
 #[test]
@@ -50,13 +72,23 @@ fn a_bad_length_stays(rt: HostRuntime) {
             .feed(&DEVICE_WATCHDOG_REQUEST)
             .expect(&rt, "memory");
         assembler.feed(&word[..3]).expect(&rt, "memory");
-        let frame = assembler.next().expect(&rt, "memory");
-        let frame = frame.expect(&rt, "the frame before");
-        assert_eq!(rt; frame.as_slice(), DEVICE_WATCHDOG_REQUEST.as_slice());
-        assert!(rt; assembler.next().expect(&rt, "memory").is_none());
+        gives_watchdog(&rt, &mut assembler);
         assembler.feed(&word[3..]).expect(&rt, "memory");
-        assert!(rt; is_stopped_by(&mut assembler, fault), "{fault}");
+        let is_stopped = is_stopped_by(&mut assembler, fault);
+        drop(assembler);
+        assert!(rt; is_stopped, "{fault}");
     }
+}
+
+/// A stream ends so, behind a watchdog request and an AA refusal.
+fn ends_behind_two(rt: &impl Abort, stream: &FramedStream, end: StreamEnd) {
+    assert!(rt; stream.end == end, "{end:?}");
+    assert_eq!(rt; stream.frames.len(), 2);
+    assert_eq!(rt;
+        stream.frames[0].as_slice(),
+        DEVICE_WATCHDOG_REQUEST.as_slice()
+    );
+    assert_eq!(rt; stream.frames[1].as_slice(), AA_REFUSAL.as_slice());
 }
 
 // Nothing after a bad length is read.
@@ -83,12 +115,7 @@ fn a_stream_ends_whole_cut_or_bad(rt: HostRuntime) {
     ] {
         let pieces = [&DEVICE_WATCHDOG_REQUEST, AA_REFUSAL.as_slice(), third, last];
         let stream = frames_of(rt.alloc(), &pieces).expect(&rt, "memory");
-        assert!(rt; stream.end == end, "{end:?}");
-        assert_eq!(rt; stream.frames.len(), 2);
-        assert_eq!(rt;
-            stream.frames[0].as_slice(),
-            DEVICE_WATCHDOG_REQUEST.as_slice()
-        );
-        assert_eq!(rt; stream.frames[1].as_slice(), AA_REFUSAL.as_slice());
+        ends_behind_two(&rt, &stream, end);
+        drop(stream);
     }
 }

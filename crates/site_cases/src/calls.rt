@@ -1,10 +1,9 @@
 //! A site with a call: its copy; and its clock at the end, where requests that would add an operation are refused with
 //! DIAMETER_UNABLE_TO_COMPLY (5012), behind every other cause, and change nothing.
 use crate::streams::{PLAIN, answered, bytes, same_bytes, site};
-use gx_records::GxFact;
-use pcrf_values::{BoundedText, SessionId};
+use crate::taken::{takes_copy, takes_last};
+use pcrf_values::SessionId;
 use site_core::Site;
-use site_join::{LAST_COUNTER, Operation, SessionFacts};
 use site_stream::Ended;
 use std::alloc::AllocGlobal;
 use std::process::Abort;
@@ -103,30 +102,6 @@ fn answers(rt: &(impl AllocGlobal + Abort), site: &mut Site, stream: &[&str], wa
     same_bytes(rt, kept.as_slice(), wanted.as_slice());
 }
 
-/// A session's facts: that it ended.
-fn end_facts(rt: &(impl AllocGlobal + Abort)) -> Vec<GxFact> {
-    let mut facts = Vec::new(rt.alloc());
-    facts.push(GxFact::End).expect(rt, "memory");
-    facts
-}
-
-/// An operation with the last counter, on another session.
-fn last_operation(rt: &(impl AllocGlobal + Abort)) -> Operation {
-    let read: Option<SessionId> = BoundedText::read(rt.alloc(), b"gw;9;9").expect(rt, "memory");
-    let session = read.expect(rt, "a Session-Id");
-    let made = Operation::of(LAST_COUNTER, 2, 1, SessionFacts::Gx(session, end_facts(rt)));
-    made.expect(rt, "an operation")
-}
-
-/// A site takes it.
-fn takes_last(rt: &(impl AllocGlobal + Abort), site: &mut Site) {
-    let mut letter = Vec::new(rt.alloc());
-    letter.push(last_operation(rt)).expect(rt, "memory");
-    let taken = site.take_all(letter.as_slice());
-    drop(letter);
-    assert!(rt; taken.is_ok(), "memory");
-}
-
 /// No request is granted that would add an operation, and none changes the site.
 fn grants_nothing(rt: &(impl AllocGlobal + Abort), site: &mut Site) {
     let (before, _) = site.whole().expect(rt, "memory");
@@ -167,19 +142,10 @@ fn has_one_call(rt: &(impl AllocGlobal + Abort), site: &Site) {
     drop(bindings);
 }
 
-/// A site takes a copy of all that another holds, which made two operations.
-fn takes_copy(rt: &(impl AllocGlobal + Abort), site: &mut Site, other: &Site) {
-    let (copy, made) = other.whole().expect(rt, "memory");
-    let taken = site.take_state(&copy);
-    drop(copy);
-    assert_eq!(rt; made, 2);
-    assert!(rt; taken.is_ok(), "memory");
-}
-
 /// A new site that takes a copy of another shows the same.
 fn copy_shows_the_same(rt: &(impl AllocGlobal + Abort), first: &Site) {
     let mut other = site(rt);
-    takes_copy(rt, &mut other, first);
+    takes_copy(rt, &mut other, first, 2);
     assert!(rt; other.sessions().equal(first.sessions()));
     has_one_call(rt, &other);
     drop(other);

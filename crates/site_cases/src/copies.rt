@@ -1,5 +1,6 @@
 //! What a site tells of its own operations, and a copy of all that it holds.
 use crate::sites::{initial, new_site, reply_to, update};
+use crate::taken::takes_copy;
 use gx_profile::GxReply;
 use site_core::{Reply, Site};
 use site_join::Operation;
@@ -46,15 +47,6 @@ fn with_session(rt: &(impl AllocGlobal + Abort)) -> Site {
     site
 }
 
-/// A site takes a copy of all that another holds, which made one operation.
-fn takes_copy(rt: &(impl AllocGlobal + Abort), site: &mut Site, other: &Site) {
-    let (copy, made) = other.whole().expect(rt, "memory");
-    let taken = site.take_state(&copy);
-    drop(copy);
-    assert_eq!(rt; made, 1);
-    assert!(rt; taken.is_ok(), "memory");
-}
-
 /// How many of its own operations a site tells, and how many it made.
 fn own_counts(rt: &(impl AllocGlobal + Abort), site: &Site) -> (usize, u64) {
     let (own, made) = site.own_since(0).expect(rt, "memory");
@@ -67,7 +59,7 @@ fn own_counts(rt: &(impl AllocGlobal + Abort), site: &Site) -> (usize, u64) {
 fn a_copy_of_a_site_makes_another_hold_the_same(rt: HostRuntime) {
     let site = with_session(&rt);
     let mut other = new_site(&rt, 1);
-    takes_copy(&rt, &mut other, &site);
+    takes_copy(&rt, &mut other, &site, 1);
     assert!(rt; other.sessions().equal(site.sessions()));
     assert_eq!(rt; other.sessions().clock(), 1);
     assert_eq!(rt; own_counts(&rt, &other), (0, 0));

@@ -31,6 +31,8 @@ mod streams;
 #[cfg(test)]
 mod tables;
 #[cfg(test)]
+mod taken;
+#[cfg(test)]
 mod text;
 #[cfg(test)]
 mod told;

@@ -2,6 +2,7 @@
 use crate::requests::Sent;
 use crate::sites::{Wanted, new_site, serves};
 use crate::tables::ims;
+use crate::taken::takes_letter;
 use crate::text::compare;
 use site_core::Site;
 use site_join::Operation;
@@ -44,15 +45,10 @@ fn put_made(
     letter.push(last_made(rt, site)).expect(rt, "memory");
 }
 
-fn takes(rt: &(impl AllocGlobal + Abort), site: &mut Site, letter: &[Operation]) {
-    let taken = site.take_all(letter);
-    assert!(rt; taken.is_ok(), "memory");
-}
-
 /// A site takes one operation of several.
 fn takes_one(rt: &(impl AllocGlobal + Abort), site: &mut Site, letter: &[Operation], at: usize) {
     let one = letter.get(at..).and_then(|rest| rest.get(..1));
-    takes(rt, site, one.expect(rt, "an operation"));
+    takes_letter(rt, site, one.expect(rt, "an operation"));
 }
 
 /// Puts what a site that knows the first operation alone makes of a request.

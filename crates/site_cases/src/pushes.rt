@@ -1,13 +1,11 @@
 //! What a site pushes of its own accord.
 use crate::requests::Sent;
-use crate::sites::{end, initial, site_with, takes};
+use crate::sites::{end, initial, site_with};
+use crate::taken::{takes, takes_last};
 use crate::told::{names, ranges, tables, tells, told_count};
 use gx_profile::PushOut;
-use gx_records::GxFact;
 use op_tables::Tables;
-use pcrf_values::{BoundedText, SessionId};
 use site_core::{Site, StepFault};
-use site_join::{LAST_COUNTER, Operation, SessionFacts};
 use std::alloc::AllocGlobal;
 use std::process::Abort;
 
@@ -148,25 +146,6 @@ fn another_sites_home_and_an_ended_session_are_not_pushed(rt: HostRuntime) {
     tells(&rt, &mut site, end(1), "");
     pushes(&rt, &mut site, None, None);
     drop(site);
-}
-
-/// An operation with the last counter, on another session.
-fn last_operation(rt: &(impl AllocGlobal + Abort)) -> Operation {
-    let read: Option<SessionId> = BoundedText::read(rt.alloc(), b"gw;9;9").expect(rt, "memory");
-    let mut facts = Vec::new(rt.alloc());
-    facts.push(GxFact::End).expect(rt, "memory");
-    let session = read.expect(rt, "a Session-Id");
-    let made = Operation::of(LAST_COUNTER, 2, 1, SessionFacts::Gx(session, facts));
-    made.expect(rt, "an operation")
-}
-
-/// A site takes the operation with the last counter.
-fn takes_last(rt: &(impl AllocGlobal + Abort), site: &mut Site) {
-    let mut letter = Vec::new(rt.alloc());
-    letter.push(last_operation(rt)).expect(rt, "memory");
-    let taken = site.take_all(letter.as_slice());
-    drop(letter);
-    assert!(rt; taken.is_ok(), "memory");
 }
 
 /// Why a site doesn't push to a host, if it is refused.

@@ -1,7 +1,8 @@
 //! Which default quality of service replies tell by the operator tables, and which requests the tables have refused.
 use crate::requests::Sent;
-use crate::sites::{Wanted, end, initial, new_site, serves, serves_all, takes, unknown, update};
+use crate::sites::{Wanted, end, initial, new_site, serves, serves_all, unknown, update};
 use crate::tables::{ims, net};
+use crate::taken::takes;
 use crate::text::compare;
 use pcrf_values::Refusal;
 use site_core::Site;

@@ -1,6 +1,7 @@
 //! What sites reply, and what they hold then.
 use crate::requests::{Sent, request};
 use crate::tables::{ims, tables};
+use crate::taken::takes;
 use crate::text::compare;
 use dia_base::Identity;
 use gx_profile::GxReply;
@@ -90,7 +91,7 @@ pub fn reply_to(rt: &(impl AllocGlobal + Abort), site: &mut Site, sent: Sent) ->
 }
 
 /// Whether a reply is as wanted.
-fn is_wanted(reply: &Reply, wanted: Wanted) -> bool {
+fn has_wanted(reply: &Reply, wanted: Wanted) -> bool {
     match (reply, wanted) {
         (Reply::Gx(GxReply::Granted(delta, told)), Wanted::Granted(quality)) => {
             delta.removed().is_empty() && delta.installed().is_empty() && *told == quality
@@ -103,7 +104,7 @@ fn is_wanted(reply: &Reply, wanted: Wanted) -> bool {
 /// Has a site serve a request, and compares its reply.
 pub fn serves(rt: &(impl AllocGlobal + Abort), site: &mut Site, sent: Sent, wanted: Wanted) {
     let reply = reply_to(rt, site, sent);
-    let is_wanted = is_wanted(&reply, wanted);
+    let is_wanted = has_wanted(&reply, wanted);
     drop(reply);
     assert!(rt; is_wanted);
 }
@@ -123,14 +124,6 @@ pub fn unknown() -> Wanted {
 /// The request is accepted, and the default of `ims` told.
 fn granted(rt: &impl Abort) -> Wanted {
     Wanted::Granted(ims(rt))
-}
-
-/// A site takes all that another made.
-pub fn takes(rt: &(impl AllocGlobal + Abort), site: &mut Site, maker: &Site) {
-    let (log, _) = maker.own_since(0).expect(rt, "memory");
-    let taken = site.take_all(log.as_slice());
-    drop(log);
-    assert!(rt; taken.is_ok(), "memory");
 }
 
 /// The first session's Session-Id.

@@ -1,6 +1,7 @@
 //! Which rules replies tell a gateway to remove and to install.
 use crate::requests::Sent;
-use crate::sites::{end, first_session, initial, reply_to, site_with, takes, update};
+use crate::sites::{end, first_session, initial, reply_to, site_with, update};
+use crate::taken::takes;
 use gx_profile::{FirstEntries, GxReply};
 use op_tables::{Tables, read_tables};
 use site_core::{Reply, Site};

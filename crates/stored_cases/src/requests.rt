@@ -1,15 +1,7 @@
-//! Reads the requests of its standard input and writes the answers that it asks for: the cases on which `rx_profile` is
-//! tested, line by line. What `stdout` has comes from the tables of the profile, not from the program.
-//!
-//! Lines that begin with `#` are written again. `aar WORDS` and `str WORDS` read a request of these AVPs (`notation`) and
-//! tell what was read or the refusal; the bytes of the answer that refuses it are compared with those of another encoder. `aaa CODE` and `sta CODE` write the answer with that Result-Code, `aaa tgpp CODE`
-//! that with an Experimental-Result-Code of 3GPP, in hexadecimal digits.
-#![tactic(auto)]
-
-mod answers;
-mod notation;
-mod told;
-
+//! Lines on which `rx_profile` is tested. `aar WORDS` and `str WORDS` read a request of these AVPs (`notation`) and tell what
+//! was read or the refusal; the bytes of the answer that refuses it are compared with those of another encoder. `aaa CODE` and
+//! `sta CODE` write the answer with that Result-Code, `aaa tgpp CODE` that with an Experimental-Result-Code of 3GPP, in
+//! hexadecimal digits. What they have to make comes from the tables of the profile, not from the program.
 use crate::answers::{is_answered, put_answer};
 use crate::notation::avps_of;
 use crate::told::{put_aar, put_fault, put_str};
@@ -17,8 +9,6 @@ use dia_base::ReadFault;
 use dia_codec::{Message, read_message};
 use rx_profile::{read_aar, read_str};
 use std::alloc::{AllocError, Global};
-use std::io;
-use std::process::ExitCode;
 use test_messages::{Head, RX, message};
 
 /// The command code of an AA request (TS 29.214, 5.6.1).
@@ -106,38 +96,16 @@ fn put_read(alloc: Global, command: u32, words: &str, out: &mut String) -> Resul
     put
 }
 
-/// Puts what a line makes.
-fn put_line(alloc: Global, line: &str, out: &mut String) -> Result<(), AllocError> {
+/// Puts what a line makes; whether it is one of these.
+pub fn put_line(alloc: Global, line: &str, out: &mut String) -> Result<bool, AllocError> {
     if let Some(words) = line.strip_prefix("aar ") {
-        return put_read(alloc, AUTHORIZATION, words, out);
+        put_read(alloc, AUTHORIZATION, words, out)?;
+    } else if let Some(words) = line.strip_prefix("str ") {
+        put_read(alloc, TERMINATION, words, out)?;
+    } else if line.starts_with("aaa ") || line.starts_with("sta ") {
+        put_answer(alloc, line, out)?;
+    } else {
+        return Ok(false);
     }
-    if let Some(words) = line.strip_prefix("str ") {
-        return put_read(alloc, TERMINATION, words, out);
-    }
-    if line.starts_with("aaa ") || line.starts_with("sta ") {
-        return put_answer(alloc, line, out);
-    }
-    out.push_str(line)
-}
-
-/// Writes what a line makes.
-fn print_line(rt: &HostRuntime, line: &str) -> io::Result<()> {
-    let mut out = String::new(rt.alloc());
-    put_line(rt.alloc(), line, &mut out)?;
-    println!(rt; "{out}")
-}
-
-/// Reads the lines, and writes what each makes.
-fn run(rt: &HostRuntime) -> io::Result<()> {
-    for line in rt.lines(rt.alloc()) {
-        print_line(rt, line?.as_str())?;
-    }
-    Ok(())
-}
-
-fn main(rt: HostRuntime) -> ExitCode {
-    match run(&rt) {
-        Ok(()) => ExitCode::SUCCESS,
-        Err(_) => ExitCode::FAILURE,
-    }
+    Ok(true)
 }

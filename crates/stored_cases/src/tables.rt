@@ -1,20 +1,12 @@
-//! Reads operator tables with the faults that its standard input asks for, and writes what comes of each: the cases on which
-//! `op_tables` is tested, line by line. What `stdout` has comes from the profile of the tables, not from the program.
-//!
-//! `read FILE EDITS` reads the tables of the file with these edits (`edits`), and `text TEXT` reads the text; in both `\n`
-//! ends a line. They write `read`, or the fault. `look FILE WORDS` writes what the look-ups of the file's tables answer: of a
-//! Media-Type at a number, of an access point at another word. Lines that begin with `#` are written again.
-#![tactic(auto)]
-
-mod edits;
-mod told;
-
+//! Lines on which `op_tables` is tested. `read FILE EDITS` reads the tables of the file with these edits (`edits`), and `text
+//! TEXT` reads the text; in both `\n` ends a line. They write `read`, or the fault. `look FILE WORDS` writes what the look-ups
+//! of the file's tables answer: of a Media-Type at a number, of an access point at another word. What they have to make comes
+//! from the profile of the tables, not from the program.
 use crate::edits::{edited, put_lines};
-use crate::told::put_tables;
+use crate::looks::put_tables;
 use op_tables::read_tables;
 use std::alloc::{AllocError, Global};
 use std::fmt::Write as _;
-use std::process::ExitCode;
 use std::{fs, io};
 
 /// The file of tables with everything that they may have.
@@ -25,12 +17,20 @@ const SMALL: &str = "single-access-point.toml";
 
 /// The texts of the two files.
 #[derive(Drop)]
-struct Files {
+pub struct Files {
     operator: String,
     small: String,
 }
 
 impl Files {
+    /// Reads them.
+    pub fn read(rt: &HostRuntime) -> io::Result<Files> {
+        Ok(Files {
+            operator: fs::read_to_string(rt, OPERATOR)?,
+            small: fs::read_to_string(rt, SMALL)?,
+        })
+    }
+
     /// The text of the file that the words name first.
     fn named(&self, words: &str) -> &str {
         if words.starts_with("small") {
@@ -83,38 +83,21 @@ fn put_text(alloc: Global, text: &str, out: &mut String) -> Result<(), AllocErro
     put_read(alloc, lines.as_str(), out)
 }
 
-/// What a line makes.
-fn line_of(alloc: Global, files: &Files, line: &str) -> Result<String, AllocError> {
-    let mut out = String::new(alloc);
+/// Puts what a line makes; whether it is one of these.
+pub fn put_line(
+    alloc: Global,
+    files: &Files,
+    line: &str,
+    out: &mut String,
+) -> Result<bool, AllocError> {
     if let Some(text) = line.strip_prefix("text ") {
-        put_text(alloc, text, &mut out)?;
+        put_text(alloc, text, out)?;
     } else if let Some(edits) = line.strip_prefix("read ") {
-        put_edited(alloc, files, edits, &mut out)?;
+        put_edited(alloc, files, edits, out)?;
     } else if let Some(words) = line.strip_prefix("look ") {
-        put_look(alloc, files.named(words), words, &mut out)?;
+        put_look(alloc, files.named(words), words, out)?;
     } else {
-        out.push_str(line)?;
+        return Ok(false);
     }
-    Ok(out)
-}
-
-/// Reads the lines, and writes what each makes.
-fn run(rt: &HostRuntime) -> io::Result<()> {
-    let files = Files {
-        operator: fs::read_to_string(rt, OPERATOR)?,
-        small: fs::read_to_string(rt, SMALL)?,
-    };
-    for line in rt.lines(rt.alloc()) {
-        let line = line?;
-        let out = line_of(rt.alloc(), &files, line.as_str())?;
-        println!(rt; "{out}")?;
-    }
-    Ok(())
-}
-
-fn main(rt: HostRuntime) -> ExitCode {
-    match run(&rt) {
-        Ok(()) => ExitCode::SUCCESS,
-        Err(_) => ExitCode::FAILURE,
-    }
+    Ok(true)
 }
