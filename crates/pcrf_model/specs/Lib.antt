@@ -1,4 +1,5 @@
 pub mod Bindings
+pub mod CursorLaws
 pub mod Cursors
 pub mod Differences
 pub mod Edges
@@ -27,4 +28,5 @@ pub mod Steps
 pub mod Tables
 pub mod ToldTags
 pub mod Views
+pub mod Waiting
 pub mod Worlds

@@ -1,6 +1,8 @@
 //! The laws of the definitions, each the contract of a function without a body.
 
-ghost use Rattle.pcrf_model.specs.Laws.{KeepsUnions, KeepsUnionsOfHoldings, KeepsEachSession, KeepsOnce, ReplacingChangesOne, UnionIsCommutative, UnionIsAssociative, UnionIsIdempotent, OnlyOperationsCount, HoldsTheUnion, HoldsJustTheFacts, SameOperationsHoldTheSame, SessionsAreReadAlone, KeptShowsTheSame, OnlyMembersCount, KeptReadsTheSame, MembersReadTheSame, KeptHasTheSameValue, KeptServesTheSame, KeptPushesTheSame, KeptStepsTheSame, DifferenceLeadsThere, NoNameTwice, FirstLeavesTheRest, FirstIsAll, ToldIsTold, BindsToTheGreatest, BindsToNoneWhereNoneMatches, PushesTheFirstDue, PushesNoneWhereNoneIsDue, RuleNamesDiffer, SessionIsTold, ProvisioningTells, PushingTells, UnionKeepsTheForm, KeepingKeepsTheForm, OperationsMakeTheForm, ServingAddsTheForm, PushingAddsTheForm};
+ghost use Rattle.pcrf_model.specs.Laws.{KeepsUnions, KeepsUnionsOfHoldings, KeepsEachSession, KeepsOnce, ReplacingChangesOne, UnionIsCommutative, UnionIsAssociative, UnionIsIdempotent, OnlyOperationsCount, HoldsTheUnion, HoldsJustTheFacts, SameOperationsHoldTheSame, SessionsAreReadAlone, KeptShowsTheSame, OnlyMembersCount, KeptReadsTheSame, MembersReadTheSame, KeptHasTheSameValue, KeptServesTheSame, KeptPushesTheSame, KeptStepsTheSame, DifferenceLeadsThere, NoNameTwice, FirstLeavesTheRest, FirstIsAll, ToldIsTold, BindsToTheGreatest, BindsToNoneWhereNoneMatches, PushesTheFirstDue, PushesNoneWhereNoneIsDue, RuleNamesDiffer, SessionIsTold, ProvisioningTells, PushingTells, TakingChangesOne, UnionShowsWhatOneShows, ShowsAFact, OthersKeepTheirRules, AllKeepTheirRules, UnboundKeepTheirRules, UnionKeepsTheForm, KeepingKeepsTheForm, OperationsMakeTheForm, ServingAddsTheForm, PushingAddsTheForm};
+ghost use Rattle.pcrf_model.specs.CursorLaws.{EntriesAreTaken, PeersSaidWhatTheyTook, RangesLeaveNoGap, SnapshotsHoldWhatWasTaken, TakingHoldsTheUnion};
+ghost use Rattle.pcrf_model.specs.Waiting.{PushesTheFirstWaiting, OnlyTheDueNeedWait, NeighboursAreEnough, OneIsEnough, BoundAreEnough, AllAtHomeAreEnough};
 
 /// What is kept of what was kept and of more is what is kept of all.
 pub fn keeping_keeps_unions()
@@ -71,6 +73,21 @@ pub fn first_due_session_is_pushed()
     ensures none { PushesNoneWhereNoneIsDue }
 {}
 
+/// An operation changes its session alone, and what a place shows after it the place showed before, or the operation gives it.
+pub fn operation_changes_its_session_alone()
+    ensures one { TakingChangesOne }
+    ensures shown { UnionShowsWhatOneShows }
+    ensures given { ShowsAFact }
+{}
+
+/// Where the facts of one session alone change, only sessions that share an address with it, before or after, can get other rules; none does where
+/// it is a gateway's session that binds as before; and where it is an application function's, only those to which it is bound before or after.
+pub fn change_of_one_session_changes_its_neighbours_alone()
+    ensures others { OthersKeepTheirRules }
+    ensures alike { AllKeepTheirRules }
+    ensures unbound { UnboundKeepTheirRules }
+{}
+
 /// No two rules of one session have one name.
 pub fn names_of_rules_differ()
     ensures { RuleNamesDiffer }
@@ -100,4 +117,32 @@ pub fn holdings_keep_their_form()
 pub fn sites_add_operations_of_the_form()
     ensures serving { ServingAddsTheForm }
     ensures pushing { PushingAddsTheForm }
+{}
+
+/// The session that is pushed to a host is the first that is due of those that wait under it, where all that are due wait; and they do after one
+/// session changed, where it waits and those that it can have given other rules, and after a whole state was taken, where all at home wait.
+pub fn pushes_look_at_waiting_sessions_alone()
+    ensures first { PushesTheFirstWaiting }
+    ensures due { OnlyTheDueNeedWait }
+    ensures neighbours { NeighboursAreEnough }
+    ensures one { OneIsEnough }
+    ensures bound { BoundAreEnough }
+    ensures all { AllAtHomeAreEnough }
+{}
+
+/// After any list of events, what a site's cursors count of a maker is among what the site took, and what it knows of a peer the peer took.
+pub fn cursors_count_what_was_taken()
+    ensures makers { EntriesAreTaken }
+    ensures peers { PeersSaidWhatTheyTook }
+{}
+
+/// A range that a site writes by what a peer said in its present epoch leaves no gap there.
+pub fn ranges_leave_no_gap()
+    ensures { RangesLeaveNoGap }
+{}
+
+/// A snapshot holds what its maker had taken when it was made, and who takes it whole holds the union of both.
+pub fn snapshots_hold_what_was_taken()
+    ensures behind { SnapshotsHoldWhatWasTaken }
+    ensures union { TakingHoldsTheUnion }
 {}
