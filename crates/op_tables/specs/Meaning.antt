@@ -8,7 +8,7 @@ use Rattle.std.specs.Map.{lookup}
 use Rattle.ranked.specs.Orders.{text_cmp}
 use Rattle.pcrf_values.specs.Texts.{folded}
 use Rattle.pcrf_values.specs.declared.default_quality.DefaultQuality.{DefaultQuality}
-use Rattle.pcrf_model.specs.Tables.{Class, OperatorRule, ApnRow, Listed, Tables}
+use Rattle.pcrf_model.specs.Tables.{Class, OperatorRule, ApnRow, Tables}
 use Rattle.toml.specs.Data.{Data, Members, get_member}
 use Rattle.op_tables.specs.TableViews.{priority_of}
 use Rattle.op_tables.specs.Values.{text_in, table_in, data_at, number_at, rows_at}
@@ -100,5 +100,5 @@ tables_of ms = record {
   rtcp_bps = number_at (codes "rtcp_bps") ms;
   signalling = class_of (table_in (data_at (codes "signalling") ms));
   media = media_of (rows_at (codes "media") ms);
-  apns = Listed (apns_of (rows_at (codes "apn") ms));
+  apns = apns_of (rows_at (codes "apn") ms);
 }

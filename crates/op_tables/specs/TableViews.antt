@@ -5,7 +5,7 @@ use Rattle.pcrf_values.specs.declared.rule.Preemption.{Preemption}
 use Rattle.pcrf_values.specs.declared.rule.Preemption.TheVariants.{Enabled, Disabled}
 use Rattle.pcrf_values.specs.declared.rule.RetentionPriority.{RetentionPriority}
 use Rattle.pcrf_values.specs.declared.rule.RuleQos.{RuleQos}
-use Rattle.pcrf_model.specs.Tables.{Class, ApnRow, Tables, Listed}
+use Rattle.pcrf_model.specs.Tables.{Class, ApnRow, Tables}
 
 -- the pre-emption that has this number
 abbrev pub preemption_of : ℕ → Preemption
@@ -44,5 +44,5 @@ tables_value edition rtcp_bps signalling media apns = record {
   rtcp_bps = rtcp_bps;
   signalling = signalling;
   media = media;
-  apns = Listed apns;
+  apns = apns;
 }

@@ -15,7 +15,7 @@ use Rattle.pcrf_facts.specs.Values.{Value}
 use Rattle.pcrf_facts.specs.Facts.{Field}
 use Rattle.pcrf_model.specs.Sessions.{Kind, Gx, Af, Session}
 use Rattle.pcrf_model.specs.Holdings.{SessionFact, session_fact_cmp, Holding}
-use Rattle.pcrf_model.specs.Tables.{OperatorRule, ApnRow, Apns, Every, Listed, Tables, row_among, apn_row}
+use Rattle.pcrf_model.specs.Tables.{OperatorRule, ApnRow, Apns, Tables, row_among, apn_row}
 use Rattle.pcrf_model.specs.Limits.{last_counter}
 use Rattle.pcrf_model.specs.Forms.{is_rising, fits, is_counted, is_session, is_unsigned, fits_flow_field, is_stamp, is_held, is_holding, are_names_apart, is_operator_rule, is_apn_row, are_apns, are_tables}
 
@@ -104,8 +104,7 @@ pub record IsRowInForm (row : ApnRow) : Type 0 where
 
 -- so are the rows of tables in form
 pub row_in_form : (apns : Apns) → are_apns apns ≡ true → (name : List ℕ) (row : ApnRow) → row_among apns name ≡ Some row → IsRowInForm row
-row_in_form Every w name row h = subst IsRowInForm (some_same (record { default = None; rules = [] }) row h) (record { each = λ r i. absurd i; apart = tt })
-row_in_form (Listed rows) w name row h =
+row_in_form rows w name row h =
     let f = row_found (find (λ (r : List ℕ × ApnRow). is_eq (text_cmp r.0 name)) rows) row h in
     let m = found (λ (r : List ℕ × ApnRow). is_eq (text_cmp r.0 name)) rows f.0 f.1 in
     let good = each_passes is_apn_row rows w f.0 m.0 in

@@ -12,6 +12,7 @@ pub mod FormLaws
 pub mod FormReading
 pub mod FunctionForms
 pub mod GatewayForms
+pub mod HoldingAlike
 pub mod HoldingLaws
 pub mod MadeForms
 pub mod NameLaws
@@ -20,6 +21,7 @@ pub mod ProvisionLaws
 pub mod ReadingLaws
 pub mod RuleForms
 pub mod RuleNames
+pub mod SeenLaws
 pub mod ServedForms
 pub mod StepLaws
 pub mod TakingLaws

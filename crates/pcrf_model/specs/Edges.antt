@@ -13,7 +13,7 @@ use Rattle.pcrf_model.specs.Pushing.{push}
 use Rattle.pcrf_model.specs.Steps.{SiteState}
 use Rattle.pcrf_model.specs.Letters.{LetterValue}
 use Rattle.pcrf_model.specs.Cursors.{start_cursors, letter_of}
-use Rattle.pcrf_model.specs.Worlds.{WorldEvent, ServeAt, Letter, Merge, Restart, Replied, Lettered, Merged, Restarted, NoMemory, WorldAnswer, WorldTook, start, whole_log, after_all}
+use Rattle.pcrf_model.specs.Worlds.{WorldEvent, ServeAt, Letter, Merge, Restart, Replied, Lettered, Merged, Restarted, NoMemory, WorldAnswer, WorldTook, start, WholeLogs, after_all}
 use Rattle.pcrf_model.specs.Letterbox.{writing}
 use Rattle.pcrf_model.specs.Samples.{operator, imsi, e164, first_session, second_session, host_address, initial, update, call, hang_up, audio, sip_rule}
 use Rattle.pcrf_model.specs.Scenes.{serves, one, with_call, call_pushed, last_operation}
@@ -102,7 +102,7 @@ two_epochs =
 -- with these answers to the last two
 abbrev pub two_epochs_answered : WorldAnswer → WorldAnswer → WorldTook
 two_epochs_answered older newer =
-    after_all (writing whole_log) (start 2) two_epochs
+    after_all (writing WholeLogs) (start 2) two_epochs
     (Ok (Replied Done) ∷ Ok (Replied Done) ∷ Ok (Lettered 0) ∷ Ok (Restarted 2) ∷ Ok (Replied Done) ∷ Ok (Lettered 1) ∷ older ∷ newer ∷ [])
 
 -- both letters whole

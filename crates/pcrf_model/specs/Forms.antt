@@ -17,7 +17,7 @@ use Rattle.pcrf_model.specs.Limits.{last_counter, site_limit}
 use Rattle.pcrf_model.specs.Sessions.{Kind, Gx, Af, Session}
 use Rattle.pcrf_model.specs.Holdings.{SessionFact, session_fact_cmp, Holding}
 use Rattle.pcrf_model.specs.Operations.{Operation}
-use Rattle.pcrf_model.specs.Tables.{Class, OperatorRule, ApnRow, Every, Listed, Apns, Tables}
+use Rattle.pcrf_model.specs.Tables.{Class, OperatorRule, ApnRow, Apns, Tables}
 use Rattle.pcrf_model.specs.Requests.{FlowValue, ComponentValue, RequestValue, Ccr, Aar, Str, Base}
 
 -- ---- numbers, texts, and lists
@@ -253,8 +253,7 @@ is_apn_row r = list_all is_operator_rule r.1.rules && are_names_apart (map (λ (
 
 -- the access points
 abbrev pub are_apns : Apns → Bool
-are_apns Every = true
-are_apns (Listed rows) = list_all is_apn_row rows
+are_apns = list_all is_apn_row
 
 -- operator tables
 abbrev pub are_tables : Tables → Bool

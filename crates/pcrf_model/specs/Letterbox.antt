@@ -5,7 +5,7 @@ use Rattle.pcrf_model.specs.Limits.{delta_limit, last_epoch}
 use Rattle.pcrf_model.specs.Holdings.{Holding, nothing_held}
 use Rattle.pcrf_model.specs.Letters.{LetterBody, Range, Snapshot, LetterValue}
 use Rattle.pcrf_model.specs.Cursors.{Cursor, CursorsValue, start_cursors, maker_entry, took}
-use Rattle.pcrf_model.specs.Worlds.{WorldEvent, ServeAt, PushAt, Letter, Merge, Ack, Restart, Replied, Lettered, Merged, Restarted, NoSuchSite, NoSuchLetter, WorldAnswer, SiteView, WorldView, SiteTook, SentLetter, WorldTook, start, Setting, whole_log, by_cursors, taken_holding, world_view, answer_of, after, after_all}
+use Rattle.pcrf_model.specs.Worlds.{WorldEvent, ServeAt, PushAt, Letter, Merge, Ack, Restart, Replied, Lettered, Merged, Restarted, NoSuchSite, NoSuchLetter, WorldAnswer, SiteView, WorldView, SiteTook, SentLetter, WorldTook, start, Setting, Writing, WholeLogs, ByCursors, taken_holding, world_view, answer_of, after, after_all}
 use Rattle.pcrf_model.specs.Samples.{operator, first_session, host_address, initial, update, sip_rule, delta}
 use Rattle.pcrf_model.specs.Scenes.{granted, one, call_at_the_end}
 
@@ -51,8 +51,8 @@ exchange_answers =
     ∷ Ok (Replied (granted (delta [] []))) ∷ Ok (Lettered 2) ∷ Ok Merged ∷ []
 
 -- a world of that operator, by that way to write letters
-abbrev pub writing : (CursorsValue → SiteView → ℕ → LetterBody) → Setting
-writing w = record { tables = operator; most = delta_limit; writes = w }
+abbrev pub writing : Writing → Setting
+writing how = record { tables = operator; most = delta_limit; writes = how }
 
 -- the answers to the events where memory is found
 abbrev pub answers_all : Setting → WorldTook → List WorldEvent → List WorldAnswer
@@ -62,8 +62,8 @@ answers_all g w (e ∷ es) =
     a ∷ answers_all g (after g w e a) es
 
 -- the world after the exchange
-abbrev pub exchanged : (CursorsValue → SiteView → ℕ → LetterBody) → WorldTook
-exchanged w = after_all (writing w) (start 2) exchange exchange_answers
+abbrev pub exchanged : Writing → WorldTook
+exchanged how = after_all (writing how) (start 2) exchange exchange_answers
 
 -- what letter k says
 abbrev pub body_of : WorldTook → ℕ → Option LetterBody
@@ -79,7 +79,7 @@ count_taken w i = option_map (λ (s : SiteTook). length s.taken) (slice_get w.si
 
 -- site 0 starts again after the exchange
 abbrev pub started_again : WorldTook
-started_again = after_all (writing by_cursors) (exchanged by_cursors) (Restart 0 ∷ []) (Ok (Restarted 2) ∷ [])
+started_again = after_all (writing ByCursors) (exchanged ByCursors) (Restart 0 ∷ []) (Ok (Restarted 2) ∷ [])
 
 -- ---- faults
 
@@ -95,8 +95,8 @@ astray_answers =
 
 -- site 0 in its last epoch, at the last counter, with a call of which its gateway was not told
 abbrev pub at_its_end : WorldView
-at_its_end = record { sites = record { number = 0; epoch = last_epoch; state = call_at_the_end } ∷ []; letters = [] }
+at_its_end = record { sites = record { number = 0; epoch = last_epoch; state = call_at_the_end; cursors = start_cursors 0 last_epoch } ∷ []; letters = [] }
 
 -- what it answers
 abbrev pub answer_at_its_end : WorldEvent → WorldAnswer
-answer_at_its_end = answer_of (writing whole_log) at_its_end
+answer_at_its_end = answer_of (writing WholeLogs) at_its_end

@@ -22,6 +22,7 @@ pub mod Requests
 pub mod Rules
 pub mod Samples
 pub mod Scenes
+pub mod Seen
 pub mod Serving
 pub mod Sessions
 pub mod Steps

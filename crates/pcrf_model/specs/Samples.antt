@@ -6,7 +6,7 @@ use Rattle.pcrf_values.specs.declared.rule.Preemption.TheVariants.{Enabled, Disa
 use Rattle.pcrf_values.specs.declared.request_kind.RequestKind.TheVariants.{Initial, Update, Termination}
 use Rattle.pcrf_model.specs.Sessions.{Session, gx, af}
 use Rattle.pcrf_facts.specs.Values.{Subscriber}
-use Rattle.pcrf_model.specs.Tables.{Class, Listed, Tables}
+use Rattle.pcrf_model.specs.Tables.{Class, Tables}
 use Rattle.pcrf_model.specs.Requests.{FlowValue, ComponentValue, CapabilitiesExchange, RequestValue, Ccr, Aar, Str, Base}
 
 -- ---- an operator with telephony
@@ -43,9 +43,9 @@ operator = record {
   rtcp_bps = 5000;
   signalling = signalling_class;
   media = (0, audio_class) ∷ [];
-  apns = Listed (
+  apns =
       (codes "ims", record { default = Some ims_quality; rules = record { name = codes "sip"; class = sip_class; status = 2; filters = any_to_any ∷ [] } ∷ [] })
-      ∷ (codes "net", record { default = None; rules = [] }) ∷ []);
+      ∷ (codes "net", record { default = None; rules = [] }) ∷ [];
 }
 
 -- ---- subscribers, addresses and sessions

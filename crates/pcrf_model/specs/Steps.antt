@@ -55,12 +55,11 @@ stepped most t i s (Ops os) (Taken n) = record s { holding = union s.holding (ho
 stepped most t i s (Whole k) r = record s { holding = union s.holding k }
 stepped most t i s e r = s
 
--- the event at site i, which was in the first state, gets that reply and leaves it in the second
-pub record IsStep (most : ℕ) (t : Tables) (i : ℕ) (before : SiteState) (event : SiteEvent) (reply : ReplyValue) (after : SiteState) : Type 0 where
-  pub may : MayReply most t i before event reply
-  pub left : after ≡ stepped most t i before event reply
+-- the site after the event, with what is kept of what it then holds
+abbrev pub left_by : ℕ → Tables → ℕ → SiteState → SiteEvent → ReplyValue → SiteState
+left_by most t i s e r = kept_state (stepped most t i s e r)
 
--- the events with their replies, in order, lead from the first state to the second
+-- the events with their replies, in order, lead from the first state to the second, each site keeping after each what isn't overshadowed
 abbrev pub Replays : ℕ → Tables → ℕ → SiteState → List (SiteEvent × ReplyValue) → SiteState → Type 0
 Replays most t i s [] z = s ≡ z
-Replays most t i s (x ∷ xs) z = MayReply most t i s x.0 x.1 × Replays most t i (stepped most t i s x.0 x.1) xs z
+Replays most t i s (x ∷ xs) z = MayReply most t i s x.0 x.1 × Replays most t i (left_by most t i s x.0 x.1) xs z

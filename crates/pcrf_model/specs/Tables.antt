@@ -28,10 +28,9 @@ pub record ApnRow : Type 0 where
   pub default : Option DefaultQuality
   pub rules : List OperatorRule
 
--- the access points: every name one with a name alone, or those that are listed, by name in small letters
-pub data Apns : Type 0 where
-  Every : Apns
-  Listed : List (List ℕ × ApnRow) → Apns
+-- the access points, by name in small letters
+abbrev pub Apns : Type 0
+Apns = List (List ℕ × ApnRow)
 
 -- The rate of an RTCP flow is in bit/s. The classes of Media-Types (TS 29.214, 5.3.19) and the access points stand in key order, each
 -- key once; an access point's rules stand as its operator wrote them.
@@ -42,22 +41,13 @@ pub record Tables : Type 0 where
   pub media : List (ℕ × Class)
   pub apns : Apns
 
--- a class that gives nothing
-abbrev pub no_class : Class
-no_class = record { qci = 9; priority = 15; capability = 1; vulnerability = 0; max_ul = 0; max_dl = 0; precedence = 0 }
-
--- no operator tables: every access point is one with a name alone, and no media has a class
-abbrev pub open_tables : Tables
-open_tables = record { edition = 0; rtcp_bps = 0; signalling = no_class; media = []; apns = Every }
-
 -- the class of a Media-Type
 abbrev pub media_class : Tables → ℕ → Option Class
 media_class t m = option_map (λ (r : ℕ × Class). r.1) (find (λ (r : ℕ × Class). r.0 == m) t.media)
 
 -- the row of that name
 abbrev pub row_among : Apns → List ℕ → Option ApnRow
-row_among Every name = Some (record { default = None; rules = [] })
-row_among (Listed rows) name = option_map (λ (r : List ℕ × ApnRow). r.1) (find (λ (r : List ℕ × ApnRow). is_eq (text_cmp r.0 name)) rows)
+row_among rows name = option_map (λ (r : List ℕ × ApnRow). r.1) (find (λ (r : List ℕ × ApnRow). is_eq (text_cmp r.0 name)) rows)
 
 -- the row of an access point
 abbrev pub apn_row : Tables → List ℕ → Option ApnRow

@@ -10,6 +10,7 @@ use Rattle.pcrf_model.specs.Requests.{RequestValue}
 use Rattle.pcrf_model.specs.Replies.{PushValue, ReplyValue, Pushed}
 use Rattle.pcrf_model.specs.Serving.{serve}
 use Rattle.pcrf_model.specs.Pushing.{push, lacks_counter}
+use Rattle.pcrf_model.specs.OperatorValues.{operator_value}
 use Rattle.pcrf_model.specs.Steps.{SiteState, SiteEvent, AskOwn, own_from}
 use Rattle.pcrf_model.specs.Letters.{LetterBody, Range, Snapshot, Acknowledgement, LetterValue, meaning}
 use Rattle.pcrf_model.specs.Cursors.{CursorsValue, start_cursors, ask, took, ack_of, ack_letter, carried_ack, acked}
@@ -43,36 +44,41 @@ WorldAnswer = Result WorldOutcome WorldFault
 
 -- ---- what is seen of a world
 
--- a site: its number and epoch, what it holds, and what it made in this epoch
+-- a site: its number and epoch, what it holds, what it made in this epoch, and its cursors
 pub record SiteView : Type 0 where
   pub number : ℕ
   pub epoch : ℕ
   pub state : SiteState
+  pub cursors : CursorsValue
 
 -- all sites, by number, and the letters, in the order in which they were made
 pub record WorldView : Type 0 where
   pub sites : List SiteView
   pub letters : List LetterValue
 
--- How a world runs: the operator tables of all sites, how many entries of a difference a message tells, and what a site with these cursors writes
--- to a peer.
+-- How sites write to each other: each its whole log, whoever the peer is, so that it has no use for cursors; or by its cursors.
+pub data Writing : Type 0 where
+  WholeLogs ByCursors : Writing
+
+-- how a world runs: the operator tables of all sites, how many entries of a difference a message tells, and how sites write to each other
 pub record Setting : Type 0 where
   pub tables : Tables
   pub most : ℕ
-  pub writes : CursorsValue → SiteView → ℕ → LetterBody
+  pub writes : Writing
 
--- a site writes its whole log, whoever the peer is
-abbrev pub whole_log : CursorsValue → SiteView → ℕ → LetterBody
-whole_log c s peer = Range 0 s.state.log
+-- sites with these operator tables, which write to each other by their cursors
+abbrev pub by_cursors : Tables → ℕ → Setting
+by_cursors t most = record { tables = t; most = most; writes = ByCursors }
 
 -- the operations that are asked for from a position on, or all that the site holds
 abbrev pub asked_body : SiteView → SiteEvent → LetterBody
 asked_body s (AskOwn p) = Range p (own_from s.state.log p)
 asked_body s e = Snapshot s.state.holding (length s.state.log)
 
--- by the cursors: all, or the operations from what the peer said it took
-abbrev pub by_cursors : CursorsValue → SiteView → ℕ → LetterBody
-by_cursors c s peer = asked_body s (ask c peer)
+-- what a site writes to a peer: its whole log; by its cursors all, or the operations from what the peer said it took
+abbrev pub written : Writing → SiteView → ℕ → LetterBody
+written WholeLogs s peer = Range 0 s.state.log
+written ByCursors s peer = asked_body s (ask s.cursors peer)
 
 -- ---- what each event answers
 
@@ -152,9 +158,9 @@ pub record WorldTook : Type 0 where
 abbrev pub epoch_of : SiteTook → ℕ
 epoch_of s = length s.past + 1
 
--- the operations that the site made in that epoch
+-- the operations that the site made in that epoch; none in epoch 0, which no site begins, or in one to come
 abbrev pub log_in : SiteTook → ℕ → List Operation
-log_in s epoch = slice_index_or (s.past ++ s.log ∷ []) (epoch - 1) []
+log_in s epoch = slice_index_or ([] ∷ s.past ++ s.log ∷ []) epoch []
 
 -- a site that took nothing yet
 abbrev pub fresh : ℕ → SiteTook
@@ -175,7 +181,7 @@ taken_holding s = holding_of s.taken
 
 -- what is seen of a site is a function of what it took: it holds what is kept of that
 abbrev pub site_view : SiteTook → SiteView
-site_view s = record { number = s.number; epoch = epoch_of s; state = record { holding = kept_of (taken_holding s); log = s.log } }
+site_view s = record { number = s.number; epoch = epoch_of s; state = record { holding = kept_of (taken_holding s); log = s.log }; cursors = s.cursors }
 
 -- what is seen of a world
 abbrev pub world_view : WorldTook → WorldView
@@ -185,13 +191,14 @@ world_view w = record { sites = map site_view w.sites; letters = map (λ (l : Se
 abbrev pub made : Option Operation → SiteTook → SiteTook
 made o s = record s { taken = s.taken ++ option_to_list o; log = s.log ++ option_to_list o }
 
--- what a letter that was taken whole does to the cursors
-abbrev pub cursors_after : CursorsValue → LetterValue → CursorsValue
-cursors_after c l = unwrap_or (option_map (acked c) (carried_ack l l.body)) (took c l)
+-- what a letter that was taken whole does to the cursors, if sites use them
+abbrev pub cursors_after : Writing → CursorsValue → LetterValue → CursorsValue
+cursors_after WholeLogs c l = c
+cursors_after ByCursors c l = unwrap_or (option_map (acked c) (carried_ack l l.body)) (took c l)
 
 -- with a letter that was taken whole
-abbrev pub merged : SentLetter → SiteTook → SiteTook
-merged l s = record s { taken = s.taken ++ meaning l.behind l.letter.body; cursors = cursors_after s.cursors l.letter }
+abbrev pub merged : Writing → SentLetter → SiteTook → SiteTook
+merged how l s = record s { taken = s.taken ++ meaning l.behind l.letter.body; cursors = cursors_after how s.cursors l.letter }
 
 -- of a range the first operations alone; a snapshot is taken whole or not at all
 abbrev pub first_taken : ℕ → LetterBody → List Operation
@@ -229,7 +236,7 @@ sent s l = record { letter = l; behind = s.taken }
 
 -- the letter that the site writes to a peer
 abbrev pub letter_to : Setting → ℕ → SiteTook → SentLetter
-letter_to g peer s = sent s (record { edition = g.tables.edition; site = s.number; epoch = epoch_of s; body = g.writes s.cursors (site_view s) peer })
+letter_to g peer s = sent s (record { edition = g.tables.edition; site = s.number; epoch = epoch_of s; body = written g.writes (site_view s) peer })
 
 -- the acknowledgement that the site writes to a maker
 abbrev pub ack_to : Setting → ℕ → SiteTook → SentLetter
@@ -245,7 +252,7 @@ abbrev pub after : Setting → WorldTook → WorldEvent → WorldAnswer → Worl
 after g w (ServeAt i q) (Ok (Replied r)) = change w i (λ s. made (serve g.most g.tables s.number (taken_holding s) q).added s)
 after g w (PushAt i name) (Ok (PushedOut p)) = change w i (λ s. made (push g.most g.tables s.number (taken_holding s) name).added s)
 after g w (Letter i j) (Ok (Lettered k)) = with_letter w i (letter_to g j)
-after g w (Merge j k) (Ok Merged) = change_by w j k merged
+after g w (Merge j k) (Ok Merged) = change_by w j k (merged g.writes)
 after g w (Merge j k) (Err (NoMemory n)) = change_by w j k (merged_in_part n)
 after g w (Ack j i) (Ok (Lettered k)) = with_letter w j (ack_to g i)
 after g w (Restart i) (Ok (Restarted e)) = change w i restarted
@@ -266,7 +273,11 @@ GivesAll g w [] (a ∷ answers) = ⊥
 GivesAll g w (e ∷ es) [] = ⊥
 GivesAll g w (e ∷ es) (a ∷ answers) = Gives g (world_view w) e a × GivesAll g (after g w e a) es answers
 
--- any two sites that took the same operations hold the same
-abbrev pub HoldAlike : List SiteTook → Type 0
-HoldAlike sites = (i j : ℕ) (a b : SiteTook) → slice_get sites i ≡ Some a → slice_get sites j ≡ Some b → Same a.taken b.taken →
-    (site_view a).state.holding ≡ (site_view b).state.holding
+-- The one site, which is so seen, holds what the other holds, and an operator sees the same of both.
+abbrev pub HoldsTheSame : Tables → SiteView → SiteView → Type 0
+HoldsTheSame t x y = (x.state.holding ≡ y.state.holding) × (operator_value t x.state.holding ≡ operator_value t y.state.holding)
+
+-- In the world that is so seen, under these operator tables, any two sites that took the same operations hold the same.
+abbrev pub HoldAlike : Tables → WorldTook → WorldView → Type 0
+HoldAlike t w v = (i j : ℕ) (a b : SiteTook) → slice_get w.sites i ≡ Some a → slice_get w.sites j ≡ Some b → Same a.taken b.taken →
+    (x y : SiteView) → slice_get v.sites i ≡ Some x → slice_get v.sites j ≡ Some y → HoldsTheSame t x y

@@ -11,7 +11,7 @@ ghost use Rattle.pcrf_model.specs.Pushing.{lacks_counter};
 ghost use Rattle.pcrf_model.specs.Replies.{OnGx, Granted, Done, Refused, OnBase};
 ghost use Rattle.pcrf_model.specs.Letters.{Range};
 ghost use Rattle.pcrf_model.specs.Steps.{own_from};
-ghost use Rattle.pcrf_model.specs.Worlds.{SiteTook, PushAt, Restart, EpochFull, ClockFull, start, whole_log, by_cursors, epoch_of, log_in};
+ghost use Rattle.pcrf_model.specs.Worlds.{SiteTook, PushAt, Restart, EpochFull, ClockFull, start, WholeLogs, ByCursors, epoch_of, log_in};
 ghost use Rattle.std.proofs.Common.{option_map};
 ghost use Rattle.pcrf_model.specs.Letterbox.{writing, exchange, exchange_answers, answers_all, astray, astray_answers, answer_at_its_end, body_of, count_taken};
 ghost use Rattle.pcrf_model.specs.Samples.{operator, first_session, second_session, host_address, nobodys_address, initial, update, termination, call, hang_up, audio, capabilities, sip_rule, delta};
@@ -115,8 +115,8 @@ pub fn letters_of_both_epochs_are_taken()
 /// What a world answers is a function of the events, where memory is found: replies, numbers of letters, and the first
 /// fault.
 pub fn world_answers_by_its_sites_and_letters()
-    ensures exchange { answers_all (writing by_cursors) (start 2) exchange ≡ exchange_answers }
-    ensures astray { answers_all (writing whole_log) (start 2) astray ≡ astray_answers }
+    ensures exchange { answers_all (writing ByCursors) (start 2) exchange ≡ exchange_answers }
+    ensures astray { answers_all (writing WholeLogs) (start 2) astray ≡ astray_answers }
     ensures epoch { answer_at_its_end (Restart 0) ≡ Err EpochFull }
     ensures counter { answer_at_its_end (PushAt 0 None) ≡ Err ClockFull }
 {}
@@ -124,6 +124,8 @@ pub fn world_answers_by_its_sites_and_letters()
 /// The log of an epoch stays after a restart, and the epoch counts up.
 pub fn logs_of_all_epochs_stay()
     ensures epoch { option_map epoch_of (slice_get both_epochs.sites 0) ≡ Some 2 }
+    ensures none { option_map (λ (s : SiteTook). log_in s 0) (slice_get both_epochs.sites 0)
+        ≡ Some [] }
     ensures older { option_map (λ (s : SiteTook). log_in s 1) (slice_get both_epochs.sites 0)
         ≡ Some (serves 0 one (update 1 None)).log }
     ensures newer { option_map (λ (s : SiteTook). log_in s 2) (slice_get both_epochs.sites 0)

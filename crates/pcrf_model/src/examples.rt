@@ -15,9 +15,8 @@ ghost use Rattle.pcrf_values.specs.Applications.{gx_application};
 ghost use Rattle.pcrf_values.specs.Results.{success, unknown_session_id, authorization_rejected, missing_avp, no_common_application, unable_to_comply, service_not_authorized, session_not_available, initial_parameters};
 ghost use Rattle.pcrf_model.specs.Replies.{OnGx, Granted, Done, Refused, OnBase};
 ghost use Rattle.pcrf_model.specs.Serving.{serve};
-ghost use Rattle.pcrf_model.specs.Tables.{open_tables};
 ghost use Rattle.pcrf_model.specs.Letters.{Range, Snapshot, Acknowledgement};
-ghost use Rattle.pcrf_model.specs.Worlds.{by_cursors, whole_log};
+ghost use Rattle.pcrf_model.specs.Worlds.{ByCursors, WholeLogs};
 ghost use Rattle.pcrf_model.specs.Letterbox.{letter, newer_epoch, range_at, cursor_after, cursor, exchanged, body_of, held_at, count_taken, started_again};
 ghost use Rattle.pcrf_model.specs.Samples.{operator, imsi, e164, number_as_imsi, first_session, second_session, call_session, host_address, initial, initial_to, without_access_point, without_address, without_subscriber, nobodys_address, other_media, capabilities, many_flows, update, termination, call, hang_up, call_asking, no_media, signalling_rule, audio, status_only, sip_rule, audio_rule, rtcp_rule, delta};
 ghost use Rattle.pcrf_model.specs.Scenes.{live_first, live_call, empty_site, taking, first_counter, ended_under_call, answers, serves, pushes, pushed, seen, granted, rejected, push_of, no_push, count_installed, one, repeated, with_call, with_signalling, call_pushed, disabled, component_removed, described_again, two_sessions, bound_to_second, second_ended, equal_stamps, updated, updated_late, overshadowed, other, other_updated, ended_there, ended_and_told, moved, hung_up, first_after_hang_up, other_after_hang_up, call_elsewhere, call_alone, call_and_session, older_first, newer_first, at_the_end, many_rules, first_forty, all_fifty};
@@ -195,11 +194,11 @@ pub fn capabilities_need_a_common_application()
     ensures gx { answers 0 empty_site (capabilities (4 ∷ gx_application ∷ [])) ≡ OnBase success }
 {}
 
-/// Without operator tables an initial request for any access point is granted, with no rule and no quality of service.
-pub fn without_tables_every_access_point_is_granted()
-    ensures reply { (serve delta_limit open_tables 0 nothing_held
-        (initial_to (codes "anything"))).reply ≡ OnGx (Granted (delta [] []) None) }
-    ensures parameters { (serve delta_limit open_tables 0 nothing_held without_access_point).reply
+/// At an access point that the tables have with a name alone an initial request is granted, with no rule and no quality of service.
+pub fn access_point_with_a_name_alone_is_granted()
+    ensures reply { (serve delta_limit operator 0 nothing_held
+        (initial_to (codes "net"))).reply ≡ OnGx (Granted (delta [] []) None) }
+    ensures parameters { (serve delta_limit operator 0 nothing_held without_access_point).reply
         ≡ rejected initial_parameters }
 {}
 
@@ -218,20 +217,20 @@ pub fn cursors_rise_without_gaps()
 
 /// A peer of which nothing is known gets all that a site holds; once it said what it took it gets what is new; both hold the same in the end.
 pub fn letters_carry_what_the_peer_lacks()
-    ensures first { body_of (exchanged by_cursors) 0 ≡ Some (Snapshot (kept_of one.holding) 1) }
-    ensures said { body_of (exchanged by_cursors) 1 ≡ Some (Acknowledgement 0 1 1) }
-    ensures second { body_of (exchanged by_cursors) 2
+    ensures first { body_of (exchanged ByCursors) 0 ≡ Some (Snapshot (kept_of one.holding) 1) }
+    ensures said { body_of (exchanged ByCursors) 1 ≡ Some (Acknowledgement 0 1 1) }
+    ensures second { body_of (exchanged ByCursors) 2
         ≡ Some (Range 1 (drop 1 (serves 0 one (update 1 None)).log)) }
-    ensures taken { count_taken (exchanged by_cursors) 1 ≡ Some 2 }
-    ensures same { held_at (exchanged by_cursors) 1 ≡ held_at (exchanged by_cursors) 0 }
+    ensures taken { count_taken (exchanged ByCursors) 1 ≡ Some 2 }
+    ensures same { held_at (exchanged ByCursors) 1 ≡ held_at (exchanged ByCursors) 0 }
     ensures emptied { held_at started_again 0 ≡ Some nothing_held }
 {}
 
 /// Letters of whole logs lead to the same.
 pub fn letters_of_whole_logs_lead_to_the_same()
-    ensures second { body_of (exchanged whole_log) 2
+    ensures second { body_of (exchanged WholeLogs) 2
         ≡ Some (Range 0 (serves 0 one (update 1 None)).log) }
-    ensures same { held_at (exchanged whole_log) 1 ≡ held_at (exchanged whole_log) 0 }
+    ensures same { held_at (exchanged WholeLogs) 1 ≡ held_at (exchanged WholeLogs) 0 }
 {}
 
 /// A call is bound to a session of its address, its access point and one of its subscribers, as far as it names them.

@@ -4,7 +4,6 @@ ghost use Rattle.std.specs.Prelude.{◌≡◌, [], ◌∷◌, Some, None, true, 
 ghost use Rattle.std.proofs.Common.{option_map};
 ghost use Rattle.pcrf_facts.specs.Facts.{End};
 ghost use Rattle.pcrf_model.specs.Limits.{delta_limit};
-ghost use Rattle.pcrf_model.specs.Tables.{open_tables};
 ghost use Rattle.pcrf_model.specs.Pushing.{push};
 ghost use Rattle.pcrf_model.specs.Forms.{is_request, are_tables, is_operation, is_holding};
 ghost use Rattle.pcrf_model.specs.Samples.{operator, first_session, host_address, initial, update, termination, call, hang_up, audio, no_media};
@@ -15,7 +14,6 @@ ghost use Rattle.pcrf_model.specs.Malformed.{in_capitals, out_of_order, one_comp
 /// The requests and the operator tables of the worked examples have the form.
 pub fn requests_and_tables_of_the_examples_are_in_form()
     ensures tables { are_tables operator ≡ true }
-    ensures open { are_tables open_tables ≡ true }
     ensures initial { is_request (initial first_session (host_address 1)) ≡ true }
     ensures update { is_request (update 2 None) ≡ true }
     ensures termination { is_request (termination first_session 3) ≡ true }

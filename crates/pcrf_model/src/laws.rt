@@ -2,6 +2,7 @@
 
 ghost use Rattle.pcrf_model.specs.Laws.{KeepsUnions, KeepsUnionsOfHoldings, KeepsEachSession, KeepsOnce, ReplacingChangesOne, UnionIsCommutative, UnionIsAssociative, UnionIsIdempotent, OnlyOperationsCount, HoldsTheUnion, HoldsJustTheFacts, SameOperationsHoldTheSame, SessionsAreReadAlone, KeptShowsTheSame, OnlyMembersCount, KeptReadsTheSame, MembersReadTheSame, KeptHasTheSameValue, KeptServesTheSame, KeptPushesTheSame, KeptStepsTheSame, DifferenceLeadsThere, NoNameTwice, FirstLeavesTheRest, FirstIsAll, ToldIsTold, BindsToTheGreatest, BindsToNoneWhereNoneMatches, PushesTheFirstDue, PushesNoneWhereNoneIsDue, RuleNamesDiffer, SessionIsTold, ProvisioningTells, PushingTells, TakingChangesOne, UnionShowsWhatOneShows, ShowsAFact, OthersKeepTheirRules, AllKeepTheirRules, UnboundKeepTheirRules, UnionKeepsTheForm, KeepingKeepsTheForm, OperationsMakeTheForm, ServingAddsTheForm, PushingAddsTheForm};
 ghost use Rattle.pcrf_model.specs.CursorLaws.{EntriesAreTaken, PeersSaidWhatTheyTook, RangesLeaveNoGap, SnapshotsHoldWhatWasTaken, TakingHoldsTheUnion};
+ghost use Rattle.pcrf_model.specs.Seen.{SeenIsWhatWasTaken, SnapshotsStay};
 ghost use Rattle.pcrf_model.specs.Waiting.{PushesTheFirstWaiting, OnlyTheDueNeedWait, NeighboursAreEnough, OneIsEnough, BoundAreEnough, AllAtHomeAreEnough};
 
 /// What is kept of what was kept and of more is what is kept of all.
@@ -145,4 +146,11 @@ pub fn ranges_leave_no_gap()
 pub fn snapshots_hold_what_was_taken()
     ensures behind { SnapshotsHoldWhatWasTaken }
     ensures union { TakingHoldsTheUnion }
+{}
+
+/// What is seen of a world after an event, by what was seen before, is what is seen of what each site then took; and each snapshot that was ever sent
+/// stays what is kept of what its maker had taken.
+pub fn what_is_seen_is_what_was_taken()
+    ensures seen { SeenIsWhatWasTaken }
+    ensures snapshots { SnapshotsStay }
 {}

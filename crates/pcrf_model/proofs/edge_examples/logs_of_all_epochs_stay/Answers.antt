@@ -11,4 +11,4 @@ use Rattle.pcrf_model.proofs.edge_examples.logs_of_all_epochs_stay.Goals as goal
 
 pub returns : goal.returns
 unfolding digits view bind rules told ccr_refusal aar_refusal str_refusal provisioned serve_ccr serve_aar serve_str due push lacks_counter
-returns c = record { epoch = refl; older = refl; newer = refl }
+returns c = record { epoch = refl; none = refl; older = refl; newer = refl }

@@ -1,5 +1,4 @@
-use Rattle.std.proofs.Common.{ap}
-use Rattle.pcrf_model.specs.Holdings.{Holding, kept_of}
+use Rattle.pcrf_model.proofs.HoldingAlike.{hold_alike}
 use Rattle.pcrf_model.proofs.UnionLaws.{holding_of-Same, holding_of-append, In-holding}
 use Rattle.pcrf_model.proofs.laws.only_the_set_of_operations_counts.Goals as goal
 
@@ -8,5 +7,5 @@ returns c = record {
   same = holding_of-Same;
   union = holding_of-append;
   facts = In-holding;
-  sites = λ sites i j a b h k same. ap (λ (x : Holding). kept_of x) (holding_of-Same a.taken b.taken same);
+  sites = hold_alike;
 }

@@ -7,7 +7,7 @@ use Rattle.pcrf_model.specs.Differences.{told}
 use Rattle.pcrf_model.specs.Refusals.{ccr_refusal, aar_refusal, str_refusal}
 use Rattle.pcrf_model.specs.Serving.{provisioned, serve_ccr, serve_aar, serve_str}
 use Rattle.pcrf_model.specs.Pushing.{due, push}
-use Rattle.pcrf_model.proofs.examples.without_tables_every_access_point_is_granted.Goals as goal
+use Rattle.pcrf_model.proofs.examples.access_point_with_a_name_alone_is_granted.Goals as goal
 
 pub returns : goal.returns
 unfolding digits view bind rules told ccr_refusal aar_refusal str_refusal provisioned serve_ccr serve_aar serve_str due push

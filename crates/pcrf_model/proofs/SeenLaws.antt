@@ -1,0 +1,138 @@
+-- What is seen of a world after an event is what is seen of what its sites then took.
+use Rattle.std.proofs.Common.{◌≡◌, ℕ, ◌+◌, List, [], ◌∷◌, ◌++◌, map, slice_get, slice_set, Option, Some, None, Ok, Err, option_map, option_to_list, refl, sym, ap, ◌∙◌, subst, append-nil}
+use Rattle.std.proofs.lemmas.List.{length-append, map-append, map-set}
+use Rattle.std.proofs.lemmas.Option.{slice_get-map}
+use Rattle.ranked.proofs.Plain.{some_same}
+use Rattle.ranked.proofs.SetLaws.{Same-turn}
+use Rattle.pcrf_model.specs.Holdings.{Holding, under, union, kept_of}
+use Rattle.pcrf_model.specs.Operations.{Operation, with_operation, holding_of}
+use Rattle.pcrf_model.specs.Replies.{Outcome}
+use Rattle.pcrf_model.specs.Requests.{RequestValue}
+use Rattle.pcrf_model.specs.Serving.{serve}
+use Rattle.pcrf_model.specs.Pushing.{push}
+use Rattle.pcrf_model.specs.Letters.{LetterBody, Range, Snapshot, Acknowledgement, LetterValue, meaning}
+use Rattle.pcrf_model.specs.Worlds.{WorldEvent, WorldAnswer, ServeAt, PushAt, Letter, Merge, Ack, Restart, Replied, PushedOut, Lettered, Merged, Restarted, NoMemory, Setting, Writing, SiteView, WorldView, SiteTook, SentLetter, WorldTook, taken_holding, site_view, world_view, made, merged, merged_in_part, first_taken, restarted, change, change_by, letter_to, ack_to, with_letter, after}
+use Rattle.pcrf_model.specs.CursorLaws.{HoldsBehind, AllHoldBehind}
+use Rattle.pcrf_model.specs.Seen.{view_with, view_made, view_served, view_pushed, brought, view_merged, view_in_part, view_again, view_letter, view_ack, see_change, see_change_by, see_letter, seen_after, SeenIsWhatWasTaken, SnapshotsStay}
+use Rattle.pcrf_model.proofs.UnionLaws.{kept_of-union, union_comm, union_nothing, holding_of-append, holding_of-Same}
+use Rattle.pcrf_model.proofs.ReadingLaws.{serve-kept_of, push-kept_of}
+use Rattle.pcrf_model.proofs.CursorSnapshots.{event_holds}
+
+-- ---- one site
+
+-- an operation more
+holding_of-one : (os : List Operation) (o : Operation) → holding_of (os ++ o ∷ []) ≡ with_operation (holding_of os) o
+holding_of-one os o = holding_of-Same (os ++ o ∷ []) (o ∷ os) (Same-turn os (o ∷ []))
+
+-- an operation that the site made
+site_made : (o : Option Operation) (s : SiteTook) → view_made o (site_view s) ≡ site_view (made o s)
+site_made None s =
+    let taken = append-nil s.taken in
+    let log = append-nil s.log in
+    sym (λ i. site_view (record s { taken = taken i; log = log i }))
+site_made (Some o) s =
+    let held = ap kept_of (holding_of-one s.taken o) ∙ sym (kept_of-union (taken_holding s) (record { facts = under o.session o.facts; clock = o.counter })) in
+    sym (λ i. record (site_view s) { state = record { holding = held i; log = s.log ++ o ∷ [] } })
+
+-- a request that it served
+site_serves : (g : Setting) (q : RequestValue) (s : SiteTook) → view_made (view_served g q (site_view s)).added (site_view s) ≡ site_view (made (serve g.most g.tables s.number (taken_holding s) q).added s)
+site_serves g q s = ap (λ (o : Outcome). view_made o.added (site_view s)) (serve-kept_of g.most g.tables s.number (taken_holding s) q) ∙ site_made (serve g.most g.tables s.number (taken_holding s) q).added s
+
+-- a push that it made
+site_pushes : (g : Setting) (name : Option (List ℕ)) (s : SiteTook) → view_made (view_pushed g name (site_view s)).added (site_view s) ≡ site_view (made (push g.most g.tables s.number (taken_holding s) name).added s)
+site_pushes g name s = ap (λ (o : Outcome). view_made o.added (site_view s)) (push-kept_of g.most g.tables s.number (taken_holding s) name) ∙ site_made (push g.most g.tables s.number (taken_holding s) name).added s
+
+-- operations
+site_takes : (s : SiteTook) (os : List Operation) → kept_of (union (kept_of (taken_holding s)) (holding_of os)) ≡ kept_of (holding_of (s.taken ++ os))
+site_takes s os = kept_of-union (taken_holding s) (holding_of os) ∙ sym (ap kept_of (holding_of-append s.taken os))
+
+-- what is kept of operations, as the operations themselves
+site_takes_kept : (s : SiteTook) (os : List Operation) → kept_of (union (kept_of (taken_holding s)) (kept_of (holding_of os))) ≡ kept_of (holding_of (s.taken ++ os))
+site_takes_kept s os =
+    ap kept_of (union_comm (kept_of (taken_holding s)) (kept_of (holding_of os)))
+    ∙ kept_of-union (holding_of os) (kept_of (taken_holding s))
+    ∙ ap kept_of (union_comm (holding_of os) (kept_of (taken_holding s)))
+    ∙ site_takes s os
+
+-- a letter whole
+site_merges : (how : Writing) (l : SentLetter) (s : SiteTook) → HoldsBehind l.behind l.letter.body → view_merged how l.letter (site_view s) ≡ site_view (merged how l s)
+site_merges how l s holds =
+    let held = of_body l.letter.body holds in
+    λ i. record (site_view (merged how l s)) { state = record { holding = held i; log = s.log } }
+  where
+    of_body : (b : LetterBody) → HoldsBehind l.behind b → kept_of (union (kept_of (taken_holding s)) (brought b)) ≡ kept_of (holding_of (s.taken ++ meaning l.behind b))
+    of_body (Range from os) h = site_takes s os
+    of_body (Snapshot k n) h = ap (λ (x : Holding). kept_of (union (kept_of (taken_holding s)) x)) h ∙ site_takes_kept s l.behind
+    of_body (Acknowledgement m e c) h = site_takes s []
+
+-- the first operations of a letter
+site_merges_in_part : (n : ℕ) (l : SentLetter) (s : SiteTook) → view_in_part n l.letter (site_view s) ≡ site_view (merged_in_part n l s)
+site_merges_in_part n l s =
+    let held = site_takes s (first_taken n l.letter.body) in
+    λ i. record (site_view s) { state = record { holding = held i; log = s.log } }
+
+-- a restart
+site_starts_again : (s : SiteTook) → view_again (site_view s) ≡ site_view (restarted s)
+site_starts_again s =
+    let epoch = length-append s.past (s.log ∷ []) in
+    sym (λ i. record (view_again (site_view s)) { epoch = epoch i + 1 })
+
+-- ---- the world
+
+-- a change of a site is seen there
+change_seen : (w : WorldTook) (i : ℕ) (k : SiteView → SiteView) (f : SiteTook → SiteTook) → ((s : SiteTook) → k (site_view s) ≡ site_view (f s)) → see_change (world_view w) i k ≡ world_view (change w i f)
+change_seen w i k f same = of_option (slice_get w.sites i) refl
+  where
+    there : (o : Option SiteTook) → slice_get w.sites i ≡ o → slice_get (map site_view w.sites) i ≡ option_map site_view o
+    there o e = slice_get-map site_view w.sites i ∙ ap (option_map site_view) e
+
+    of_option : (o : Option SiteTook) → slice_get w.sites i ≡ o → see_change (world_view w) i k ≡ world_view (change w i f)
+    of_option None e = rw (e, there None e) refl
+    of_option (Some s) e = rw (e, there (Some s) e) (λ j. record {
+      sites = (ap (slice_set (map site_view w.sites) i) (same s) ∙ sym (map-set site_view w.sites i (f s))) j;
+      letters = (world_view w).letters;
+    })
+
+-- so is one by a letter
+change_by_seen : (w : WorldTook) (j n : ℕ) (k : LetterValue → SiteView → SiteView) (f : SentLetter → SiteTook → SiteTook)
+    → ((l : SentLetter) → slice_get w.letters n ≡ Some l → (s : SiteTook) → k l.letter (site_view s) ≡ site_view (f l s)) → see_change_by (world_view w) j n k ≡ world_view (change_by w j n f)
+change_by_seen w j n k f same = of_option (slice_get w.letters n) refl
+  where
+    says : SentLetter → LetterValue
+    says l = l.letter
+
+    there : (o : Option SentLetter) → slice_get w.letters n ≡ o → slice_get (map (λ (l : SentLetter). l.letter) w.letters) n ≡ option_map (λ (l : SentLetter). l.letter) o
+    there o e = slice_get-map (λ (l : SentLetter). l.letter) w.letters n ∙ ap (option_map (λ (l : SentLetter). l.letter)) e
+
+    of_option : (o : Option SentLetter) → slice_get w.letters n ≡ o → see_change_by (world_view w) j n k ≡ world_view (change_by w j n f)
+    of_option None e = rw (e, there None e) refl
+    of_option (Some l) e = rw (e, there (Some l) e) (change_seen w j (k l.letter) (f l) (same l e))
+
+-- and a new letter
+letter_seen : (w : WorldTook) (i : ℕ) (k : SiteView → LetterValue) (write : SiteTook → SentLetter) → ((s : SiteTook) → k (site_view s) ≡ (write s).letter) → see_letter (world_view w) i k ≡ world_view (with_letter w i write)
+letter_seen w i k write same = of_option (slice_get w.sites i) refl
+  where
+    there : (o : Option SiteTook) → slice_get w.sites i ≡ o → slice_get (map site_view w.sites) i ≡ option_map site_view o
+    there o e = slice_get-map site_view w.sites i ∙ ap (option_map site_view) e
+
+    of_option : (o : Option SiteTook) → slice_get w.sites i ≡ o → see_letter (world_view w) i k ≡ world_view (with_letter w i write)
+    of_option None e = rw (e, there None e) (λ j. record { sites = (world_view w).sites; letters = (sym (map-append (λ (l : SentLetter). l.letter) w.letters [])) j })
+    of_option (Some s) e = rw (e, there (Some s) e) (λ j. record {
+      sites = (world_view w).sites;
+      letters = (ap (λ (l : LetterValue). map (λ (x : SentLetter). x.letter) w.letters ++ l ∷ []) (same s) ∙ sym (map-append (λ (x : SentLetter). x.letter) w.letters (write s ∷ []))) j;
+    })
+
+-- each event
+pub seen_is_taken : SeenIsWhatWasTaken
+seen_is_taken g w (ServeAt i q) (Ok (Replied r)) all = change_seen w i (λ s. view_made (view_served g q s).added s) (λ s. made (serve g.most g.tables s.number (taken_holding s) q).added s) (site_serves g q)
+seen_is_taken g w (PushAt i name) (Ok (PushedOut p)) all = change_seen w i (λ s. view_made (view_pushed g name s).added s) (λ s. made (push g.most g.tables s.number (taken_holding s) name).added s) (site_pushes g name)
+seen_is_taken g w (Letter i j) (Ok (Lettered k)) all = letter_seen w i (view_letter g j) (letter_to g j) (λ s. refl)
+seen_is_taken g w (Merge j k) (Ok Merged) all = change_by_seen w j k (view_merged g.writes) (merged g.writes) (λ l at s. site_merges g.writes l s (all k l at))
+seen_is_taken g w (Merge j k) (Err (NoMemory n)) all = change_by_seen w j k (view_in_part n) (merged_in_part n) (λ l at s. site_merges_in_part n l s)
+seen_is_taken g w (Ack j i) (Ok (Lettered k)) all = letter_seen w j (view_ack g i) (ack_to g i) (λ s. refl)
+seen_is_taken g w (Restart i) (Ok (Restarted e)) all = change_seen w i view_again restarted site_starts_again
+seen_is_taken g w e a all = refl
+
+-- snapshots stay
+pub snapshots_stay : SnapshotsStay
+snapshots_stay g w e a all = event_holds g w all e a
