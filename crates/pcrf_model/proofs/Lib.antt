@@ -12,6 +12,7 @@ pub mod FormLaws
 pub mod FormReading
 pub mod FunctionForms
 pub mod GatewayForms
+pub mod HistoryLaws
 pub mod HoldingAlike
 pub mod HoldingLaws
 pub mod MadeForms

@@ -1,8 +1,11 @@
 -- Letters and worlds of the worked examples.
-use Rattle.std.specs.Prelude.{ℕ, List, [], ◌∷◌, Option, None, Ok, Err, length, slice_get}
+use Rattle.std.specs.Prelude.{ℕ, List, [], ◌∷◌, Option, None, Ok, Err, take, length, slice_get}
 use Rattle.std.proofs.Common.{option_map}
 use Rattle.pcrf_model.specs.Limits.{delta_limit, last_epoch}
 use Rattle.pcrf_model.specs.Holdings.{Holding, nothing_held}
+use Rattle.pcrf_model.specs.Replies.{ReplyValue}
+use Rattle.pcrf_model.specs.Steps.{SiteEvent, Serve}
+use Rattle.pcrf_model.specs.Seen.{seen_after}
 use Rattle.pcrf_model.specs.Letters.{LetterBody, Range, Snapshot, LetterValue}
 use Rattle.pcrf_model.specs.Cursors.{Cursor, CursorsValue, start_cursors, maker_entry, took}
 use Rattle.pcrf_model.specs.Worlds.{WorldEvent, ServeAt, PushAt, Letter, Merge, Ack, Restart, Replied, Lettered, Merged, Restarted, NoSuchSite, NoSuchLetter, WorldAnswer, SiteView, WorldView, SiteTook, SentLetter, WorldTook, start, Setting, Writing, WholeLogs, ByCursors, taken_holding, world_view, answer_of, after, after_all}
@@ -100,3 +103,28 @@ at_its_end = record { sites = record { number = 0; epoch = last_epoch; state = c
 -- what it answers
 abbrev pub answer_at_its_end : WorldEvent → WorldAnswer
 answer_at_its_end = answer_of (writing WholeLogs) at_its_end
+
+-- ---- histories
+
+-- site 0 serves an initial request and an update of the same session
+abbrev pub two_requests : List (SiteEvent × ReplyValue)
+two_requests =
+    (Serve (initial first_session (host_address 1)), granted (delta [] (sip_rule ∷ [])))
+    ∷ (Serve (update 1 None), granted (delta [] [])) ∷ []
+
+-- what is seen of the two sites after site 0 served and site 1 took its letter, event by event
+abbrev pub seen_first : Writing → WorldView
+seen_first how = seen_all (take 3 exchange) (take 3 exchange_answers) (world_view (start 2))
+  where
+    seen_all : List WorldEvent → List WorldAnswer → WorldView → WorldView
+    seen_all [] answers v = v
+    seen_all (e ∷ es) [] v = v
+    seen_all (e ∷ es) (a ∷ answers) v = seen_all es answers (seen_after (writing how) v e a)
+
+-- what site 1 then holds
+abbrev pub seen_holding : Writing → Option Holding
+seen_holding how = option_map (λ (s : SiteView). s.state.holding) (slice_get (seen_first how).sites 1)
+
+-- the cursor that site 1 then has of the operations of site 0
+abbrev pub seen_cursor : Writing → Option Cursor
+seen_cursor how = option_map (λ (s : SiteView). maker_entry s.cursors 0) (slice_get (seen_first how).sites 1)

@@ -3,17 +3,18 @@
 ghost use Rattle.std.specs.Prelude.{◌≡◌, ◌+◌, ℕ, List, [], ◌∷◌, Some, None, Err, codes, is_some, is_none, true, replicate, slice_get};
 ghost use Rattle.pcrf_values.specs.Applications.{rx_application, relay_application};
 ghost use Rattle.pcrf_values.specs.Results.{success, unknown_session_id, authorization_rejected, unable_to_comply, session_not_available};
-ghost use Rattle.pcrf_model.specs.Limits.{range_limit};
+ghost use Rattle.pcrf_model.specs.Limits.{delta_limit, range_limit};
 ghost use Rattle.pcrf_facts.specs.Places.{OfRuleName, apn};
 ghost use Rattle.pcrf_facts.specs.Values.{Text, Told, Untold};
+ghost use Rattle.pcrf_model.specs.Holdings.{kept_of};
 ghost use Rattle.pcrf_model.specs.Views.{value, view};
 ghost use Rattle.pcrf_model.specs.Pushing.{lacks_counter};
 ghost use Rattle.pcrf_model.specs.Replies.{OnGx, Granted, Done, Refused, OnBase};
 ghost use Rattle.pcrf_model.specs.Letters.{Range};
-ghost use Rattle.pcrf_model.specs.Steps.{own_from};
+ghost use Rattle.pcrf_model.specs.Steps.{kept_state, own_from, Replays};
 ghost use Rattle.pcrf_model.specs.Worlds.{SiteTook, PushAt, Restart, EpochFull, ClockFull, start, WholeLogs, ByCursors, epoch_of, log_in};
 ghost use Rattle.std.proofs.Common.{option_map};
-ghost use Rattle.pcrf_model.specs.Letterbox.{writing, exchange, exchange_answers, answers_all, astray, astray_answers, answer_at_its_end, body_of, count_taken};
+ghost use Rattle.pcrf_model.specs.Letterbox.{writing, exchange, exchange_answers, answers_all, astray, astray_answers, answer_at_its_end, body_of, count_taken, seen_holding, seen_cursor, cursor, two_requests};
 ghost use Rattle.pcrf_model.specs.Samples.{operator, first_session, second_session, host_address, nobodys_address, initial, update, termination, call, hang_up, audio, capabilities, sip_rule, delta};
 ghost use Rattle.pcrf_model.specs.Scenes.{empty_site, answers, serves, pushes, pushed, seen, rejected, push_of, no_push, at_the_end, with_call, one, last_operation, call_at_the_end};
 ghost use Rattle.pcrf_model.specs.Edges.{pushed_session, two_due, flow_removed, flow_described_again, flow_status, update_to, moved_access_point, call_ended, told_as, own_of, letter_of_many, both_epochs, first_of_older};
@@ -130,4 +131,18 @@ pub fn logs_of_all_epochs_stay()
         ≡ Some (serves 0 one (update 1 None)).log }
     ensures newer { option_map (λ (s : SiteTook). log_in s 2) (slice_get both_epochs.sites 0)
         ≡ Some (serves 0 empty_site (initial second_session (host_address 2))).log }
+{}
+
+/// What is seen of a site that took a letter is what is kept of the letter's operations; its cursor rises where sites write by their cursors.
+pub fn what_is_seen_of_a_site_that_took_a_letter()
+    ensures by_cursors { seen_holding ByCursors ≡ Some (kept_of one.holding) }
+    ensures whole_logs { seen_holding WholeLogs ≡ Some (kept_of one.holding) }
+    ensures raised { seen_cursor ByCursors ≡ Some (cursor 1 1) }
+    ensures unused { seen_cursor WholeLogs ≡ Some (cursor 0 0) }
+{}
+
+/// A history goes on from what is kept: an update overshadows the CC-Request-Type of the initial request.
+pub fn history_goes_on_from_what_is_kept()
+    ensures { Replays delta_limit operator 0 empty_site two_requests
+        (kept_state (serves 0 (kept_state one) (update 1 None))) }
 {}
