@@ -1,9 +1,10 @@
 //! Answers of the base protocol.
-ghost use Rattle.std.specs.Prelude.{◌≡◌, ◌∷◌, ◌++◌, [], None, Some, cond, map, IfOk, OnOk};
+ghost use Rattle.std.specs.Prelude.{◌≡◌, ◌≤◌, ◌∷◌, ◌++◌, [], None, Some, cond, length, map, IfOk, OnOk};
+ghost use Rattle.dia_codec.specs.Limits.{longest_message};
 ghost use Rattle.std.specs.List.{flat_map, list_any};
 ghost use Rattle.pcrf_values.specs.Results.{no_common_application};
 ghost use Rattle.dia_codec.specs.Spelling.{avp_view, avp_views, message_view};
-ghost use Rattle.dia_codec.specs.Written.{written_avp};
+ghost use Rattle.dia_codec.specs.Written.{written_avp, written_len};
 ghost use Rattle.pcrf_model.specs.Refusals.{base_refusal, is_common};
 ghost use Rattle.base_profile.specs.Answers.{address_value, base_answer, capabilities_avps, node_avps, product, supported, supported_avps};
 ghost use Rattle.base_profile.specs.Requests.{base_view, kind_view, number_of};
@@ -99,6 +100,13 @@ fn supported(alloc: Global, application: u32) -> Result<Avp, AllocError>
     })
 }
 
+/// Does nothing: its contract tells a proof how long the value of the Host-IP-Address is.
+fn note_address(identity: &Identity)
+    ensures { length (address_value identity.now) ≡ 6 }
+{
+    let _octets = identity.address.octets();
+}
+
 /// The value of the Host-IP-Address: the family of IPv4, and the address (RFC 6733, 4.3.1).
 fn address_value(alloc: Global, identity: &Identity) -> Result<Vec<u8>, AllocError>
     ensures { IfOk result (λ value. value.items ≡ address_value identity.now) }
@@ -135,7 +143,8 @@ fn capabilities(
     Ok(avps)
 }
 
-/// The answer to a request of the base protocol: success, or that no application is in common.
+/// The answer to a request of the base protocol: success, or that no application is in common. Every answer fits a
+/// message.
 #[tactic(auto, unfolding(crate::specs::Answers::base_answer))]
 pub fn base_answer(
     alloc: Global,
@@ -143,9 +152,12 @@ pub fn base_answer(
     header: &Header,
     request: &BaseRequest,
 ) -> Result<Message, AllocError>
-    ensures { IfOk result (λ message. message_view message
+    ensures message { IfOk result (λ message. message_view message
         ≡ base_answer identity.now header.now (base_view request.now)) }
+    ensures fits { IfOk result (λ message. written_len (message_view message) ≤ longest_message) }
 {
+    identity.note_names();
+    note_address(identity);
     let refusal = base_refusal(request);
     let mut out = AvpWriter::start(alloc);
     put_result(alloc, &mut out, refusal)?;

@@ -1,2 +1,3 @@
-pub mod Values
+pub mod AnswerLengths
 pub mod Refusals
+pub mod Values

@@ -1,8 +1,9 @@
 -- What answers are made of (RFC 6733).
-use Rattle.std.specs.Prelude.{◌≡◌, ℕ, ◌/◌, Bool, true, false, ◌&&◌, ◌||◌, ◌==◌, if◌then◌else◌, List, [], ◌∷◌, ◌++◌, take, Option, Some, None}
+use Rattle.std.specs.Prelude.{◌≡◌, ℕ, ◌≤◌, length, ◌/◌, Bool, true, false, ◌&&◌, ◌||◌, ◌==◌, if◌then◌else◌, List, [], ◌∷◌, ◌++◌, take, Option, Some, None}
 use Rattle.std.specs.List.{flat_map}
 use Rattle.std.specs.Option.{option_map_or}
 use Rattle.pcrf_values.specs.Applications.{gx_application, rx_application}
+use Rattle.pcrf_values.specs.Limits.{session_id_limit}
 use Rattle.pcrf_values.specs.Results.{success}
 use Rattle.pcrf_values.specs.declared.refusal.Refusal.{Refusal}
 use Rattle.dia_codec.specs.declared.message.AvpKey.{AvpKey}
@@ -95,6 +96,11 @@ names_application h r = is_permanent_failure r && (is_gx_ccr h || is_rx_aar h)
 
 abbrev pub application_avps : Header → Refusal → List AvpValue
 application_avps h r = if names_application h r then number_avp auth_application_id h.application ∷ [] else []
+
+-- where there is a Session-Id, it isn't longer than this profile's are
+abbrev pub IsShortId : Option (List ℕ) → Type 0
+IsShortId None = Unit {0}
+IsShortId (Some id) = length id ≤ session_id_limit
 
 -- the answer to a request that could not be read, or isn't served (7.2)
 unfoldable pub refusal_answer : Identity → Header → Refusal → Option (List ℕ) → MessageValue

@@ -1,10 +1,11 @@
 //! What every answer is made of, and the answer that refuses a request.
-ghost use Rattle.std.specs.Prelude.{◌≡◌, ◌++◌, ◌∷◌, [], IfOk, OnErr, OnOk};
+ghost use Rattle.std.specs.Prelude.{◌≡◌, ◌≤◌, ◌++◌, ◌∷◌, [], IfOk, OnErr, OnOk};
 ghost use Rattle.std.specs.Option.{option_copied};
 ghost use Rattle.std.specs.List.{flat_map};
 ghost use Rattle.dia_codec.specs.Spelling.{message_view};
-ghost use Rattle.dia_codec.specs.Written.{written_avp};
-ghost use Rattle.dia_base.specs.Answers.{AddsSome, answer_header, is_protocol_error, is_permanent_failure, names_application, experimental_avps, origin_avps, refusal_answer, result_avp};
+ghost use Rattle.dia_codec.specs.Written.{written_avp, written_len};
+ghost use Rattle.dia_codec.specs.Limits.{longest_message};
+ghost use Rattle.dia_base.specs.Answers.{AddsSome, IsShortId, answer_header, is_protocol_error, is_permanent_failure, names_application, experimental_avps, origin_avps, refusal_answer, result_avp};
 
 use crate::codes::{GX, RX, TGPP, avps, commands, results};
 use crate::identity::Identity;
@@ -90,7 +91,7 @@ fn names_application(header: &Header, refusal: Refusal) -> bool
 
 /// The answer to a request that could not be read or isn't served (RFC 6733, 7.2): its Session-Id where one is known,
 /// the Auth-Application-Id where the request's own answer would have it and it failed for good, the origin, and the
-/// result.
+/// result. It fits a message where the Session-Id has at most 512 bytes.
 #[tactic(auto, unfolding(crate::specs::Answers::refusal_answer))]
 pub fn refusal_answer(
     alloc: Global,
@@ -99,9 +100,12 @@ pub fn refusal_answer(
     refusal: Refusal,
     session: Option<&[u8]>,
 ) -> Result<Message, AllocError>
-    ensures { IfOk result (λ message. message_view message ≡
+    ensures message { IfOk result (λ message. message_view message ≡
         refusal_answer identity.now header.now refusal (option_copied session.entry)) }
+    ensures fits { IfOk result (λ message. IsShortId (option_copied session.entry)
+        → written_len (message_view message) ≤ longest_message) }
 {
+    identity.note_names();
     let mut out = AvpWriter::start(alloc);
     if let Some(id) = session {
         out.text(avps::SESSION_ID, id)?;

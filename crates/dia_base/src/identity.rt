@@ -1,4 +1,7 @@
 //! Who answers.
+ghost use Rattle.std.specs.Prelude.{◌≤◌, length};
+ghost use Rattle.pcrf_values.specs.Limits.{identity_limit};
+
 use pcrf_values::DiameterIdentity;
 use std::net::Ipv4Addr;
 
@@ -12,4 +15,15 @@ pub struct Identity {
     pub realm: DiameterIdentity,
     /// Host-IP-Address.
     pub address: Ipv4Addr,
+}
+
+impl Identity {
+    /// Does nothing: its contract tells a proof how long the names are at most.
+    pub fn note_names(&self)
+        ensures host { length self.now.host ≤ identity_limit }
+        ensures realm { length self.now.realm ≤ identity_limit }
+    {
+        let _host = self.host.as_slice();
+        let _realm = self.realm.as_slice();
+    }
 }

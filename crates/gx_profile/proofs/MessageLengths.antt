@@ -13,6 +13,7 @@ use Rattle.dia_codec.specs.Written as written
 use Rattle.dia_base.specs.Avps.{base_key, cc_request_type, cc_request_number}
 use Rattle.dia_base.specs.Answers.{text_avp, number_avp, result_avp}
 use Rattle.dia_base.specs.declared.identity.Identity.{Identity}
+use Rattle.dia_base.proofs.AnswerLengths.{text_within, number_within, result_within}
 use Rattle.pcrf_values.specs.Numbers.{request_kind_number}
 use Rattle.gx_profile.specs.Answers.{cca, reply_refusal, reply_delta, reply_quality}
 use Rattle.gx_profile.specs.Avps.{destination_realm, destination_host, re_auth_request_type}
@@ -24,17 +25,6 @@ use Rattle.gx_profile.specs.Rules.{delta_avps}
 use Rattle.gx_profile.specs.declared.ccr.Ccr.{Ccr}
 use Rattle.gx_profile.specs.declared.answer.GxReply.{GxReply}
 
--- ---- AVPs of the base protocol
-
--- an AVP of at most 4 * n bytes takes 8 more
-text_within : (code : ℕ) (bytes : List ℕ) (n : ℕ) → length bytes ≤ 4 * n → padded_len (text_avp (base_key code) bytes) ≤ 8 + 4 * n
-text_within code bytes n within = omega arith
-
--- a number takes 12
-number_within : (code n : ℕ) → padded_len (number_avp (base_key code) n) ≡ 12
-unfolding word_bytes
-number_within code n = refl
-
 -- what a message begins with
 pub opening_within : (session : List ℕ) (i : Identity) → length session ≤ 512 → length i.host ≤ 255 → length i.realm ≤ 255 → sum_by padded_len (opening_avps session i) ≤ opening_room
 opening_within session i session_short host_short realm_short =
@@ -44,17 +34,7 @@ opening_within session i session_short host_short realm_short =
     let realm = text_within 296 i.realm 64 (omega arith) in
     omega arith
 
--- ---- a result and a quality of service
-
-result_of : (experimental : Bool) (r : Refusal) → r.experimental ≡ experimental → padded_len (result_avp (Some r)) ≤ 32
-unfolding word_bytes written_avp written.three_bytes
-result_of true r is = rw is (omega arith)
-result_of false r is = rw is (omega arith)
-
-result_within : (r : Option Refusal) → padded_len (result_avp r) ≤ 32
-unfolding word_bytes
-result_within None = omega arith
-result_within (Some r) = result_of r.experimental r refl
+-- ---- a quality of service
 
 quality_within : (q : Option DefaultQuality) → sum_by padded_len (quality_avps q) ≤ 132
 unfolding word_bytes written_avp written.three_bytes

@@ -1,5 +1,6 @@
 //! Scripts of a world: one command a line, and what it prints.
-ghost use Rattle.std.specs.Prelude.{◌≡◌, ◌≤◌, ◌⊎◌, true};
+ghost use Rattle.std.specs.Prelude.{◌≡◌, ◌≤◌, ◌+◌, ◌⊎◌, min, true, false};
+ghost use Rattle.dia_codec.specs.Counted.{most_calls};
 ghost use Rattle.script_lines.specs.Limits.{read_limit};
 
 use crate::console::Console;
@@ -9,15 +10,18 @@ use script_lines::{ScriptEnd, run_lines};
 use std::alloc::Global;
 use std::io::{Read, Write};
 
-/// Runs a script whose sites have these tables: reads it to its end, obeys line after line, and writes what each prints.
+/// Runs a script whose sites have these tables: reads it to its end, in 2^40 reads at most, obeys line after line, and writes what each prints.
 pub fn run_script<R: Read, W: Write>(
     alloc: Global,
     tables: Tables,
     reader: &mut Counted<R>,
     writer: &mut Counted<W>,
 ) -> ScriptEnd
-    ensures read_failed { result ≡ ScriptEnd.ReadFailed
-        → (reader.new.failed ≡ true) ⊎ (read_limit ≤ reader.new.calls) }
+    requires reader { reader.old.failed ≡ false }
+    requires writer { writer.old.failed ≡ false }
+    ensures reads { reader.new.calls ≤ reader.old.calls + read_limit }
+    ensures read_failed { result ≡ ScriptEnd.ReadFailed → (reader.new.failed ≡ true)
+        ⊎ (min (reader.old.calls + read_limit) most_calls ≤ reader.new.calls) }
     ensures write_failed { result ≡ ScriptEnd.WriteFailed → writer.new.failed ≡ true }
 
     // All was read, to its end, and written.

@@ -1,2 +1,3 @@
+pub mod AnswerLengths
 pub mod RefusedBehind
 pub mod ServiceFaults

@@ -1,5 +1,6 @@
 //! A script is read to its end, line after line is obeyed, and what each prints is written.
-ghost use Rattle.std.specs.Prelude.{◌≡◌, ◌≢◌, ◌≤◌, ◌⊎◌, true, OnOk, IfErr, IsErrOf};
+ghost use Rattle.std.specs.Prelude.{◌≡◌, ◌≢◌, ◌≤◌, ◌+◌, ◌⊎◌, min, true, false, OnOk, IfErr, IsErrOf};
+ghost use Rattle.dia_codec.specs.Counted.{most_calls};
 ghost use Rattle.script_lines.specs.Limits.{read_limit};
 
 use crate::fault::LineFault;
@@ -117,15 +118,18 @@ impl Script {
     }
 }
 
-/// Reads a script to its end, has line after line obeyed, and writes what each prints.
+/// Reads a script to its end, in 2^40 reads at most, has line after line obeyed, and writes what each prints.
 pub fn run_lines<O: Obey, R: Read, W: Write>(
     alloc: Global,
     obeyer: &mut O,
     reader: &mut Counted<R>,
     writer: &mut Counted<W>,
 ) -> ScriptEnd
-    ensures read_failed { result ≡ ScriptEnd.ReadFailed
-        → (reader.new.failed ≡ true) ⊎ (read_limit ≤ reader.new.calls) }
+    requires reader { reader.old.failed ≡ false }
+    requires writer { writer.old.failed ≡ false }
+    ensures reads { reader.new.calls ≤ reader.old.calls + read_limit }
+    ensures read_failed { result ≡ ScriptEnd.ReadFailed → (reader.new.failed ≡ true)
+        ⊎ (min (reader.old.calls + read_limit) most_calls ≤ reader.new.calls) }
     ensures write_failed { result ≡ ScriptEnd.WriteFailed → writer.new.failed ≡ true }
 
     // All was read, to its end, and written.

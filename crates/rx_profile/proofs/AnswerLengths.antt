@@ -1,0 +1,33 @@
+-- Every answer of Rx fits a message.
+use Rattle.std.proofs.Common.{◌≡◌, ◌≤◌, ◌∷◌, ◌++◌, [], ℕ, List, Option, length, sym, subst, arith}
+use Rattle.pcrf_values.specs.Applications.{rx_application}
+use Rattle.pcrf_values.specs.Limits.{session_id_limit, identity_limit}
+use Rattle.pcrf_values.specs.declared.refusal.Refusal.{Refusal}
+use Rattle.dia_codec.specs.declared.message.Header.{Header}
+use Rattle.dia_codec.specs.Fields.{MessageValue}
+use Rattle.dia_codec.specs.Limits.{longest_message}
+use Rattle.dia_codec.specs.Written.{written_len}
+use Rattle.dia_base.specs.Avps.{session_id, auth_application_id}
+use Rattle.dia_base.specs.Answers.{text_avp, number_avp}
+use Rattle.dia_base.specs.declared.identity.Identity.{Identity}
+use Rattle.dia_base.proofs.AnswerLengths.{text_within, number_within, ending_within}
+use Rattle.rx_profile.specs.Answers.{aaa, sta}
+
+-- an AA-Answer
+pub aaa_fits : (i : Identity) (h : Header) (session : List ℕ) (r : Option Refusal) (m : MessageValue) → m ≡ aaa i h session r → length i.host ≤ identity_limit → length i.realm ≤ identity_limit → length session ≤ session_id_limit
+    → written_len m ≤ longest_message
+unfolding aaa
+aaa_fits i h session r m is host realm short =
+    let id = text_within 263 session 128 short in
+    let application = number_within 258 rx_application in
+    let all = ending_within (text_avp session_id session ∷ number_avp auth_application_id rx_application ∷ []) 532 i r (omega (arith, id, application)) host realm in
+    subst (λ (x : MessageValue). written_len x ≤ longest_message) (sym is) (omega (arith, all))
+
+-- a Session-Termination-Answer
+pub sta_fits : (i : Identity) (h : Header) (session : List ℕ) (r : Option Refusal) (m : MessageValue) → m ≡ sta i h session r → length i.host ≤ identity_limit → length i.realm ≤ identity_limit → length session ≤ session_id_limit
+    → written_len m ≤ longest_message
+unfolding sta
+sta_fits i h session r m is host realm short =
+    let id = text_within 263 session 128 short in
+    let all = ending_within (text_avp session_id session ∷ []) 520 i r (omega (arith, id)) host realm in
+    subst (λ (x : MessageValue). written_len x ≤ longest_message) (sym is) (omega (arith, all))
