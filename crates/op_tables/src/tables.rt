@@ -32,7 +32,7 @@ pub struct Tables {
 }
 
 impl Model for Tables {
-    ghost use Rattle.pcrf_model.specs.Tables.{Tables as TablesValue, Listed};
+    ghost use Rattle.pcrf_model.specs.Tables.{Tables as TablesValue};
     ghost use Rattle.op_tables.specs.Statements.{NamesRulesApart};
     ghost use Rattle.op_tables.specs.TableViews.{tables_value};
 

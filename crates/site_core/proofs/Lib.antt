@@ -1,3 +1,4 @@
+pub mod AnswersLaws
 pub mod CallLaws
 pub mod Left
 pub mod Pushes

@@ -1,5 +1,5 @@
 -- The bytes of answers.
-use Rattle.std.specs.Prelude.{ℕ, if◌then◌else◌, List, [], nat_lt, Option, Some, None}
+use Rattle.std.specs.Prelude.{ℕ, Bool, is_some, if◌then◌else◌, List, [], nat_lt, Option, Some, None}
 use Rattle.pcrf_values.specs.declared.refusal.Refusal.{Refusal}
 use Rattle.dia_codec.specs.declared.message.Header.{Header}
 use Rattle.dia_codec.specs.Fields.{MessageValue}
@@ -52,3 +52,10 @@ reply_bytes i h (request.Base q) reply = bytes_by (λ (code : ℕ). base_answer 
 -- the answer to a request that could not be read, with its Session-Id where one is known
 abbrev pub refusal_bytes : Identity → Header → Option (List ℕ) → Refusal → List ℕ
 refusal_bytes i h session refusal = answer_bytes (refusal_answer i h refusal session)
+
+-- the reply is of the request's kind
+abbrev pub is_of_kind : Request → Reply → Bool
+is_of_kind (request.Ccr q) reply = is_some (gx_result reply)
+is_of_kind (request.Aar q) reply = is_some (rx_result reply)
+is_of_kind (request.Str q) reply = is_some (rx_result reply)
+is_of_kind (request.Base q) reply = is_some (base_result reply)

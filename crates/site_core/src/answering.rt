@@ -1,13 +1,15 @@
 //! From the reply to the bytes of the answer.
-ghost use Rattle.std.specs.Prelude.{◌≡◌, ◌<◌, ◌&&◌, false, IfOk};
+ghost use Rattle.std.specs.Prelude.{◌≡◌, ◌≢◌, ◌<◌, ◌≤◌, ◌&&◌, [], is_some, true, false, IfOk};
 ghost use Rattle.std.specs.Option.{option_copied};
-ghost use Rattle.dia_codec.specs.Limits.{command_bound};
+ghost use Rattle.dia_codec.specs.Limits.{command_bound, longest_message};
 ghost use Rattle.dia_codec.specs.Spelling.{message_view};
+ghost use Rattle.dia_codec.specs.Written.{written_len};
+ghost use Rattle.dia_base.specs.Answers.{IsShortId};
 ghost use Rattle.gx_profile.specs.Answers.{cca};
 ghost use Rattle.rx_profile.specs.Answers.{aaa, sta};
 ghost use Rattle.base_profile.specs.Answers.{base_answer};
 ghost use Rattle.base_profile.specs.Requests.{base_view};
-ghost use Rattle.site_core.specs.Answering.{answer_bytes, base_result, bytes_by, gx_result, refusal_bytes, reply_bytes, rx_result};
+ghost use Rattle.site_core.specs.Answering.{answer_bytes, base_result, bytes_by, gx_result, is_of_kind, refusal_bytes, reply_bytes, rx_result};
 
 use crate::event::Reply;
 use crate::request::Request;
@@ -23,7 +25,9 @@ use std::alloc::{AllocError, Global};
 fn bytes_of(alloc: Global, answer: &Message) -> Result<Vec<u8>, AllocError>
     requires command { answer.now.header.command < command_bound }
     requires flags { (answer.now.header.flags.request && answer.now.header.flags.error) ≡ false }
-    ensures { IfOk result (λ bytes. bytes.items ≡ answer_bytes (message_view answer.now)) }
+    ensures bytes { IfOk result (λ bytes. bytes.items ≡ answer_bytes (message_view answer.now)) }
+    ensures some { IfOk result (λ bytes.
+        written_len (message_view answer.now) ≤ longest_message → bytes.items ≢ []) }
 {
     match write_message(alloc, answer) {
         Ok(bytes) => Ok(bytes),
@@ -42,8 +46,9 @@ fn write_gx(
     reply: &Reply,
 ) -> Result<Vec<u8>, AllocError>
     requires { header.now.command < command_bound }
-    ensures { IfOk result (λ bytes. bytes.items
+    ensures bytes { IfOk result (λ bytes. bytes.items
         ≡ bytes_by (cca identity.now header.now ccr.now) (gx_result reply.now)) }
+    ensures some { IfOk result (λ bytes. is_some (gx_result reply.now) ≡ true → bytes.items ≢ []) }
 {
     let Reply::Gx(reply) = reply else {
         return Ok(Vec::new(alloc));
@@ -73,8 +78,9 @@ fn write_aa(
     reply: &Reply,
 ) -> Result<Vec<u8>, AllocError>
     requires { header.now.command < command_bound }
-    ensures { IfOk result (λ bytes. bytes.items
+    ensures bytes { IfOk result (λ bytes. bytes.items
         ≡ bytes_by (aaa identity.now header.now session.now) (rx_result reply.now)) }
+    ensures some { IfOk result (λ bytes. is_some (rx_result reply.now) ≡ true → bytes.items ≢ []) }
 {
     let Some(refusal) = rx_result(reply) else {
         return Ok(Vec::new(alloc));
@@ -93,8 +99,9 @@ fn write_termination(
     reply: &Reply,
 ) -> Result<Vec<u8>, AllocError>
     requires { header.now.command < command_bound }
-    ensures { IfOk result (λ bytes. bytes.items
+    ensures bytes { IfOk result (λ bytes. bytes.items
         ≡ bytes_by (sta identity.now header.now session.now) (rx_result reply.now)) }
+    ensures some { IfOk result (λ bytes. is_some (rx_result reply.now) ≡ true → bytes.items ≢ []) }
 {
     let Some(refusal) = rx_result(reply) else {
         return Ok(Vec::new(alloc));
@@ -113,8 +120,9 @@ fn write_base(
     reply: &Reply,
 ) -> Result<Vec<u8>, AllocError>
     requires { header.now.command < command_bound }
-    ensures { IfOk result (λ bytes. bytes.items ≡ bytes_by
+    ensures bytes { IfOk result (λ bytes. bytes.items ≡ bytes_by
         (λ _. base_answer identity.now header.now (base_view request.now)) (base_result reply.now)) }
+    ensures some { IfOk result (λ bytes. is_some (base_result reply.now) ≡ true → bytes.items ≢ []) }
 {
     let Reply::Base(_) = reply else {
         return Ok(Vec::new(alloc));
@@ -123,7 +131,8 @@ fn write_base(
     bytes_of(alloc, &answer)
 }
 
-/// The bytes of the answer to a request that was served; none where the reply is to an event of another kind.
+/// The bytes of the answer to a request that was served: some where the reply is of the request's kind, and none where it
+/// is of another.
 pub fn write_reply(
     alloc: Global,
     identity: &Identity,
@@ -132,8 +141,10 @@ pub fn write_reply(
     reply: &Reply,
 ) -> Result<Vec<u8>, AllocError>
     requires { header.now.command < command_bound }
-    ensures { IfOk result (λ bytes.
+    ensures bytes { IfOk result (λ bytes.
         bytes.items ≡ reply_bytes identity.now header.now request.now reply.now) }
+    ensures some { IfOk result (λ bytes.
+        is_of_kind request.now reply.now ≡ true → bytes.items ≢ []) }
 {
     match request {
         Request::Ccr(ccr) => write_gx(alloc, identity, header, ccr, reply),
@@ -143,7 +154,18 @@ pub fn write_reply(
     }
 }
 
-/// The bytes of the answer to a request that could not be read.
+/// The bytes of a Session-Id, where there is one.
+fn bytes_of_id(session: Option<&SessionId>) -> Option<&[u8]>
+    ensures bytes { option_copied result ≡ option_copied session.entry }
+    ensures short { IsShortId (option_copied result) }
+{
+    match session {
+        Some(id) => Some(id.as_slice()),
+        None => None,
+    }
+}
+
+/// The bytes of the answer to a request that could not be read, which are some.
 #[tactic(auto, unfolding(dia_base::specs::Answers::refusal_answer))]
 pub fn write_refusal(
     alloc: Global,
@@ -153,10 +175,11 @@ pub fn write_refusal(
     refusal: Refusal,
 ) -> Result<Vec<u8>, AllocError>
     requires { header.now.command < command_bound }
-    ensures { IfOk result (λ bytes.
+    ensures bytes { IfOk result (λ bytes.
         bytes.items ≡ refusal_bytes identity.now header.now (option_copied session.entry) refusal) }
+    ensures some { IfOk result (λ bytes. bytes.items ≢ []) }
 {
-    let id = session.map(|session| session.as_slice());
+    let id = bytes_of_id(session);
     let answer = refusal_answer(alloc, identity, header, refusal, id)?;
     bytes_of(alloc, &answer)
 }

@@ -1,5 +1,5 @@
 //! How a site serves application functions (TS 29.214, 4.4).
-ghost use Rattle.std.specs.Prelude.{◌≡◌, ◌≤◌, ◌+◌, ◌++◌, ◌∷◌, [], List, ◌&&◌, Some, IfOk, IfSome, OnOk, OnErr, is_none, map, not};
+ghost use Rattle.std.specs.Prelude.{◌≡◌, ◌<◌, ◌≤◌, length, ◌+◌, ◌++◌, ◌∷◌, [], List, ◌&&◌, Some, IfOk, IfSome, OnOk, OnErr, is_none, map, not};
 ghost use Rattle.std.specs.List.{list_any};
 ghost use Rattle.std.specs.Option.{option_copied};
 ghost use Rattle.ranked.specs.Ascending.{ascending};
@@ -146,7 +146,8 @@ impl Site {
         counter: u64,
         facts: Vec<AfFact>,
     ) -> Result<(), AllocError>
-        requires { counter ≤ last_counter }
+        requires within { counter ≤ last_counter }
+        requires later { length self.old.state.log < counter }
         ensures ok { OnOk result (self.new ≡ with_made self.old (Some (operation_on_call
             self.old.number counter session.now (map fact_of facts.items)))) }
         ensures err { OnErr result (self.new ≡ self.old) }

@@ -5,7 +5,7 @@ ghost use Rattle.ranked.specs.Sets.{Distinct};
 ghost use Rattle.pcrf_values.specs.Results.{authorization_rejected, unable_to_comply};
 ghost use Rattle.pcrf_facts.specs.Held.{is_ended};
 ghost use Rattle.pcrf_facts.specs.Live.{gx_is_live};
-ghost use Rattle.pcrf_model.specs.Limits.{delta_limit, last_counter};
+ghost use Rattle.pcrf_model.specs.Limits.{delta_limit, last_counter, site_limit};
 ghost use Rattle.pcrf_model.specs.Holdings.{facts_on, kept_of, replaced};
 ghost use Rattle.pcrf_model.specs.Pushing.{lacks_counter};
 ghost use Rattle.pcrf_model.specs.Replies.{OnGx, Granted, Pushed};
@@ -66,6 +66,8 @@ pub struct Site {
 }
 
 impl Model for Site {
+    ghost use Rattle.std.specs.Prelude.{◌<◌, ◌≤◌, length};
+    ghost use Rattle.pcrf_model.specs.Limits.{site_limit};
     ghost use Rattle.site_core.specs.Sites.{SiteValue};
 
     ghost Value = { SiteValue };
@@ -76,6 +78,8 @@ impl Model for Site {
       number = s.number;
       state = record { holding = s.state; log = s.log.items };
     } };
+
+    ghost invariant = { λ s. (s.number < site_limit) × (length s.log.items ≤ s.state.clock) };
 }
 
 impl Site {
@@ -86,6 +90,7 @@ impl Site {
 
     /// A site that took nothing.
     pub fn start(alloc: Global, tables: Tables, identity: Identity, number: u8) -> Site
+        requires { number < site_limit }
         ensures { result ≡ new_site tables identity number }
     {
         Site {
@@ -100,7 +105,8 @@ impl Site {
 
     /// The number of the site.
     pub fn number(&self) -> u8
-        ensures { result ≡ self.now.number }
+        ensures number { result ≡ self.now.number }
+        ensures within { result < site_limit }
     {
         self.number
     }
@@ -244,7 +250,8 @@ impl Site {
 
     /// Ends the session of an accepted request, or changes nothing.
     fn close(&mut self, ccr: &Ccr, counter: u64) -> Result<GxReply, AllocError>
-        requires { counter ≤ last_counter }
+        requires within { counter ≤ last_counter }
+        requires later { length self.old.state.log < counter }
         ensures reply { IfOk result (λ reply.
             gx_reply_value reply ≡ OnGx (Granted empty_delta None)) }
         ensures ok { OnOk result (self.new ≡ with_made self.old (Some
@@ -297,6 +304,7 @@ impl Site {
     /// Puts the record that stood in its place, with the clock that was.
     fn put_back(&mut self, session: &SessionId, before: Option<GxRec>, clock: u64)
         requires within { clock ≤ last_counter }
+        requires counted { length self.old.state.log ≤ clock }
         requires known { facts_on self.old.state.holding.facts (gx session.now) ≢ [] }
         requires told { ToldUpTo clock (replaced self.old.state.holding
             (gx session.now) (record_facts before) clock).facts }
@@ -318,7 +326,8 @@ impl Site {
 
     /// Tells the gateway what it lacks of the rules that its session has now, or changes nothing.
     fn tell(&mut self, ccr: &Ccr, counter: u64) -> Result<GxReply, AllocError>
-        requires { counter ≤ last_counter }
+        requires within { counter ≤ last_counter }
+        requires later { length self.old.state.log < counter }
         ensures reply { IfOk result (λ reply. gx_reply_value reply
             ≡ told_reply self.old.tables (view self.old.state.holding.facts) (gx ccr.now.session)) }
         ensures ok { OnOk result (self.new ≡ with_made self.old (Some (operation_told
@@ -409,6 +418,7 @@ impl Site {
     pub(crate) fn next_counter(&self) -> Option<u64>
         ensures some { IfSome result (λ counter. counter ≡ self.now.state.holding.clock + 1) }
         ensures within { IfSome result (λ counter. counter ≤ last_counter) }
+        ensures later { IfSome result (λ counter. length self.now.state.log < counter) }
         ensures open { IfSome result (λ _. is_clock_full self.now.state.holding ≡ false) }
         ensures full { result ≡ None → is_clock_full self.now.state.holding ≡ true }
     {
@@ -421,6 +431,7 @@ impl Site {
 
     /// Adds an operation of the site's own, or changes nothing.
     pub(crate) fn add(&mut self, operation: Operation) -> Result<(), AllocError>
+        requires { length self.old.state.log < operation.counter }
         ensures ok { OnOk result (self.new ≡ with_made self.old (Some operation)) }
         ensures err { OnErr result (self.new ≡ self.old) }
     {
@@ -466,7 +477,8 @@ impl Site {
 
     /// Adds the operation of a push, or changes nothing.
     fn tell_push(&mut self, push: &PushOut, counter: u64) -> Result<(), AllocError>
-        requires { counter ≤ last_counter }
+        requires within { counter ≤ last_counter }
+        requires later { length self.old.state.log < counter }
         ensures ok { OnOk result (self.new ≡ with_made self.old
             (Some (operation_pushed self.old.number counter push.now.session push.now.delta))) }
         ensures err { OnErr result (self.new ≡ self.old) }
@@ -497,6 +509,13 @@ impl Site {
         ensures { kept_of self.now.state.holding ≡ self.now.state.holding }
     {
         self.state.note_kept();
+    }
+
+    /// Does nothing: its contract tells a proof that each operation of the site's own raised the clock.
+    pub(crate) fn note_log(&self)
+        ensures { length self.now.state.log ≤ self.now.state.holding.clock }
+    {
+        let _ = &self.log;
     }
 
     /// Does nothing: its contract tells a proof that what gateways were told has tags up to the clock.
