@@ -1,5 +1,5 @@
 //! The world of a script, which its lines start and change.
-use crate::lines::{Line, read_line};
+use crate::lines::{Line, SiteCount, read_line};
 use crate::messages::put_stream;
 use crate::printing::{put_outcome, put_restart};
 use op_tables::Tables;
@@ -58,11 +58,12 @@ impl Console {
     }
 
     /// Starts the world, which only one line may do.
-    fn start_world(&mut self, n: u8, out: &mut String) -> Result<(), LineFault> {
+    fn start_world(&mut self, count: SiteCount, out: &mut String) -> Result<(), LineFault> {
         if self.world.is_some() {
             return Err(LineFault::Bad);
         }
         let tables = self.tables.try_copy(self.alloc)?;
+        let n = count.get() as u8;
         let world = World::start(self.alloc, tables, n)?;
         drop(self.world.replace(world));
         Ok(writeln!(out, "sites {n}")?)

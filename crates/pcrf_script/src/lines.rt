@@ -1,9 +1,13 @@
 //! The lines of a script.
+use pcrf_values::BoundedNumber;
 use script_lines::LineFault;
 use std::alloc::Global;
 
 /// A site or a letter as a script names it: any decimal number. Those that no world has are `usize::MAX`.
 pub(crate) type Named = usize;
+
+/// How many sites a world has.
+pub(crate) type SiteCount = BoundedNumber<1, 16>;
 
 /// What a line asks for.
 #[derive(Drop)]
@@ -11,7 +15,7 @@ pub(crate) enum Line {
     /// Nothing: an empty line or a comment.
     Nothing,
     /// A world of so many sites.
-    Sites(u8),
+    Sites(SiteCount),
     /// A site is given the bytes of a message.
     Message(Named, Vec<u8>),
     /// A site pushes what is due.
@@ -51,10 +55,13 @@ fn bytes(alloc: Global, word: &str) -> Result<Vec<u8>, LineFault> {
 }
 
 /// How many sites a world may have.
-fn sites(word: &str) -> Result<u8, LineFault> {
-    match u8::try_from(number(word)?) {
-        Ok(n) if n >= 1 && n <= 16 => Ok(n),
-        _ => Err(LineFault::Bad),
+fn sites(word: &str) -> Result<SiteCount, LineFault> {
+    let Ok(n) = u32::try_from(number(word)?) else {
+        return Err(LineFault::Bad);
+    };
+    match SiteCount::of(n) {
+        Some(count) => Ok(count),
+        None => Err(LineFault::Bad),
     }
 }
 

@@ -1,8 +1,6 @@
 -- A run, event by event.
-use Rattle.std.proofs.Common.{◌≡◌, List, [], ◌∷◌, ◌++◌, refl, ap}
-use Rattle.pcrf_model.specs.Holdings.{kept_of}
-use Rattle.pcrf_model.specs.Worlds.{WorldEvent, WorldAnswer, Setting, SiteTook, WorldTook, world_view, Gives, GivesAll, after, after_all, HoldAlike}
-use Rattle.pcrf_model.proofs.UnionLaws.{holding_of-Same}
+use Rattle.std.proofs.Common.{◌≡◌, List, [], ◌∷◌, ◌++◌, refl}
+use Rattle.pcrf_model.specs.Worlds.{WorldEvent, WorldAnswer, Setting, WorldTook, world_view, Gives, GivesAll, after, after_all}
 
 -- one event more with its answer
 pub gives_push : (g : Setting) (w : WorldTook) (es : List WorldEvent) (answers : List WorldAnswer) (e : WorldEvent) (a : WorldAnswer) → GivesAll g w es answers → Gives g (world_view (after_all g w es answers)) e a → GivesAll g w (es ++ e ∷ []) (answers ++ a ∷ [])
@@ -17,7 +15,3 @@ after_push g w [] [] e a gives = refl
 after_push g w [] (b ∷ answers) e a gives = absurd gives
 after_push g w (d ∷ es) [] e a gives = absurd gives
 after_push g w (d ∷ es) (b ∷ answers) e a gives = after_push g (after g w d b) es answers e a gives.1
-
--- sites that took the same operations hold the same
-pub hold_alike : (sites : List SiteTook) → HoldAlike sites
-hold_alike sites i j a b at_i at_j same = ap kept_of (holding_of-Same a.taken b.taken same)

@@ -1,3 +1,4 @@
+pub mod Happening
 pub mod Identities
 pub mod Letters
 pub mod Members

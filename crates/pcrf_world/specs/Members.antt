@@ -1,14 +1,15 @@
 -- The sites of a world: each with how often it began; all have the world's operator tables, and the names that their numbers give.
 use Rattle.std.specs.Prelude.{◌≡◌, ℕ, ◌+◌, List, [], ◌∷◌}
+use Rattle.pcrf_model.specs.Cursors.{start_cursors}
 use Rattle.pcrf_model.specs.Tables.{Tables}
 use Rattle.pcrf_model.specs.Worlds.{SiteView}
 use Rattle.site_core.specs.Sites.{SiteValue, new_site, emptied}
 use Rattle.pcrf_world.specs.Identities.{identity_of}
 use Rattle.pcrf_world.specs.declared.site.Member.{Member}
 
--- what is seen of a site
+-- what is seen of a site; where whole logs are written its cursors stay those that it began with
 abbrev pub seen_of : Member → SiteView
-seen_of m = record { number = m.site.number; epoch = m.epoch; state = m.site.state }
+seen_of m = record { number = m.site.number; epoch = m.epoch; state = m.site.state; cursors = start_cursors m.site.number m.epoch }
 
 -- the site that is so seen in a world with these operator tables
 abbrev pub site_seen : Tables → SiteView → SiteValue

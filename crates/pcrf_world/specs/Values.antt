@@ -4,7 +4,7 @@ use Rattle.std.proofs.Common.{option_map}
 use Rattle.pcrf_model.specs.Limits.{delta_limit}
 use Rattle.pcrf_model.specs.Tables.{Tables}
 use Rattle.pcrf_model.specs.Worlds as model
-use Rattle.pcrf_model.specs.Worlds.{WorldView, Setting, whole_log, WorldAnswer}
+use Rattle.pcrf_model.specs.Worlds.{WorldView, Setting, WholeLogs, WorldAnswer}
 use Rattle.gx_profile.specs.Pushes.{push_view}
 use Rattle.site_core.specs.Values.{request_value, reply_value}
 use Rattle.pcrf_world.specs.declared.world.WorldEvent.{WorldEvent}
@@ -21,7 +21,7 @@ pub record WorldValue : Type 0 where
 
 -- by these tables, with as many entries of a difference told as a message carries, and with letters of whole logs
 abbrev pub setting : Tables → Setting
-setting t = record { tables = t; most = delta_limit; writes = whole_log }
+setting t = record { tables = t; most = delta_limit; writes = WholeLogs }
 
 -- an event
 abbrev pub event_value : WorldEvent → model.WorldEvent

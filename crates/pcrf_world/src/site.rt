@@ -1,6 +1,6 @@
 //! One site of a world.
-ghost use Rattle.std.specs.Prelude.{◌≡◌, ◌+◌, None, IfOk, IfSome};
-ghost use Rattle.pcrf_model.specs.Limits.{last_epoch};
+ghost use Rattle.std.specs.Prelude.{◌≡◌, ◌<◌, ◌+◌, None, IfOk, IfSome};
+ghost use Rattle.pcrf_model.specs.Limits.{last_epoch, site_limit};
 ghost use Rattle.pcrf_world.specs.Members.{IsMember, new_member, started_again};
 
 use crate::identity::identity_of;
@@ -20,6 +20,7 @@ pub(crate) struct Member {
 impl Member {
     /// A site that took nothing, in its first epoch.
     pub(crate) fn start(alloc: Global, tables: Tables, number: u8) -> Result<Member, AllocError>
+        requires { number < site_limit }
         ensures { IfOk result (λ member. member ≡ new_member tables number) }
     {
         let identity = identity_of(alloc, number)?;

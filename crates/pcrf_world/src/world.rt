@@ -1,7 +1,9 @@
 //! A world of sites, which serve requests, push, make letters and take them.
-ghost use Rattle.std.specs.Prelude.{◌≡◌, length, slice_get, IfOk, option_map};
+ghost use Rattle.std.specs.Prelude.{◌≡◌, ◌<◌, ◌≤◌, slice_get, IfOk, option_map};
 ghost use Rattle.std.specs.Option.{option_copied};
-ghost use Rattle.pcrf_model.specs.Worlds.{WorldTook, start, world_view, after, after_all, Gives, GivesAll, HoldAlike};
+ghost use Rattle.pcrf_model.specs.Worlds.{start, world_view, after_all, GivesAll, HoldAlike};
+ghost use Rattle.pcrf_model.specs.Limits.{site_limit};
+ghost use Rattle.pcrf_world.specs.Happening.{HappensIn};
 ghost use Rattle.pcrf_world.specs.Members.{site_seen};
 ghost use Rattle.pcrf_world.specs.Values.{event_value, answer_value, events_value, answers_value, setting};
 
@@ -91,6 +93,8 @@ impl Model for World {
 impl World {
     /// Sites 0 to n - 1, each of which took nothing, and no letter.
     pub fn start(alloc: Global, tables: Tables, n: u8) -> Result<World, AllocError>
+        requires some { 0 < n }
+        requires within { n ≤ site_limit }
         ensures tables { IfOk result (λ world. world.tables ≡ tables) }
         ensures seen { IfOk result (λ world. world.seen ≡ world_view (start n)) }
     {
@@ -125,15 +129,9 @@ impl World {
         &self.tables
     }
 
-    /// Makes one event happen. Whatever the sites took before that shows as this world, after the event it shows what they
-    /// then took.
+    /// Makes one event happen.
     pub fn step(&mut self, event: &WorldEvent) -> Result<WorldOutcome, WorldFault>
-        ensures answer { Gives (setting self.old.tables) self.old.seen
-            (event_value event.now) (answer_value result) }
-        ensures after { (w : WorldTook) → world_view w ≡ self.old.seen → self.new.seen ≡ world_view
-            (after (setting self.old.tables) w (event_value event.now) (answer_value result)) }
-        ensures tables { self.new.tables ≡ self.old.tables }
-        ensures sites { length self.new.seen.sites ≡ length self.old.seen.sites }
+        ensures { HappensIn self.old self.new (event_value event.now) (answer_value result) }
     {
         match event {
             WorldEvent::Serve(i, request) => self.serve(*i, request),
@@ -146,12 +144,8 @@ impl World {
 
     /// Has a site reply to a request, as the event of it does.
     pub fn serve(&mut self, i: usize, request: &Request) -> Result<WorldOutcome, WorldFault>
-        ensures answer { Gives (setting self.old.tables) self.old.seen
+        ensures { HappensIn self.old self.new
             (event_value (WorldEvent.Serve i request.now)) (answer_value result) }
-        ensures after { (w : WorldTook) → world_view w ≡ self.old.seen → self.new.seen ≡ world_view
-            (after (setting self.old.tables) w (event_value (WorldEvent.Serve i request.now)) (answer_value result)) }
-        ensures tables { self.new.tables ≡ self.old.tables }
-        ensures sites { length self.new.seen.sites ≡ length self.old.seen.sites }
     {
         if i >= self.sites.len() {
             return Err(WorldFault::NoSuchSite);
@@ -169,12 +163,8 @@ impl World {
         i: usize,
         host: &Option<DiameterIdentity>,
     ) -> Result<WorldOutcome, WorldFault>
-        ensures answer { Gives (setting self.old.tables) self.old.seen
+        ensures { HappensIn self.old self.new
             (event_value (WorldEvent.Push i host.now)) (answer_value result) }
-        ensures after { (w : WorldTook) → world_view w ≡ self.old.seen → self.new.seen ≡ world_view
-            (after (setting self.old.tables) w (event_value (WorldEvent.Push i host.now)) (answer_value result)) }
-        ensures tables { self.new.tables ≡ self.old.tables }
-        ensures sites { length self.new.seen.sites ≡ length self.old.seen.sites }
     {
         if i >= self.sites.len() {
             return Err(WorldFault::NoSuchSite);
@@ -190,12 +180,8 @@ impl World {
 
     /// Has the first site make a letter for the second.
     fn make_letter(&mut self, i: usize, j: usize) -> Result<WorldOutcome, WorldFault>
-        ensures answer { Gives (setting self.old.tables) self.old.seen
+        ensures { HappensIn self.old self.new
             (event_value (WorldEvent.Letter i j)) (answer_value result) }
-        ensures after { (w : WorldTook) → world_view w ≡ self.old.seen → self.new.seen ≡ world_view
-            (after (setting self.old.tables) w (event_value (WorldEvent.Letter i j)) (answer_value result)) }
-        ensures tables { self.new.tables ≡ self.old.tables }
-        ensures sites { length self.new.seen.sites ≡ length self.old.seen.sites }
     {
         if i >= self.sites.len() || j >= self.sites.len() {
             return Err(WorldFault::NoSuchSite);
@@ -212,12 +198,8 @@ impl World {
 
     /// Has a site take a letter.
     fn take_letter(&mut self, j: usize, k: usize) -> Result<WorldOutcome, WorldFault>
-        ensures answer { Gives (setting self.old.tables) self.old.seen
+        ensures { HappensIn self.old self.new
             (event_value (WorldEvent.Merge j k)) (answer_value result) }
-        ensures after { (w : WorldTook) → world_view w ≡ self.old.seen → self.new.seen ≡ world_view
-            (after (setting self.old.tables) w (event_value (WorldEvent.Merge j k)) (answer_value result)) }
-        ensures tables { self.new.tables ≡ self.old.tables }
-        ensures sites { length self.new.seen.sites ≡ length self.old.seen.sites }
     {
         if j >= self.sites.len() {
             return Err(WorldFault::NoSuchSite);
@@ -235,12 +217,8 @@ impl World {
 
     /// Has a site start again.
     fn restart(&mut self, i: usize) -> Result<WorldOutcome, WorldFault>
-        ensures answer { Gives (setting self.old.tables) self.old.seen
+        ensures { HappensIn self.old self.new
             (event_value (WorldEvent.Restart i)) (answer_value result) }
-        ensures after { (w : WorldTook) → world_view w ≡ self.old.seen → self.new.seen ≡ world_view
-            (after (setting self.old.tables) w (event_value (WorldEvent.Restart i)) (answer_value result)) }
-        ensures tables { self.new.tables ≡ self.old.tables }
-        ensures sites { length self.new.seen.sites ≡ length self.old.seen.sites }
     {
         if i >= self.sites.len() {
             return Err(WorldFault::NoSuchSite);
@@ -252,7 +230,7 @@ impl World {
         Ok(WorldOutcome::Restarted(epoch))
     }
 
-    /// A world of n sites with these tables after these events, with the answer to each; a fault is an answer and doesn't
+    /// A world of n sites, 1 to 16, with these tables after these events, with the answer to each; a fault is an answer and doesn't
     /// stop it.
     pub fn run(
         alloc: Global,
@@ -260,6 +238,9 @@ impl World {
         n: u8,
         events: &[WorldEvent],
     ) -> Result<(World, Vec<Result<WorldOutcome, WorldFault>>), AllocError>
+        requires some { 0 < n }
+        requires within { n ≤ site_limit }
+
         // Each answer is one that the definitions give on what the sites took before.
         ensures answers { IfOk result (λ r.
             GivesAll (setting tables) (start n) (events_value events.now)
@@ -269,8 +250,8 @@ impl World {
             (start n) (events_value events.now) (answers_value r.1.items))) }
         ensures tables { IfOk result (λ r. r.0.tables ≡ tables) }
         // Any two sites that took the same operations hold the same.
-        ensures same { IfOk result (λ r. HoldAlike (after_all (setting tables)
-            (start n) (events_value events.now) (answers_value r.1.items)).sites) }
+        ensures same { IfOk result (λ r. HoldAlike tables (after_all (setting tables)
+            (start n) (events_value events.now) (answers_value r.1.items)) r.0.seen) }
     {
         let mut world = World::start(alloc, tables, n)?;
         let mut answers = Vec::with_capacity(alloc, events.len())?;

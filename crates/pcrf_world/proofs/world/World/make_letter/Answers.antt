@@ -1,30 +1,36 @@
 use Rattle.std.proofs.Common.{rules, ◌≡◌, ℕ, ◌++◌, [], ◌∷◌, List, Some, Ok, length, refl, slice_get, ap, sym, ◌∙◌}
 use Rattle.std.proofs.lemmas.Option.{slice_get_read}
 use Rattle.pcrf_model.specs.Letters.{LetterValue}
-use Rattle.pcrf_model.specs.Worlds.{Letter, Lettered, world_view, after}
+use Rattle.pcrf_model.specs.Worlds.{Letter, Lettered}
+use Rattle.pcrf_model.specs.Seen.{seen_after}
 use Rattle.site_core.specs.Sites.{SiteValue}
 use Rattle.pcrf_world.specs.Members.{seen_of}
 use Rattle.pcrf_world.specs.Values.{WorldValue, setting}
+use Rattle.pcrf_world.specs.Happening.{HappensIn}
 use Rattle.pcrf_world.specs.Letters.{letter_of_log}
 use Rattle.pcrf_world.proofs.Events.{lettered_at}
 use Rattle.pcrf_world.proofs.Members.{members_at, world_of}
 use Rattle.pcrf_world.proofs.world.World.make_letter.Goals as goal
 use Rattle.pcrf_world.proofs.world.World.make_letter.Goals.{in-Ok-push, in-Err}
 
-pub returns-clause-after : goal.returns-clause-after
-returns-clause-after c took seen =
+pub returns : goal.returns
+returns c =
     let ms = c.self.inside.sites.items in
     let ls = c.self.inside.letters.items in
     let m = c.index.result.now in
     let at : slice_get ms c.args.i ≡ Some m = slice_get_read ms (length ms) c.args.i m refl (search rules) c.index.ensures in
     let is = members_at c.self.inside.tables ms c.args.i m c.self.invariant at in
-    let before = seen ∙ sym (ap (λ (x : WorldValue). x.seen) c.self.view_is) in
     elim c.match-push.branch [
       | in-Ok-push b ↦ (
           let pushed : c.push.new.self.items ≡ ls ++ c.in-Ok.letter ∷ [] = search rules in
           let letters = pushed ∙ ap (λ (l : LetterValue). ls ++ l ∷ []) c.in-Ok.ensures in
-          rw b.result-is (ap (world_of ms) letters
-          ∙ lettered_at c.self.inside.tables took ms ls before c.args.i m at (ap (λ (x : SiteValue). x.tables) is) c.args.j c.len-k.result
-          ∙ ap (λ (x : WorldValue). world_view (after (setting x.tables) took (Letter c.args.i c.args.j) (Ok (Lettered c.len-k.result)))) c.self.view_is))
-      | in-Err b ↦ rw b.result-is (search rules)
+          rw b.result-is (record {
+            answer = search rules;
+            seen = ap (world_of ms) letters
+                ∙ lettered_at c.self.inside.tables ms ls c.args.i m at (ap (λ (x : SiteValue). x.tables) is) c.args.j c.len-k.result
+                ∙ ap (λ (x : WorldValue). seen_after (setting x.tables) x.seen (Letter c.args.i c.args.j) (Ok (Lettered c.len-k.result))) c.self.view_is;
+            tables = search rules;
+            sites = search rules;
+          }))
+      | in-Err b ↦ rw b.result-is (record { answer = search rules; seen = search rules; tables = search rules; sites = search rules })
     ]

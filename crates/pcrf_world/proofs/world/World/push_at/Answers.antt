@@ -3,11 +3,13 @@ use Rattle.std.proofs.lemmas.Option.{slice_get_read, slice_get_within}
 use Rattle.std.specs.Option.{option_copied}
 use Rattle.pcrf_model.specs.Pushing.{lacks_counter}
 use Rattle.pcrf_model.specs.Replies.{Pushed, Outcome}
-use Rattle.pcrf_model.specs.Worlds.{PushAt, PushedOut, ClockFull, Gives, world_view, after}
+use Rattle.pcrf_model.specs.Worlds.{PushAt, PushedOut, ClockFull, NoMemory, Gives}
+use Rattle.pcrf_model.specs.Seen.{seen_after}
 use Rattle.gx_profile.specs.Pushes.{push_view}
 use Rattle.site_core.specs.Sites.{SiteValue, pushed, with_made}
 use Rattle.pcrf_world.specs.Members.{IsMember, seen_of, with_site}
 use Rattle.pcrf_world.specs.Values.{WorldValue, setting}
+use Rattle.pcrf_world.specs.Happening.{HappensIn}
 use Rattle.pcrf_world.specs.declared.site.Member.{Member}
 use Rattle.pcrf_world.proofs.Events.{pushed_at, pushed_gives, full_gives}
 use Rattle.pcrf_world.proofs.Members.{made_member, members_at, members_set, seen_at, set_back, world_of}
@@ -34,8 +36,8 @@ invariant_of-self c =
           members_set c.self.inside.tables ms c.args.i (with_site m c.push.new.self) c.self.invariant (subst (λ (x : SiteValue). IsMember c.self.inside.tables (with_site m x)) (sym same) is))
     ]
 
-pub returns-clause-answer : goal.returns-clause-answer
-returns-clause-answer c =
+pub returns : goal.returns
+returns c =
     let ms = c.self.inside.sites.items in
     let ls = c.self.inside.letters.items in
     let m = c.index_mut-member.result.now in
@@ -44,41 +46,38 @@ returns-clause-answer c =
     let at : slice_get ms c.args.i ≡ Some m = slice_get_read ms (length ms) c.args.i m refl (search rules) c.index_mut-member.ensures.value in
     let is = ap (λ (x : SiteValue). x.tables) (members_at c.self.inside.tables ms c.args.i m c.self.invariant at) in
     let there = ap (λ (x : WorldValue). slice_get x.seen.sites c.args.i) (sym c.self.view_is) ∙ seen_at ms c.args.i m at in
+    let before = ap (λ (x : WorldValue). x.seen) c.self.view_is in
     elim c.match-push.branch [
       | in-Ok b ↦ (
           let p = option_map push_view b.in-Ok.push in
           let so : Pushed p ≡ (pushed m.site name).reply = search rules in
           let room : lacks_counter m.site.tables m.site.number m.site.state.holding name ≡ false = search rules in
-          rw (b.result-is, ← named) (subst (λ (x : WorldValue). Gives (setting x.tables) x.seen (PushAt c.args.i name) (Ok (PushedOut p))) c.self.view_is
-          (pushed_gives c.self.inside.tables ms ls c.args.i m at is name p so room)))
+          let made : c.push.new.self ≡ with_made m.site (pushed m.site name).added = search rules in
+          rw (b.result-is, ← named) (record {
+            answer = subst (λ (x : WorldValue). Gives (setting x.tables) x.seen (PushAt c.args.i name) (Ok (PushedOut p))) c.self.view_is
+                (pushed_gives c.self.inside.tables ms ls c.args.i m at is name p so room);
+            seen = ap (λ (x : SiteValue). world_of (slice_set ms c.args.i (with_site m x)) ls) made
+                ∙ pushed_at c.self.inside.tables ms ls c.args.i m at is name p
+                ∙ ap (λ (x : WorldValue). seen_after (setting x.tables) x.seen (PushAt c.args.i name) (Ok (PushedOut p))) c.self.view_is;
+            tables = search rules;
+            sites = search rules;
+          }))
       | in-Err-ClockFull b ↦ (
           let full : lacks_counter m.site.tables m.site.number m.site.state.holding name ≡ true = search rules in
-          rw (b.result-is, ← named) (subst (λ (x : WorldValue). Gives (setting x.tables) x.seen (PushAt c.args.i name) (Err ClockFull)) c.self.view_is
-          (full_gives c.self.inside.tables ms ls c.args.i m at is name full)))
-      | in-Err-NoMemory b ↦ rw b.result-is (slice_get_within c.args.self.now.seen.sites c.args.i (seen_of m) there, refl)
-    ]
-
-pub returns-clause-after : goal.returns-clause-after
-returns-clause-after c w seen =
-    let ms = c.self.inside.sites.items in
-    let ls = c.self.inside.letters.items in
-    let m = c.index_mut-member.result.now in
-    let name = option_copied c.map-name.result in
-    let named : name ≡ c.args.host.now = search rules in
-    let at : slice_get ms c.args.i ≡ Some m = slice_get_read ms (length ms) c.args.i m refl (search rules) c.index_mut-member.ensures.value in
-    let is = ap (λ (x : SiteValue). x.tables) (members_at c.self.inside.tables ms c.args.i m c.self.invariant at) in
-    let before = seen ∙ sym (ap (λ (x : WorldValue). x.seen) c.self.view_is) in
-    elim c.match-push.branch [
-      | in-Ok b ↦ (
-          let p = option_map push_view b.in-Ok.push in
-          let made : c.push.new.self ≡ with_made m.site (pushed m.site name).added = search rules in
-          rw (b.result-is, ← named) (ap (λ (x : SiteValue). world_of (slice_set ms c.args.i (with_site m x)) ls) made
-          ∙ pushed_at c.self.inside.tables w ms ls before c.args.i m at is name p
-          ∙ ap (λ (x : WorldValue). world_view (after (setting x.tables) w (PushAt c.args.i name) (Ok (PushedOut p)))) c.self.view_is))
-      | in-Err-ClockFull b ↦ (
           let same : c.push.new.self ≡ m.site = search rules in
-          rw b.result-is (ap (λ (x : SiteValue). world_of (slice_set ms c.args.i (with_site m x)) ls) same ∙ ap (λ (l : List Member). world_of l ls) (set_back ms c.args.i m at) ∙ sym before))
+          rw (b.result-is, ← named) (record {
+            answer = subst (λ (x : WorldValue). Gives (setting x.tables) x.seen (PushAt c.args.i name) (Err ClockFull)) c.self.view_is
+                (full_gives c.self.inside.tables ms ls c.args.i m at is name full);
+            seen = ap (λ (x : SiteValue). world_of (slice_set ms c.args.i (with_site m x)) ls) same ∙ ap (λ (l : List Member). world_of l ls) (set_back ms c.args.i m at) ∙ before;
+            tables = search rules;
+            sites = search rules;
+          }))
       | in-Err-NoMemory b ↦ (
           let same : c.push.new.self ≡ m.site = search rules in
-          rw b.result-is (ap (λ (x : SiteValue). world_of (slice_set ms c.args.i (with_site m x)) ls) same ∙ ap (λ (l : List Member). world_of l ls) (set_back ms c.args.i m at) ∙ sym before))
+          rw b.result-is (record {
+            answer = (slice_get_within c.args.self.now.seen.sites c.args.i (seen_of m) there, refl);
+            seen = ap (λ (x : SiteValue). world_of (slice_set ms c.args.i (with_site m x)) ls) same ∙ ap (λ (l : List Member). world_of l ls) (set_back ms c.args.i m at) ∙ before;
+            tables = search rules;
+            sites = search rules;
+          }))
     ]

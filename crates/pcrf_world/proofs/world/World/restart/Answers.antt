@@ -1,7 +1,10 @@
-use Rattle.std.proofs.Common.{rules, ◌≡◌, Some, length, refl, slice_get, slice_set, ap, sym, ◌∙◌, subst}
+use Rattle.std.proofs.Common.{rules, ◌≡◌, Some, Ok, length, refl, slice_get, slice_set, ap, sym, ◌∙◌, subst}
 use Rattle.std.proofs.lemmas.Option.{slice_get_read}
 use Rattle.pcrf_world.specs.Members.{IsMember, seen_of, started_again}
-use Rattle.pcrf_world.specs.Values.{WorldValue}
+use Rattle.pcrf_model.specs.Worlds.{Restart, Restarted}
+use Rattle.pcrf_model.specs.Seen.{seen_after}
+use Rattle.pcrf_world.specs.Values.{WorldValue, setting}
+use Rattle.pcrf_world.specs.Happening.{HappensIn}
 use Rattle.pcrf_world.specs.declared.site.Member.{Member}
 use Rattle.pcrf_world.proofs.Events.{restarted_at}
 use Rattle.pcrf_world.proofs.Members.{again_member, members_at, members_set, seen_at, world_of}
@@ -17,21 +20,19 @@ invariant_of-self-2 c =
     let again : c.restart.new.self ≡ started_again m = search rules in
     members_set t ms c.args.i c.restart.new.self c.self.invariant (subst (IsMember t) (sym again) (again_member t m is))
 
-pub returns-clause-answer : goal.returns-clause-answer
-returns-clause-answer c =
-    let ms = c.self.inside.sites.items in
-    let m = c.index_mut-member.result.now in
-    let at : slice_get ms c.args.i ≡ Some m = slice_get_read ms (length ms) c.args.i m refl (search rules) c.index_mut-member.ensures.value in
-    let there : slice_get c.args.self.now.seen.sites c.args.i ≡ Some (seen_of m) = ap (λ (x : WorldValue). slice_get x.seen.sites c.args.i) (sym c.self.view_is) ∙ seen_at ms c.args.i m at in
-    rw there (search rules)
-
-pub returns-clause-after : goal.returns-clause-after
-returns-clause-after c w seen =
+pub returns : goal.returns
+returns c =
     let ms = c.self.inside.sites.items in
     let ls = c.self.inside.letters.items in
     let m = c.index_mut-member.result.now in
     let at : slice_get ms c.args.i ≡ Some m = slice_get_read ms (length ms) c.args.i m refl (search rules) c.index_mut-member.ensures.value in
-    let before = seen ∙ sym (ap (λ (x : WorldValue). x.seen) c.self.view_is) in
+    let there : slice_get c.args.self.now.seen.sites c.args.i ≡ Some (seen_of m) = ap (λ (x : WorldValue). slice_get x.seen.sites c.args.i) (sym c.self.view_is) ∙ seen_at ms c.args.i m at in
     let again : c.restart.new.self ≡ started_again m = search rules in
-    ap (λ (x : Member). world_of (slice_set ms c.args.i x) ls) again
-    ∙ restarted_at c.self.inside.tables w ms ls before c.args.i m at c.in-Some.epoch
+    record {
+      answer = rw there (search rules);
+      seen = ap (λ (x : Member). world_of (slice_set ms c.args.i x) ls) again
+          ∙ restarted_at c.self.inside.tables ms ls c.args.i m at c.in-Some.epoch
+          ∙ ap (λ (x : WorldValue). seen_after (setting x.tables) x.seen (Restart c.args.i) (Ok (Restarted c.in-Some.epoch))) c.self.view_is;
+      tables = search rules;
+      sites = search rules;
+    }

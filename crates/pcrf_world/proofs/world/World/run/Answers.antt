@@ -1,9 +1,13 @@
-use Rattle.std.proofs.Common.{rules, ◌≡◌, ◌+◌, ◌++◌, [], ◌∷◌, take, ◌∙◌, ap, sym}
+use Rattle.std.proofs.Common.{rules, ◌≡◌, ◌+◌, ◌++◌, [], ◌∷◌, take, ◌∙◌, ap, sym, subst}
 use Rattle.std.proofs.lemmas.List.{take_more, map-append}
 use Rattle.pcrf_model.specs.Tables.{Tables}
-use Rattle.pcrf_model.specs.Worlds.{WorldTook, WorldView, start, world_view, after, after_all, Gives}
+use Rattle.pcrf_model.specs.Worlds.{WorldTook, WorldView, start, world_view, after, after_all, Gives, HoldAlike}
+use Rattle.pcrf_model.specs.Seen.{seen_after}
 use Rattle.pcrf_world.specs.Values.{setting, event_value, answer_value, events_value, answers_value}
-use Rattle.pcrf_world.proofs.Runs.{gives_push, after_push, hold_alike}
+use Rattle.pcrf_model.proofs.CursorSnapshots.{snapshots_hold}
+use Rattle.pcrf_model.proofs.HoldingAlike.{hold_alike}
+use Rattle.pcrf_model.proofs.SeenLaws.{seen_is_taken}
+use Rattle.pcrf_world.proofs.Runs.{gives_push, after_push}
 use Rattle.pcrf_world.proofs.world.World.run.Goals as goal
 
 pub loop-event-preserved : goal.loop-event-preserved
@@ -23,15 +27,22 @@ loop-event-preserved c =
     let more : take (c.loop-event.event-index + 1) c.args.events.now ≡ done ++ event ∷ [] = search (rules, take_more) in
     let more_events = map-append event_value done (event ∷ []) in
     let more_answers = map-append answer_value told (answer ∷ []) in
-    let here : Gives (setting c.args.tables) (world_view took) e a = rw (← before.holds, ← before.tables) c.step-answer.ensures.answer in
-    let seen = c.step-answer.ensures.after took (sym before.holds) ∙ ap (λ (t : Tables). world_view (after (setting t) took e a)) before.tables in
+    let happened = c.step-answer.ensures in
+    let here : Gives (setting c.args.tables) (world_view took) e a = rw (← before.holds, ← before.tables) happened.answer in
+    let seen = happened.seen ∙ ap (λ (t : Tables). seen_after (setting t) c.loop-event.world.seen e a) before.tables ∙ ap (λ (v : WorldView). seen_after (setting c.args.tables) v e a) before.holds
+    ∙ seen_is_taken (setting c.args.tables) took e a (snapshots_hold (setting c.args.tables) c.args.n es answers) in
     record {
       gives = rw (more, pushed, more_events, more_answers) (gives_push (setting c.args.tables) first es answers e a before.gives here);
       holds = rw (more, pushed, more_events, more_answers) (seen ∙ ap world_view (sym (after_push (setting c.args.tables) first es answers e a before.gives)));
-      tables = c.step-answer.ensures.tables ∙ before.tables;
+      tables = happened.tables ∙ before.tables;
       count = search rules;
       room = search rules;
     }
 
+pub returns-clause-holds : goal.returns-clause-holds
+returns-clause-holds c = search rules
+
 pub returns-clause-same : goal.returns-clause-same
-returns-clause-same c = hold_alike (after_all (setting c.args.tables) (start c.args.n) (events_value c.args.events.now) (answers_value c.loop-event.answers.items)).sites
+returns-clause-same c =
+    let took : WorldTook = after_all (setting c.args.tables) (start c.args.n) (events_value c.args.events.now) (answers_value c.loop-event.answers.items) in
+    subst (λ (v : WorldView). HoldAlike c.args.tables took v) (sym (returns-clause-holds c)) (hold_alike c.args.tables took)
