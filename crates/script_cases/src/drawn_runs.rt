@@ -1,4 +1,7 @@
 //! The same events handed to `World::run`: each answer, and what each site holds at the end, compared with the model's.
+ghost use Rattle.std.specs.Prelude.{◌<◌, ◌≤◌};
+ghost use Rattle.pcrf_model.specs.Limits.{site_limit};
+
 use crate::drawn_tables::tables;
 use crate::events::{Event, Request as Sent, Script};
 use crate::generator::{Plan, script};
@@ -293,9 +296,23 @@ fn holds(alloc: Global, site: &Site, wanted: &model::Site) -> Result<bool, Alloc
     Ok(state.clock() == wanted.clock() && holds_each(state, wanted, sessions.as_slice()))
 }
 
+/// How many sites the world of a script has.
+fn site_count(sites: usize) -> u8
+    ensures some { 0 < result }
+    ensures within { result ≤ site_limit }
+{
+    let Ok(n) = u8::try_from(sites) else {
+        return 1;
+    };
+    if n == 0 || n > 16 {
+        return 1;
+    }
+    n
+}
+
 /// Runs the world of a script: it, and its answers.
 fn run_world(rt: &(impl Abort + AllocGlobal), script: &Script) -> (World, Vec<Answer>) {
-    let sites = u8::try_from(script.sites).unwrap_or(1);
+    let sites = site_count(script.sites);
     let events = world_events(rt, script);
     let ran = World::run(rt.alloc(), tables(rt), sites, events.as_slice());
     drop(events);
@@ -334,14 +351,20 @@ fn compare_run(
     drop(world);
 }
 
+/// Runs the world of a script, and the model's, which names a difference by the script's seed.
+pub fn compare_with_model(rt: &(impl Abort + AllocGlobal), seed: u64, script: &Script) {
+    let mut model = model::World::start(rt.alloc(), script.sites).expect(rt, "memory");
+    let wanted = model_answers(rt, &mut model, script);
+    compare_run(rt, seed, script, &model, wanted.as_slice());
+    drop(wanted);
+    drop(model);
+}
+
 /// Runs the world of a seed's script, and the model's.
 fn run_one(rt: &(impl Abort + AllocGlobal), seed: u64, plan: Plan) {
     let script = script(rt.alloc(), seed, plan).expect(rt, "memory");
-    let mut model = model::World::start(rt.alloc(), script.sites).expect(rt, "memory");
-    let wanted = model_answers(rt, &mut model, &script);
-    compare_run(rt, seed, &script, &model, wanted.as_slice());
-    drop(wanted);
-    drop(model);
+    compare_with_model(rt, seed, &script);
+    drop(script);
 }
 
 #[test]

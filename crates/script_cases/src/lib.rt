@@ -18,6 +18,8 @@ mod expected;
 #[cfg(test)]
 mod generator;
 #[cfg(test)]
+mod long_letters;
+#[cfg(test)]
 mod messages;
 #[cfg(test)]
 mod model;

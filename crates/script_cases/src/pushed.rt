@@ -1,4 +1,7 @@
 //! What a site pushes of a call that another site served, and whose operations it took.
+ghost use Rattle.std.specs.Prelude.{◌<◌};
+ghost use Rattle.pcrf_model.specs.Limits.{site_limit};
+
 use crate::operations::{
     application_request, call, connection, gateway_request, of_application, of_gateway, push,
     put_many, put_removal, put_status, put_voice, stamp,
@@ -86,7 +89,9 @@ fn name(rt: &(impl AllocGlobal + Abort), text: &[u8]) -> DiameterIdentity {
 }
 
 /// A site of this number, which took nothing.
-fn new_site(rt: &(impl AllocGlobal + Abort), number: u8) -> Site {
+fn new_site(rt: &(impl AllocGlobal + Abort), number: u8) -> Site
+    requires { number < site_limit }
+{
     let tables = read_tables(rt.alloc(), TABLES).expect(rt, "tables");
     let names = Identity {
         host: name(rt, b"s"),

@@ -1,10 +1,11 @@
 //! What a site replies to events, and that a reply to another event than a request has no answer.
 use crate::requests::request;
-use crate::sites::{initial, name, site_with};
+use crate::sites::{initial, name, site_with, update};
 use crate::told::tables;
 use dia_codec::{Flags, Header};
 use gx_profile::GxReply;
 use site_core::{Event, Reply, Request, Site, write_reply};
+use site_join::Operation;
 use std::alloc::AllocGlobal;
 use std::process::Abort;
 
@@ -113,6 +114,39 @@ fn events_get_the_replies_of_their_calls(rt: HostRuntime) {
     let site = served(&rt);
     let taken = (letter_of(&rt, &site), Said::Taken(2));
     comes_to_hold(&rt, &site, taken, (Event::Push(None), Said::NothingPushed));
+    drop(site);
+}
+
+/// A site that served an initial request and this many updates of its session.
+fn served_updates(rt: &(impl AllocGlobal + Abort), count: u32) -> Site {
+    let mut site = site_with(rt, tables(rt, 0, 0), 0);
+    happens(rt, &mut site, Event::Serve(asked(rt)), Said::Granted(0));
+    for number in 1..=count {
+        let asked = request(rt, update(number, None));
+        happens(rt, &mut site, Event::Serve(asked), Said::Granted(0));
+    }
+    site
+}
+
+/// All that a site made, asked for in parts.
+fn made_by(rt: &(impl AllocGlobal + Abort), site: &Site, parts: u64) -> Vec<Operation> {
+    let mut log = Vec::new(rt.alloc());
+    for part in 0..parts {
+        let (mut more, _) = site.own_since(part * 100).expect(rt, "memory");
+        log.append(&mut more).expect(rt, "memory");
+        drop(more);
+    }
+    log
+}
+
+#[test]
+fn more_operations_than_a_site_tells_at_once_are_taken(rt: HostRuntime) {
+    let site = served_updates(&rt, 100);
+    let mut other = site_with(&rt, tables(&rt, 0, 0), 1);
+    let log = made_by(&rt, &site, 2);
+    happens(&rt, &mut other, Event::Ops(log), Said::Taken(101));
+    assert!(rt; other.sessions().equal(site.sessions()));
+    drop(other);
     drop(site);
 }
 

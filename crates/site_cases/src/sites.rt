@@ -1,4 +1,7 @@
 //! What sites reply, and what they hold then.
+ghost use Rattle.std.specs.Prelude.{◌<◌};
+ghost use Rattle.pcrf_model.specs.Limits.{site_limit};
+
 use crate::requests::{Sent, request};
 use crate::tables::{ims, tables};
 use crate::taken::takes;
@@ -68,7 +71,9 @@ pub fn name(rt: &(impl AllocGlobal + Abort), text: &[u8]) -> DiameterIdentity {
 }
 
 /// A site of this number with these operator tables, which took nothing.
-pub fn site_with(rt: &(impl AllocGlobal + Abort), tables: Tables, number: u8) -> Site {
+pub fn site_with(rt: &(impl AllocGlobal + Abort), tables: Tables, number: u8) -> Site
+    requires { number < site_limit }
+{
     let names = Identity {
         host: name(rt, b"s"),
         realm: name(rt, b"r"),
@@ -78,7 +83,9 @@ pub fn site_with(rt: &(impl AllocGlobal + Abort), tables: Tables, number: u8) ->
 }
 
 /// One with the tables of three access points.
-pub fn new_site(rt: &(impl AllocGlobal + Abort), number: u8) -> Site {
+pub fn new_site(rt: &(impl AllocGlobal + Abort), number: u8) -> Site
+    requires { number < site_limit }
+{
     site_with(rt, tables(rt), number)
 }
 
