@@ -1,5 +1,5 @@
 -- What is written is not empty.
-use Rattle.std.proofs.Common.{◌≡◌, [], cc}
+use Rattle.std.proofs.Common.{◌≡◌, []}
 use Rattle.dia_codec.specs.Fields.{MessageValue}
 use Rattle.dia_codec.specs.Written.{written_header, written}
 
