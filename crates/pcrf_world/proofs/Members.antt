@@ -1,7 +1,7 @@
 -- The sites of a world stay its own: each has the world's operator tables and the names that its number gives.
-use Rattle.std.proofs.Common.{◌≡◌, ℕ, zero, suc, List, [], ◌∷◌, ◌++◌, map, slice_get, slice_set, Option, Some, None, option_map, refl, sym, ap, ◌∙◌, subst}
-use Rattle.std.proofs.lemmas.List.{map-set}
-use Rattle.std.proofs.lemmas.Option.{slice_get-map}
+use Rattle.std.proofs.Common.{◌≡◌, ◌<◌, ◌≤◌, ℕ, zero, suc, length, inl, inr, arith, List, [], ◌∷◌, ◌++◌, map, slice_get, slice_set, Option, Some, None, option_map, refl, sym, ap, ◌∙◌, subst}
+use Rattle.std.proofs.lemmas.List.{length-map, length-set, map-set}
+use Rattle.std.proofs.lemmas.Option.{slice_get-map, slice_get_cases}
 use Rattle.ranked.proofs.Plain.{none_some, some_same}
 use Rattle.pcrf_model.specs.Letters.{LetterValue}
 use Rattle.pcrf_model.specs.Operations.{Operation}
@@ -83,6 +83,17 @@ pub seen_set : (ms : List Member) (ls : List LetterValue) (i : ℕ) (n : Member)
 seen_set ms ls i n x is =
     let same : map seen_of (slice_set ms i n) ≡ slice_set (map seen_of ms) i x = map-set seen_of ms i n ∙ ap (slice_set (map seen_of ms) i) is in
     λ k. record { sites = same k; letters = ls }
+
+-- as many are seen as before
+pub as_many : (ms : List Member) (i : ℕ) (n : Member) (vs : List SiteView) → map seen_of ms ≡ vs → length (map seen_of (slice_set ms i n)) ≡ length vs
+as_many ms i n vs is = length-map (slice_set ms i n) seen_of ∙ length-set ms i n ∙ sym (length-map ms seen_of) ∙ ap length is
+
+-- where there is room for a place, one stands there
+pub stands_within : (ms : List Member) (i : ℕ) → i < length ms → (m : Member) × (slice_get ms i ≡ Some m)
+stands_within ms i low = elim (slice_get_cases ms i).1 [
+  | inl h ↦ (h.0, h.2)
+  | inr h ↦ (let past : length ms ≤ i = h.0 in absurd (omega (arith, low, past)))
+]
 
 -- the site at a place, by what is seen there
 pub site_at : (t : Tables) (ms : List Member) (i : ℕ) (m : Member) → AreMembers t ms → slice_get ms i ≡ Some m → Some m.site ≡ option_map (site_seen t) (slice_get (map seen_of ms) i)

@@ -6,8 +6,8 @@ use Rattle.pcrf_world.specs.Values.{WorldValue, setting}
 
 -- The event in the first world gets an answer that the definitions give, and leaves the second: what is seen there is what they say by what was seen
 -- before. The operator tables stay, and no site comes or goes.
-pub record HappensIn (before after : WorldValue) (event : WorldEvent) (answer : WorldAnswer) : Type 0 where
-  pub answer : Gives (setting before.tables) before.seen event answer
-  pub seen : after.seen ≡ seen_after (setting before.tables) before.seen event answer
+pub record HappensIn (before after : WorldValue) (event : WorldEvent) (given : WorldAnswer) : Type 0 where
+  pub answer : Gives (setting before.tables) before.seen event given
+  pub seen : after.seen ≡ seen_after (setting before.tables) before.seen event given
   pub tables : after.tables ≡ before.tables
   pub sites : length after.seen.sites ≡ length before.seen.sites

@@ -1,5 +1,5 @@
-use Rattle.std.proofs.Common.{rules, ◌≡◌, ℕ, ◌++◌, [], ◌∷◌, List, Some, Ok, length, refl, slice_get, ap, sym, ◌∙◌}
-use Rattle.std.proofs.lemmas.Option.{slice_get_read}
+use Rattle.std.proofs.Common.{rules, ◌≡◌, ◌<◌, ℕ, ◌++◌, [], ◌∷◌, List, Some, Ok, length, refl, slice_get, ap, sym, ◌∙◌}
+use Rattle.std.proofs.lemmas.Option.{slice_get_read, slice_get_within}
 use Rattle.pcrf_model.specs.Letters.{LetterValue}
 use Rattle.pcrf_model.specs.Worlds.{Letter, Lettered}
 use Rattle.pcrf_model.specs.Seen.{seen_after}
@@ -9,7 +9,7 @@ use Rattle.pcrf_world.specs.Values.{WorldValue, setting}
 use Rattle.pcrf_world.specs.Happening.{HappensIn}
 use Rattle.pcrf_world.specs.Letters.{letter_of_log}
 use Rattle.pcrf_world.proofs.Events.{lettered_at}
-use Rattle.pcrf_world.proofs.Members.{members_at, world_of}
+use Rattle.pcrf_world.proofs.Members.{members_at, seen_at, stands_within, world_of}
 use Rattle.pcrf_world.proofs.world.World.make_letter.Goals as goal
 use Rattle.pcrf_world.proofs.world.World.make_letter.Goals.{in-Ok-push, in-Err}
 
@@ -20,17 +20,22 @@ returns c =
     let m = c.index.result.now in
     let at : slice_get ms c.args.i ≡ Some m = slice_get_read ms (length ms) c.args.i m refl (search rules) c.index.ensures in
     let is = members_at c.self.inside.tables ms c.args.i m c.self.invariant at in
+    let low : c.args.j < length ms = search rules in
+    let peer = stands_within ms c.args.j low in
+    let there = ap (λ (x : WorldValue). slice_get x.seen.sites c.args.i) (sym c.self.view_is) ∙ seen_at ms c.args.i m at in
+    let there_peer = ap (λ (x : WorldValue). slice_get x.seen.sites c.args.j) (sym c.self.view_is) ∙ seen_at ms c.args.j peer.0 peer.1 in
+    let count : c.len-k.result ≡ length c.args.self.now.seen.letters = search rules in
     elim c.match-push.branch [
       | in-Ok-push b ↦ (
           let pushed : c.push.new.self.items ≡ ls ++ c.in-Ok.letter ∷ [] = search rules in
           let letters = pushed ∙ ap (λ (l : LetterValue). ls ++ l ∷ []) c.in-Ok.ensures in
           rw b.result-is (record {
-            answer = search rules;
+            answer = rw (there, there_peer) (ap (λ (n : ℕ). Ok (Lettered n)) count);
             seen = ap (world_of ms) letters
                 ∙ lettered_at c.self.inside.tables ms ls c.args.i m at (ap (λ (x : SiteValue). x.tables) is) c.args.j c.len-k.result
                 ∙ ap (λ (x : WorldValue). seen_after (setting x.tables) x.seen (Letter c.args.i c.args.j) (Ok (Lettered c.len-k.result))) c.self.view_is;
             tables = search rules;
             sites = search rules;
           }))
-      | in-Err b ↦ rw b.result-is (record { answer = search rules; seen = search rules; tables = search rules; sites = search rules })
+      | in-Err b ↦ rw b.result-is (record { answer = (slice_get_within c.args.self.now.seen.sites c.args.i (seen_of m) there, slice_get_within c.args.self.now.seen.sites c.args.j (seen_of peer.0) there_peer, refl); seen = search rules; tables = search rules; sites = search rules })
     ]

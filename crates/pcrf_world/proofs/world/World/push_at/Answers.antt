@@ -12,7 +12,7 @@ use Rattle.pcrf_world.specs.Values.{WorldValue, setting}
 use Rattle.pcrf_world.specs.Happening.{HappensIn}
 use Rattle.pcrf_world.specs.declared.site.Member.{Member}
 use Rattle.pcrf_world.proofs.Events.{pushed_at, pushed_gives, full_gives}
-use Rattle.pcrf_world.proofs.Members.{made_member, members_at, members_set, seen_at, set_back, world_of}
+use Rattle.pcrf_world.proofs.Members.{as_many, made_member, members_at, members_set, seen_at, set_back, world_of}
 use Rattle.pcrf_world.proofs.world.World.push_at.Goals as goal
 use Rattle.pcrf_world.proofs.world.World.push_at.Goals.{in-Ok, in-Err-ClockFull, in-Err-NoMemory}
 
@@ -60,7 +60,7 @@ returns c =
                 ∙ pushed_at c.self.inside.tables ms ls c.args.i m at is name p
                 ∙ ap (λ (x : WorldValue). seen_after (setting x.tables) x.seen (PushAt c.args.i name) (Ok (PushedOut p))) c.self.view_is;
             tables = search rules;
-            sites = search rules;
+            sites = as_many ms c.args.i (with_site m c.push.new.self) c.args.self.now.seen.sites (ap (λ (x : WorldValue). x.seen.sites) c.self.view_is);
           }))
       | in-Err-ClockFull b ↦ (
           let full : lacks_counter m.site.tables m.site.number m.site.state.holding name ≡ true = search rules in
@@ -70,7 +70,7 @@ returns c =
                 (full_gives c.self.inside.tables ms ls c.args.i m at is name full);
             seen = ap (λ (x : SiteValue). world_of (slice_set ms c.args.i (with_site m x)) ls) same ∙ ap (λ (l : List Member). world_of l ls) (set_back ms c.args.i m at) ∙ before;
             tables = search rules;
-            sites = search rules;
+            sites = as_many ms c.args.i (with_site m c.push.new.self) c.args.self.now.seen.sites (ap (λ (x : WorldValue). x.seen.sites) c.self.view_is);
           }))
       | in-Err-NoMemory b ↦ (
           let same : c.push.new.self ≡ m.site = search rules in
@@ -78,6 +78,6 @@ returns c =
             answer = (slice_get_within c.args.self.now.seen.sites c.args.i (seen_of m) there, refl);
             seen = ap (λ (x : SiteValue). world_of (slice_set ms c.args.i (with_site m x)) ls) same ∙ ap (λ (l : List Member). world_of l ls) (set_back ms c.args.i m at) ∙ before;
             tables = search rules;
-            sites = search rules;
+            sites = as_many ms c.args.i (with_site m c.push.new.self) c.args.self.now.seen.sites (ap (λ (x : WorldValue). x.seen.sites) c.self.view_is);
           }))
     ]

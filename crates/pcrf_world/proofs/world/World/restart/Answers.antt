@@ -1,4 +1,4 @@
-use Rattle.std.proofs.Common.{rules, ◌≡◌, Some, Ok, length, refl, slice_get, slice_set, ap, sym, ◌∙◌, subst}
+use Rattle.std.proofs.Common.{rules, ◌≡◌, List, Some, Ok, length, refl, slice_get, slice_set, ap, sym, ◌∙◌, subst}
 use Rattle.std.proofs.lemmas.Option.{slice_get_read}
 use Rattle.pcrf_world.specs.Members.{IsMember, seen_of, started_again}
 use Rattle.pcrf_model.specs.Worlds.{Restart, Restarted}
@@ -7,7 +7,7 @@ use Rattle.pcrf_world.specs.Values.{WorldValue, setting}
 use Rattle.pcrf_world.specs.Happening.{HappensIn}
 use Rattle.pcrf_world.specs.declared.site.Member.{Member}
 use Rattle.pcrf_world.proofs.Events.{restarted_at}
-use Rattle.pcrf_world.proofs.Members.{again_member, members_at, members_set, seen_at, world_of}
+use Rattle.pcrf_world.proofs.Members.{as_many, again_member, members_at, members_set, seen_at, set_back, world_of}
 use Rattle.pcrf_world.proofs.world.World.restart.Goals as goal
 
 pub invariant_of-self-2 : goal.invariant_of-self-2
@@ -34,5 +34,20 @@ returns c =
           ∙ restarted_at c.self.inside.tables ms ls c.args.i m at c.in-Some.epoch
           ∙ ap (λ (x : WorldValue). seen_after (setting x.tables) x.seen (Restart c.args.i) (Ok (Restarted c.in-Some.epoch))) c.self.view_is;
       tables = search rules;
-      sites = search rules;
+      sites = as_many ms c.args.i c.restart.new.self c.args.self.now.seen.sites (ap (λ (x : WorldValue). x.seen.sites) c.self.view_is);
+    }
+
+pub returns-in_default : goal.returns-in_default
+returns-in_default c =
+    let ms = c.self.inside.sites.items in
+    let ls = c.self.inside.letters.items in
+    let m = c.index_mut-member.result.now in
+    let at : slice_get ms c.args.i ≡ Some m = slice_get_read ms (length ms) c.args.i m refl (search rules) c.index_mut-member.ensures.value in
+    let there : slice_get c.args.self.now.seen.sites c.args.i ≡ Some (seen_of m) = ap (λ (x : WorldValue). slice_get x.seen.sites c.args.i) (sym c.self.view_is) ∙ seen_at ms c.args.i m at in
+    let same : c.restart.new.self ≡ m = search rules in
+    record {
+      answer = rw there (search rules);
+      seen = ap (λ (x : Member). world_of (slice_set ms c.args.i x) ls) same ∙ ap (λ (l : List Member). world_of l ls) (set_back ms c.args.i m at) ∙ ap (λ (x : WorldValue). x.seen) c.self.view_is;
+      tables = search rules;
+      sites = as_many ms c.args.i c.restart.new.self c.args.self.now.seen.sites (ap (λ (x : WorldValue). x.seen.sites) c.self.view_is);
     }

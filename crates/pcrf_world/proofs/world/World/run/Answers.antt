@@ -1,5 +1,5 @@
 use Rattle.std.proofs.Common.{rules, ◌≡◌, ◌+◌, ◌++◌, [], ◌∷◌, take, ◌∙◌, ap, sym, subst}
-use Rattle.std.proofs.lemmas.List.{take_more, map-append}
+use Rattle.std.proofs.lemmas.List.{take_all, take_more, map-append}
 use Rattle.pcrf_model.specs.Tables.{Tables}
 use Rattle.pcrf_model.specs.Worlds.{WorldTook, WorldView, start, world_view, after, after_all, Gives, HoldAlike}
 use Rattle.pcrf_model.specs.Seen.{seen_after}
@@ -40,7 +40,10 @@ loop-event-preserved c =
     }
 
 pub returns-clause-holds : goal.returns-clause-holds
-returns-clause-holds c = search rules
+returns-clause-holds c =
+    let all : take c.loop-event.event-index c.args.events.now ≡ c.args.events.now = take_all c.loop-event.event-index c.args.events.now (search rules) in
+    c.loop-event.invariant.holds
+    ∙ ap (λ es. world_view (after_all (setting c.args.tables) (start c.args.n) (events_value es) (answers_value c.loop-event.answers.items))) all
 
 pub returns-clause-same : goal.returns-clause-same
 returns-clause-same c =

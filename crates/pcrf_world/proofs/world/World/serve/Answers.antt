@@ -9,7 +9,7 @@ use Rattle.pcrf_world.specs.Members.{IsMember, with_site}
 use Rattle.pcrf_world.specs.Values.{WorldValue, setting}
 use Rattle.pcrf_world.specs.Happening.{HappensIn}
 use Rattle.pcrf_world.proofs.Events.{served_at, served_gives}
-use Rattle.pcrf_world.proofs.Members.{made_member, members_at, members_set, world_of}
+use Rattle.pcrf_world.proofs.Members.{as_many, made_member, members_at, members_set, world_of}
 use Rattle.pcrf_world.proofs.world.World.serve.Goals as goal
 
 pub invariant_of-self-2 : goal.invariant_of-self-2
@@ -41,5 +41,5 @@ returns c =
           ∙ served_at c.self.inside.tables ms ls c.args.i m at is q r
           ∙ ap (λ (x : WorldValue). seen_after (setting x.tables) x.seen (ServeAt c.args.i q) (Ok (Replied r))) c.self.view_is;
       tables = search rules;
-      sites = search rules;
+      sites = as_many ms c.args.i (with_site m c.serve.new.self) c.args.self.now.seen.sites (ap (λ (x : WorldValue). x.seen.sites) c.self.view_is);
     }

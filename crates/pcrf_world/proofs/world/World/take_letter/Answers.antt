@@ -9,7 +9,7 @@ use Rattle.pcrf_model.specs.Seen.{seen_after}
 use Rattle.pcrf_world.specs.Values.{WorldValue, setting}
 use Rattle.pcrf_world.specs.Happening.{HappensIn}
 use Rattle.pcrf_world.proofs.Events.{merged_at, merged_in_part_at}
-use Rattle.pcrf_world.proofs.Members.{members_at, members_set, seen_at, taken_member, world_of}
+use Rattle.pcrf_world.proofs.Members.{as_many, members_at, members_set, seen_at, taken_member, world_of}
 use Rattle.pcrf_world.proofs.world.World.take_letter.Goals as goal
 use Rattle.pcrf_world.proofs.world.World.take_letter.Goals.{in-Ok, in-Err}
 
@@ -52,7 +52,7 @@ returns c =
                 ∙ merged_at c.self.inside.tables ms ls c.args.j m at c.args.k l os there body
                 ∙ ap (λ (x : WorldValue). seen_after (setting x.tables) x.seen (Merge c.args.j c.args.k) (Ok Merged)) c.self.view_is;
             tables = search rules;
-            sites = search rules;
+            sites = as_many ms c.args.j (with_site m c.take_all.new.self) c.args.self.now.seen.sites (ap (λ (x : WorldValue). x.seen.sites) c.self.view_is);
           }))
       | in-Err b ↦ (
           let n = b.in-Err.taken in
@@ -64,6 +64,6 @@ returns c =
                 ∙ merged_in_part_at c.self.inside.tables ms ls c.args.j m at c.args.k l os there body n
                 ∙ ap (λ (x : WorldValue). seen_after (setting x.tables) x.seen (Merge c.args.j c.args.k) (Err (NoMemory n))) c.self.view_is;
             tables = search rules;
-            sites = search rules;
+            sites = as_many ms c.args.j (with_site m c.take_all.new.self) c.args.self.now.seen.sites (ap (λ (x : WorldValue). x.seen.sites) c.self.view_is);
           }))
     ]
