@@ -17,6 +17,9 @@ use Rattle.pcrf_facts.specs.Facts.{Fact, End, Removed, Field, fact_cmp, is_shade
 use Rattle.pcrf_facts.specs.Held.{held, joined}
 use Rattle.pcrf_facts.proofs.JoinedLaws.{joined_is, held_is}
 use Rattle.pcrf_facts.proofs.KeyLaws.{number_itself, session_key, session_rises, component_key, component_rises, flow_key, flow_rises}
+use Rattle.pcrf_model.specs.Sessions.{Af}
+use Rattle.pcrf_model.specs.Forms.{is_record}
+use Rattle.pcrf_model.proofs.RecordForms.{joined_record}
 use Rattle.record_levels.specs.SessionFacts.{session_fields, session_entry}
 use Rattle.record_levels.proofs.LevelLaws.{shaded_strict, entry_joined, nothing_keeps, level_all, IsLevel, level_keeps}
 use Rattle.record_levels.proofs.SessionLaws.{session_complete, session_told, one_field_facts}
@@ -29,7 +32,7 @@ use Rattle.af_records.specs.declared.component.ComponentParts.{ComponentParts}
 use Rattle.af_records.specs.declared.session.SessionParts.{SessionParts}
 use Rattle.af_records.specs.Singles.{one_flow_field, one_component_field, with_flow, with_component, single}
 use Rattle.af_records.specs.Joins.{filters_cmp, flow_joined, flow_valid, flows_joined, flows_valid, component_joined, component_valid, components_joined, components_valid, session_joined, session_valid, record_joined, record_valid}
-use Rattle.af_records.specs.RecordFacts.{flow_fields, flow_entry, nothing_beneath, flow_facts, flow_or_removed, component_fields, component_entry, component_facts, component_or_removed, session_facts, record_facts, fact_of}
+use Rattle.af_records.specs.RecordFacts.{flow_fields, flow_entry, nothing_beneath, flow_facts, flow_or_removed, component_fields, component_entry, component_facts, component_or_removed, session_facts, record_facts, known_facts, fact_of}
 
 -- ---- flows
 -- each field of a flow is listed
@@ -140,6 +143,10 @@ record_keeps = tombs_keep shaded_strict End session_gone session_keeps
 -- the facts of a join, in order
 pub record_joined_is : (x y : Tombed SessionParts) → record_valid x → record_valid y → ascending fact_cmp (record_facts (record_joined x y)) ≡ joined (ascending fact_cmp (record_facts x)) (ascending fact_cmp (record_facts y))
 record_joined_is x y v w = joined_is (record_facts x) (record_facts y) (record_facts (record_joined x y)) (record_keeps.both x y v w)
+
+-- so they are facts of operations where both parts' are
+pub joined_known : (x y : Tombed SessionParts) → record_valid x → record_valid y → is_record Af (known_facts x) ≡ true → is_record Af (known_facts y) ≡ true → is_record Af (known_facts (record_joined x y)) ≡ true
+joined_known x y v w p q = ap (is_record Af) (record_joined_is x y v w) ∙ joined_record Af (known_facts x) (known_facts y) p q
 
 -- a record's facts are all kept
 pub record_held : (x : Tombed SessionParts) → record_valid x → held (ascending fact_cmp (record_facts x)) ≡ ascending fact_cmp (record_facts x)

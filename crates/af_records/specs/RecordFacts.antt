@@ -1,5 +1,6 @@
 -- The facts of a record of an AF session, level by level.
 use Rattle.std.specs.Prelude.{ℕ, List, [], ◌∷◌, Option}
+use Rattle.ranked.specs.Ascending.{ascending}
 use Rattle.lattice_core.specs.declared.tombed.Tombed.{Tombed}
 use Rattle.lattice_core.specs.Tombs.{tombed_facts}
 use Rattle.pcrf_facts.specs.Places.{ComponentField, MediaType, ComponentStatus, ComponentRateUp, ComponentRateDown, FlowField, FlowDescriptions, FlowUsage, FlowStatus, FlowRateUp, FlowRateDown, OfSession, OfComponent, OfFlow}
@@ -86,3 +87,7 @@ session_facts x = level OfSession session_fields component_or_removed (session_e
 -- the facts of a record
 abbrev pub record_facts : Tombed SessionParts → List Fact
 record_facts = tombed_facts facts.End session_facts
+
+-- in order
+abbrev pub known_facts : Tombed SessionParts → List facts.Fact
+known_facts x = ascending facts.fact_cmp (record_facts x)

@@ -1,5 +1,5 @@
 //! Records of AF sessions.
-ghost use Rattle.std.specs.Prelude.{◌≡◌, [], ◌∷◌, IfOk, OnOk, OnErr, None, cond, map};
+ghost use Rattle.std.specs.Prelude.{◌≡◌, [], ◌∷◌, IfOk, OnOk, OnErr, None, cond, map, true};
 ghost use Rattle.std.proofs.Common.{unwrap_or};
 ghost use Rattle.std.specs.Option.{option_copied};
 ghost use Rattle.pcrf_values.specs.Numbers.{flow_status_number};
@@ -11,12 +11,14 @@ ghost use Rattle.pcrf_facts.specs.Places as places;
 ghost use Rattle.pcrf_facts.specs.Places.{SessionField, ComponentField, FlowField, OfSession, OfComponent, OfFlow};
 ghost use Rattle.pcrf_facts.specs.Values as values;
 ghost use Rattle.pcrf_facts.specs.Values.{Number, Text};
+ghost use Rattle.pcrf_model.specs.Forms.{is_record};
+ghost use Rattle.pcrf_model.specs.Sessions.{Af};
 ghost use Rattle.record_levels.specs.Levels.{entry_by};
 ghost use Rattle.record_levels.specs.SessionFacts.{address_value, session_says};
 ghost use Rattle.af_records.specs.FactLists.{record_listed};
 ghost use Rattle.af_records.specs.RemovedLists.{removable_of};
 ghost use Rattle.af_records.specs.Parts.{fields_at, components_of, component_at, flow_at, component_says, flow_says, held_number};
-ghost use Rattle.af_records.specs.RecordFacts.{fact_of};
+ghost use Rattle.af_records.specs.RecordFacts.{fact_of, known_facts};
 ghost use Rattle.af_records.specs.Singles.{single, with_component, with_flow};
 ghost use Rattle.lattice_core.specs.declared.tombed.Tombed.TheVariants.{Live};
 
@@ -38,21 +40,25 @@ use std::net::Ipv4Addr;
 /// The number of Flow-Usage RTCP (TS 29.214, 5.3.12).
 const RTCP: u32 = 1;
 
-/// What is known of one AF session, which contracts see as the facts that are kept, ascending.
+/// What is known of an application function's session, at least one fact, which contracts see as the facts that are kept, ascending. Each is one that an
+/// operation gives.
 #[derive(Drop)]
 pub struct AfRec {
     parts: Tombed<SessionParts>,
 }
 
 impl Model for AfRec {
-    ghost use Rattle.std.specs.Prelude.{List};
-    ghost use Rattle.ranked.specs.Ascending.{ascending};
-    ghost use Rattle.pcrf_facts.specs.Facts.{Fact, fact_cmp};
-    ghost use Rattle.af_records.specs.RecordFacts.{record_facts};
+    ghost use Rattle.std.specs.Prelude.{◌≡◌, true, List};
+    ghost use Rattle.pcrf_facts.specs.Facts.{Fact};
+    ghost use Rattle.pcrf_model.specs.Forms.{is_record};
+    ghost use Rattle.pcrf_model.specs.Sessions.{Af};
+    ghost use Rattle.af_records.specs.RecordFacts.{known_facts};
 
     ghost Value = { List Fact };
 
-    ghost view = { λ r. ascending fact_cmp (record_facts r.parts) };
+    ghost view = { λ r. known_facts r.parts };
+
+    ghost invariant = { λ r. is_record Af (known_facts r.parts) ≡ true };
 }
 
 impl Join for AfRec {
@@ -72,7 +78,7 @@ impl Join for AfRec {
 
     ghost closed = { λ xs ys _ _. held_twice (xs ++ ys) };
 
-    #[tactic(auto, using(crate::proofs::RecordLaws::record_joined_is))]
+    #[tactic(auto, using(crate::proofs::RecordLaws::record_joined_is, crate::proofs::RecordLaws::joined_known))]
     fn joined_copy(&self, other: &AfRec) -> Result<AfRec, AllocError> {
         self.parts.note_valid();
         other.parts.note_valid();
@@ -80,7 +86,7 @@ impl Join for AfRec {
         Ok(AfRec { parts })
     }
 
-    #[tactic(auto, using(crate::proofs::RecordLaws::record_joined_is))]
+    #[tactic(auto, using(crate::proofs::RecordLaws::record_joined_is, crate::proofs::RecordLaws::joined_known))]
     fn join_in(&mut self, other: AfRec) -> Result<(), (AllocError, AfRec)> {
         let theirs = other.parts;
         self.parts.note_valid();
@@ -217,36 +223,36 @@ fn flow_at(parts: &Tombed<SessionParts>, component: u32, flow: u32) -> Option<&F
     }
 }
 
+// Adds a fact; a refusal changes nothing.
+#[tactic(auto, using(crate::proofs::RecordLaws::record_put_is))]
+fn put(alloc: Global, parts: &mut Tombed<SessionParts>, fact: &AfFact) -> Result<(), AllocError>
+    ensures ok { OnOk result
+        (known_facts parts.new ≡ joined (known_facts parts.old) (fact_of fact.now ∷ [])) }
+    ensures err { OnErr result (parts.new ≡ parts.old) }
+{
+    parts.note_valid();
+    let one = single(alloc, fact)?;
+    join_into(parts, one)
+}
+
 impl AfRec {
-    /// No fact.
-    pub fn start(alloc: Global) -> AfRec
-        ensures { result ≡ [] }
-    {
-        AfRec {
-            parts: Tombed::Live(SessionParts::start(alloc)),
-        }
-    }
-
-    /// Adds a fact; a refusal changes nothing.
-    #[tactic(auto, using(crate::proofs::RecordLaws::record_put_is))]
-    pub fn put(&mut self, alloc: Global, fact: &AfFact) -> Result<(), AllocError>
-        ensures ok { OnOk result (self.new ≡ joined self.old (fact_of fact.now ∷ [])) }
-        ensures err { OnErr result (self.new ≡ self.old) }
-    {
-        self.parts.note_valid();
-        let one = single(alloc, fact)?;
-        join_into(&mut self.parts, one)
-    }
-
-    /// The record of these facts.
+    /// The record of these facts, which are those of operations, of one or of more.
     pub fn of_facts(alloc: Global, facts: &[AfFact]) -> Result<AfRec, AllocError>
+        requires { is_record Af (map fact_of facts.now) ≡ true }
         ensures { IfOk result (λ r. r ≡ held (map fact_of facts.now)) }
     {
-        let mut record = AfRec::start(alloc);
+        let mut parts = Tombed::Live(SessionParts::start(alloc));
         for fact in facts {
-            record.put(alloc, fact)?;
+            put(alloc, &mut parts, fact)?;
         }
-        Ok(record)
+        Ok(AfRec { parts })
+    }
+
+    /// Does nothing: its contract tells a proof that something is known, and that each fact is one of some operation.
+    pub fn note_known(&self)
+        ensures { is_record Af self.now ≡ true }
+    {
+        let _ = &self.parts;
     }
 
     /// All facts that are kept, in order: a record of them is this record again. Its time and memory grow with their number.

@@ -1,9 +1,8 @@
 -- Requests of the base protocol as they are read: Capabilities-Exchange-Request, Device-Watchdog-Request and Disconnect-Peer-Request
 -- (RFC 6733, 5.3.1, 5.5.1 and 5.4.1), in this project's profile.
-use Rattle.std.specs.Prelude.{ℕ, ◌==◌, if◌then◌else◌, List, [], ◌∷◌, ◌++◌, map, unwrap_or}
+use Rattle.std.specs.Prelude.{ℕ, ◌==◌, if◌then◌else◌, List, [], ◌∷◌, ◌++◌, map, unwrap_or, None}
 use Rattle.std.specs.List.{flat_map}
 use Rattle.dia_codec.specs.Fields.{AvpValue, word_at}
-use Rattle.dia_codec.specs.Limits.{longest_message}
 use Rattle.dia_codec.specs.Reading.{avps_of}
 use Rattle.pcrf_model.specs.Requests.{BaseKind, CapabilitiesExchange, DeviceWatchdog, DisconnectPeer, BaseValue}
 use Rattle.dia_base.specs.Avps.{auth_application_id, origin_host, origin_realm}
@@ -17,9 +16,9 @@ use Rattle.base_profile.specs.declared.request.BaseKind.TheVariants as kind
 
 -- ---- the tables
 
--- Auth-Application-Id (6.8), without a limit: a message has fewer AVPs than bytes
+-- Auth-Application-Id (6.8), any number of times
 abbrev pub application_row : Row
-application_row = repeated auth_application_id longest_message unsigned32
+application_row = repeated auth_application_id None unsigned32
 
 -- alone
 abbrev pub alone_rows : List Row
@@ -31,7 +30,7 @@ vendor_application = grouped alone_rows
 
 -- any number of them
 abbrev pub vendor_application_row : Row
-vendor_application_row = repeated vendor_specific_application_id longest_message vendor_application
+vendor_application_row = repeated vendor_specific_application_id None vendor_application
 
 -- what a peer advertises
 abbrev pub application_rows : List Row

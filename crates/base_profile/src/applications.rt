@@ -13,9 +13,6 @@ use dia_codec::Avp;
 use std::alloc::{AllocError, Global};
 use std::marker::Model;
 
-/// How often an AVP may stand that has no limit: more often than any message can carry it.
-const ANY: usize = 65_532;
-
 /// An Application-Id (RFC 6733, 2.4).
 #[derive(Clone, Copy, Drop, Debug, PartialEq, Eq)]
 pub struct ApplicationId {
@@ -76,7 +73,7 @@ fn read_alone(alloc: Global, avps: &[Avp]) -> Result<Vec<ApplicationId>, ReadFau
     ensures read { IfOk result (λ each. each.items ≡ applications_among (avp_views avps.now)) }
     ensures refused { IfErr result (IsFaultOf (rows_refusal alone_rows (avp_views avps.now))) }
 {
-    read_each::<ApplicationId>(alloc, avps, base_key(AUTH_APPLICATION_ID), ANY)
+    read_each::<ApplicationId>(alloc, avps, base_key(AUTH_APPLICATION_ID), None)
 }
 
 /// Adds the applications of one group.
@@ -114,7 +111,7 @@ pub(crate) fn read_applications(
 {
     let mut found = read_alone(alloc, avps)?;
     let vendors = base_key(VENDOR_SPECIFIC_APPLICATION_ID);
-    let groups = read_each::<VendorApplications>(alloc, avps, vendors, ANY)?;
+    let groups = read_each::<VendorApplications>(alloc, avps, vendors, None)?;
     add_groups(&mut found, groups.as_slice())?;
     Ok(found)
 }

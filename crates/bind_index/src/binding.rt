@@ -13,7 +13,7 @@ use crate::matching::{Match, match_of};
 use af_records::AfRec;
 use gx_records::GxRec;
 use lattice_core::Join;
-use pcrf_values::SessionId;
+use pcrf_values::{AfSid, GxSid};
 use site_join::State;
 use std::cmp::Ordering;
 use std::collections::btree_map::Iter;
@@ -22,7 +22,7 @@ use std::collections::btree_map::Iter;
 /// ones with its address, and as far as it shows them, one of its subscribers and its access point, the one whose address is
 /// the newest by counter and site, and of equal ones the one with the greatest Session-Id (TS 29.213, 5.2; what decides
 /// between several is this project's own). Its time grows with the number of gateways' sessions; it takes no memory.
-pub fn bind<'s>(state: &'s State, session: &SessionId) -> Option<&'s SessionId>
+pub fn bind<'s>(state: &'s State, session: &AfSid) -> Option<&'s GxSid>
     ensures { option_map gx (option_copied result)
         ≡ bind (view state.now.facts) (af session.now) }
 {
@@ -35,7 +35,7 @@ pub fn bind<'s>(state: &'s State, session: &SessionId) -> Option<&'s SessionId>
 
 /// The gateway's session to which an application function's session would be bound, were this its record. Its time grows with
 /// the number of gateways' sessions; it takes no memory.
-pub fn bind_by<'s>(state: &'s State, asking: &AfRec) -> Option<&'s SessionId>
+pub fn bind_by<'s>(state: &'s State, asking: &AfRec) -> Option<&'s GxSid>
     ensures { (facts : List SessionFact) (a : List ℕ)
         → HasRecord state.now.facts asking.now facts a
         → option_map gx (option_copied result) ≡ bind (view facts) (af a) }
@@ -47,7 +47,7 @@ pub fn bind_by<'s>(state: &'s State, asking: &AfRec) -> Option<&'s SessionId>
 }
 
 /// The greatest of the sessions that match.
-fn greatest_match<'s>(asking: &AfRec, sessions: Iter<'s, SessionId, GxRec>) -> Option<Match<'s>>
+fn greatest_match<'s>(asking: &AfRec, sessions: Iter<'s, GxSid, GxRec>) -> Option<Match<'s>>
     ensures { option_map match_value result
         ≡ greatest candidate_cmp (matches_among asking.now sessions.entry) }
 {
@@ -60,8 +60,8 @@ fn greatest_match<'s>(asking: &AfRec, sessions: Iter<'s, SessionId, GxRec>) -> O
     best
 }
 
-/// The greater of the best so far and another.
-fn greater<'s>(best: Option<Match<'s>>, found: Match<'s>) -> Match<'s>
+/// The greater of the best match so far and another: an application function's session is bound to the greatest.
+pub fn greater<'s>(best: Option<Match<'s>>, found: Match<'s>) -> Match<'s>
     ensures { Some (match_value result)
         ≡ best_from (option_map match_value best.entry) (one (match_value found.entry)) }
 {

@@ -6,5 +6,6 @@ mod binding;
 mod listing;
 mod matching;
 
-pub use binding::{bind, bind_by};
+pub use binding::{bind, bind_by, greater};
 pub use listing::{sessions_at, sessions_of};
+pub use matching::{Match, match_of};

@@ -7,7 +7,7 @@ ghost use Rattle.bind_index.specs.Listings.{asked_value, listed_among, sessions_
 
 use crate::matching::is_among;
 use gx_records::GxRec;
-use pcrf_values::{SessionId, Subscriber};
+use pcrf_values::{GxSid, Subscriber};
 use ranked::Ranked;
 use site_join::State;
 use std::alloc::{AllocError, Global};
@@ -28,7 +28,7 @@ pub fn sessions_at(
     alloc: Global,
     state: &State,
     address: Ipv4Addr,
-) -> Result<Vec<SessionId>, AllocError>
+) -> Result<Vec<GxSid>, AllocError>
     ensures { IfOk result (λ ids. ids.items
         ≡ sessions_at (view state.now.facts) (ipv4_octets address)) }
 {
@@ -41,7 +41,7 @@ pub fn sessions_of(
     alloc: Global,
     state: &State,
     subscriber: &Subscriber,
-) -> Result<Vec<SessionId>, AllocError>
+) -> Result<Vec<GxSid>, AllocError>
     ensures { IfOk result (λ ids. ids.items
         ≡ sessions_of (view state.now.facts) subscriber.now) }
 {
@@ -51,9 +51,9 @@ pub fn sessions_of(
 /// The live ones among these sessions that have what is asked.
 fn list(
     alloc: Global,
-    sessions: Iter<'_, SessionId, GxRec>,
+    sessions: Iter<'_, GxSid, GxRec>,
     asked: &Asked<'_>,
-) -> Result<Vec<SessionId>, AllocError>
+) -> Result<Vec<GxSid>, AllocError>
     ensures { IfOk result (λ ids. ids.items ≡ listed_among (asked_value asked.now) sessions.entry) }
 {
     let mut found = Vec::new(alloc);

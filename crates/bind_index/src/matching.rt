@@ -9,23 +9,21 @@ ghost use Rattle.bind_index.specs.Matches.{agrees_by, match_of, match_value, mat
 
 use af_records::AfRec;
 use gx_records::GxRec;
-use pcrf_values::{SessionId, Subscriber, Subscribers};
+use pcrf_values::{GxSid, Subscriber, Subscribers};
 use ranked::{Ranked, Tag};
 use std::cmp::Ordering;
 
 /// A gateway's session that matches, with the tag of its address.
 #[derive(Clone, Copy)]
-pub(crate) struct Match<'s> {
-    pub(crate) tag: Tag,
-    pub(crate) session: &'s SessionId,
+pub struct Match<'s> {
+    /// The tag of its address.
+    pub tag: Tag,
+    /// Its Session-Id.
+    pub session: &'s GxSid,
 }
 
 /// A gateway's session with this record, if it matches the application function's session with that one.
-pub(crate) fn match_of<'s>(
-    asking: &AfRec,
-    session: &'s SessionId,
-    gateway: &GxRec,
-) -> Option<Match<'s>>
+pub fn match_of<'s>(asking: &AfRec, session: &'s GxSid, gateway: &GxRec) -> Option<Match<'s>>
     ensures { option_map match_value result ≡ match_of asking.now session.now gateway.now }
 {
     if !matches(asking, gateway) {

@@ -1,5 +1,6 @@
 -- The first refusal of a row that may stand several times.
-use Rattle.std.proofs.Common.{◌≡◌, ◌<◌, ◌≤◌, ℕ, ◌+◌, nat_lt, Bool, true, false, List, [], ◌∷◌, ◌++◌, length, get_or, take, drop, refl, ap, ◌∙◌, arith, Option, Some, None}
+use Rattle.std.proofs.Common.{◌≡◌, ◌<◌, ◌≤◌, ℕ, ◌+◌, nat_lt, true, false, List, [], ◌∷◌, ◌++◌, length, get_or, take, drop, refl, ap, ◌∙◌, arith, Option, Some, None}
+use Rattle.std.specs.Prelude.{IfSome}
 use Rattle.std.proofs.lemmas.Bool.Decides.{nat_tests}
 use Rattle.dia_codec.specs.declared.message.Avp.{Avp}
 use Rattle.dia_codec.specs.declared.message.AvpKey.{AvpKey}
@@ -9,7 +10,7 @@ use Rattle.pcrf_values.specs.Results.{avp_occurs_too_many_times}
 use Rattle.pcrf_values.specs.declared.refusal.Refusal.{Refusal}
 use Rattle.dia_base.specs.declared.read_fault.ReadFault.{ReadFault}
 use Rattle.dia_base.specs.declared.read_fault.ReadFault.TheVariants.{Refused, NoMemory}
-use Rattle.dia_base.specs.Rows.{Row, values_of, same_key, row_refusal, rows_refusal, refusal_among, or_else, Accepts, AcceptsAll, RefusesWith, IsFaultOf, FaultsWith}
+use Rattle.dia_base.specs.Rows.{Row, is_too_often, values_of, same_key, row_refusal, rows_refusal, refusal_among, or_else, AcceptsAll, RefusesWith, IsFaultOf, FaultsWith}
 use Rattle.dia_base.proofs.Values.{values_around}
 
 -- neither of two is refused
@@ -44,33 +45,27 @@ refused_at key judge avps i a refusal lt is keyed none refused =
     ap (refusal_among judge) (values_around key avps i a lt is keyed) ∙ refusal_among-append judge (values_of key (avp_views (take i avps))) (a.value.items ∷ values_of key (avp_views (drop (i + 1) avps))) none ∙ ap (λ first. or_else first (refusal_among judge (values_of key (avp_views (drop (i + 1) avps))))) refused
 
 -- a row of an AVP that stands too often
-pub row_too_often : (row : Row) (avps : List AvpValue) → row.most < length (values_of row.key avps) → RefusesWith row avps avp_occurs_too_many_times
+pub row_too_often : (row : Row) (avps : List AvpValue) → is_too_often row.most (length (values_of row.key avps)) ≡ true → RefusesWith row avps avp_occurs_too_many_times
 unfolding row_refusal
-row_too_often row avps above =
-    let test : nat_lt row.most (length (values_of row.key avps)) ≡ true = grind (arith, nat_tests) in
-    rw test refl
+row_too_often row avps above = rw above refl
 
 -- a row of an AVP that stands often enough and not too often
-pub row_judged : (row : Row) (avps : List AvpValue) → row.least ≤ length (values_of row.key avps) → length (values_of row.key avps) ≤ row.most → row_refusal row avps ≡ refusal_among row.kind (values_of row.key avps)
+pub row_judged : (row : Row) (avps : List AvpValue) → row.least ≤ length (values_of row.key avps) → is_too_often row.most (length (values_of row.key avps)) ≡ false → row_refusal row avps ≡ refusal_among row.kind (values_of row.key avps)
 unfolding row_refusal
-row_judged row avps enough within =
-    let above : nat_lt row.most (length (values_of row.key avps)) ≡ false = grind (arith, nat_tests) in
+row_judged row avps enough above =
     let below : nat_lt (length (values_of row.key avps)) row.least ≡ false = grind (arith, nat_tests) in
     rw (above, below) refl
 
 -- a row that stands often enough and not too often is refused as the first of its values that is
-pub row_refused_at : (row : Row) (avps : List Avp) (i : ℕ) (a : Avp) (fault : ReadFault) → row.least ≤ length (values_of row.key (avp_views avps)) → length (values_of row.key (avp_views avps)) ≤ row.most → i < length avps → a ≡ get_or avps i a → same_key (key_of (avp_view a)) row.key ≡ true → refusal_among row.kind (values_of row.key (avp_views (take i avps))) ≡ None → IsFaultOf (row.kind a.value.items) fault → FaultsWith row (avp_views avps) fault
+pub row_refused_at : (row : Row) (avps : List Avp) (i : ℕ) (a : Avp) (fault : ReadFault) → row.least ≤ length (values_of row.key (avp_views avps)) → is_too_often row.most (length (values_of row.key (avp_views avps))) ≡ false → i < length avps → a ≡ get_or avps i a → same_key (key_of (avp_view a)) row.key ≡ true → refusal_among row.kind (values_of row.key (avp_views (take i avps))) ≡ None → IsFaultOf (row.kind a.value.items) fault → FaultsWith row (avp_views avps) fault
 row_refused_at row avps i a NoMemory enough within lt is keyed none refused = tt
 row_refused_at row avps i a (Refused refusal) enough within lt is keyed none refused =
     row_judged row (avp_views avps) enough within ∙ refused_at row.key row.kind avps i a refusal lt is keyed none refused
 
--- a row that isn't refused stands not too often
-pub granted_within : (row : Row) (avps : List AvpValue) → Accepts row avps → length (values_of row.key avps) ≤ row.most
-unfolding row_refusal
-granted_within row avps granted = elim (nat_lt row.most (length (values_of row.key avps))) as (λ (above : Bool). nat_lt row.most (length (values_of row.key avps)) ≡ above → length (values_of row.key avps) ≤ row.most) [
-  | true ↦ λ above. absurd (let too : Some avp_occurs_too_many_times ≡ None = (rw above at granted) in cc)
-  | false ↦ λ above. grind (arith, nat_tests)
-] refl
+-- what stands not too often is within the limit, if there is one
+pub within_limit : (most : Option ℕ) (count : ℕ) → is_too_often most count ≡ false → IfSome most (λ (n : ℕ). count ≤ n)
+within_limit None count h = tt
+within_limit (Some most) count h = grind (arith, nat_tests)
 
 -- ---- two tables, one after the other
 

@@ -1,6 +1,6 @@
 -- What a command's grammar asks of a message's AVPs (RFC 6733, 3.2), as rows of a table, and the first refusal of
 -- what breaks it (7.1.5).
-use Rattle.std.specs.Prelude.{◌≡◌, ℕ, Bool, ◌&&◌, ◌==◌, nat_lt, nat_le, if◌then◌else◌, List, [], ◌∷◌, length, find, Option, Some, None, option_map, option_to_list, unwrap_or, ⊤}
+use Rattle.std.specs.Prelude.{◌≡◌, ℕ, Bool, false, ◌&&◌, ◌==◌, nat_lt, nat_le, if◌then◌else◌, List, [], ◌∷◌, length, find, Option, Some, None, option_map, option_to_list, unwrap_or, ⊤}
 use Rattle.std.specs.List.{filter_map}
 use Rattle.std.specs.Option.{option_eq}
 use Rattle.pcrf_values.specs.Results.{invalid_avp_value, missing_avp, avp_occurs_too_many_times, invalid_avp_length}
@@ -71,29 +71,35 @@ refusal_among judge (x ∷ xs) = or_else (judge x) (refusal_among judge xs)
 abbrev pub Kind : Type 0
 Kind = List ℕ → Option Refusal
 
--- A row: an AVP, how often it stands at least and at most, and what its value has to be.
+-- A row: an AVP, how often it stands at least and at most (any number of times, where no most is given), and what its value
+-- has to be.
 pub record Row : Type 0 where
   pub key : AvpKey
   pub least : ℕ
-  pub most : ℕ
+  pub most : Option ℕ
   pub kind : Kind
 
 -- the row of an AVP that stands exactly once
 abbrev pub required : AvpKey → Kind → Row
-required key kind = record { key = key; least = 1; most = 1; kind = kind }
+required key kind = record { key = key; least = 1; most = Some 1; kind = kind }
 
 -- the row of an AVP that may stand once
 abbrev pub optional : AvpKey → Kind → Row
-optional key kind = record { key = key; least = 0; most = 1; kind = kind }
+optional key kind = record { key = key; least = 0; most = Some 1; kind = kind }
 
--- the row of an AVP that may stand so many times
-abbrev pub repeated : AvpKey → ℕ → Kind → Row
+-- the row of an AVP that may stand so many times, or any number of times
+abbrev pub repeated : AvpKey → Option ℕ → Kind → Row
 repeated key most kind = record { key = key; least = 0; most = most; kind = kind }
+
+-- it stands more often than that, where there is a limit
+abbrev pub is_too_often : Option ℕ → ℕ → Bool
+is_too_often None count = false
+is_too_often (Some most) count = nat_lt most count
 
 -- The first refusal of one row: the AVP stands too often, or too seldom, or one of its values is refused.
 unfoldable pub row_refusal : Row → List AvpValue → Option Refusal
 row_refusal row avps =
-    if nat_lt row.most (length (values_of row.key avps)) then Some avp_occurs_too_many_times else
+    if is_too_often row.most (length (values_of row.key avps)) then Some avp_occurs_too_many_times else
     if nat_lt (length (values_of row.key avps)) row.least then Some missing_avp else
     refusal_among row.kind (values_of row.key avps)
 

@@ -23,7 +23,7 @@ subscription =
 
 -- the row of the Subscription-Ids of a request
 abbrev pub subscription_row : Row
-subscription_row = repeated subscription_id subscribers_limit subscription
+subscription_row = repeated subscription_id (Some subscribers_limit) subscription
 
 -- the type and the data in a group
 abbrev pub subscriber_in : Option (List AvpValue) → ℕ × List ℕ

@@ -1,8 +1,8 @@
 //! Groups of AVPs, and AVPs that may stand several times in a request, each read by itself.
-ghost use Rattle.std.specs.Prelude.{◌≡◌, ℕ, List, None, Some, ◌≤◌, length, map, OnOk, IfOk, IfErr};
+ghost use Rattle.std.specs.Prelude.{◌≡◌, ℕ, List, None, Some, ◌≤◌, length, map, OnOk, IfOk, IfErr, IfSome};
 ghost use Rattle.dia_codec.specs.Reading.{avps_of};
 ghost use Rattle.dia_codec.specs.Spelling.{avp_views};
-ghost use Rattle.dia_base.specs.Rows.{Kind, values_of, repeated, Accepts, FaultsWith, IsFaultOf, IsFaultOfAnyGroup};
+ghost use Rattle.dia_base.specs.Rows.{Kind, is_too_often, values_of, repeated, Accepts, FaultsWith, IsFaultOf, IsFaultOfAnyGroup};
 
 use crate::codes::results::{AVP_OCCURS_TOO_MANY_TIMES, INVALID_AVP_LENGTH};
 use crate::read_fault::ReadFault;
@@ -37,21 +37,31 @@ pub trait FromValue: Sized + Drop {
         ensures refused { IfErr result (IsFaultOf (kind value.now)) };
 }
 
-/// Reads the AVPs with a key, which may stand `most` times, in the order in which they stand. Each is judged wholly before
-/// the next.
+/// They stand more often than a row allows, where it has a limit.
+fn is_too_often(count: usize, most: Option<usize>) -> bool
+    ensures { result ≡ is_too_often most count }
+{
+    match most {
+        Some(most) => count > most,
+        None => false,
+    }
+}
+
+/// Reads the AVPs with a key, which may stand `most` times, or any number of times, in the order in which they stand. Each is
+/// judged wholly before the next.
 pub fn read_each<V: FromValue>(
     alloc: Global,
     avps: &[Avp],
     key: AvpKey,
-    most: usize,
+    most: Option<usize>,
 ) -> Result<Vec<V>, ReadFault>
     ensures accepted { OnOk result (Accepts (repeated key most V.kind) (avp_views avps.now)) }
     ensures read { IfOk result (λ each.
         each.items ≡ map V.of_value (values_of key (avp_views avps.now))) }
-    ensures within { IfOk result (λ each. length each.items ≤ most) }
+    ensures within { IfOk result (λ each. IfSome most (λ n. length each.items ≤ n)) }
     ensures refused { IfErr result (FaultsWith (repeated key most V.kind) (avp_views avps.now)) }
 {
-    if count_of(avps, key) > most {
+    if is_too_often(count_of(avps, key), most) {
         return Err(ReadFault::Refused(Refusal::base(AVP_OCCURS_TOO_MANY_TIMES)));
     }
     let mut each = Vec::new(alloc);

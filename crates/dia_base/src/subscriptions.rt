@@ -64,7 +64,7 @@ pub fn read_subscribers(alloc: Global, avps: &[Avp]) -> Result<Option<Subscriber
     ensures refused { IfErr result (FaultsWith subscription_row (avp_views avps.now)) }
 {
     let key = base_key(SUBSCRIPTION_ID);
-    let given = read_each::<Subscriber>(alloc, avps, key, MOST)?;
+    let given = read_each::<Subscriber>(alloc, avps, key, Some(MOST))?;
     let set = Subscribers::of(alloc, given)?;
     Ok(set)
 }

@@ -16,7 +16,7 @@ use dia_base::{
     read_subscribers, required_number, required_number_within, required_text,
 };
 use dia_codec::{Avp, Message};
-use pcrf_values::{Apn, RequestKind, SessionId, Subscribers};
+use pcrf_values::{Apn, GxSid, RequestKind, Subscribers};
 use std::alloc::Global;
 use std::net::Ipv4Addr;
 
@@ -24,7 +24,7 @@ use std::net::Ipv4Addr;
 #[derive(Drop, PartialEq, Eq)]
 pub struct Ccr {
     /// Session-Id, which names the gateway's session.
-    pub session: SessionId,
+    pub session: GxSid,
     /// Origin-Host and Origin-Realm: the gateway.
     pub origin: Origin,
     /// CC-Request-Type.
@@ -92,7 +92,7 @@ pub fn read_ccr(alloc: Global, message: &Message) -> Result<Ccr, ReadFault>
         (IsFaultOf (ccr_table_refusal (avp_views message.now.avps.items))) }
 {
     let avps = message.avps.as_slice();
-    let session = required_text(alloc, avps, base_key(SESSION_ID))?;
+    let session = GxSid::of(required_text(alloc, avps, base_key(SESSION_ID))?);
     let origin = read_origin(alloc, avps)?;
     let kind = read_kind(avps)?;
     let number = required_number(avps, base_key(CC_REQUEST_NUMBER))?;

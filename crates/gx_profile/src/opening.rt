@@ -8,7 +8,7 @@ ghost use Rattle.gx_profile.specs.Openings.{opening_avps};
 
 use dia_base::codes::{GX, avps};
 use dia_base::{AvpWriter, Identity, put_origin};
-use pcrf_values::{DiameterIdentity, SessionId};
+use pcrf_values::{DiameterIdentity, GxSid};
 use std::alloc::AllocError;
 
 /// A name of a host or a realm has 255 bytes at most. It does nothing: its contract tells a proof what the type keeps.
@@ -21,7 +21,7 @@ pub(crate) fn note_name(name: &DiameterIdentity)
 /// Writes Session-Id, Auth-Application-Id, Origin-Host and Origin-Realm.
 pub(crate) fn put_opening(
     out: &mut AvpWriter,
-    session: &SessionId,
+    session: &GxSid,
     identity: &Identity,
 ) -> Result<(), AllocError>
     ensures added { OnOk result (out.new ≡ out.old ++ opening_avps session.now identity.now) }

@@ -12,14 +12,14 @@ use crate::rules::put_delta;
 use dia_base::codes::GX;
 use dia_base::{AvpWriter, Identity};
 use dia_codec::{Flags, Header, Message};
-use pcrf_values::{DiameterIdentity, SessionId};
+use pcrf_values::{DiameterIdentity, GxSid};
 use std::alloc::{AllocError, Global};
 
 /// A push: what the gateway of a session is told by a re-authorisation request (TS 29.212, 4.5.2 and 5.6.4).
 #[derive(Drop, PartialEq, Eq)]
 pub struct PushOut {
     /// The gateway's session.
-    pub session: SessionId,
+    pub session: GxSid,
     /// The Origin-Host of the session's requests, to which the push goes.
     pub host: DiameterIdentity,
     /// Its Origin-Realm.

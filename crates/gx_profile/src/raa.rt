@@ -11,7 +11,7 @@ use dia_base::{
     FromValue, ReadFault, base_key, optional_number, read_avps, read_each, required_text,
 };
 use dia_codec::{Avp, Message};
-use pcrf_values::SessionId;
+use pcrf_values::GxSid;
 use std::alloc::Global;
 use std::marker::Model;
 
@@ -19,7 +19,7 @@ use std::marker::Model;
 #[derive(Drop, PartialEq, Eq)]
 pub struct Raa {
     /// Session-Id, which names the gateway's session.
-    pub session: SessionId,
+    pub session: GxSid,
     /// Result-Code, where it was given.
     pub result: Option<u32>,
     /// The Experimental-Result-Code, where an Experimental-Result with one was given.
@@ -62,7 +62,12 @@ fn read_experimental(alloc: Global, avps: &[Avp]) -> Result<Option<u32>, ReadFau
     ensures code { IfOk result (λ code. code ≡ experimental_at (avp_views avps.now)) }
     ensures refused { IfErr result (FaultsWith experimental_row (avp_views avps.now)) }
 {
-    let given = read_each::<ExperimentalResult>(alloc, avps, base_key(EXPERIMENTAL_RESULT), 1)?;
+    let given = read_each::<ExperimentalResult>(
+        alloc,
+        avps,
+        base_key(EXPERIMENTAL_RESULT),
+        Some(1),
+    )?;
     let Some(first) = given.first() else {
         return Ok(None);
     };
@@ -77,7 +82,7 @@ pub fn read_raa(alloc: Global, message: &Message) -> Result<Raa, ReadFault>
         (IsFaultOf (raa_table_refusal (avp_views message.now.avps.items))) }
 {
     let avps = message.avps.as_slice();
-    let session = required_text(alloc, avps, base_key(SESSION_ID))?;
+    let session = GxSid::of(required_text(alloc, avps, base_key(SESSION_ID))?);
     let result = optional_number(avps, base_key(RESULT_CODE))?;
     let experimental = read_experimental(alloc, avps)?;
     Ok(Raa {

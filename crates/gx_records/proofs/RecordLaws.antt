@@ -15,6 +15,9 @@ use Rattle.pcrf_facts.specs.Facts as facts
 use Rattle.pcrf_facts.specs.Held.{held, joined}
 use Rattle.pcrf_facts.proofs.JoinedLaws.{joined_is, held_is}
 use Rattle.pcrf_facts.proofs.KeyLaws.{key_by, key_rises}
+use Rattle.pcrf_model.specs.Sessions.{Gx}
+use Rattle.pcrf_model.specs.Forms.{is_record}
+use Rattle.pcrf_model.proofs.RecordForms.{joined_record}
 use Rattle.record_levels.specs.SessionFacts.{session_fields, session_entry}
 use Rattle.record_levels.specs.declared.session.SessionValue.TheVariants as session_value
 use Rattle.record_levels.proofs.LevelLaws.{shaded_strict, register_keeps, level_all, IsLevel, level_keeps}
@@ -22,7 +25,7 @@ use Rattle.record_levels.proofs.SessionLaws.{session_complete, session_told}
 use Rattle.gx_records.specs.declared.fact.GxFact.{GxFact}
 use Rattle.gx_records.specs.declared.fact.GxFact.TheVariants.{End, Field, Told}
 use Rattle.gx_records.specs.declared.parts.GxParts.{GxParts}
-use Rattle.gx_records.specs.GxFacts.{told_value, fact_of, told_at, parts_facts, record_facts, single}
+use Rattle.gx_records.specs.GxFacts.{told_value, fact_of, told_at, parts_facts, record_facts, known_facts, single}
 use Rattle.gx_records.specs.GxJoins.{told_cmp, Register, told_joined, told_valid, parts_joined, parts_valid, record_joined, record_valid}
 
 -- ---- the keys within a Gx session: its fields, and the names of rules
@@ -89,6 +92,10 @@ record_keeps = tombs_keep shaded_strict facts.End parts_gone parts_keep
 -- the facts of a join, in order
 pub record_joined_is : (x y : Tombed GxParts) → record_valid x → record_valid y → ascending fact_cmp (record_facts (record_joined x y)) ≡ joined (ascending fact_cmp (record_facts x)) (ascending fact_cmp (record_facts y))
 record_joined_is x y v w = joined_is (record_facts x) (record_facts y) (record_facts (record_joined x y)) (record_keeps.both x y v w)
+
+-- so they are facts of operations where both parts' are
+pub joined_known : (x y : Tombed GxParts) → record_valid x → record_valid y → is_record Gx (known_facts x) ≡ true → is_record Gx (known_facts y) ≡ true → is_record Gx (known_facts (record_joined x y)) ≡ true
+joined_known x y v w p q = ap (is_record Gx) (record_joined_is x y v w) ∙ joined_record Gx (known_facts x) (known_facts y) p q
 
 -- a record's facts are all kept
 pub record_held : (x : Tombed GxParts) → record_valid x → held (ascending fact_cmp (record_facts x)) ≡ ascending fact_cmp (record_facts x)

@@ -1,5 +1,6 @@
 -- The facts of a record of a Gx session.
 use Rattle.std.specs.Prelude.{ℕ, List, [], ◌∷◌, Option, Some, None}
+use Rattle.ranked.specs.Ascending.{ascending}
 use Rattle.ranked.specs.declared.tag.Tag.{Tag}
 use Rattle.pcrf_values.specs.RuleValues.{RuleValue}
 use Rattle.lattice_core.specs.declared.tombed.Tombed.{Tombed}
@@ -40,6 +41,10 @@ parts_facts x = level OfSession session_fields told_at (session_entry x.fields) 
 -- the facts of a record
 abbrev pub record_facts : Tombed GxParts → List facts.Fact
 record_facts = tombed_facts facts.End parts_facts
+
+-- in order
+abbrev pub known_facts : Tombed GxParts → List facts.Fact
+known_facts x = ascending facts.fact_cmp (record_facts x)
 
 -- the fields of a record that isn't ended
 abbrev pub fields_at : Tombed GxParts → Option (SessionFields ℕ)

@@ -1,18 +1,20 @@
 //! Records of Gx sessions.
-ghost use Rattle.std.specs.Prelude.{◌≡◌, ℕ, [], ◌∷◌, IfOk, OnOk, OnErr, None, map};
+ghost use Rattle.std.specs.Prelude.{◌≡◌, ℕ, [], ◌∷◌, IfOk, OnOk, OnErr, None, map, true};
 ghost use Rattle.std.specs.List.{filter_map};
 ghost use Rattle.std.specs.Option.{option_copied};
 ghost use Rattle.pcrf_facts.specs.Held.{held, joined, is_ended, shown};
 ghost use Rattle.pcrf_facts.specs.Live.{gx_is_live, home};
 ghost use Rattle.pcrf_facts.specs.Places as places;
 ghost use Rattle.pcrf_facts.specs.Places.{SessionField, ComponentField, FlowField, OfSession, OfComponent, OfFlow};
+ghost use Rattle.pcrf_model.specs.Forms.{is_record};
+ghost use Rattle.pcrf_model.specs.Sessions.{Gx};
 ghost use Rattle.pcrf_facts.specs.ToldWords.{told_entries, told};
 ghost use Rattle.pcrf_facts.specs.Values as values;
 ghost use Rattle.pcrf_facts.specs.Values.{Number, Text};
 ghost use Rattle.record_levels.specs.Levels.{entry_by};
 ghost use Rattle.record_levels.specs.SessionFacts.{address_value, session_says};
 ghost use Rattle.gx_records.specs.FactLists.{record_listed};
-ghost use Rattle.gx_records.specs.GxFacts.{fact_of, fields_at, rule_under, single, told_held};
+ghost use Rattle.gx_records.specs.GxFacts.{fact_of, fields_at, known_facts, rule_under, single, told_held};
 
 use crate::fact::{GxFact, OpenRequestType};
 use crate::listing::facts_of;
@@ -25,21 +27,25 @@ use std::alloc::{AllocError, Global};
 use std::marker::Model;
 use std::net::Ipv4Addr;
 
-/// What is known of one Gx session, which contracts see as the facts that are kept, ascending.
+/// What is known of a gateway's session, at least one fact, which contracts see as the facts that are kept, ascending. Each is one that an
+/// operation gives.
 #[derive(Drop)]
 pub struct GxRec {
     parts: Tombed<GxParts>,
 }
 
 impl Model for GxRec {
-    ghost use Rattle.std.specs.Prelude.{List};
-    ghost use Rattle.ranked.specs.Ascending.{ascending};
-    ghost use Rattle.pcrf_facts.specs.Facts.{Fact, fact_cmp};
-    ghost use Rattle.gx_records.specs.GxFacts.{record_facts};
+    ghost use Rattle.std.specs.Prelude.{◌≡◌, true, List};
+    ghost use Rattle.pcrf_facts.specs.Facts.{Fact};
+    ghost use Rattle.pcrf_model.specs.Forms.{is_record};
+    ghost use Rattle.pcrf_model.specs.Sessions.{Gx};
+    ghost use Rattle.gx_records.specs.GxFacts.{known_facts};
 
     ghost Value = { List Fact };
 
-    ghost view = { λ r. ascending fact_cmp (record_facts r.parts) };
+    ghost view = { λ r. known_facts r.parts };
+
+    ghost invariant = { λ r. is_record Gx (known_facts r.parts) ≡ true };
 }
 
 impl Join for GxRec {
@@ -59,7 +65,7 @@ impl Join for GxRec {
 
     ghost closed = { λ xs ys _ _. held_twice (xs ++ ys) };
 
-    #[tactic(auto, using(crate::proofs::RecordLaws::record_joined_is))]
+    #[tactic(auto, using(crate::proofs::RecordLaws::record_joined_is, crate::proofs::RecordLaws::joined_known))]
     fn joined_copy(&self, other: &GxRec) -> Result<GxRec, AllocError> {
         self.parts.note_valid();
         other.parts.note_valid();
@@ -67,7 +73,7 @@ impl Join for GxRec {
         Ok(GxRec { parts })
     }
 
-    #[tactic(auto, using(crate::proofs::RecordLaws::record_joined_is))]
+    #[tactic(auto, using(crate::proofs::RecordLaws::record_joined_is, crate::proofs::RecordLaws::joined_known))]
     fn join_in(&mut self, other: GxRec) -> Result<(), (AllocError, GxRec)> {
         let theirs = other.parts;
         self.parts.note_valid();
@@ -123,36 +129,36 @@ fn single(alloc: Global, fact: &GxFact) -> Result<Tombed<GxParts>, AllocError>
     }
 }
 
+// Adds a fact; a refusal changes nothing.
+#[tactic(auto, using(crate::proofs::RecordLaws::record_put_is))]
+fn put(alloc: Global, parts: &mut Tombed<GxParts>, fact: &GxFact) -> Result<(), AllocError>
+    ensures ok { OnOk result
+        (known_facts parts.new ≡ joined (known_facts parts.old) (fact_of fact.now ∷ [])) }
+    ensures err { OnErr result (parts.new ≡ parts.old) }
+{
+    parts.note_valid();
+    let one = single(alloc, fact)?;
+    join_into(parts, one)
+}
+
 impl GxRec {
-    /// No fact.
-    pub fn start(alloc: Global) -> GxRec
-        ensures { result ≡ [] }
-    {
-        GxRec {
-            parts: Tombed::Live(GxParts::start(alloc)),
-        }
-    }
-
-    /// Adds a fact; a refusal changes nothing.
-    #[tactic(auto, using(crate::proofs::RecordLaws::record_put_is))]
-    pub fn put(&mut self, alloc: Global, fact: &GxFact) -> Result<(), AllocError>
-        ensures ok { OnOk result (self.new ≡ joined self.old (fact_of fact.now ∷ [])) }
-        ensures err { OnErr result (self.new ≡ self.old) }
-    {
-        self.parts.note_valid();
-        let one = single(alloc, fact)?;
-        join_into(&mut self.parts, one)
-    }
-
-    /// The record of these facts.
+    /// The record of these facts, which are those of operations, of one or of more.
     pub fn of_facts(alloc: Global, facts: &[GxFact]) -> Result<GxRec, AllocError>
+        requires { is_record Gx (map fact_of facts.now) ≡ true }
         ensures { IfOk result (λ r. r ≡ held (map fact_of facts.now)) }
     {
-        let mut record = GxRec::start(alloc);
+        let mut parts = Tombed::Live(GxParts::start(alloc));
         for fact in facts {
-            record.put(alloc, fact)?;
+            put(alloc, &mut parts, fact)?;
         }
-        Ok(record)
+        Ok(GxRec { parts })
+    }
+
+    /// Does nothing: its contract tells a proof that something is known, and that each fact is one of some operation.
+    pub fn note_known(&self)
+        ensures { is_record Gx self.now ≡ true }
+    {
+        let _ = &self.parts;
     }
 
     /// All facts that are kept, in order: a record of them is this record again. Its time and memory grow with their number.

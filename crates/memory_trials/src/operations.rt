@@ -2,7 +2,7 @@
 use crate::fingerprint::{EMPTY, Fingerprint, fingerprint_of, mixed};
 use af_records::{AfFact, AfRec, ComponentValue, FlowValue};
 use gx_records::{GxFact, SessionValue};
-use pcrf_values::{DiameterIdentity, FilterText, Filters, SessionId};
+use pcrf_values::{AfSid, DiameterIdentity, FilterText, Filters, GxSid, SessionId};
 use ranked::Tag;
 use site_join::{Operation, SessionFacts, State};
 use std::alloc::{AllocError, Global};
@@ -38,7 +38,7 @@ fn host_facts(alloc: Global, at: Tag, host: &[u8]) -> Result<Vec<GxFact>, AllocE
 /// An update of a gateway's session.
 pub fn update(alloc: Global, id: &[u8], counter: u8, host: &[u8]) -> Result<Operation, AllocError> {
     let facts = host_facts(alloc, tag(counter), host)?;
-    let id = SessionId::read(alloc, id)?.ok_or(AllocError)?;
+    let id = GxSid::of(SessionId::read(alloc, id)?.ok_or(AllocError)?);
     let facts = SessionFacts::Gx(id, facts);
     Operation::of(u64::from(counter), 2, 0, facts).ok_or(AllocError)
 }
@@ -64,7 +64,7 @@ fn call_facts(alloc: Global, at: Tag, said: Said<'_>) -> Result<Vec<AfFact>, All
 /// A call.
 pub fn call(alloc: Global, counter: u8, said: Said<'_>) -> Result<Operation, AllocError> {
     let facts = call_facts(alloc, tag(counter), said)?;
-    let id = SessionId::read(alloc, CALL)?.ok_or(AllocError)?;
+    let id = AfSid::of(SessionId::read(alloc, CALL)?.ok_or(AllocError)?);
     let facts = SessionFacts::Af(id, facts);
     Operation::of(u64::from(counter), 2, 0, facts).ok_or(AllocError)
 }
@@ -95,7 +95,7 @@ fn gateways_of(state: &State) -> u64 {
     let mut print = mixed(EMPTY, state.clock());
     for (id, record) in state.all_gx() {
         let host = record.host().map_or(0, |host| host.1.fingerprint());
-        print = mixed(print, mixed(id.fingerprint(), host));
+        print = mixed(print, mixed(fingerprint_of(id.as_slice()), host));
     }
     print
 }
@@ -117,7 +117,7 @@ impl Fingerprint for State {
     fn fingerprint(&self) -> u64 {
         let mut print = gateways_of(self);
         for (id, record) in self.all_af() {
-            print = mixed(print, mixed(id.fingerprint(), call_of(record)));
+            print = mixed(print, mixed(fingerprint_of(id.as_slice()), call_of(record)));
         }
         print
     }

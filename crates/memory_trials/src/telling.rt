@@ -5,6 +5,7 @@ use crate::values::Made;
 use gx_records::{GxFact, GxRec};
 use pcrf_values::{Rule, RuleName};
 use ranked::Tag;
+use site_join::are_gx_facts;
 use std::alloc::{AllocError, Global};
 
 /// A record of a gateway's session that was told a rule.
@@ -29,9 +30,11 @@ impl Call for ListTold {
     type Case = ();
 
     fn operands(alloc: Global, _case: ()) -> Result<ListTold, AllocError> {
-        let fact = fact(alloc)?;
-        let mut record = GxRec::start(alloc);
-        record.put(alloc, &fact)?;
+        let facts = [fact(alloc)?];
+        if !are_gx_facts(&facts) {
+            return Err(AllocError);
+        }
+        let record = GxRec::of_facts(alloc, &facts)?;
         Ok(ListTold { alloc, record })
     }
 

@@ -7,7 +7,7 @@ ghost use Rattle.operator_view.specs.ByRecord.{bindings_among};
 
 use af_records::AfRec;
 use bind_index::bind;
-use pcrf_values::SessionId;
+use pcrf_values::{AfSid, GxSid};
 use ranked::Ranked;
 use site_join::State;
 use std::alloc::{AllocError, Global};
@@ -16,10 +16,7 @@ use std::collections::btree_map::Iter;
 /// The live sessions of application functions in the order of their Session-Ids, each with the Session-Id of the gateway's
 /// session to which it is bound, or none (TS 29.213, 5.2). Its time grows with the number of application functions' sessions
 /// times that of gateways' sessions.
-pub fn bindings(
-    alloc: Global,
-    state: &State,
-) -> Result<Vec<(SessionId, Option<SessionId>)>, AllocError>
+pub fn bindings(alloc: Global, state: &State) -> Result<Vec<(AfSid, Option<GxSid>)>, AllocError>
     ensures { IfOk result (λ found. found.items ≡ bindings_of (view state.now.facts)) }
 {
     bindings_among(alloc, state, state.all_af())
@@ -29,8 +26,8 @@ pub fn bindings(
 fn bindings_among(
     alloc: Global,
     state: &State,
-    sessions: Iter<'_, SessionId, AfRec>,
-) -> Result<Vec<(SessionId, Option<SessionId>)>, AllocError>
+    sessions: Iter<'_, AfSid, AfRec>,
+) -> Result<Vec<(AfSid, Option<GxSid>)>, AllocError>
     ensures { IfOk result (λ found. found.items
         ≡ bindings_among (view state.now.facts) sessions.entry) }
 {
@@ -45,10 +42,7 @@ fn bindings_among(
 }
 
 /// The Session-Id of the gateway's session to which one is bound.
-pub(crate) fn binding_of(
-    state: &State,
-    session: &SessionId,
-) -> Result<Option<SessionId>, AllocError>
+pub(crate) fn binding_of(state: &State, session: &AfSid) -> Result<Option<GxSid>, AllocError>
     ensures { IfOk result (λ id. id ≡ binding_id (view state.now.facts) (af session.now)) }
 {
     match bind(state, session) {

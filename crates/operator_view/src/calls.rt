@@ -11,7 +11,7 @@ use crate::binding::binding_of;
 use crate::seen::{AfField, AfSeen, SessionSeen};
 use af_records::{AfFact, AfRec};
 use lattice_core::{FactSet, Join};
-use pcrf_values::SessionId;
+use pcrf_values::AfSid;
 use ranked::Ranked;
 use site_join::State;
 use std::alloc::{AllocError, Global};
@@ -22,8 +22,8 @@ use std::collections::btree_map::Iter;
 pub(crate) fn calls(
     alloc: Global,
     state: &State,
-    sessions: Iter<'_, SessionId, AfRec>,
-) -> Result<Vec<(SessionId, SessionSeen<AfSeen>)>, AllocError>
+    sessions: Iter<'_, AfSid, AfRec>,
+) -> Result<Vec<(AfSid, SessionSeen<AfSeen>)>, AllocError>
     ensures { IfOk result (λ seen. map af_pair seen.items
         ≡ af_among (view state.now.facts) sessions.entry) }
 {
@@ -41,7 +41,7 @@ pub(crate) fn calls(
 fn af_seen(
     alloc: Global,
     state: &State,
-    session: &SessionId,
+    session: &AfSid,
     known: &AfRec,
 ) -> Result<SessionSeen<AfSeen>, AllocError>
     ensures { IfOk result (λ seen. af_session seen
@@ -61,7 +61,7 @@ fn af_seen(
 fn af_shown(
     alloc: Global,
     state: &State,
-    session: &SessionId,
+    session: &AfSid,
     known: &AfRec,
 ) -> Result<AfSeen, AllocError>
     ensures { IfOk result (λ seen. af_shown seen

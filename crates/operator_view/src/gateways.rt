@@ -12,7 +12,7 @@ use gx_records::GxRec;
 use lattice_core::FactSet;
 use op_tables::Tables;
 use pcc_rules::derive;
-use pcrf_values::SessionId;
+use pcrf_values::GxSid;
 use ranked::Ranked;
 use site_join::State;
 use std::alloc::{AllocError, Global};
@@ -24,8 +24,8 @@ pub(crate) fn gateways(
     alloc: Global,
     tables: &Tables,
     state: &State,
-    sessions: Iter<'_, SessionId, GxRec>,
-) -> Result<Vec<(SessionId, SessionSeen<GxSeen>)>, AllocError>
+    sessions: Iter<'_, GxSid, GxRec>,
+) -> Result<Vec<(GxSid, SessionSeen<GxSeen>)>, AllocError>
     ensures { IfOk result (λ seen. map gx_pair seen.items
         ≡ gx_among tables.now (view state.now.facts) sessions.entry) }
 {
@@ -44,7 +44,7 @@ fn gx_seen(
     alloc: Global,
     tables: &Tables,
     state: &State,
-    session: &SessionId,
+    session: &GxSid,
     known: &GxRec,
 ) -> Result<SessionSeen<GxSeen>, AllocError>
     ensures { IfOk result (λ seen. gx_session seen
@@ -65,7 +65,7 @@ fn gx_shown(
     alloc: Global,
     tables: &Tables,
     state: &State,
-    session: &SessionId,
+    session: &GxSid,
     known: &GxRec,
 ) -> Result<GxSeen, AllocError>
     requires { gx_is_live known.now ≡ true }

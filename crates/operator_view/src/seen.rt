@@ -1,7 +1,7 @@
 //! What an operator sees of sessions.
 use af_records::{AfRequestType, ComponentValue, FlowValue};
 use gx_records::{OpenRequestType, Told};
-use pcrf_values::{Apn, DiameterIdentity, Rule, SessionId, Subscribers};
+use pcrf_values::{AfSid, Apn, DiameterIdentity, GxSid, Rule, Subscribers};
 use record_levels::SessionValue;
 use std::net::Ipv4Addr;
 
@@ -66,7 +66,7 @@ pub struct AfSeen {
     /// Its fields, those of the session before those of components and these before those of flows, each in order.
     pub fields: Vec<AfField>,
     /// The Session-Id of the gateway's session to which it is bound, if it is bound to one.
-    pub binding: Option<SessionId>,
+    pub binding: Option<GxSid>,
 }
 
 /// What an operator sees of a site.
@@ -75,7 +75,7 @@ pub struct OperatorValue {
     /// The greatest counter of the operations that the site took, 0 at first.
     pub clock: u64,
     /// The sessions of gateways, in the order of their Session-Ids.
-    pub gx: Vec<(SessionId, SessionSeen<GxSeen>)>,
+    pub gx: Vec<(GxSid, SessionSeen<GxSeen>)>,
     /// Those of application functions.
-    pub af: Vec<(SessionId, SessionSeen<AfSeen>)>,
+    pub af: Vec<(AfSid, SessionSeen<AfSeen>)>,
 }

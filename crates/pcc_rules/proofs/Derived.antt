@@ -9,7 +9,7 @@ use Rattle.pcrf_facts.specs.Facts.{Fact}
 use Rattle.pcrf_facts.specs.Live.{gx_is_live}
 use Rattle.pcrf_facts.specs.Places.{apn}
 use Rattle.pcrf_model.specs.Holdings.{SessionFact, facts_on}
-use Rattle.pcrf_model.specs.Sessions.{Session, gx, af}
+use Rattle.pcrf_model.specs.Sessions.{Session, gx}
 use Rattle.pcrf_model.specs.Views.{View, view, text}
 use Rattle.pcrf_model.specs.Tables.{Tables}
 use Rattle.pcrf_model.specs.Rules.{apn_of, operator_rules, flow_rules, listed_cmp, rules}
@@ -18,8 +18,8 @@ use Rattle.pcrf_model.proofs.RuleNames.{row_of, names_differ}
 use Rattle.site_join.specs.States.{Records}
 use Rattle.op_tables.specs.Statements.{NamesRulesApart}
 use Rattle.bind_index.specs.Beside.{beside}
-use Rattle.bind_index.proofs.Entries.{AreRecordsOf}
 use Rattle.pcc_rules.specs.FlowsAlone.{rules_of_sessions, AreLowWhereBound}
+use Rattle.pcc_rules.specs.Listed.{HasBound}
 use Rattle.pcc_rules.specs.Listing.{keyed, unkeyed, keyed_cmp, RowNamesApart}
 use Rattle.pcc_rules.proofs.Ordered.{listed_is}
 use Rattle.pcc_rules.proofs.Flows.{same_rules, low_flows}
@@ -34,7 +34,7 @@ dead_has_none t facts id known its dead =
 pub names_apart_at : (t : Tables) (v : View) (s : Session) → NamesRulesApart t → RowNamesApart t v s
 names_apart_at t v s apart row h = let w = row_of t (text v s apn) row h in apart w.0 row w.1
 
-module _ (t : Tables) (facts : List SessionFact) (id : List ℕ) (es : Records) (r : AreRecordsOf af facts es) (known : List Fact) (its : known ≡ facts_on facts (gx id)) (live : gx_is_live known ≡ true) where
+module _ (t : Tables) (facts : List SessionFact) (id : List ℕ) (es : Records) (r : HasBound facts (gx id) es) (known : List Fact) (its : known ≡ facts_on facts (gx id)) (live : gx_is_live known ≡ true) where
   -- what is read of the facts
   abbrev v : View
   v = view facts

@@ -1,5 +1,5 @@
 -- The rules of the flows of bound sessions, record by record, are those that the view has.
-use Rattle.std.proofs.Common.{◌≡◌, ℕ, Bool, true, cond, List, [], ◌∷◌, Option, Some, None, inl, inr, refl, sym, ap, ◌∙◌, subst, option_and_then}
+use Rattle.std.proofs.Common.{◌≡◌, ℕ, Bool, true, cond, List, [], ◌∷◌, Some, None, inl, inr, refl, sym, ap, ◌∙◌, subst, option_and_then}
 use Rattle.std.specs.List.{filter_map}
 use Rattle.ranked.specs.Sets.{In, Same}
 use Rattle.ranked.proofs.Plain.{came_from, split}
@@ -28,6 +28,7 @@ use Rattle.pcrf_model.proofs.RuleNames.{BoundFlowsAreLow, and_then, filters_at, 
 use Rattle.site_join.specs.States.{Records}
 use Rattle.bind_index.proofs.Bound.{was_there}
 use Rattle.bind_index.proofs.Entries.{AreRecordsOf, its_facts, has_record}
+use Rattle.pcc_rules.specs.Listed.{HasBound}
 use Rattle.pcc_rules.specs.FlowsAlone.{alone, flow_of, rules_of_flows, rules_of_sessions, IsLow, AreLow, AreLowWhereBound}
 
 -- a session of the application function is that of its Session-Id
@@ -54,7 +55,11 @@ low_record v s e (d ∷ es) l (inl q) b =
     subst (λ (z : List ℕ × List Fact). AreLow (words.flows z.1)) (sym q) (l.0 (subst (λ (z : List ℕ × List Fact). is_bound_to v s (af z.0) ≡ true) q b))
 low_record v s e (d ∷ es) l (inr i) b = low_record v s e es l.1 i b
 
-module _ (t : Tables) (facts : List SessionFact) (s : Session) (es : Records) (r : AreRecordsOf af facts es) where
+-- all records have it
+pub all_have : (facts : List SessionFact) (s : Session) (es : Records) → AreRecordsOf af facts es → HasBound facts s es
+all_have facts s es r = record { own = its_facts facts es r; has = λ id p x _ h. has_record facts es r id p x h }
+
+module _ (t : Tables) (facts : List SessionFact) (s : Session) (es : Records) (r : HasBound facts s es) where
   -- what is read of the facts
   abbrev v : View
   v = view facts
@@ -68,11 +73,11 @@ module _ (t : Tables) (facts : List SessionFact) (s : Session) (es : Records) (r
   unfolding view
   read_alone id c n = refl
 
-  -- where a field of a flow of an AF session shows, the session has a record that lists the flow
-  pub listed_there : (id : List ℕ) (c n : ℕ) (f : FlowField) (e : Entry) → v.shows (af id) (OfFlow c n f) ≡ Some e
+  -- where a field of a flow of an AF session that is bound shows, the session has a record that lists the flow
+  pub listed_there : (id : List ℕ) (c n : ℕ) (f : FlowField) (e : Entry) → is_bound_to v s (af id) ≡ true → v.shows (af id) (OfFlow c n f) ≡ Some e
       → In (id, facts_on facts (af id)) es × In (c, n) (words.flows (facts_on facts (af id)))
   unfolding view
-  listed_there id c n f e h = (has_record facts es r id (OfFlow c n f) e h, flow_listed (facts_on facts (af id)) c n f e h)
+  listed_there id c n f e b h = (r.has id (OfFlow c n f) e b h, flow_listed (facts_on facts (af id)) c n f e h)
 
   -- each rule of a flow is of a record
   forth : (x : RuleValue) → In x (flow_rules t v s) → In x (rules_of_sessions t v s es)
@@ -87,10 +92,10 @@ module _ (t : Tables) (facts : List SessionFact) (s : Session) (es : Records) (r
       let its : af id ≡ q.session = af_is q.session (bound_kind facts s q.session b.0) in
       let place : v.shows q.session (OfFlow z.component z.flow FlowDescriptions) ≡ Some (q.tag, q.value) =
       subst (λ (y : Place). v.shows q.session y ≡ Some (q.tag, q.value)) p.1 (all-shows facts q w.1) in
-      let there = listed_there id z.component z.flow FlowDescriptions (q.tag, q.value) (ap (λ (a : Session). v.shows a (OfFlow z.component z.flow FlowDescriptions)) its ∙ place) in
+      let bound : is_bound_to v s (af id) ≡ true = ap (is_bound_to v s) its ∙ b.0 in
+      let there = listed_there id z.component z.flow FlowDescriptions (q.tag, q.value) bound (ap (λ (a : Session). v.shows a (OfFlow z.component z.flow FlowDescriptions)) its ∙ place) in
       let same : flow_of id z.component z.flow ≡ z = λ j. record { session = (its ∙ sym p.0) j; component = z.component; flow = z.flow } in
       let gives : rule_of t (alone (facts_on facts (af id))) (flow_of id z.component z.flow) ≡ Some x = read_alone id z.component z.flow ∙ ap (rule_of t v) same ∙ f.2 in
-      let bound : is_bound_to v s (af id) ≡ true = ap (is_bound_to v s) its ∙ b.0 in
       let listed = In-filter_map (λ (g : ℕ × ℕ). rule_of t (alone (facts_on facts (af id))) (flow_of id g.0 g.1)) (z.component, z.flow) x (words.flows (facts_on facts (af id))) there.1 gives in
       In-flat_map of_record (id, facts_on facts (af id)) x es there.0
       (subst (λ (y : Bool). In x (cond y (rules_of_flows t id (facts_on facts (af id))) [])) (sym bound) listed)
@@ -118,7 +123,7 @@ module _ (t : Tables) (facts : List SessionFact) (s : Session) (es : Records) (r
             let l = filter_map-In (λ (g : ℕ × ℕ). rule_of t (alone w.0.1) (flow_of w.0.0 g.0 g.1)) x (words.flows w.0.1)
             (subst (λ (y : Bool). In x (cond y (rules_of_flows t w.0.0 w.0.1) [])) b w.2) in
             of_flow w.0.0 l.0.0 l.0.1 x b
-            (sym (read_alone w.0.0 l.0.0 l.0.1) ∙ ap (λ (fs : List Fact). rule_of t (alone fs) (flow_of w.0.0 l.0.0 l.0.1)) (its_facts facts es r w.0 w.1) ∙ l.2)
+            (sym (read_alone w.0.0 l.0.0 l.0.1) ∙ ap (λ (fs : List Fact). rule_of t (alone fs) (flow_of w.0.0 l.0.0 l.0.1)) (r.own w.0 w.1) ∙ l.2)
         | inr b ↦ absurd (subst (λ (y : Bool). In x (cond y (rules_of_flows t w.0.0 w.0.1) [])) b w.2)
       ]
 
@@ -130,6 +135,7 @@ module _ (t : Tables) (facts : List SessionFact) (s : Session) (es : Records) (r
   pub low_flows : AreLowWhereBound v s es → BoundFlowsAreLow v s
   low_flows l a c n e b h =
       let its : af a.id ≡ a = af_is a (bound_kind facts s a b) in
-      let there = listed_there a.id c n FlowDescriptions e (ap (λ (z : Session). v.shows z (OfFlow c n FlowDescriptions)) its ∙ h) in
+      let bound : is_bound_to v s (af a.id) ≡ true = ap (is_bound_to v s) its ∙ b in
+      let there = listed_there a.id c n FlowDescriptions e bound (ap (λ (z : Session). v.shows z (OfFlow c n FlowDescriptions)) its ∙ h) in
       low_member (c, n) (words.flows (facts_on facts (af a.id)))
-      (low_record v s (a.id, facts_on facts (af a.id)) es l there.0 (ap (is_bound_to v s) its ∙ b)) there.1
+      (low_record v s (a.id, facts_on facts (af a.id)) es l there.0 bound) there.1

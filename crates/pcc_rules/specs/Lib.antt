@@ -1,2 +1,3 @@
 pub mod FlowsAlone
+pub mod Listed
 pub mod Listing

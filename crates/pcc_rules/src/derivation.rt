@@ -16,7 +16,7 @@ use crate::operator::operator_rules;
 use af_records::AfRec;
 use bind_index::bind;
 use op_tables::Tables;
-use pcrf_values::{Rule, SessionId};
+use pcrf_values::{AfSid, GxSid, Rule};
 use ranked::ascending_of;
 use site_join::State;
 use std::alloc::{AllocError, Global};
@@ -30,7 +30,7 @@ pub fn derive(
     alloc: Global,
     tables: &Tables,
     state: &State,
-    session: &SessionId,
+    session: &GxSid,
 ) -> Result<Vec<Rule>, AllocError>
     ensures derived { IfOk result (λ made. made.items
         ≡ rules tables.now (view state.now.facts) (gx session.now)) }
@@ -53,8 +53,8 @@ fn add_bound(
     found: &mut Vec<(u32, Rule)>,
     tables: &Tables,
     state: &State,
-    session: &SessionId,
-    sessions: Iter<'_, SessionId, AfRec>,
+    session: &GxSid,
+    sessions: Iter<'_, AfSid, AfRec>,
 ) -> Result<(), AllocError>
     ensures added { OnOk result (found.new.items
         ≡ found.old.items ++ map keyed (rules_of_sessions tables.now
@@ -71,7 +71,7 @@ fn add_bound(
 }
 
 /// The application function's session is bound to the gateway's session.
-fn is_bound(state: &State, asking: &SessionId, session: &SessionId) -> bool
+fn is_bound(state: &State, asking: &AfSid, session: &GxSid) -> bool
     ensures { result ≡ is_bound_to (view state.now.facts) (gx session.now) (af asking.now) }
 {
     match bind(state, asking) {
@@ -81,11 +81,11 @@ fn is_bound(state: &State, asking: &SessionId, session: &SessionId) -> bool
 }
 
 /// Adds the rules of the flows of one session.
-fn add_flows(
+pub fn add_flows(
     alloc: Global,
     found: &mut Vec<(u32, Rule)>,
     tables: &Tables,
-    session: &SessionId,
+    session: &AfSid,
     known: &AfRec,
 ) -> Result<(), AllocError>
     ensures added { OnOk result (found.new.items
@@ -107,7 +107,7 @@ fn add_flows(
 }
 
 /// The rules by precedence and then by name.
-fn in_order(alloc: Global, found: Vec<(u32, Rule)>) -> Result<Vec<Rule>, AllocError>
+pub fn in_order(alloc: Global, found: Vec<(u32, Rule)>) -> Result<Vec<Rule>, AllocError>
     ensures { IfOk result (λ made. made.items ≡ map unkeyed (ascending keyed_cmp found.items)) }
 {
     let found = ascending_of(alloc, found)?;

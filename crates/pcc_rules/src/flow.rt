@@ -11,7 +11,7 @@ ghost use Rattle.pcc_rules.specs.FlowsAlone.{alone, flow_id, flow_facts};
 use crate::naming::flow_name;
 use af_records::AfRec;
 use op_tables::{Class, Tables};
-use pcrf_values::{Rule, RuleQos, SessionId};
+use pcrf_values::{AfSid, Rule, RuleQos};
 use ranked::Ranked;
 use std::alloc::{AllocError, Global};
 
@@ -27,7 +27,7 @@ const NO_MEDIA_TYPE: u32 = 0xFFFF_FFFF;
 /// A flow of a session.
 #[derive(Clone, Copy)]
 pub(crate) struct Flow<'r> {
-    pub(crate) session: &'r SessionId,
+    pub(crate) session: &'r AfSid,
     /// What is known of the session.
     pub(crate) known: &'r AfRec,
     /// The Media-Component-Number.

@@ -7,4 +7,5 @@ mod flow;
 mod naming;
 mod operator;
 
-pub use derivation::derive;
+pub use derivation::{add_flows, derive, in_order};
+pub use operator::operator_rules;

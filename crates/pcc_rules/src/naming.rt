@@ -5,7 +5,7 @@ ghost use Rattle.pcrf_model.specs.Flows.{flow_rule_name};
 ghost use Rattle.pcc_rules.specs.FlowsAlone.{flow_of};
 
 use op_tables::OperatorRuleName;
-use pcrf_values::{RuleName, SessionId};
+use pcrf_values::{AfSid, RuleName};
 use std::alloc::{AllocError, Global};
 
 /// The name under which a gateway knows a rule of the operator: `op/` and the name in the tables.
@@ -20,7 +20,7 @@ pub(crate) fn operator_name(alloc: Global, name: &OperatorRuleName) -> Result<Ru
 /// The name of the rule of a flow: `af/`, the Session-Id, and the numbers of component and flow, parted by `/`.
 pub(crate) fn flow_name(
     alloc: Global,
-    session: &SessionId,
+    session: &AfSid,
     component: u32,
     flow: u32,
 ) -> Result<RuleName, AllocError>

@@ -12,7 +12,7 @@ use pcrf_values::{Rule, texts_of};
 use std::alloc::{AllocError, Global};
 
 /// The rules of the access point that the session shows, each with its precedence in front.
-pub(crate) fn operator_rules(
+pub fn operator_rules(
     alloc: Global,
     tables: &Tables,
     gateway: &GxRec,

@@ -5,17 +5,17 @@ use crate::report::{add, given, only, text};
 use crate::rules::{filters, told_rule};
 use af_records::{AfFact, ComponentValue, FlowValue, SessionValue};
 use lattice_core::Tag;
-use pcrf_values::{BoundedNumber, RuleName, SessionId};
+use pcrf_values::{AfSid, BoundedNumber, RuleName};
 use site_join::{Operation, SessionFacts};
 use std::alloc::{AllocError, Global};
 use std::fmt::Write as _;
 use std::io;
 
 /// The Session-Id of the call of a place.
-fn call_id(alloc: Global, place: u32) -> io::Result<SessionId> {
+fn call_id(alloc: Global, place: u32) -> io::Result<AfSid> {
     let mut id = String::new(alloc);
     write!(id, "af.example;1876543210;{place}")?;
-    text(alloc, id.as_bytes())
+    Ok(AfSid::of(text(alloc, id.as_bytes())?))
 }
 
 /// The name of the rule of its flow.

@@ -3,7 +3,7 @@ use crate::report::{add, given, only, text};
 use gx_records::{GxFact, SessionValue};
 use lattice_core::Tag;
 use pcrf_values::{
-    Apn, BoundedNumber, DiameterIdentity, SessionId, Subscriber, Subscribers, SubscriptionData,
+    Apn, BoundedNumber, DiameterIdentity, GxSid, Subscriber, Subscribers, SubscriptionData,
     SubscriptionType,
 };
 use std::alloc::{AllocError, Global};
@@ -22,10 +22,10 @@ fn imsi(alloc: Global, place: u32) -> io::Result<SubscriptionData> {
 }
 
 /// The Session-Id of a session: the host, the time of its start and the place (RFC 6733, 8.8).
-pub fn session_id(alloc: Global, place: u32) -> io::Result<SessionId> {
+pub fn session_id(alloc: Global, place: u32) -> io::Result<GxSid> {
     let mut id = String::new(alloc);
     write!(id, "gw.example;1876543210;{place}")?;
-    text(alloc, id.as_bytes())
+    Ok(GxSid::of(text(alloc, id.as_bytes())?))
 }
 
 /// One subscriber, named by an international mobile subscriber identity.

@@ -6,6 +6,7 @@ use af_records::{AfFact, AfRec, FlowValue};
 use gx_records::{GxFact, GxRec};
 use lattice_core::{Join, Tag};
 use pcrf_values::RuleName;
+use site_join::{are_af_facts, are_gx_facts};
 use std::alloc::{AllocError, AllocGlobal, Global};
 use std::fmt::Write as _;
 use std::io::{self, Print};
@@ -63,7 +64,7 @@ trait SessionRecord: Join {
     /// The facts of a typical session.
     fn typical(alloc: Global) -> io::Result<Vec<Self::Fact>>;
 
-    /// The record of these facts.
+    /// The record of these facts, which are judged first.
     fn record_of(alloc: Global, facts: &[Self::Fact]) -> Result<Self, AllocError>;
 }
 
@@ -87,6 +88,9 @@ impl SessionRecord for GxRec {
     }
 
     fn record_of(alloc: Global, facts: &[GxFact]) -> Result<GxRec, AllocError> {
+        if !are_gx_facts(facts) {
+            return Err(AllocError);
+        }
         GxRec::of_facts(alloc, facts)
     }
 }
@@ -115,6 +119,9 @@ impl SessionRecord for AfRec {
     }
 
     fn record_of(alloc: Global, facts: &[AfFact]) -> Result<AfRec, AllocError> {
+        if !are_af_facts(facts) {
+            return Err(AllocError);
+        }
         AfRec::of_facts(alloc, facts)
     }
 }

@@ -160,7 +160,7 @@ test_by_formed o f =
     (all_pass (λ g. fits o.session.kind g && is_tagged o.session.kind o.counter o.site o.number g) o.facts f.each)
 
 -- the number in a tag is that of its place, and has 32 bits
-number_stays : (k : Kind) (p : Place) (n : ℕ) → is_request_number k n ≡ true → (is_unsigned (number_at k p n) && (number_at k p n == number_at k p (number_at k p n))) ≡ true
+pub number_stays : (k : Kind) (p : Place) (n : ℕ) → is_request_number k n ≡ true → (is_unsigned (number_at k p n) && (number_at k p n == number_at k p (number_at k p n))) ≡ true
 number_stays Gx (OfSession f) n h = both _ _ h (grind (arith, nat_tests))
 number_stays Gx (OfComponent c f) n h = refl
 number_stays Gx (OfFlow c m f) n h = refl
@@ -168,7 +168,7 @@ number_stays Gx (OfRuleName t) n h = refl
 number_stays Af p n h = refl
 
 -- a fact with the operation's tag is counted up to the operation's counter
-counted_by_tag : (o : Operation) → IsFormed o → (f : Fact) → is_tagged o.session.kind o.counter o.site o.number f ≡ true → is_counted o.session.kind o.counter f ≡ true
+pub counted_by_tag : (o : Operation) → IsFormed o → (f : Fact) → is_tagged o.session.kind o.counter o.site o.number f ≡ true → is_counted o.session.kind o.counter f ≡ true
 counted_by_tag o w End h = refl
 counted_by_tag o w (Removed r) h = refl
 counted_by_tag o w (Field p t x) h =

@@ -1,9 +1,8 @@
 -- Sites that took the same operations hold the same.
-use Rattle.std.proofs.Common.{◌≡◌, ℕ, map, slice_get, Some, option_map, sym, ap, ◌∙◌, subst}
+use Rattle.std.proofs.Common.{◌≡◌, ℕ, slice_get, Some, option_map, sym, ap, ◌∙◌, subst}
 use Rattle.std.proofs.lemmas.Option.{slice_get-map}
 use Rattle.ranked.proofs.Plain.{some_same}
 use Rattle.pcrf_model.specs.Holdings.{Holding, kept_of}
-use Rattle.pcrf_model.specs.Tables.{Tables}
 use Rattle.pcrf_model.specs.OperatorValues.{operator_value}
 use Rattle.pcrf_model.specs.Worlds.{SiteView, SiteTook, WorldTook, site_view, world_view, HoldsTheSame}
 use Rattle.pcrf_model.specs.Laws.{SameOperationsHoldTheSame}

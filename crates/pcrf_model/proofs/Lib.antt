@@ -19,7 +19,9 @@ pub mod MadeForms
 pub mod NameLaws
 pub mod NeighbourLaws
 pub mod ProvisionLaws
+pub mod RangeLaws
 pub mod ReadingLaws
+pub mod RecordForms
 pub mod RuleForms
 pub mod RuleNames
 pub mod SeenLaws

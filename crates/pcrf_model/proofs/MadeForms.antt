@@ -19,8 +19,8 @@ use Rattle.pcrf_facts.proofs.JoinedLaws.{sorted-In}
 use Rattle.pcrf_model.specs.Limits.{last_counter, site_limit}
 use Rattle.pcrf_model.specs.Sessions.{Kind, Session}
 use Rattle.pcrf_model.specs.Holdings.{Holding}
-use Rattle.pcrf_model.specs.Making.{given, session_fields, next_operation, ending}
-use Rattle.pcrf_model.specs.Forms.{is_tagged, is_session, is_request_number, is_none_or, is_address, is_apn, is_identity, are_subscribers, is_user, fits_session_field, stand_together, fits, is_operation}
+use Rattle.pcrf_model.specs.Making.{given, session_fields, next_operation}
+use Rattle.pcrf_model.specs.Forms.{is_tagged, is_session, is_request_number, is_none_or, is_address, is_apn, is_identity, are_subscribers, is_user, is_stamp, fits_session_field, stand_together, fits, is_operation}
 use Rattle.pcrf_model.proofs.FormLaws.{test_by_rises, le_passes, test_by_formed}
 
 -- ---- facts that stand together
@@ -32,7 +32,7 @@ pub record CanStand (facts : List Fact) : Type 0 where
   pub clear : (f g : Fact) → In f facts → In g facts → is_shaded_by f g ≡ false
 
 -- a list with a member is not empty
-has_one : {A : Type 0} (x : A) (xs : List A) → In x xs → nat_le 1 (length xs) ≡ true
+pub has_one : {A : Type 0} (x : A) (xs : List A) → In x xs → nat_le 1 (length xs) ≡ true
 has_one x [] i = absurd i
 has_one x (y ∷ ys) i = le_passes 1 (length (y ∷ ys)) (omega arith)
 
@@ -93,22 +93,30 @@ pub record CanAdd (i : ℕ) (h : Holding) : Type 0 where
   pub site : i < site_limit
   pub left : h.clock < last_counter
 
--- makes an operation of the form
-pub made_in_form : (i : ℕ) (h : Holding) (n : ℕ) (s : Session) (facts : List Fact) → CanAdd i h → is_request_number s.kind n ≡ true → is_session s ≡ true → MayMake s.kind (h.clock + 1) i n facts
-    → is_operation (next_operation i h n s facts) ≡ true
-made_in_form i h n s facts a number session m =
+-- gives a stamp
+pub stamp_left : (i : ℕ) (h : Holding) → CanAdd i h → is_stamp (h.clock + 1) i ≡ true
+stamp_left i h a =
     let site = a.site in
     let left = a.left in
     let low : nat_lt i site_limit ≡ true = grind (arith, nat_tests) in
-    test_by_formed (next_operation i h n s facts) (record {
-      stamp = both _ _
-          (both _ _ (le_passes 1 (h.clock + 1) (omega arith)) (le_passes (h.clock + 1) last_counter (omega (arith, left))))
-          low;
+    both _ _ (both _ _ (le_passes 1 (h.clock + 1) (omega arith)) (le_passes (h.clock + 1) last_counter (omega (arith, left)))) low
+
+-- under a stamp they make an operation of the form
+pub stamped_in_form : (counter i n : ℕ) (s : Session) (facts : List Fact) → is_stamp counter i ≡ true → is_request_number s.kind n ≡ true → is_session s ≡ true → MayMake s.kind counter i n facts
+    → is_operation (record { counter = counter; site = i; number = n; session = s; facts = ascending fact_cmp facts }) ≡ true
+stamped_in_form counter i n s facts stamp number session m =
+    test_by_formed (record { counter = counter; site = i; number = n; session = s; facts = ascending fact_cmp facts }) (record {
+      stamp = stamp;
       number = number;
       session = session;
       together = stands facts m.stand;
       each = λ f j. m.each f ((sorted-In facts f).0 j);
     })
+
+-- and so does a site with a counter left
+pub made_in_form : (i : ℕ) (h : Holding) (n : ℕ) (s : Session) (facts : List Fact) → CanAdd i h → is_request_number s.kind n ≡ true → is_session s ≡ true → MayMake s.kind (h.clock + 1) i n facts
+    → is_operation (next_operation i h n s facts) ≡ true
+made_in_form i h n s facts a = stamped_in_form (h.clock + 1) i n s facts (stamp_left i h a)
 
 -- the end alone stands
 end_stands : CanStand (End ∷ [])
@@ -123,10 +131,11 @@ end_stands = record {
     only f (inr i) = absurd i
 
 -- so an end is of the form
-pub end_in_form : (i : ℕ) (h : Holding) (n : ℕ) (s : Session) → CanAdd i h → is_request_number s.kind n ≡ true → is_session s ≡ true → is_operation (ending i h n s) ≡ true
-end_in_form i h n s a number session = made_in_form i h n s (End ∷ []) a number session (record {
+pub end_in_form : (counter i n : ℕ) (s : Session) → is_stamp counter i ≡ true → is_request_number s.kind n ≡ true → is_session s ≡ true
+    → is_operation (record { counter = counter; site = i; number = n; session = s; facts = End ∷ [] }) ≡ true
+end_in_form counter i n s stamp number session = stamped_in_form counter i n s (End ∷ []) stamp number session (record {
   stand = end_stands;
-  each = λ f. elim [ inl e ↦ subst (λ (g : Fact). (fits s.kind g && is_tagged s.kind (h.clock + 1) i n g) ≡ true) (sym e) refl | inr j ↦ absurd j ];
+  each = λ f. elim [ inl e ↦ subst (λ (g : Fact). (fits s.kind g && is_tagged s.kind counter i n g) ≡ true) (sym e) refl | inr j ↦ absurd j ];
 })
 
 -- ---- all facts of a list

@@ -1,8 +1,8 @@
 -- Which rules can change where the facts of one session alone change.
-use Rattle.std.proofs.Common.{◌≡◌, ℕ, Bool, true, false, cond, not, ◌&&◌, List, [], ◌++◌, ◌⊎◌, map, Option, Some, None, is_some, inl, inr, refl, sym, ap, ◌∙◌, subst, option_map, option_and_then, unwrap_or}
+use Rattle.std.proofs.Common.{◌≡◌, Bool, true, false, cond, not, ◌&&◌, List, [], ◌++◌, ◌⊎◌, map, Option, Some, None, is_some, inl, inr, refl, sym, ap, ◌∙◌, subst, option_map, option_and_then, unwrap_or}
 use Rattle.std.specs.Ordering.{is_eq}
 use Rattle.std.specs.Cmp.{first_so, second_so}
-use Rattle.ranked.proofs.Plain.{clash, is_false, not_true, some_same, none_some, some_is, came_from, split}
+use Rattle.ranked.proofs.Plain.{clash, is_false, not_true, some_same, some_is, came_from, split}
 use Rattle.ranked.specs.Ascending.{ascending}
 use Rattle.ranked.specs.Sets.{In, Same}
 use Rattle.ranked.proofs.OrderLaws.{eq_is, eq_itself}
@@ -10,11 +10,10 @@ use Rattle.ranked.proofs.SetLaws.{Same-back, Same-itself, Same-append, In-filter
 use Rattle.ranked.proofs.AscendingLaws.{ascending-Same}
 use Rattle.pcrf_values.specs.RuleValues.{RuleValue}
 use Rattle.pcrf_facts.specs.Places.{FlowDescriptions, Place, OfFlow, address, apn, subscribers}
-use Rattle.pcrf_facts.specs.Values.{Value, value_cmp, Entry}
-use Rattle.pcrf_facts.specs.Laws.{ShowTheSame}
+use Rattle.pcrf_facts.specs.Values.{Value, Entry}
 use Rattle.pcrf_facts.proofs.FactLaws.{value_ranked}
 use Rattle.pcrf_facts.proofs.ShownLaws.{members_show_the_same}
-use Rattle.pcrf_model.specs.Sessions.{Kind, Gx, Af, Session, session_cmp, gx, is_gx}
+use Rattle.pcrf_model.specs.Sessions.{Kind, Gx, Af, Session, session_cmp, is_gx}
 use Rattle.pcrf_model.specs.Holdings.{SessionFact, facts_on}
 use Rattle.pcrf_model.specs.Views.{View, Shown, view, value, as_text}
 use Rattle.pcrf_model.specs.Live.{is_live, has_what_it_needs}
@@ -22,7 +21,7 @@ use Rattle.pcrf_model.specs.Bindings.{agrees, meets, matches, standing, bind, is
 use Rattle.pcrf_model.specs.Tables.{ApnRow, Tables, apn_row}
 use Rattle.pcrf_model.specs.Flows.{FlowId}
 use Rattle.pcrf_model.specs.Rules.{flow_at, rule_of, rule_at, operator_rule, operator_rules, flow_rules, listed_cmp, rules}
-use Rattle.pcrf_model.specs.Laws.{IsBinding, Exceeds, DifferInOne, HasAddress, NeverMeet, BindsAlike}
+use Rattle.pcrf_model.specs.Laws.{Exceeds, DifferInOne, HasAddress, NeverMeet, BindsAlike}
 use Rattle.pcrf_model.proofs.HoldingLaws.{session_ranked}
 use Rattle.pcrf_model.proofs.ViewLaws.{In-all, all-shows}
 use Rattle.pcrf_model.proofs.BindLaws.{bind-greatest, has_address, of_gx, live_asking}

@@ -1,8 +1,7 @@
 -- What is seen of a world after an event is what is seen of what its sites then took.
-use Rattle.std.proofs.Common.{◌≡◌, ℕ, ◌+◌, List, [], ◌∷◌, ◌++◌, map, slice_get, slice_set, Option, Some, None, Ok, Err, option_map, option_to_list, refl, sym, ap, ◌∙◌, subst, append-nil}
+use Rattle.std.proofs.Common.{◌≡◌, ℕ, ◌+◌, List, [], ◌∷◌, ◌++◌, map, slice_get, slice_set, Option, Some, None, Ok, Err, option_map, refl, sym, ap, ◌∙◌, append-nil}
 use Rattle.std.proofs.lemmas.List.{length-append, map-append, map-set}
 use Rattle.std.proofs.lemmas.Option.{slice_get-map}
-use Rattle.ranked.proofs.Plain.{some_same}
 use Rattle.ranked.proofs.SetLaws.{Same-turn}
 use Rattle.pcrf_model.specs.Holdings.{Holding, under, union, kept_of}
 use Rattle.pcrf_model.specs.Operations.{Operation, with_operation, holding_of}
@@ -11,10 +10,10 @@ use Rattle.pcrf_model.specs.Requests.{RequestValue}
 use Rattle.pcrf_model.specs.Serving.{serve}
 use Rattle.pcrf_model.specs.Pushing.{push}
 use Rattle.pcrf_model.specs.Letters.{LetterBody, Range, Snapshot, Acknowledgement, LetterValue, meaning}
-use Rattle.pcrf_model.specs.Worlds.{WorldEvent, WorldAnswer, ServeAt, PushAt, Letter, Merge, Ack, Restart, Replied, PushedOut, Lettered, Merged, Restarted, NoMemory, Setting, Writing, SiteView, WorldView, SiteTook, SentLetter, WorldTook, taken_holding, site_view, world_view, made, merged, merged_in_part, first_taken, restarted, change, change_by, letter_to, ack_to, with_letter, after}
-use Rattle.pcrf_model.specs.CursorLaws.{HoldsBehind, AllHoldBehind}
-use Rattle.pcrf_model.specs.Seen.{view_with, view_made, view_served, view_pushed, brought, view_merged, view_in_part, view_again, view_letter, view_ack, see_change, see_change_by, see_letter, seen_after, SeenIsWhatWasTaken, SnapshotsStay}
-use Rattle.pcrf_model.proofs.UnionLaws.{kept_of-union, union_comm, union_nothing, holding_of-append, holding_of-Same}
+use Rattle.pcrf_model.specs.Worlds.{ServeAt, PushAt, Letter, Merge, Ack, Restart, Replied, PushedOut, Lettered, Merged, Restarted, NoMemory, Setting, Writing, SiteView, SiteTook, SentLetter, WorldTook, taken_holding, site_view, world_view, made, merged, merged_in_part, first_taken, restarted, change, change_by, letter_to, ack_to, with_letter}
+use Rattle.pcrf_model.specs.CursorLaws.{HoldsBehind}
+use Rattle.pcrf_model.specs.Seen.{view_made, view_served, view_pushed, brought, view_merged, view_in_part, view_again, view_letter, view_ack, see_change, see_change_by, see_letter, SeenIsWhatWasTaken, SnapshotsStay}
+use Rattle.pcrf_model.proofs.UnionLaws.{kept_of-union, union_comm, holding_of-append, holding_of-Same}
 use Rattle.pcrf_model.proofs.ReadingLaws.{serve-kept_of, push-kept_of}
 use Rattle.pcrf_model.proofs.CursorSnapshots.{event_holds}
 

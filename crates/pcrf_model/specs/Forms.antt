@@ -196,6 +196,29 @@ is_held clock x = is_session x.0 && fits x.0.kind x.1 && is_counted x.0.kind clo
 abbrev pub is_holding : Holding → Bool
 is_holding h = nat_le h.clock last_counter && is_rising session_fact_cmp h.facts && list_all (is_held h.clock) h.facts
 
+-- no tag of the facts has a greater counter than that
+abbrev pub is_up_to : ℕ → Fact → Bool
+is_up_to clock (Field p t x) = nat_le t.counter clock
+is_up_to clock f = true
+
+abbrev pub are_up_to : ℕ → List SessionFact → Bool
+are_up_to clock = list_all (λ (x : SessionFact). is_up_to clock x.1)
+
+-- ---- records: what is known of one session
+
+-- the fact's tag is that of some operation, whatever its counter
+abbrev pub is_numbered : Kind → Fact → Bool
+is_numbered k (Field p t x) = nat_le 1 t.counter && nat_lt t.site site_limit && is_unsigned t.number && t.number == number_at k p t.number
+is_numbered k f = true
+
+-- a fact of some operation on a session of that kind
+abbrev pub is_recorded : Kind → Fact → Bool
+is_recorded k f = fits k f && is_numbered k f
+
+-- facts of such operations, at least one
+abbrev pub is_record : Kind → List Fact → Bool
+is_record k facts = nat_le 1 (length facts) && list_all (is_recorded k) facts
+
 -- ---- requests, as the profiles read them
 
 -- a flow that a request describes; 4 is the Flow-Status that removes it

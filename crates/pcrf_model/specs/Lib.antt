@@ -13,6 +13,7 @@ pub mod Limits
 pub mod Live
 pub mod Making
 pub mod Malformed
+pub mod Neighbours
 pub mod Operations
 pub mod OperatorValues
 pub mod Pushing

@@ -1,5 +1,5 @@
 -- The operator tables (this project's profile): which class of service each kind of media has, and what each access point has.
-use Rattle.std.specs.Prelude.{ℕ, List, [], Option, Some, None, ◌==◌, find}
+use Rattle.std.specs.Prelude.{ℕ, List, Option, ◌==◌, find}
 use Rattle.std.proofs.Common.{option_map}
 use Rattle.std.specs.Ordering.{is_eq}
 use Rattle.ranked.specs.Orders.{text_cmp}

@@ -1,5 +1,5 @@
 -- Several sites and the letters between them: what each event answers, and what each site took, read from the events and the answers alone.
-use Rattle.std.specs.Prelude.{◌≡◌, ℕ, zero, suc, ◌+◌, ◌-◌, ◌<◌, ◌==◌, cond, List, [], ◌∷◌, ◌++◌, take, length, map, slice_get, slice_set, slice_index_or, Option, Some, None, Result, Ok, Err}
+use Rattle.std.specs.Prelude.{◌≡◌, ℕ, zero, suc, ◌+◌, ◌<◌, ◌==◌, cond, List, [], ◌∷◌, ◌++◌, take, length, map, slice_get, slice_set, slice_index_or, Option, Some, None, Result, Ok, Err}
 use Rattle.std.proofs.Common.{option_to_list, option_map, unwrap_or}
 use Rattle.ranked.specs.Sets.{Same}
 use Rattle.pcrf_model.specs.Limits.{last_epoch}

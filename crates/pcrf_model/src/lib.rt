@@ -5,3 +5,5 @@ pub mod edge_examples;
 pub mod examples;
 pub mod form_examples;
 pub mod laws;
+pub mod neighbour_examples;
+pub mod ranges;

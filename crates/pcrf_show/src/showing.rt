@@ -3,7 +3,7 @@ use bind_index::bind;
 use gx_records::GxRec;
 use op_tables::Tables;
 use pcc_rules::derive;
-use pcrf_values::{Rule, SessionId};
+use pcrf_values::{GxSid, Rule};
 use site_join::State;
 use std::alloc::{AllocError, Global};
 use std::fmt::Write as _;
@@ -66,7 +66,7 @@ fn put_rules(
     out: &mut String,
     tables: &Tables,
     state: &State,
-    id: &SessionId,
+    id: &GxSid,
 ) -> Result<(), AllocError> {
     let rules = derive(alloc, tables, state, id)?;
     for rule in rules.as_slice() {
@@ -110,7 +110,7 @@ fn put_application_sessions(out: &mut String, state: &State) -> Result<(), Alloc
 }
 
 /// The gateway's session to which a live session of an application function is bound, if there is one.
-fn put_binding(out: &mut String, bound: Option<&SessionId>) -> Result<(), AllocError> {
+fn put_binding(out: &mut String, bound: Option<&GxSid>) -> Result<(), AllocError> {
     let Some(gateway) = bound else {
         return out.push_str(" unbound\n");
     };

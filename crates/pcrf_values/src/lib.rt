@@ -10,6 +10,7 @@ mod permit_filter;
 mod refusal;
 mod request_kind;
 mod rule;
+mod session_id;
 mod subscriber;
 mod subscribers;
 
@@ -25,5 +26,6 @@ pub use permit_filter::{PermitFilter, PermitFilters, texts_of};
 pub use refusal::Refusal;
 pub use request_kind::RequestKind;
 pub use rule::{FlowStatus, Preemption, RetentionPriority, Rule, RuleQos};
+pub use session_id::{AfSid, GxSid};
 pub use subscriber::{Subscriber, SubscriptionType};
 pub use subscribers::Subscribers;

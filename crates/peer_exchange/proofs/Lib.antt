@@ -1,1 +1,6 @@
+pub mod Added
+pub mod Apart
+pub mod FirstFour
 pub mod Frames
+pub mod Lengths
+pub mod LettersAgain

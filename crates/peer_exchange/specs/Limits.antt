@@ -8,3 +8,7 @@ length_bytes = 4
 -- the most bytes of a letter
 abbrev pub longest_letter : ℕ
 longest_letter = 2 ^ 30
+
+-- the version of the format
+abbrev pub letter_version : ℕ
+letter_version = 1

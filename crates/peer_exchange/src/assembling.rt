@@ -10,7 +10,7 @@ use std::alloc::Global;
 use std::marker::Model;
 
 /// The bytes before a letter, which say how many it has.
-const LENGTH_BYTES: usize = 4;
+pub(crate) const LENGTH_BYTES: usize = 4;
 
 /// The most bytes of a letter.
 const MOST_BYTES: u32 = 1 << 30;

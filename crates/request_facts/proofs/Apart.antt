@@ -17,17 +17,17 @@ use Rattle.rx_profile.specs.Services.{repeats, flow_numbers, component_numbers, 
 use Rattle.request_facts.specs.Call.{described}
 
 -- neither of two stands
-neither : (a b : Bool) → (a || b) ≡ false → (a ≡ false) × (b ≡ false)
+pub neither : (a b : Bool) → (a || b) ≡ false → (a ≡ false) × (b ≡ false)
 neither false b h = (refl, h)
 neither true b h = absurd (cc)
 
 -- nor refuses either of two
-neither_refuses : (x y : Option Refusal) → or_else x y ≡ None → (x ≡ None) × (y ≡ None)
+pub neither_refuses : (x y : Option Refusal) → or_else x y ≡ None → (x ≡ None) × (y ≡ None)
 neither_refuses None y h = (refl, h)
 neither_refuses (Some r) y h = absurd (cc)
 
 -- what does not refuse does not stand
-unless_refused : (b : Bool) (r : Refusal) → (if b then Some r else None) ≡ None → b ≡ false
+pub unless_refused : (b : Bool) (r : Refusal) → (if b then Some r else None) ≡ None → b ≡ false
 unless_refused false r h = refl
 unless_refused true r h = absurd (cc)
 

@@ -1,3 +1,4 @@
 pub mod Apart
 pub mod GivenFields
+pub mod RequestForms
 pub mod Said

@@ -1,14 +1,16 @@
 //! The facts of AA requests (TS 29.214, 4.4.1 and 4.4.2).
-ghost use Rattle.std.specs.Prelude.{◌≡◌, IfOk, map};
+ghost use Rattle.std.specs.Prelude.{◌≡◌, ◌<◌, ◌≤◌, IfOk, map};
 ghost use Rattle.ranked.specs.Ascending.{ascending};
 ghost use Rattle.pcrf_facts.specs.Facts.{fact_cmp};
 ghost use Rattle.pcrf_facts.specs.Held.{held};
+ghost use Rattle.pcrf_model.specs.Limits.{site_limit};
 ghost use Rattle.record_levels.specs.SessionFacts.{session_fact};
 ghost use Rattle.af_records.specs.RecordFacts.{fact_of};
 ghost use Rattle.rx_profile.specs.Requests.{aar_view};
 ghost use Rattle.request_facts.specs.Call.{call_fields, described};
 
 use crate::component::put_components;
+use crate::forms::note_aar;
 use crate::session::session_values;
 use af_records::{AfFact, AfRec, AfRequestType, SessionValue};
 use ranked::Tag;
@@ -46,6 +48,8 @@ fn fields_of(alloc: Global, aar: &Aar, tag: Tag) -> Result<Vec<AfFact>, AllocErr
 /// The record of what an AA request describes, as the operation of a site under a counter has it. None of its facts overshadows
 /// another, so the record has them all.
 pub fn call_of(alloc: Global, aar: &Aar, counter: u64, site: u8) -> Result<AfRec, AllocError>
+    requires first { 1 ≤ counter }
+    requires within { site < site_limit }
     ensures held { IfOk result (λ call. call ≡ held (described site counter (aar_view aar.now))) }
     ensures all { IfOk result (λ call.
         call ≡ ascending fact_cmp (described site counter (aar_view aar.now))) }
@@ -55,6 +59,7 @@ pub fn call_of(alloc: Global, aar: &Aar, counter: u64, site: u8) -> Result<AfRec
         counter,
         site,
     };
+    note_aar(aar);
     let components = aar.components.as_slice();
     let mut facts = fields_of(alloc, aar, tag)?;
     put_components(&mut facts, tag, components)?;

@@ -5,8 +5,10 @@
 mod call;
 mod component;
 mod flow;
+mod forms;
 mod gateway;
 mod session;
 
 pub use call::call_of;
+pub use forms::{note_aar, note_ccr, note_str};
 pub use gateway::facts_made;

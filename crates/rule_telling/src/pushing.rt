@@ -16,7 +16,7 @@ use crate::telling::untold;
 use gx_profile::{FirstEntries, PushOut};
 use gx_records::GxRec;
 use op_tables::Tables;
-use pcrf_values::{Delta, SessionId};
+use pcrf_values::{Delta, GxSid};
 use ranked::Ranked;
 use site_join::State;
 use std::alloc::{AllocError, Global};
@@ -58,7 +58,7 @@ fn first_push(
     tables: &Tables,
     state: &State,
     asked: &Asked<'_>,
-    sessions: Iter<'_, SessionId, GxRec>,
+    sessions: Iter<'_, GxSid, GxRec>,
 ) -> Result<Option<PushOut>, AllocError>
     ensures push { IfOk result (λ push. option_map push_view push
         ≡ first_push tables.now (view state.now.facts) asked.now.site
@@ -81,7 +81,7 @@ fn push_due(
     tables: &Tables,
     state: &State,
     asked: &Asked<'_>,
-    session: &SessionId,
+    session: &GxSid,
     known: &GxRec,
 ) -> Result<Option<PushOut>, AllocError>
     ensures push { IfOk result (λ push. option_map push_view push
@@ -109,7 +109,7 @@ fn is_empty(delta: &Delta) -> bool
 }
 
 /// The push to the gateway of a live session.
-fn push_to(session: &SessionId, known: &GxRec, delta: FirstEntries) -> Result<PushOut, AllocError>
+fn push_to(session: &GxSid, known: &GxRec, delta: FirstEntries) -> Result<PushOut, AllocError>
     requires { gx_is_live known.now ≡ true }
     ensures { IfOk result (λ push. push_view push
         ≡ push_to (alone known.now) (gx session.now) delta) }

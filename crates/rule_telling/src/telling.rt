@@ -10,7 +10,7 @@ ghost use Rattle.rule_telling.specs.Pushed.{untold};
 use gx_records::Told;
 use op_tables::Tables;
 use pcc_rules::derive;
-use pcrf_values::{Delta, SessionId};
+use pcrf_values::{Delta, GxSid};
 use rule_delta::difference;
 use site_join::State;
 use std::alloc::{AllocError, Global};
@@ -22,7 +22,7 @@ pub fn untold(
     alloc: Global,
     tables: &Tables,
     state: &State,
-    session: &SessionId,
+    session: &GxSid,
 ) -> Result<Delta, AllocError>
     ensures difference { IfOk result (λ delta. delta
         ≡ untold tables.now (view state.now.facts) (gx session.now)) }
@@ -35,7 +35,7 @@ pub fn untold(
 }
 
 /// What the gateway of a session was told: nothing, where no fact of the session is known.
-fn told_of(alloc: Global, state: &State, session: &SessionId) -> Result<Told, AllocError>
+fn told_of(alloc: Global, state: &State, session: &GxSid) -> Result<Told, AllocError>
     ensures { IfOk result (λ entries. entries
         ≡ told (view state.now.facts) (gx session.now)) }
 {

@@ -1,5 +1,5 @@
 -- Media components and their flows as they are read (TS 29.214, 5.3.16 and 5.3.18).
-use Rattle.std.specs.Prelude.{ℕ, List, [], ◌∷◌, ◌++◌, unwrap_or, map}
+use Rattle.std.specs.Prelude.{ℕ, List, [], ◌∷◌, ◌++◌, Some, unwrap_or, map}
 use Rattle.ranked.specs.Sets.{if_any}
 use Rattle.dia_codec.specs.Fields.{AvpValue}
 use Rattle.dia_codec.specs.Reading.{avps_of}
@@ -13,7 +13,7 @@ use Rattle.rx_profile.specs.Numbers.{status_row, usage_row, rate_rows}
 
 -- this project's profile of a flow, in the order in which the rows are judged: Flow-Number and the Flow-Descriptions
 abbrev pub flow_head_rows : List Row
-flow_head_rows = required flow_number unsigned32 ∷ repeated flow_description filters_limit octet_string ∷ []
+flow_head_rows = required flow_number unsigned32 ∷ repeated flow_description (Some filters_limit) octet_string ∷ []
 
 -- and what a flow says besides
 abbrev pub flow_rows : List Row
@@ -42,7 +42,7 @@ flow_of value = flow_in (unwrap_or (avps_of value) [])
 
 -- the flows of a component
 abbrev pub flows_row : Row
-flows_row = repeated media_sub_component flows_limit flow
+flows_row = repeated media_sub_component (Some flows_limit) flow
 
 -- what a component says besides its flows
 abbrev pub component_head_rows : List Row

@@ -1,5 +1,5 @@
 -- AA requests as they are read (TS 29.214, 5.6.1).
-use Rattle.std.specs.Prelude.{List, [], ◌∷◌, ◌++◌, Option, option_map, map}
+use Rattle.std.specs.Prelude.{List, [], ◌∷◌, ◌++◌, Option, Some, option_map, map}
 use Rattle.std.specs.Net.Addr.{ipv4_octets}
 use Rattle.pcrf_values.specs.Limits.{apn_limit}
 use Rattle.pcrf_values.specs.Texts.{folded}
@@ -54,7 +54,7 @@ access_rows =
 
 -- the components of a request
 abbrev pub components_row : Row
-components_row = repeated media_component_description components_limit component
+components_row = repeated media_component_description (Some components_limit) component
 
 -- this project's profile of an AA request, in the order in which the rows are judged
 abbrev pub aar_rows : List Row

@@ -11,11 +11,11 @@ ghost use Rattle.rx_profile.specs.Answers.{aaa, sta};
 use dia_base::codes::{RX, avps};
 use dia_base::{AvpWriter, Identity, Refusal, answer_header, put_origin, put_result};
 use dia_codec::{Header, Message};
-use pcrf_values::SessionId;
+use pcrf_values::AfSid;
 use std::alloc::{AllocError, Global};
 
 /// An answer's AVPs, begun with the Session-Id (RFC 6733, 8.8).
-fn begun(alloc: Global, session: &SessionId) -> Result<AvpWriter, AllocError>
+fn begun(alloc: Global, session: &AfSid) -> Result<AvpWriter, AllocError>
     ensures begun { IfOk result (λ out. out ≡ text_avp session_id session.now ∷ []) }
     ensures short { length session.now ≤ session_id_limit }
 {
@@ -51,7 +51,7 @@ pub fn write_aaa(
     alloc: Global,
     identity: &Identity,
     header: &Header,
-    session: &SessionId,
+    session: &AfSid,
     refusal: Option<Refusal>,
 ) -> Result<Message, AllocError>
     ensures message { IfOk result (λ message. message_view message ≡
@@ -71,7 +71,7 @@ pub fn write_sta(
     alloc: Global,
     identity: &Identity,
     header: &Header,
-    session: &SessionId,
+    session: &AfSid,
     refusal: Option<Refusal>,
 ) -> Result<Message, AllocError>
     ensures message { IfOk result (λ message. message_view message ≡

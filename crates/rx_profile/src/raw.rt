@@ -89,7 +89,7 @@ fn read_flow(alloc: Global, avps: &[Avp]) -> Result<RawFlow, ReadFault>
     ensures refused { IfErr result (IsFaultOf (rows_refusal flow_rows (avp_views avps.now))) }
 {
     let number = required_number(avps, tgpp_key(FLOW_NUMBER))?;
-    let filters = read_each::<Text>(alloc, avps, tgpp_key(FLOW_DESCRIPTION), FILTERS)?;
+    let filters = read_each::<Text>(alloc, avps, tgpp_key(FLOW_DESCRIPTION), Some(FILTERS))?;
     let status = read_status(avps)?;
     let usage = read_usage(avps)?;
     let rates = read_rates(avps)?;
@@ -152,7 +152,7 @@ fn read_component(alloc: Global, avps: &[Avp]) -> Result<RawComponent, ReadFault
         (IsFaultOf (rows_refusal component_rows (avp_views avps.now))) }
 {
     let parts = read_component_parts(avps)?;
-    let flows = read_each::<RawFlow>(alloc, avps, tgpp_key(MEDIA_SUB_COMPONENT), FLOWS)?;
+    let flows = read_each::<RawFlow>(alloc, avps, tgpp_key(MEDIA_SUB_COMPONENT), Some(FLOWS))?;
     Ok(RawComponent { parts, flows })
 }
 

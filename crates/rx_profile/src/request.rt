@@ -18,7 +18,7 @@ use dia_base::{
     read_subscribers, required_text, tgpp_key,
 };
 use dia_codec::{Avp, Message};
-use pcrf_values::{Apn, SessionId, Subscribers};
+use pcrf_values::{AfSid, Apn, Subscribers};
 use std::alloc::Global;
 use std::net::Ipv4Addr;
 
@@ -29,7 +29,7 @@ const COMPONENTS: usize = 64;
 #[derive(Drop)]
 pub struct Aar {
     /// Session-Id, which names the application function's session.
-    pub session: SessionId,
+    pub session: AfSid,
     /// Origin-Host and Origin-Realm: the application function.
     pub origin: Origin,
     /// Framed-IP-Address: the address of the subscriber's side of the media.
@@ -53,7 +53,7 @@ struct Access {
 /// An AA request that keeps its rows, before its components are judged among themselves.
 #[derive(Drop)]
 struct RawAar {
-    session: SessionId,
+    session: AfSid,
     origin: Origin,
     access: Access,
     components: Vec<RawComponent>,
@@ -87,11 +87,11 @@ fn read_rows(alloc: Global, avps: &[Avp]) -> Result<RawAar, ReadFault>
     ensures within { IfOk result (λ raw. length raw.components.items ≤ components_limit) }
     ensures refused { IfErr result (IsFaultOf (rows_refusal aar_rows (avp_views avps.now))) }
 {
-    let session = required_text(alloc, avps, base_key(SESSION_ID))?;
+    let session = AfSid::of(required_text(alloc, avps, base_key(SESSION_ID))?);
     let origin = read_origin(alloc, avps)?;
     let access = read_access(alloc, avps)?;
     let key = tgpp_key(MEDIA_COMPONENT_DESCRIPTION);
-    let components = read_each::<RawComponent>(alloc, avps, key, COMPONENTS)?;
+    let components = read_each::<RawComponent>(alloc, avps, key, Some(COMPONENTS))?;
     Ok(RawAar {
         session,
         origin,

@@ -7,14 +7,14 @@ ghost use Rattle.rx_profile.specs.Terminations.{str_of, str_rows, str_view};
 use dia_base::codes::avps::SESSION_ID;
 use dia_base::{Origin, ReadFault, base_key, read_origin, required_text};
 use dia_codec::Message;
-use pcrf_values::SessionId;
+use pcrf_values::AfSid;
 use std::alloc::Global;
 
 /// A session termination request as it was read: what this profile asks of it, and nothing else.
 #[derive(Drop, PartialEq, Eq)]
 pub struct Str {
     /// Session-Id, which names the application function's session.
-    pub session: SessionId,
+    pub session: AfSid,
     /// Origin-Host and Origin-Realm: the application function.
     pub origin: Origin,
 }
@@ -28,7 +28,7 @@ pub fn read_str(alloc: Global, message: &Message) -> Result<Str, ReadFault>
         (IsFaultOf (rows_refusal str_rows (avp_views message.now.avps.items))) }
 {
     let avps = message.avps.as_slice();
-    let session = required_text(alloc, avps, base_key(SESSION_ID))?;
+    let session = AfSid::of(required_text(alloc, avps, base_key(SESSION_ID))?);
     let origin = read_origin(alloc, avps)?;
     Ok(Str { session, origin })
 }

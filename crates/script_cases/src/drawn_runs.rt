@@ -11,8 +11,8 @@ use dia_codec::HEADER_BYTES;
 use gx_profile::{FirstEntries, GxReply, PushOut};
 use gx_records::GxRec;
 use pcrf_values::{
-    DefaultClass, DefaultQuality, DiameterIdentity, Preemption, PriorityLevel, Refusal,
-    RetentionPriority, SessionId,
+    DefaultClass, DefaultQuality, DiameterIdentity, GxSid, Preemption, PriorityLevel, Refusal,
+    RetentionPriority,
 };
 use pcrf_world::{World, WorldEvent, WorldFault, WorldOutcome};
 use site_core::{Asked, Reply, Request, Site, read_request};
@@ -257,7 +257,7 @@ fn model_answers(
 }
 
 /// Whether a session is held as the model has it.
-fn is_held(id: &SessionId, held: &GxRec, site: &model::Site, session: &[u8]) -> bool {
+fn is_held(id: &GxSid, held: &GxRec, site: &model::Site, session: &[u8]) -> bool {
     if id.as_slice() != session || held.ended() != site.is_ended(session) {
         return false;
     }

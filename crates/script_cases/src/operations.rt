@@ -2,7 +2,7 @@
 use af_records::{AfFact, ComponentValue, FlowValue};
 use gx_records::{GxFact, SessionValue};
 use pcrf_values::{
-    Apn, BoundedNumber, BoundedText, FilterText, Filters, FlowStatus, Preemption,
+    AfSid, Apn, BoundedNumber, BoundedText, FilterText, Filters, FlowStatus, GxSid, Preemption,
     RetentionPriority, Rule, RuleName, RuleQos, Subscriber, Subscribers, SubscriptionType,
 };
 use ranked::Tag;
@@ -192,7 +192,11 @@ pub fn of_gateway(
     session: &str,
     facts: Vec<GxFact>,
 ) -> Operation {
-    operation(rt, at, SessionFacts::Gx(text(rt, session), facts))
+    operation(
+        rt,
+        at,
+        SessionFacts::Gx(GxSid::of(text(rt, session)), facts),
+    )
 }
 
 /// An operation on an application function's session.
@@ -202,7 +206,11 @@ pub fn of_application(
     session: &str,
     facts: Vec<AfFact>,
 ) -> Operation {
-    operation(rt, at, SessionFacts::Af(text(rt, session), facts))
+    operation(
+        rt,
+        at,
+        SessionFacts::Af(AfSid::of(text(rt, session)), facts),
+    )
 }
 
 /// Component 2, of audio, with so many flows of one filter each.

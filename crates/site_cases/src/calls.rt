@@ -2,7 +2,7 @@
 //! DIAMETER_UNABLE_TO_COMPLY (5012), behind every other cause, and change nothing.
 use crate::streams::{PLAIN, answered, bytes, same_bytes, site};
 use crate::taken::{takes_copy, takes_last};
-use pcrf_values::SessionId;
+use pcrf_values::{AfSid, GxSid};
 use site_core::Site;
 use site_stream::Ended;
 use std::alloc::AllocGlobal;
@@ -127,7 +127,7 @@ fn at_the_end_of_the_clock_nothing_is_granted(rt: HostRuntime) {
 }
 
 /// The one call is bound to the session of its address.
-fn is_one_call(rt: &impl Abort, bindings: &[(SessionId, Option<SessionId>)]) {
+fn is_one_call(rt: &impl Abort, bindings: &[(AfSid, Option<GxSid>)]) {
     assert_eq!(rt; bindings.len(), 1);
     let (call, session) = bindings.first().expect(rt, "a call");
     assert_eq!(rt; call.as_slice(), b"af;1".as_slice());

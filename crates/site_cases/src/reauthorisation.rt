@@ -3,8 +3,8 @@ use dia_base::{Identity, ReadFault, Refusal};
 use dia_codec::{WriteFault, read_message, write_message};
 use gx_profile::{FirstEntries, PushOut, Raa, read_raa, write_rar};
 use pcrf_values::{
-    BoundedText, Delta, FilterText, Filters, FlowStatus, Preemption, PriorityLevel, QosClass,
-    RetentionPriority, Rule, RuleName, RuleQos,
+    BoundedText, Delta, FilterText, Filters, FlowStatus, GxSid, Preemption, PriorityLevel,
+    QosClass, RetentionPriority, Rule, RuleName, RuleQos,
 };
 use std::alloc::{AllocError, AllocGlobal, Global};
 use std::net::Ipv4Addr;
@@ -139,7 +139,7 @@ fn identity(rt: &(impl AllocGlobal + Abort)) -> Identity {
 /// The push to the gateway of a session.
 fn push(rt: &(impl AllocGlobal + Abort)) -> PushOut {
     PushOut {
-        session: text(rt, b"gw;1;1"),
+        session: GxSid::of(text(rt, b"gw;1;1")),
         host: text(rt, b"gw"),
         realm: text(rt, b"r"),
         delta: entries(rt),

@@ -10,7 +10,7 @@ use dia_base::Identity;
 use gx_profile::GxReply;
 use gx_records::GxRec;
 use op_tables::Tables;
-use pcrf_values::{BoundedText, DefaultQuality, DiameterIdentity, Refusal, SessionId};
+use pcrf_values::{BoundedText, DefaultQuality, DiameterIdentity, GxSid, Refusal};
 use site_core::{Reply, Site};
 use std::alloc::AllocGlobal;
 use std::net::Ipv4Addr;
@@ -134,9 +134,9 @@ fn granted(rt: &impl Abort) -> Wanted {
 }
 
 /// The first session's Session-Id.
-pub fn first_session(rt: &(impl AllocGlobal + Abort)) -> SessionId {
+pub fn first_session(rt: &(impl AllocGlobal + Abort)) -> GxSid {
     let read = BoundedText::read(rt.alloc(), b"gw;1;1").expect(rt, "memory");
-    read.expect(rt, "a Session-Id")
+    GxSid::of(read.expect(rt, "a Session-Id"))
 }
 
 /// What a record shows: the last octet of the address and the home, where it is live.

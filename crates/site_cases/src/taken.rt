@@ -1,6 +1,6 @@
 //! What sites take of others: what another made, a copy of all that it holds, and an operation at the end of the clock.
 use gx_records::GxFact;
-use pcrf_values::{BoundedText, SessionId};
+use pcrf_values::{BoundedText, GxSid};
 use site_core::Site;
 use site_join::{LAST_COUNTER, Operation, SessionFacts};
 use std::alloc::AllocGlobal;
@@ -36,8 +36,8 @@ fn end_facts(rt: &(impl AllocGlobal + Abort)) -> Vec<GxFact> {
 
 /// An operation with the last counter, on a session that tests have nowhere else.
 fn last_operation(rt: &(impl AllocGlobal + Abort)) -> Operation {
-    let read: Option<SessionId> = BoundedText::read(rt.alloc(), b"gw;9;9").expect(rt, "memory");
-    let session = read.expect(rt, "a Session-Id");
+    let read = BoundedText::read(rt.alloc(), b"gw;9;9").expect(rt, "memory");
+    let session = GxSid::of(read.expect(rt, "a Session-Id"));
     let made = Operation::of(LAST_COUNTER, 2, 1, SessionFacts::Gx(session, end_facts(rt)));
     made.expect(rt, "an operation")
 }

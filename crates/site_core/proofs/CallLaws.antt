@@ -188,36 +188,3 @@ pub str_accepted : (s : SiteValue) (q : StrValue) → af_is_live (facts_on s.sta
     → str_served s q ≡ record { reply = Done; added = Some (operation_on_call s.number (s.state.holding.clock + 1) q.session (End ∷ [])) }
 unfolding serve_str str_refusal view
 str_accepted s q live left = rw (live, left) refl
-
--- ---- tags
-
--- a field of a session tells nothing of a rule's name
-field_untold : (n : ℕ) (t : Tag) (x : SessionValue ℕ) → IsToldUpTo n (session_fact t x)
-field_untold n t (session_value.Address x) = tt
-field_untold n t (session_value.Apn x) = tt
-field_untold n t (session_value.Subscribers x) = tt
-field_untold n t (session_value.Host x) = tt
-field_untold n t (session_value.Realm x) = tt
-field_untold n t (session_value.Last x) = tt
-
--- nor does any fact of an application function's session
-call_untold : (n : ℕ) (f : AfFact) → IsToldUpTo n (fact_of f)
-call_untold n af_fact.End = tt
-call_untold n (af_fact.ComponentRemoved c) = tt
-call_untold n (af_fact.FlowRemoved c m) = tt
-call_untold n (af_fact.Session t x) = field_untold n t x
-call_untold n (af_fact.Component c t (component_value.MediaType x)) = tt
-call_untold n (af_fact.Component c t (component_value.Status x)) = tt
-call_untold n (af_fact.Component c t (component_value.RateUp x)) = tt
-call_untold n (af_fact.Component c t (component_value.RateDown x)) = tt
-call_untold n (af_fact.Flow c m t (flow_value.Descriptions x)) = tt
-call_untold n (af_fact.Flow c m t (flow_value.Usage x)) = tt
-call_untold n (af_fact.Flow c m t (flow_value.Status x)) = tt
-call_untold n (af_fact.Flow c m t (flow_value.RateUp x)) = tt
-call_untold n (af_fact.Flow c m t (flow_value.RateDown x)) = tt
-
--- so no operation on such a session does
-pub call_tells_nothing : (n : ℕ) (s : Session) (fs : List AfFact) → ToldUpTo n (under s (map fact_of fs))
-call_tells_nothing n s fs = told_under n s (map fact_of fs) (λ f i.
-    let w = map-In fact_of f fs i in
-    subst (IsToldUpTo n) (sym w.2) (call_untold n w.0))

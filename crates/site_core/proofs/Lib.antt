@@ -1,5 +1,6 @@
 pub mod AnswersLaws
 pub mod CallLaws
+pub mod Formed
 pub mod Left
 pub mod Pushes
 pub mod Replies
@@ -7,4 +8,3 @@ pub mod Restoring
 pub mod Steps
 pub mod Taking
 pub mod ToldOrder
-pub mod ToldTags

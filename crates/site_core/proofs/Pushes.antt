@@ -4,6 +4,7 @@ use Rattle.std.specs.Cmp.{first_so}
 use Rattle.ranked.proofs.Plain.{none_some, some_same}
 use Rattle.pcrf_values.specs.RuleValues.{DeltaValue}
 use Rattle.pcrf_model.specs.Limits.{delta_limit}
+use Rattle.pcrf_model.specs.Serving.{delta_of}
 use Rattle.pcrf_model.specs.Sessions.{Session, gx, is_gx}
 use Rattle.pcrf_model.specs.Holdings.{Holding}
 use Rattle.pcrf_model.specs.Views.{View, view}
@@ -81,6 +82,10 @@ module _ (s : SiteValue) (name : Option (List ℕ)) where
   -- its session is due
   pub session_due : (p : PushValue) → Some p ≡ out → due s.tables s.number (view s.state.holding.facts) name ≡ Some (gx p.session)
   session_due p e = let w = is_pushed p e in w.is_due ∙ ap (λ (r : Session). Some r) (sym w.named)
+
+  -- and what it tells are the first entries of the session's difference
+  pub pushed_delta : (p : PushValue) → Some p ≡ out → p.delta ≡ delta_of delta_limit s.tables (view s.state.holding.facts) (gx p.session)
+  pushed_delta p e = let w = is_pushed p e in ap (λ (x : PushValue). x.delta) w.is ∙ ap (λ (r : Session). delta_of delta_limit t v r) (sym w.named)
 
   -- the push and its operation
   pub something_is : (p : PushValue) → Some p ≡ out → pushed s name ≡ record { reply = Pushed (Some p); added = Some (operation_pushed s.number (h.clock + 1) p.session p.delta) }

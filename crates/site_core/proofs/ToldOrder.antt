@@ -84,7 +84,7 @@ module _ (t : Tag) (d : DeltaValue) where
 -- ---- behind the fields of a request
 
 -- the fields of a request stand in order
-fields_in_order : (t : Tag) (a n : Option (List ℕ)) (ids : Option (List Subscriber)) (h r : List ℕ) (k : ℕ) → ascending fact_cmp (session_fields t a n ids h r k) ≡ session_fields t a n ids h r k
+pub fields_in_order : (t : Tag) (a n : Option (List ℕ)) (ids : Option (List Subscriber)) (h r : List ℕ) (k : ℕ) → ascending fact_cmp (session_fields t a n ids h r k) ≡ session_fields t a n ids h r k
 fields_in_order t None None None h r k = refl
 fields_in_order t None None (Some ids) h r k = refl
 fields_in_order t None (Some n) None h r k = refl

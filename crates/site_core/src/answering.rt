@@ -17,7 +17,7 @@ use base_profile::{BaseRequest, base_answer};
 use dia_base::{Identity, refusal_answer};
 use dia_codec::{Header, Message, WriteFault, write_message};
 use gx_profile::{Ccr, write_cca};
-use pcrf_values::{Refusal, SessionId};
+use pcrf_values::{AfSid, Refusal, SessionId};
 use rx_profile::{write_aaa, write_sta};
 use std::alloc::{AllocError, Global};
 
@@ -74,7 +74,7 @@ fn write_aa(
     alloc: Global,
     identity: &Identity,
     header: &Header,
-    session: &SessionId,
+    session: &AfSid,
     reply: &Reply,
 ) -> Result<Vec<u8>, AllocError>
     requires { header.now.command < command_bound }
@@ -95,7 +95,7 @@ fn write_termination(
     alloc: Global,
     identity: &Identity,
     header: &Header,
-    session: &SessionId,
+    session: &AfSid,
     reply: &Reply,
 ) -> Result<Vec<u8>, AllocError>
     requires { header.now.command < command_bound }
@@ -122,7 +122,8 @@ fn write_base(
     requires { header.now.command < command_bound }
     ensures bytes { IfOk result (λ bytes. bytes.items ≡ bytes_by
         (λ _. base_answer identity.now header.now (base_view request.now)) (base_result reply.now)) }
-    ensures some { IfOk result (λ bytes. is_some (base_result reply.now) ≡ true → bytes.items ≢ []) }
+    ensures some { IfOk result (λ bytes.
+        is_some (base_result reply.now) ≡ true → bytes.items ≢ []) }
 {
     let Reply::Base(_) = reply else {
         return Ok(Vec::new(alloc));

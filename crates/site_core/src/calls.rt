@@ -1,5 +1,5 @@
 //! How a site serves application functions (TS 29.214, 4.4).
-ghost use Rattle.std.specs.Prelude.{◌≡◌, ◌<◌, ◌≤◌, length, ◌+◌, ◌++◌, ◌∷◌, [], List, ◌&&◌, Some, IfOk, IfSome, OnOk, OnErr, is_none, map, not};
+ghost use Rattle.std.specs.Prelude.{◌≡◌, ◌<◌, length, ◌+◌, ◌++◌, ◌∷◌, [], List, ◌&&◌, Some, true, IfOk, IfSome, OnOk, OnErr, is_none, map, not};
 ghost use Rattle.std.specs.List.{list_any};
 ghost use Rattle.std.specs.Option.{option_copied};
 ghost use Rattle.ranked.specs.Ascending.{ascending};
@@ -7,7 +7,7 @@ ghost use Rattle.pcrf_facts.specs.Facts.{Fact, End, fact_cmp};
 ghost use Rattle.pcrf_facts.specs.FlowWords.{or_else};
 ghost use Rattle.pcrf_facts.specs.Held.{held, is_ended, joined};
 ghost use Rattle.pcrf_facts.specs.Live.{af_is_live};
-ghost use Rattle.pcrf_model.specs.Limits.{last_counter};
+ghost use Rattle.pcrf_model.specs.Forms.{is_operation};
 ghost use Rattle.pcrf_model.specs.Sessions.{af};
 ghost use Rattle.pcrf_model.specs.Holdings.{facts_on, under};
 ghost use Rattle.pcrf_model.specs.Views.{view};
@@ -31,9 +31,9 @@ use dia_base::codes::results::{
 };
 use lattice_core::Join;
 use op_tables::Tables;
-use pcrf_values::{Refusal, SessionId};
+use pcrf_values::{AfSid, Refusal};
 use ranked::Ranked;
-use request_facts::call_of;
+use request_facts::{call_of, note_aar, note_str};
 use rx_profile::{Aar, Component, Str, is_removed};
 use site_join::{Operation, SessionFacts};
 use std::alloc::{AllocError, Global};
@@ -59,6 +59,8 @@ impl Site {
         let Some(counter) = self.next_counter() else {
             return Ok(Reply::Refused(Refusal::base(UNABLE_TO_COMPLY)));
         };
+        note_aar(aar);
+        self.note_number();
         self.add_on_call(&aar.session, counter, facts)?;
         Ok(Reply::Done)
     }
@@ -72,6 +74,7 @@ impl Site {
             ≡ ascending fact_cmp (described self.now.number (self.now.state.holding.clock + 1)
             (aar_view aar.now)))) }
     {
+        self.note_number();
         let call = call_of(self.alloc, aar, self.state.clock() + 1, self.number)?;
         if self.binds_to_none(&aar.session, &call)? {
             return Ok(None);
@@ -99,7 +102,7 @@ impl Site {
     }
 
     /// With what a request describes, its session would be bound to none.
-    fn binds_to_none(&self, session: &SessionId, call: &AfRec) -> Result<bool, AllocError>
+    fn binds_to_none(&self, session: &AfSid, call: &AfRec) -> Result<bool, AllocError>
         ensures { IfOk result (λ none. (facts : List Fact) → call.now ≡ held facts
             → none ≡ is_none (bind (view (self.now.state.holding.facts
             ++ under (af session.now) facts)) (af session.now))) }
@@ -109,7 +112,7 @@ impl Site {
     }
 
     /// The record of a session with what a request describes.
-    fn with_call(&self, session: &SessionId, call: &AfRec) -> Result<AfRec, AllocError>
+    fn with_call(&self, session: &AfSid, call: &AfRec) -> Result<AfRec, AllocError>
         ensures { IfOk result (λ both. both
             ≡ joined (facts_on self.now.state.holding.facts (af session.now)) call.now) }
     {
@@ -135,6 +138,8 @@ impl Site {
             return Ok(Reply::Refused(Refusal::base(UNABLE_TO_COMPLY)));
         };
         let facts = end_of(self.alloc)?;
+        note_str(call);
+        self.note_number();
         self.add_on_call(&call.session, counter, facts)?;
         Ok(Reply::Done)
     }
@@ -142,12 +147,13 @@ impl Site {
     /// Adds the operation of these facts on an application function's session, or changes nothing.
     fn add_on_call(
         &mut self,
-        session: &SessionId,
+        session: &AfSid,
         counter: u64,
         facts: Vec<AfFact>,
     ) -> Result<(), AllocError>
-        requires within { counter ≤ last_counter }
         requires later { length self.old.state.log < counter }
+        requires formed { is_operation (operation_on_call
+            self.old.number counter session.now (map fact_of facts.items)) ≡ true }
         ensures ok { OnOk result (self.new ≡ with_made self.old (Some (operation_on_call
             self.old.number counter session.now (map fact_of facts.items)))) }
         ensures err { OnErr result (self.new ≡ self.old) }

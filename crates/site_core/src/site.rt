@@ -19,6 +19,7 @@ ghost use Rattle.pcrf_model.specs.OperatorValues.{bindings_of, operator_value};
 ghost use Rattle.operator_view.specs.Shown.{value_view};
 ghost use Rattle.pcrf_model.specs.Refusals.{is_clock_full, ccr_refusal, lacks_parameters, names_no_row};
 ghost use Rattle.pcrf_model.specs.ToldTags.{ToldUpTo};
+ghost use Rattle.pcrf_model.specs.Forms.{are_up_to, is_holding, is_operation};
 ghost use Rattle.pcrf_facts.specs.FlowWords.{or_else};
 ghost use Rattle.gx_profile.specs.Pushes.{push_view};
 ghost use Rattle.gx_profile.specs.Requests.{ccr_view};
@@ -30,7 +31,7 @@ ghost use Rattle.site_core.specs.Values.{event_lacks_counter, event_value, reply
 use crate::event::{Event, Reply};
 use crate::fault::StepFault;
 use crate::request::Request;
-use crate::told::put_told;
+use crate::told::{note_entries, put_told};
 use base_profile::{BaseRequest, base_refusal};
 use dia_base::Identity;
 use dia_base::codes::results::{
@@ -42,9 +43,12 @@ use lattice_core::Join;
 use op_tables::Tables;
 use operator_view::{OperatorValue, bindings, value};
 use pcc_rules::derive;
-use pcrf_values::{Apn, DefaultQuality, DiameterIdentity, Refusal, RequestKind, Rule, SessionId};
+use pcrf_model::ranges::note_text;
+use pcrf_values::{
+    AfSid, Apn, DefaultQuality, DiameterIdentity, GxSid, Refusal, RequestKind, Rule,
+};
 use ranked::{Ranked, Tag};
-use request_facts::facts_made;
+use request_facts::{facts_made, note_ccr};
 use rule_telling::{next_push, untold};
 use site_join::{LAST_COUNTER, Operation, SessionFacts, State};
 use std::alloc::{AllocError, Global};
@@ -134,7 +138,7 @@ impl Site {
 
     /// Each live session of an application function with the gateway's session to which it is bound, if it is bound, in the
     /// order of their Session-Ids (TS 29.213, 5.2).
-    pub fn bindings(&self) -> Result<Vec<(SessionId, Option<SessionId>)>, AllocError>
+    pub fn bindings(&self) -> Result<Vec<(AfSid, Option<GxSid>)>, AllocError>
         ensures { IfOk result (λ found.
             found.items ≡ bindings_of (view self.now.state.holding.facts)) }
     {
@@ -142,7 +146,7 @@ impl Site {
     }
 
     /// The PCC rules of a gateway's session, by precedence and name; none where it isn't live (TS 23.203, 6.3.1).
-    pub fn rules_of(&self, session: &SessionId) -> Result<Vec<Rule>, AllocError>
+    pub fn rules_of(&self, session: &GxSid) -> Result<Vec<Rule>, AllocError>
         ensures rules { IfOk result (λ made. made.items
             ≡ rules self.now.tables (view self.now.state.holding.facts) (gx session.now)) }
         ensures apart { IfOk result (λ made. Distinct (map rule_name_of made.items)) }
@@ -251,6 +255,7 @@ impl Site {
     /// Ends the session of an accepted request, or changes nothing.
     fn close(&mut self, ccr: &Ccr, counter: u64) -> Result<GxReply, AllocError>
         requires within { counter ≤ last_counter }
+        requires first { 1 ≤ counter }
         requires later { length self.old.state.log < counter }
         ensures reply { IfOk result (λ reply.
             gx_reply_value reply ≡ OnGx (Granted empty_delta None)) }
@@ -278,6 +283,7 @@ impl Site {
     {
         self.note_kept();
         self.note_told();
+        self.note_form();
         let before = self.copy_of(&ccr.session)?;
         let clock = self.state.clock();
         self.set_fields(ccr, counter)?;
@@ -291,7 +297,7 @@ impl Site {
     }
 
     /// A copy of the record of a session, if a fact of it is known.
-    fn copy_of(&self, session: &SessionId) -> Result<Option<GxRec>, AllocError>
+    fn copy_of(&self, session: &GxSid) -> Result<Option<GxRec>, AllocError>
         ensures { IfOk result (λ copy. record_facts copy
             ≡ facts_on self.now.state.holding.facts (gx session.now)) }
     {
@@ -302,12 +308,12 @@ impl Site {
     }
 
     /// Puts the record that stood in its place, with the clock that was.
-    fn put_back(&mut self, session: &SessionId, before: Option<GxRec>, clock: u64)
+    fn put_back(&mut self, session: &GxSid, before: Option<GxRec>, clock: u64)
         requires within { clock ≤ last_counter }
         requires counted { length self.old.state.log ≤ clock }
         requires known { facts_on self.old.state.holding.facts (gx session.now) ≢ [] }
-        requires told { ToldUpTo clock (replaced self.old.state.holding
-            (gx session.now) (record_facts before) clock).facts }
+        requires back { are_up_to clock (replaced self.old.state.holding
+            (gx session.now) (record_facts before) clock).facts ≡ true }
         ensures { self.new ≡ with_record self.old (gx session.now) (record_facts before) clock }
     {
         self.state.put_gx(session, before, clock).unwrap();
@@ -315,7 +321,8 @@ impl Site {
 
     /// Sets the fields of an accepted request, or changes nothing.
     fn set_fields(&mut self, ccr: &Ccr, counter: u64) -> Result<(), AllocError>
-        requires { counter ≤ last_counter }
+        requires within { counter ≤ last_counter }
+        requires first { 1 ≤ counter }
         ensures ok { OnOk result (self.new ≡ with_one self.old
             (operation_made self.old.number counter (ccr_view ccr.now) ccr.now.kind)) }
         ensures err { OnErr result (self.new ≡ self.old) }
@@ -328,6 +335,7 @@ impl Site {
     fn tell(&mut self, ccr: &Ccr, counter: u64) -> Result<GxReply, AllocError>
         requires within { counter ≤ last_counter }
         requires later { length self.old.state.log < counter }
+        requires opens { opens ccr.now.kind ≡ true }
         ensures reply { IfOk result (λ reply. gx_reply_value reply
             ≡ told_reply self.old.tables (view self.old.state.holding.facts) (gx ccr.now.session)) }
         ensures ok { OnOk result (self.new ≡ with_made self.old (Some (operation_told
@@ -341,6 +349,9 @@ impl Site {
         let quality = self.quality_of(&ccr.session);
         let missing = untold(self.alloc, &self.tables, &self.state, &ccr.session)?;
         let delta = FirstEntries::of(missing);
+        note_entries(&delta);
+        note_ccr(ccr);
+        self.note_number();
         let operation = self.all_made(ccr, counter, &delta)?;
         self.add(operation)?;
         Ok(GxReply::Granted(delta, quality))
@@ -348,10 +359,13 @@ impl Site {
 
     /// The operation of the fields that an accepted request sets, or of the end that it makes.
     fn fields_made(&self, ccr: &Ccr, counter: u64) -> Result<Operation, AllocError>
-        requires { counter ≤ last_counter }
+        requires within { counter ≤ last_counter }
+        requires first { 1 ≤ counter }
         ensures { IfOk result (λ operation. operation
             ≡ operation_made self.now.number counter (ccr_view ccr.now) ccr.now.kind) }
     {
+        note_ccr(ccr);
+        self.note_number();
         let session = ccr.session.try_copy()?;
         let facts = facts_made(self.alloc, ccr, self.tag(ccr.number, counter))?;
         let facts = SessionFacts::Gx(session, facts);
@@ -365,7 +379,8 @@ impl Site {
         counter: u64,
         delta: &FirstEntries,
     ) -> Result<Operation, AllocError>
-        requires { counter ≤ last_counter }
+        requires { is_operation (operation_told self.now.number counter (ccr_view ccr.now)
+            ccr.now.kind delta.now) ≡ true }
         ensures { IfOk result (λ operation. operation ≡ operation_told
             self.now.number counter (ccr_view ccr.now) ccr.now.kind delta.now) }
     {
@@ -387,7 +402,7 @@ impl Site {
     }
 
     /// The default quality of service of the access point that a session shows.
-    fn quality_of(&self, session: &SessionId) -> Option<DefaultQuality>
+    fn quality_of(&self, session: &GxSid) -> Option<DefaultQuality>
         ensures { result
             ≡ quality_of self.now.tables (view self.now.state.holding.facts) (gx session.now) }
     {
@@ -469,6 +484,9 @@ impl Site {
         let Some(counter) = self.next_counter() else {
             return Err(StepFault::ClockFull);
         };
+        note_entries(&push.delta);
+        note_text(push.session.id());
+        self.note_number();
         if self.tell_push(&push, counter).is_err() {
             return Err(StepFault::NoMemory);
         }
@@ -477,8 +495,9 @@ impl Site {
 
     /// Adds the operation of a push, or changes nothing.
     fn tell_push(&mut self, push: &PushOut, counter: u64) -> Result<(), AllocError>
-        requires within { counter ≤ last_counter }
         requires later { length self.old.state.log < counter }
+        requires formed { is_operation (operation_pushed
+            self.old.number counter push.now.session push.now.delta) ≡ true }
         ensures ok { OnOk result (self.new ≡ with_made self.old
             (Some (operation_pushed self.old.number counter push.now.session push.now.delta))) }
         ensures err { OnErr result (self.new ≡ self.old) }
@@ -516,6 +535,20 @@ impl Site {
         ensures { length self.now.state.log ≤ self.now.state.holding.clock }
     {
         let _ = &self.log;
+    }
+
+    /// Does nothing: its contract tells a proof that the site is one of those that there may be.
+    pub(crate) fn note_number(&self)
+        ensures { self.now.number < site_limit }
+    {
+        let _ = &self.log;
+    }
+
+    /// Does nothing: its contract tells a proof that what is held has the form of what operations make.
+    pub fn note_form(&self)
+        ensures { is_holding self.now.state.holding ≡ true }
+    {
+        self.state.note_form();
     }
 
     /// Does nothing: its contract tells a proof that what gateways were told has tags up to the clock.

@@ -1,13 +1,18 @@
 //! The facts that tell a gateway of rules (TS 29.212, 4.5.2).
-ghost use Rattle.std.specs.Prelude.{◌≡◌, ◌++◌, map, IfOk, OnOk};
+ghost use Rattle.std.specs.Prelude.{◌≡◌, ◌++◌, map, IfOk, OnOk, true};
+ghost use Rattle.std.specs.List.{list_all};
 ghost use Rattle.ranked.specs.Ascending.{ascending};
 ghost use Rattle.pcrf_facts.specs.Facts.{fact_cmp};
 ghost use Rattle.gx_records.specs.GxFacts.{fact_of};
+ghost use Rattle.pcrf_values.specs.Limits.{rule_name_limit};
+ghost use Rattle.pcrf_values.specs.RuleValues.{RuleValue};
+ghost use Rattle.pcrf_model.specs.Forms.{is_rule, is_text};
 ghost use Rattle.pcrf_model.specs.Making.{told_facts};
 ghost use Rattle.site_core.specs.Facts.{entries_told, installed_entry, removed_entry, told_fact};
 
 use gx_profile::FirstEntries;
 use gx_records::GxFact;
+use pcrf_model::ranges::{note_rule, note_text};
 use pcrf_values::{Rule, RuleName};
 use ranked::{Ranked, Tag, ascending_of};
 use std::alloc::{AllocError, Global};
@@ -82,4 +87,35 @@ fn put_installed(
         entries.push((name, Some(copy)))?;
     }
     Ok(())
+}
+
+/// Does nothing: its contract tells a proof that names and rules that are told are within their ranges.
+pub(crate) fn note_entries(delta: &FirstEntries)
+    ensures names { list_all (is_text rule_name_limit) delta.now.removed ≡ true }
+    ensures rule_names { list_all (λ (r : RuleValue). is_text rule_name_limit r.name)
+        delta.now.installed ≡ true }
+    ensures rules { list_all is_rule delta.now.installed ≡ true }
+{
+    note_names(delta.removed());
+    note_rules(delta.installed());
+}
+
+/// Names of rules are texts.
+fn note_names(names: &[RuleName])
+    ensures { list_all (is_text rule_name_limit) names.now ≡ true }
+{
+    for name in names {
+        note_text(name);
+    }
+}
+
+/// So are those of rules, and their parts are within their ranges.
+fn note_rules(rules: &[Rule])
+    ensures names { list_all (λ (r : RuleValue). is_text rule_name_limit r.name) rules.now ≡ true }
+    ensures parts { list_all is_rule rules.now ≡ true }
+{
+    for rule in rules {
+        note_text(rule.name());
+        note_rule(rule);
+    }
 }

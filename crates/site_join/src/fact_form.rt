@@ -1,24 +1,26 @@
 //! The facts of both kinds of sessions, as the form of operations asks for them.
-ghost use Rattle.std.specs.Prelude.{◌≡◌, ◌&&◌, true};
+ghost use Rattle.std.specs.Prelude.{◌≡◌, ◌&&◌, ◌==◌, nat_le, nat_lt, true};
 ghost use Rattle.std.specs.Ordering.{is_eq};
 ghost use Rattle.ranked.specs.declared.tag.Tag.{Tag};
 ghost use Rattle.ranked.specs.Tags.{tag_cmp};
 ghost use Rattle.pcrf_facts.specs.Facts.{position};
-ghost use Rattle.pcrf_model.specs.Forms.{fits_rule_name};
+ghost use Rattle.pcrf_model.specs.Limits.{site_limit};
+ghost use Rattle.pcrf_model.specs.Forms.{fits_rule_name, is_unsigned};
 ghost use Rattle.record_levels.specs.SessionFacts.{session_fact};
 ghost use Rattle.gx_records.specs.GxFacts.{told_value};
 ghost use Rattle.af_records.specs.RecordFacts as af_facts;
 ghost use Rattle.af_records.specs.declared.fact.AfFact.TheVariants.{Component, Flow};
 
 use crate::form::{
-    Beneath, COMPONENT_FIELD, FLOW_FIELD, FormFact, Position, RULE_NAME, SESSION_FIELD,
+    Beneath, COMPONENT_FIELD, FLOW_FIELD, FormFact, Position, RULE_NAME, SESSION_FIELD, SITE_LIMIT,
 };
 use crate::ranges::{
-    note_af_value, note_component_value, note_flow_value, note_gx_value, note_rule, note_text,
+    note_af_value, note_component_value, note_flow_value, note_gx_value, note_unsigned,
 };
 use af_records::{AfFact, ComponentValue, FlowValue, SessionValue};
 use gx_records::GxFact;
 use lattice_core::Tag;
+use pcrf_model::ranges::{note_rule, note_text};
 use pcrf_values::{BoundedNumber, Rule, RuleName};
 
 /// The tag is that of these parts.
@@ -32,6 +34,15 @@ fn is_tag(tag: &Tag, number: u32, counter: u64, site: u8) -> bool
         site,
     };
     tag.cmp(&made).is_eq()
+}
+
+/// The tag is that of some operation, whatever its counter, with this CC-Request-Number.
+fn is_numbered(tag: &Tag, number: u32) -> bool
+    ensures { result ≡ (nat_le 1 tag.now.counter && nat_lt tag.now.site site_limit
+        && is_unsigned tag.now.number && tag.now.number == number) }
+{
+    note_unsigned(tag.number);
+    1 <= tag.counter && tag.site < SITE_LIMIT && tag.number == number
 }
 
 /// Where a field of a session stands.
@@ -151,6 +162,20 @@ impl FormFact for GxFact {
             }
         }
     }
+
+    fn is_recorded(&self) -> bool {
+        match self {
+            GxFact::End => true,
+            GxFact::Field(tag, value) => {
+                note_gx_value(value);
+                is_numbered(tag, tag.number)
+            }
+            GxFact::Told(tag, name, rule) => {
+                note_text(name);
+                is_told(name, rule) && is_numbered(tag, 0)
+            }
+        }
+    }
 }
 
 impl FormFact for AfFact {
@@ -204,6 +229,32 @@ impl FormFact for AfFact {
             AfFact::Flow(component, flow, tag, value) => {
                 note_flow_value(*component, *flow, value);
                 is_tag(tag, 0, counter, site)
+            }
+        }
+    }
+
+    fn is_recorded(&self) -> bool {
+        match self {
+            AfFact::End => true,
+            AfFact::ComponentRemoved(component) => {
+                let _component = *component;
+                true
+            }
+            AfFact::FlowRemoved(component, flow) => {
+                let (_component, _flow) = (*component, *flow);
+                true
+            }
+            AfFact::Session(tag, value) => {
+                note_af_value(value);
+                is_numbered(tag, 0)
+            }
+            AfFact::Component(component, tag, value) => {
+                note_component_value(*component, value);
+                is_numbered(tag, 0)
+            }
+            AfFact::Flow(component, flow, tag, value) => {
+                note_flow_value(*component, *flow, value);
+                is_numbered(tag, 0)
             }
         }
     }

@@ -6,13 +6,13 @@ ghost use Rattle.std.specs.List.{list_all, list_any};
 ghost use Rattle.pcrf_facts.specs.Places.{Component, Flow, position_cmp, removed_position};
 ghost use Rattle.pcrf_facts.specs.Facts.{Fact, End, position, is_shaded_by};
 ghost use Rattle.pcrf_model.specs.Sessions.{Kind};
-ghost use Rattle.pcrf_model.specs.Forms.{fits, is_operation, is_rising, is_stamp, is_tagged, stand_together};
+ghost use Rattle.pcrf_model.specs.Forms.{fits, is_operation, is_record, is_recorded, is_rising, is_stamp, is_tagged, stand_together};
 ghost use Rattle.site_join.specs.declared.form.Beneath.TheVariants as beneath;
 ghost use Rattle.site_join.specs.Beneath.{beneath_of, removes, stands_at};
 ghost use Rattle.site_join.specs.Formed.{operation_of};
 
 use crate::operation::SessionFacts;
-use crate::ranges::note_text;
+use pcrf_model::ranges::note_text;
 use std::cmp::Ordering;
 use std::marker::Model;
 
@@ -20,7 +20,7 @@ use std::marker::Model;
 pub const LAST_COUNTER: u64 = (1 << 63) - 1;
 
 /// How many sites there may be.
-const SITE_LIMIT: u8 = 16;
+pub(crate) const SITE_LIMIT: u8 = 16;
 
 /// The kinds of facts, in the order in which they stand.
 const END: u8 = 1;
@@ -139,6 +139,10 @@ pub(crate) trait FormFact {
     fn is_made(&self, counter: u64, site: u8, number: u32) -> bool
         ensures { result ≡ (fits kind (fact self.now)
             && is_tagged kind counter site number (fact self.now)) };
+
+    /// The fact is one of its kind, with the tag of some operation.
+    fn is_recorded(&self) -> bool
+        ensures { result ≡ is_recorded kind (fact self.now) };
 }
 
 /// A stamp that a site may give.
@@ -255,6 +259,27 @@ fn are_made<F: FormFact>(facts: &[F], counter: u64, site: u8, number: u32) -> bo
     true
 }
 
+/// Each fact is one of some operation.
+fn are_recorded<F: FormFact>(facts: &[F]) -> bool
+    ensures { result ≡ list_all (is_recorded F.kind) (map F.fact facts.now) }
+{
+    let mut left = facts;
+    while let Some((first, rest)) = left.split_first() {
+        if !first.is_recorded() {
+            return false;
+        }
+        left = rest;
+    }
+    true
+}
+
+/// There is a fact, and each is one of some operation.
+pub(crate) fn is_record<F: FormFact>(facts: &[F]) -> bool
+    ensures { result ≡ is_record F.kind (map F.fact facts.now) }
+{
+    !facts.is_empty() && are_recorded(facts)
+}
+
 /// The facts are those of an operation of that stamp and number.
 pub(crate) fn are_of_operation<F: FormFact>(
     facts: &[F],
@@ -278,11 +303,11 @@ pub(crate) fn is_operation(counter: u64, site: u8, number: u32, facts: &SessionF
     }
     match facts {
         SessionFacts::Gx(id, facts) => {
-            note_text(id);
+            note_text(id.id());
             are_of_operation(facts.as_slice(), counter, site, number)
         }
         SessionFacts::Af(id, facts) => {
-            note_text(id);
+            note_text(id.id());
             number == 0 && are_of_operation(facts.as_slice(), counter, site, number)
         }
     }

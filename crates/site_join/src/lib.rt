@@ -3,11 +3,12 @@
 
 mod fact_form;
 mod form;
+mod groups;
 pub mod laws;
 mod operation;
 mod ranges;
 mod state;
 
 pub use form::LAST_COUNTER;
-pub use operation::{Operation, SessionFacts};
+pub use operation::{Operation, SessionFacts, are_af_facts, are_gx_facts};
 pub use state::State;

@@ -1,15 +1,17 @@
 //! Operations: what accepted requests and pushes make, and what sites send each other.
-ghost use Rattle.std.specs.Prelude.{◌≡◌, ◌≤◌, IfOk, map};
+ghost use Rattle.std.specs.Prelude.{◌≡◌, ◌≤◌, IfOk, map, true};
 ghost use Rattle.pcrf_model.specs.Limits.{last_counter};
-ghost use Rattle.pcrf_model.specs.Holdings.{under};
-ghost use Rattle.pcrf_model.specs.ToldTags.{ToldUpTo};
+ghost use Rattle.pcrf_model.specs.Forms.{is_operation, is_record};
+ghost use Rattle.pcrf_model.specs.Sessions.{Gx, Af};
+ghost use Rattle.gx_records.specs.GxFacts as gx_facts;
+ghost use Rattle.af_records.specs.RecordFacts as af_facts;
 ghost use Rattle.site_join.specs.Formed.{if_formed, operation_of};
 ghost use Rattle.site_join.specs.States.{session_of, facts_in};
 
-use crate::form::is_operation;
+use crate::form::{is_operation, is_record};
 use af_records::AfFact;
 use gx_records::GxFact;
-use pcrf_values::SessionId;
+use pcrf_values::{AfSid, GxSid};
 use ranked::Ranked;
 use std::alloc::AllocError;
 use std::marker::Model;
@@ -18,9 +20,9 @@ use std::marker::Model;
 #[derive(Drop)]
 pub enum SessionFacts {
     /// A gateway's session (TS 29.212).
-    Gx(SessionId, Vec<GxFact>),
+    Gx(GxSid, Vec<GxFact>),
     /// An AF session (TS 29.214).
-    Af(SessionId, Vec<AfFact>),
+    Af(AfSid, Vec<AfFact>),
 }
 
 impl SessionFacts {
@@ -64,8 +66,26 @@ fn copy_af(facts: &Vec<AfFact>) -> Result<Vec<AfFact>, AllocError>
     Ok(copies)
 }
 
+/// There is a fact, and each is one of some operation on a gateway's session: so a record can be made of them.
+pub fn are_gx_facts(facts: &[GxFact]) -> bool
+    ensures { result ≡ is_record Gx (map gx_facts.fact_of facts.now) }
+{
+    is_record(facts)
+}
+
+/// There is a fact, and each is one of some operation on an application function's session.
+pub fn are_af_facts(facts: &[AfFact]) -> bool
+    ensures { result ≡ is_record Af (map af_facts.fact_of facts.now) }
+{
+    is_record(facts)
+}
+
 /// What one accepted request or push adds to what its site knows: the counter and the site that it is stamped with, the
 /// CC-Request-Number (0 where there is none), a session, and facts on it.
+///
+/// Each is one that a site may make: it has a counter of 1 or more and a site that there may be; the CC-Request-Number, 0 for an
+/// application function's session; and facts on the session, at ascending positions, of which none removes another, each
+/// with the tag that an operation of that stamp and number gives it, and each rule that was told under its own name.
 #[derive(Drop)]
 pub struct Operation {
     counter: u64,
@@ -75,32 +95,23 @@ pub struct Operation {
 }
 
 impl Model for Operation {
-    ghost use Rattle.std.specs.Prelude.{◌≤◌};
-    ghost use Rattle.pcrf_model.specs.Limits.{last_counter};
-    ghost use Rattle.pcrf_model.specs.Holdings.{under};
+    ghost use Rattle.std.specs.Prelude.{◌≡◌, true};
+    ghost use Rattle.pcrf_model.specs.Forms.{is_operation, is_record};
+    ghost use Rattle.pcrf_model.specs.Sessions.{Gx, Af};
+    ghost use Rattle.gx_records.specs.GxFacts as gx_facts;
+    ghost use Rattle.af_records.specs.RecordFacts as af_facts;
     ghost use Rattle.pcrf_model.specs.Operations.{Operation};
-    ghost use Rattle.pcrf_model.specs.ToldTags.{ToldUpTo};
-    ghost use Rattle.site_join.specs.States.{session_of, facts_in};
+    ghost use Rattle.site_join.specs.Formed.{operation_of};
 
     ghost Value = { Operation };
 
-    ghost view = { λ o. record {
-      counter = o.counter;
-      site = o.site;
-      number = o.number;
-      session = session_of o.facts;
-      facts = facts_in o.facts;
-    } };
+    ghost view = { λ o. operation_of o.counter o.site o.number o.facts };
 
-    ghost invariant = { λ o. (o.counter ≤ last_counter)
-        × ToldUpTo o.counter (under (session_of o.facts) (facts_in o.facts)) };
+    ghost invariant = { λ o. is_operation (operation_of o.counter o.site o.number o.facts) ≡ true };
 }
 
 impl Operation {
-    /// The operation of these parts; `None` where no site may make it. It has a counter of 1 or more and a site that there
-    /// may be; the CC-Request-Number, 0 for an application function's session; and facts on the session, at ascending
-    /// positions, of which none removes another, each with the tag that an operation of that stamp and number gives it, and
-    /// each rule that was told under its own name.
+    /// The operation of these parts; `None` where no site may make it.
     pub fn of(counter: u64, site: u8, number: u32, facts: SessionFacts) -> Option<Operation>
         ensures { result ≡ if_formed (operation_of counter site number facts) }
     {
@@ -115,17 +126,10 @@ impl Operation {
         })
     }
 
-    /// The operation of these parts, which the caller makes of the form.
+    /// The operation of these parts, which the caller knows that a site may make: nothing is judged.
     pub fn stamped(counter: u64, site: u8, number: u32, facts: SessionFacts) -> Operation
-        requires within { counter ≤ last_counter }
-        requires told { ToldUpTo counter (under (session_of facts) (facts_in facts)) }
-        ensures { result ≡ record {
-          counter = counter;
-          site = site;
-          number = number;
-          session = session_of facts;
-          facts = facts_in facts;
-        } }
+        requires { is_operation (operation_of counter site number facts) ≡ true }
+        ensures { result ≡ operation_of counter site number facts }
     {
         Operation {
             counter,
@@ -136,6 +140,7 @@ impl Operation {
     }
 
     /// The counter that it is stamped with.
+    #[tactic(auto, using(crate::proofs::FormedLaws::counter_low))]
     pub fn counter(&self) -> u64
         ensures counter { result ≡ self.now.counter }
         ensures bounded { result ≤ last_counter }
@@ -165,9 +170,9 @@ impl Operation {
         &self.facts
     }
 
-    /// Does nothing: its contract tells a proof that what it tells a gateway has tags up to its counter.
-    pub(crate) fn note_told(&self)
-        ensures { ToldUpTo self.now.counter (under self.now.session self.now.facts) }
+    /// Does nothing: its contract tells a proof that a site may make the operation.
+    pub fn note_form(&self)
+        ensures { is_operation self.now ≡ true }
     {
         let _ = &self.facts;
     }

@@ -2,84 +2,22 @@
 //!
 //! The functions do nothing that a caller sees: what they tell a proof is their contracts.
 ghost use Rattle.std.specs.Prelude.{◌≡◌, true};
-ghost use Rattle.std.specs.List.{list_all};
-ghost use Rattle.std.specs.Net.Addr.{ipv4_octets};
 ghost use Rattle.ranked.specs.declared.tag.Tag.{Tag};
 ghost use Rattle.record_levels.specs.SessionFacts.{session_fact};
 ghost use Rattle.af_records.specs.RecordFacts.{fact_of};
 ghost use Rattle.af_records.specs.declared.fact.AfFact.TheVariants.{Component, Flow};
 ghost use Rattle.pcrf_model.specs.Sessions.{Gx, Af};
-ghost use Rattle.pcrf_model.specs.Forms.{fits, is_address, is_apn, is_byte, is_rule, is_subscriber, is_text, are_filters, are_subscribers};
+ghost use Rattle.pcrf_model.specs.Forms.{fits, is_unsigned};
 
 use af_records::{AfRequestType, ComponentValue, FlowValue, SessionValue};
 use gx_records::OpenRequestType;
-use pcrf_values::{Apn, BoundedText, Filters, Rule, Subscriber, Subscribers};
-use std::net::Ipv4Addr;
+use pcrf_model::ranges::{note_address, note_apn, note_filters, note_subscribers, note_text};
 
-/// Bytes are bytes.
-pub(crate) fn note_bytes(bytes: &[u8])
-    ensures { list_all is_byte bytes.now ≡ true }
-{}
-
-/// A text has 1 byte to the most.
-pub(crate) fn note_text<const MOST: usize>(text: &BoundedText<MOST>)
-    ensures { is_text MOST text.now ≡ true }
+/// A number has 32 bits.
+pub(crate) fn note_unsigned(number: u32)
+    ensures { is_unsigned number ≡ true }
 {
-    note_bytes(text.as_slice());
-}
-
-/// An access point name is a text in small letters.
-pub(crate) fn note_apn(apn: &Apn)
-    ensures { is_apn apn.now ≡ true }
-{
-    note_bytes(apn.as_slice());
-}
-
-/// An address has four octets.
-pub(crate) fn note_address(address: &Ipv4Addr)
-    ensures { is_address (ipv4_octets address.now) ≡ true }
-{
-    note_bytes(&address.octets());
-}
-
-/// Filters are one or two, each a text.
-pub(crate) fn note_filters(filters: &Filters)
-    ensures { are_filters filters.now ≡ true }
-{
-    for filter in filters.as_slice() {
-        note_text(filter);
-    }
-}
-
-/// A subscriber has a type that is known, and a name.
-pub(crate) fn note_subscriber(subscriber: &Subscriber)
-    ensures { is_subscriber subscriber.now ≡ true }
-{
-    let _kind = subscriber.kind().number();
-    note_text(subscriber.name());
-}
-
-/// Subscribers are 1 to 16, ascending.
-pub(crate) fn note_subscribers(subscribers: &Subscribers)
-    ensures { are_subscribers subscribers.now ≡ true }
-{
-    for subscriber in subscribers.as_slice() {
-        note_subscriber(subscriber);
-    }
-}
-
-/// The parts of a rule are within their ranges, whatever its name.
-pub(crate) fn note_rule(rule: &Rule)
-    ensures { is_rule rule.now ≡ true }
-{
-    let _status = rule.status().number();
-    note_filters(rule.filters());
-    let qos = rule.qos();
-    let _class = qos.class.get();
-    let _level = qos.priority.level.get();
-    let _capability = qos.priority.capability.number();
-    let _vulnerability = qos.priority.vulnerability.number();
-    let _precedence = rule.precedence();
+    let _ = number;
 }
 
 /// A value of a gateway's session fits its field.

@@ -1,48 +1,50 @@
 //! The records of all sessions, with the clock.
-ghost use Rattle.std.specs.Prelude.{◌≡◌, ℕ, List, ◌≤◌, ◌↔◌, [], IsTrue, IfOk, IfErr, OnOk, OnErr, IsSome};
+ghost use Rattle.std.specs.Prelude.{◌≡◌, ℕ, List, ◌≤◌, ◌↔◌, [], true, IsTrue, IfOk, IfErr, OnOk, OnErr, IsSome};
+ghost use Rattle.std.specs.List.{list_all};
 ghost use Rattle.std.specs.Option.{option_copied};
 ghost use Rattle.pcrf_model.specs.Limits.{last_counter};
-ghost use Rattle.pcrf_model.specs.Sessions.{gx, af};
+ghost use Rattle.pcrf_model.specs.Sessions.{Gx, Af, gx, af};
 ghost use Rattle.pcrf_model.specs.Holdings.{nothing_held, facts_on, union, kept_of, replaced};
 ghost use Rattle.pcrf_model.specs.Operations.{with_operation};
 ghost use Rattle.pcrf_model.specs.ToldTags.{ToldUpTo};
+ghost use Rattle.pcrf_model.specs.Forms.{are_up_to, is_holding, is_record, is_recorded};
 ghost use Rattle.ranked.specs.Orders.{text_cmp};
 ghost use Rattle.lattice_core.specs.Entries.{IsAscending, put, value_at};
-ghost use Rattle.site_join.specs.States.{record_facts, gx_with, af_with};
+ghost use Rattle.site_join.specs.States.{record_facts, session_of, facts_in, gx_with, af_with};
 
 use crate::operation::{Operation, SessionFacts};
 use af_records::AfRec;
 use gx_records::GxRec;
 use lattice_core::{Join, JoinTree, same_facts};
-use pcrf_values::SessionId;
+use pcrf_model::ranges::note_text;
+use pcrf_values::{AfSid, GxSid};
 use ranked::Ranked;
 use std::alloc::{AllocError, Global};
 use std::collections::btree_map::Iter;
 use std::marker::Model;
 
 /// What a site holds: a record of each session of which it knows a fact, by Session-Id, and the greatest counter of the
-/// operations that it took. Contracts see it as the facts that are kept, each with its session, and the clock.
+/// operations that it took. Contracts see it as the facts that are kept, each with its session, and the clock. It has the form
+/// of what operations make.
 #[derive(Drop)]
 pub struct State {
     alloc: Global,
-    gx: JoinTree<SessionId, GxRec>,
-    af: JoinTree<SessionId, AfRec>,
+    gx: JoinTree<GxSid, GxRec>,
+    af: JoinTree<AfSid, AfRec>,
     clock: u64,
 }
 
 impl Model for State {
-    ghost use Rattle.std.specs.Prelude.{◌≤◌};
-    ghost use Rattle.pcrf_model.specs.Limits.{last_counter};
+    ghost use Rattle.std.specs.Prelude.{◌≡◌, true};
+    ghost use Rattle.pcrf_model.specs.Forms.{is_holding};
     ghost use Rattle.pcrf_model.specs.Holdings.{Holding};
-    ghost use Rattle.pcrf_model.specs.ToldTags.{ToldUpTo};
     ghost use Rattle.site_join.specs.States.{held_by};
 
     ghost Value = { Holding };
 
     ghost view = { λ s. held_by s.gx s.af s.clock };
 
-    ghost invariant = { λ s. (s.clock ≤ last_counter)
-        × ToldUpTo s.clock (held_by s.gx s.af s.clock).facts };
+    ghost invariant = { λ s. is_holding (held_by s.gx s.af s.clock) ≡ true };
 }
 
 impl State {
@@ -59,6 +61,7 @@ impl State {
     }
 
     /// The greatest counter of the operations that were taken, 0 at first.
+    #[tactic(auto, using(crate::proofs::FormedLaws::clock_low))]
     pub fn clock(&self) -> u64
         ensures clock { result ≡ self.now.clock }
         ensures bounded { result ≤ last_counter }
@@ -67,7 +70,7 @@ impl State {
     }
 
     /// The record of a gateway's session, if a fact of it is known.
-    pub fn gx(&self, id: &SessionId) -> Option<&GxRec>
+    pub fn gx(&self, id: &GxSid) -> Option<&GxRec>
         ensures { record_facts (option_copied result) ≡ facts_on self.now.facts (gx id.now) }
     {
         self.gx.note_valid();
@@ -75,7 +78,7 @@ impl State {
     }
 
     /// The record of an application function's session, if a fact of it is known.
-    pub fn af(&self, id: &SessionId) -> Option<&AfRec>
+    pub fn af(&self, id: &AfSid) -> Option<&AfRec>
         ensures { record_facts (option_copied result) ≡ facts_on self.now.facts (af id.now) }
     {
         self.af.note_valid();
@@ -83,7 +86,7 @@ impl State {
     }
 
     /// All records of gateways' sessions, in the order of their Session-Ids.
-    pub fn all_gx(&self) -> Iter<'_, SessionId, GxRec>
+    pub fn all_gx(&self) -> Iter<'_, GxSid, GxRec>
         ensures ascending { IsAscending text_cmp result }
         ensures facts { (id : List ℕ) → record_facts (value_at text_cmp result id)
             ≡ facts_on self.now.facts (gx id) }
@@ -93,7 +96,7 @@ impl State {
     }
 
     /// All records of application functions' sessions, in the order of their Session-Ids.
-    pub fn all_af(&self) -> Iter<'_, SessionId, AfRec>
+    pub fn all_af(&self) -> Iter<'_, AfSid, AfRec>
         ensures ascending { IsAscending text_cmp result }
         ensures facts { (id : List ℕ) → record_facts (value_at text_cmp result id)
             ≡ facts_on self.now.facts (af id) }
@@ -110,7 +113,15 @@ impl State {
         self.af.note_valid();
     }
 
+    /// Does nothing: its contract tells a proof that what is held has the form of what operations make.
+    pub fn note_form(&self)
+        ensures { is_holding self.now ≡ true }
+    {
+        let _ = &self.clock;
+    }
+
     /// Does nothing: its contract tells a proof that what gateways were told has tags up to the clock.
+    #[tactic(auto, using(pcrf_model::proofs::ToldTagLaws::told_holding))]
     pub fn note_told(&self)
         ensures { ToldUpTo self.now.clock self.now.facts }
     {
@@ -174,18 +185,18 @@ impl State {
         })
     }
 
-    /// Puts a record, or none, in the place of that of a gateway's session, sets the clock, which what gateways were told
-    /// then must not be above, and hands back the record that stood. Only a record at a session that has none is refused,
-    /// which changes nothing.
+    /// Puts a record, or none, in the place of that of a gateway's session, sets the clock, which no tag's counter may then be
+    /// above, and hands back the record that stood. Only a record at a session that has none is refused, which changes
+    /// nothing.
     pub fn put_gx(
         &mut self,
-        id: &SessionId,
+        id: &GxSid,
         given: Option<GxRec>,
         clock: u64,
     ) -> Result<Option<GxRec>, AllocError>
         requires within { clock ≤ last_counter }
-        requires told { ToldUpTo clock
-            (replaced self.old (gx id.now) (record_facts given) clock).facts }
+        requires counted { are_up_to clock
+            (replaced self.old (gx id.now) (record_facts given) clock).facts ≡ true }
         ensures stood { IfOk result (λ stood.
             record_facts stood ≡ facts_on self.old.facts (gx id.now)) }
         ensures placed { OnOk result
@@ -194,6 +205,8 @@ impl State {
         ensures refused_record { OnErr result (IsSome given) }
         ensures refused_new { OnErr result (facts_on self.old.facts (gx id.now) ≡ []) }
     {
+        note_text(id.id());
+        note_gx(&given);
         self.gx.note_valid();
         let stood = self.gx.place_at(id, given)?;
         self.gx.note_valid();
@@ -204,13 +217,13 @@ impl State {
     /// Puts a record, or none, in the place of that of an application function's session, as `put_gx` does.
     pub fn put_af(
         &mut self,
-        id: &SessionId,
+        id: &AfSid,
         given: Option<AfRec>,
         clock: u64,
     ) -> Result<Option<AfRec>, AllocError>
         requires within { clock ≤ last_counter }
-        requires told { ToldUpTo clock
-            (replaced self.old (af id.now) (record_facts given) clock).facts }
+        requires counted { are_up_to clock
+            (replaced self.old (af id.now) (record_facts given) clock).facts ≡ true }
         ensures stood { IfOk result (λ stood.
             record_facts stood ≡ facts_on self.old.facts (af id.now)) }
         ensures placed { OnOk result
@@ -219,6 +232,8 @@ impl State {
         ensures refused_record { OnErr result (IsSome given) }
         ensures refused_new { OnErr result (facts_on self.old.facts (af id.now) ≡ []) }
     {
+        note_text(id.id());
+        note_af(&given);
         self.af.note_valid();
         let stood = self.af.place_at(id, given)?;
         self.af.note_valid();
@@ -233,20 +248,39 @@ impl State {
     {
         self.gx.note_valid();
         self.af.note_valid();
-        operation.note_told();
+        operation.note_form();
         join_facts(self.alloc, &mut self.gx, &mut self.af, operation.facts())?;
         self.clock = self.clock.max(operation.counter());
         Ok(())
     }
 }
 
+/// Does nothing: its contract tells a proof that a record has facts of a gateway's session, if there is one.
+fn note_gx(given: &Option<GxRec>)
+    ensures { list_all (is_recorded Gx) (record_facts given.now) ≡ true }
+{
+    if let Some(record) = given {
+        record.note_known();
+    }
+}
+
+/// Does nothing: its contract tells a proof that a record has facts of an application function's session, if there is one.
+fn note_af(given: &Option<AfRec>)
+    ensures { list_all (is_recorded Af) (record_facts given.now) ≡ true }
+{
+    if let Some(record) = given {
+        record.note_known();
+    }
+}
+
 /// Joins facts into the record of their session.
 fn join_facts(
     alloc: Global,
-    gx: &mut JoinTree<SessionId, GxRec>,
-    af: &mut JoinTree<SessionId, AfRec>,
+    gx: &mut JoinTree<GxSid, GxRec>,
+    af: &mut JoinTree<AfSid, AfRec>,
     facts: &SessionFacts,
 ) -> Result<(), AllocError>
+    requires { is_record (session_of facts.now).kind (facts_in facts.now) ≡ true }
     ensures gx { OnOk result (gx.new ≡ gx_with gx.old facts.now) }
     ensures af { OnOk result (af.new ≡ af_with af.old facts.now) }
     ensures gx_unchanged { OnErr result (gx.new ≡ gx.old) }
@@ -265,12 +299,12 @@ fn join_facts(
 }
 
 /// Joins a record into that of its session.
-fn join_record<V: Join>(
-    records: &mut JoinTree<SessionId, V>,
-    id: &SessionId,
+fn join_record<K: Ranked, V: Join>(
+    records: &mut JoinTree<K, V>,
+    id: &K,
     given: V,
 ) -> Result<(), AllocError>
-    ensures ok { OnOk result (records.new ≡ put text_cmp V.joined records.old id.now given) }
+    ensures ok { OnOk result (records.new ≡ put K.cmp V.joined records.old id.now given) }
     ensures err { OnErr result (records.new ≡ records.old) }
 {
     let id = id.try_copy()?;

@@ -1,21 +1,38 @@
--- Records that are put, by a clock that doesn't go back: what gateways were told has tags up to that.
-use Rattle.std.proofs.Common.{◌≡◌, ℕ, ◌≤◌, List, [], subst}
+-- Records that are put, by a clock that doesn't go back: no tag is above that.
+use Rattle.std.proofs.Common.{◌≡◌, ℕ, ◌≤◌, true, not, List, ◌++◌, inl, inr, subst, filter, arith}
+use Rattle.std.specs.Ordering.{is_eq}
+use Rattle.std.specs.List.{list_all}
 use Rattle.ranked.specs.Sets.{In}
-use Rattle.pcrf_facts.specs.Facts.{Fact}
-use Rattle.pcrf_model.specs.Sessions.{Session}
-use Rattle.pcrf_model.specs.Holdings.{Holding, under, facts_on, replaced}
-use Rattle.pcrf_model.specs.ToldTags.{ToldUpTo}
-use Rattle.pcrf_model.proofs.HoldingLaws.{facts_on-In}
-use Rattle.pcrf_model.proofs.ToldTagLaws.{told_longer, told_nothing, told_under, told_replaced}
+use Rattle.ranked.proofs.SetLaws.{In-cases, filter-In}
+use Rattle.pcrf_facts.specs.Facts.{Fact, End, Removed, Field}
+use Rattle.pcrf_model.specs.Sessions.{Session, session_cmp}
+use Rattle.pcrf_model.specs.Holdings.{SessionFact, Holding, under, facts_on, replaced}
+use Rattle.pcrf_model.specs.Forms.{is_holding, is_up_to, are_up_to}
+use Rattle.pcrf_model.proofs.HoldingLaws.{sorted-In, under-In, facts_on-In}
+use Rattle.pcrf_model.proofs.FormReading.{each_passes}
+use Rattle.pcrf_model.proofs.FormLaws.{all_pass, le_passes, passes_le}
+use Rattle.pcrf_model.proofs.RecordForms.{holding_up_to}
 
--- no facts
-pub none_told : (n : ℕ) (s : Session) → ToldUpTo n (under s [])
-none_told n s = told_nothing n
+-- what is up to a clock is up to a later one
+up_to_later : (m n : ℕ) (f : Fact) → m ≤ n → is_up_to m f ≡ true → is_up_to n f ≡ true
+up_to_later m n End l h = h
+up_to_later m n (Removed r) l h = h
+up_to_later m n (Field p t x) l h = let low = passes_le t.counter m h in le_passes t.counter n (omega (arith, l, low))
+
+-- so are the facts that are held
+held_up_to : (h : Holding) (n : ℕ) → is_holding h ≡ true → h.clock ≤ n → (x : SessionFact) → In x h.facts → is_up_to n x.1 ≡ true
+held_up_to h n form later x i = up_to_later h.clock n x.1 later (each_passes (λ (y : SessionFact). is_up_to h.clock y.1) h.facts (holding_up_to h form) x i)
 
 -- the facts of a session that is held
-pub record_told : (h : Holding) (facts : List Fact) (n : ℕ) (r s : Session) → facts ≡ facts_on h.facts r → h.clock ≤ n → ToldUpTo h.clock h.facts → ToldUpTo n (under s facts)
-record_told h facts n r s is later w = told_under n s facts (λ f i. (told_longer h.clock n h.facts later w).each (r, f) (facts_on-In h.facts r f (subst (In f) is i)))
+pub record_up_to : (h : Holding) (facts : List Fact) (n : ℕ) (r : Session) → facts ≡ facts_on h.facts r → h.clock ≤ n → is_holding h ≡ true → list_all (is_up_to n) facts ≡ true
+record_up_to h facts n r is later form = all_pass (is_up_to n) facts (λ f i. held_up_to h n form later (r, f) (facts_on-In h.facts r f (subst (In f) is i)))
 
 -- in place of those of a session
-pub put_told : (h : Holding) (s : Session) (facts : List Fact) (n : ℕ) → ToldUpTo h.clock h.facts → h.clock ≤ n → ((r : Session) → ToldUpTo n (under r facts)) → ToldUpTo n (replaced h s facts n).facts
-put_told h s facts n w later given = told_replaced n h s facts (told_longer h.clock n h.facts later w) (given s)
+pub put_up_to : (h : Holding) (s : Session) (facts : List Fact) (n : ℕ) → is_holding h ≡ true → h.clock ≤ n → list_all (is_up_to n) facts ≡ true → are_up_to n (replaced h s facts n).facts ≡ true
+put_up_to h s facts n form later given =
+    let is_other = λ (x : SessionFact). not (is_eq (session_cmp s x.0)) in
+    let others : List SessionFact = filter is_other h.facts in
+    all_pass (λ (x : SessionFact). is_up_to n x.1) (replaced h s facts n).facts (λ x i. elim (In-cases x others (under s facts) ((sorted-In (others ++ under s facts) x).0 i)) [
+      | inl j ↦ held_up_to h n form later x (filter-In is_other x h.facts j).0
+      | inr j ↦ each_passes (is_up_to n) facts given x.1 (under-In s x facts j).1
+    ])

@@ -4,6 +4,7 @@ use crate::record_text::{af_text, compare_text};
 use af_records::{AfFact, AfRec, ComponentValue, FlowValue, SessionValue};
 use lattice_core::{Join, Tag};
 use pcrf_values::BoundedNumber;
+use site_join::are_af_facts;
 use std::alloc::AllocGlobal;
 use std::net::Ipv4Addr;
 use std::process::Abort;
@@ -18,12 +19,18 @@ fn copies_of(rt: &(impl AllocGlobal + Abort), facts: &[AfFact]) -> Vec<AfFact> {
     copies
 }
 
-/// Joins the record of copies of these facts in.
-fn join_part(rt: &(impl AllocGlobal + Abort), record: &mut AfRec, facts: &[AfFact]) {
+/// The record of copies of these facts.
+fn part_of(rt: &(impl AllocGlobal + Abort), facts: &[AfFact]) -> AfRec {
     let copies = copies_of(rt, facts);
+    assert!(rt; are_af_facts(copies.as_slice()));
     let part = AfRec::of_facts(rt.alloc(), copies.as_slice()).expect(rt, "memory");
     drop(copies);
-    let joined = record.join_in(part);
+    part
+}
+
+/// Joins the record of copies of these facts in.
+fn join_part(rt: &(impl AllocGlobal + Abort), record: &mut AfRec, facts: &[AfFact]) {
+    let joined = record.join_in(part_of(rt, facts));
     let is_joined = joined.is_ok();
     drop(joined);
     assert!(rt; is_joined);
@@ -43,8 +50,7 @@ fn compare_joined(
     second: &[AfFact],
     want: &str,
 ) {
-    let mut record = AfRec::start(rt.alloc());
-    join_part(rt, &mut record, first);
+    let mut record = part_of(rt, first);
     join_part(rt, &mut record, second);
     compare(rt, &record, want);
     join_part(rt, &mut record, first);
@@ -237,9 +243,8 @@ fn compare_with_copies(rt: &(impl AllocGlobal + Abort), record: &AfRec) {
 
 #[test]
 fn a_copy_and_a_joined_copy_show_the_same(rt: HostRuntime) {
-    let mut record = AfRec::start(rt.alloc());
     let media = audio(&rt, tag(0, 2, 0));
-    join_part(&rt, &mut record, &media);
+    let record = part_of(&rt, &media);
     drop(media);
     compare_with_copies(&rt, &record);
     drop(record);

@@ -5,7 +5,7 @@ use crate::tables::tables;
 use crate::words::{address, subscriber, text};
 use bind_index::{bind, sessions_at, sessions_of};
 use pcc_rules::derive;
-use pcrf_values::{Rule, RuleQos, SessionId};
+use pcrf_values::{AfSid, GxSid, Rule, RuleQos};
 use site_join::State;
 use std::alloc::{AllocError, AllocGlobal};
 use std::fmt::Write as _;
@@ -20,7 +20,7 @@ fn put_text(out: &mut String, bytes: &[u8]) -> Result<(), AllocError> {
 }
 
 /// Session-Ids.
-fn put_sessions(out: &mut String, sessions: &[SessionId]) -> Result<(), AllocError> {
+fn put_sessions(out: &mut String, sessions: &[GxSid]) -> Result<(), AllocError> {
     for session in sessions {
         out.push_str(" ")?;
         put_text(out, session.as_slice())?;
@@ -53,7 +53,7 @@ pub fn put_rule(out: &mut String, rule: &Rule) -> Result<(), AllocError> {
 
 /// The gateway's session to which a call is bound.
 pub fn put_bound(rt: &(impl AllocGlobal + Abort), state: &State, id: &str, out: &mut String) {
-    let id = text(rt, id);
+    let id = AfSid::of(text(rt, id));
     if let Some(session) = bind(state, &id) {
         out.push_str(" ").expect(rt, "memory");
         put_text(out, session.as_slice()).expect(rt, "memory");
@@ -80,7 +80,7 @@ fn put_of(rt: &(impl AllocGlobal + Abort), state: &State, word: &str, out: &mut 
 /// The rules of a gateway's session.
 fn rules_of(rt: &(impl AllocGlobal + Abort), state: &State, id: &str) -> Vec<Rule> {
     let tables = tables(rt);
-    let id = text(rt, id);
+    let id = GxSid::of(text(rt, id));
     let rules = derive(rt.alloc(), &tables, state, &id).expect(rt, "memory");
     drop(id);
     drop(tables);

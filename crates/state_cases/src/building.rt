@@ -1,23 +1,28 @@
 //! Operations for tests.
-ghost use Rattle.std.specs.Prelude.{◌≤◌};
-ghost use Rattle.pcrf_model.specs.Holdings.{under};
+ghost use Rattle.std.specs.Prelude.{◌≡◌, ◌≤◌, true};
+ghost use Rattle.std.specs.List.{list_all};
+ghost use Rattle.pcrf_model.specs.Forms.{is_up_to};
 ghost use Rattle.pcrf_model.specs.Limits.{last_counter};
-ghost use Rattle.pcrf_model.specs.Sessions.{Session};
-ghost use Rattle.pcrf_model.specs.ToldTags.{ToldUpTo};
 ghost use Rattle.site_join.specs.States.{record_facts};
 
 use af_records::{AfFact, AfRec, ComponentValue};
 use gx_records::{GxFact, GxRec, SessionValue};
 use lattice_core::{Join, Tag};
-use pcrf_values::{BoundedNumber, BoundedText, DiameterIdentity, RuleName, SessionId};
+use pcrf_values::{AfSid, BoundedNumber, BoundedText, DiameterIdentity, GxSid, RuleName};
 use site_join::{Operation, SessionFacts, State};
 use std::alloc::AllocGlobal;
 use std::process::Abort;
 
-/// A Session-Id.
-pub fn session_id(rt: &(impl AllocGlobal + Abort), text: &str) -> SessionId {
+/// The Session-Id of a gateway's session.
+pub fn gateway_id(rt: &(impl AllocGlobal + Abort), text: &str) -> GxSid {
     let read = BoundedText::read(rt.alloc(), text.as_bytes()).expect(rt, "memory");
-    read.expect(rt, "a Session-Id")
+    GxSid::of(read.expect(rt, "a Session-Id"))
+}
+
+/// The Session-Id of a call.
+pub fn call_id(rt: &(impl AllocGlobal + Abort), text: &str) -> AfSid {
+    let read = BoundedText::read(rt.alloc(), text.as_bytes()).expect(rt, "memory");
+    AfSid::of(read.expect(rt, "a Session-Id"))
 }
 
 fn identity(rt: &(impl AllocGlobal + Abort), text: &str) -> DiameterIdentity {
@@ -62,7 +67,7 @@ pub fn update(
         counter,
         site,
     };
-    let facts = SessionFacts::Gx(session_id(rt, id), update_facts(rt, at, host));
+    let facts = SessionFacts::Gx(gateway_id(rt, id), update_facts(rt, at, host));
     Operation::of(counter, site, number, facts).expect(rt, "an operation")
 }
 
@@ -79,7 +84,7 @@ pub fn call(
         counter,
         site,
     };
-    let facts = SessionFacts::Af(session_id(rt, id), call_facts(rt, at, media));
+    let facts = SessionFacts::Af(call_id(rt, id), call_facts(rt, at, media));
     Operation::of(counter, site, 0, facts).expect(rt, "an operation")
 }
 
@@ -87,7 +92,7 @@ pub fn call(
 pub fn gateway_end(rt: &(impl AllocGlobal + Abort), id: &str, counter: u64, site: u8) -> Operation {
     let mut facts = Vec::new(rt.alloc());
     facts.push(GxFact::End).expect(rt, "memory");
-    let facts = SessionFacts::Gx(session_id(rt, id), facts);
+    let facts = SessionFacts::Gx(gateway_id(rt, id), facts);
     Operation::of(counter, site, 0, facts).expect(rt, "an operation")
 }
 
@@ -95,7 +100,7 @@ pub fn gateway_end(rt: &(impl AllocGlobal + Abort), id: &str, counter: u64, site
 pub fn call_end(rt: &(impl AllocGlobal + Abort), id: &str, counter: u64, site: u8) -> Operation {
     let mut facts = Vec::new(rt.alloc());
     facts.push(AfFact::End).expect(rt, "memory");
-    let facts = SessionFacts::Af(session_id(rt, id), facts);
+    let facts = SessionFacts::Af(call_id(rt, id), facts);
     Operation::of(counter, site, 0, facts).expect(rt, "an operation")
 }
 
@@ -108,7 +113,7 @@ pub fn gateway_fact(
 ) -> Operation {
     let mut facts = Vec::new(rt.alloc());
     facts.push(fact).expect(rt, "memory");
-    let facts = SessionFacts::Gx(session_id(rt, id), facts);
+    let facts = SessionFacts::Gx(gateway_id(rt, id), facts);
     Operation::of(counter, 0, 0, facts).expect(rt, "an operation")
 }
 
@@ -121,7 +126,7 @@ pub fn call_fact(
 ) -> Operation {
     let mut facts = Vec::new(rt.alloc());
     facts.push(fact).expect(rt, "memory");
-    let facts = SessionFacts::Af(session_id(rt, id), facts);
+    let facts = SessionFacts::Af(call_id(rt, id), facts);
     Operation::of(counter, 0, 0, facts).expect(rt, "an operation")
 }
 
@@ -139,34 +144,34 @@ pub fn told_nothing(rt: &(impl AllocGlobal + Abort), at: Tag, name: &str) -> GxF
 }
 
 /// The record that a state, whose clock is not above that one, has of a gateway's session, if a fact of it is known.
-#[tactic(auto, using(crate::proofs::Putting::record_told))]
+#[tactic(auto, using(crate::proofs::Putting::record_up_to))]
 pub fn gateway_record(
     rt: &(impl AllocGlobal + Abort),
     state: &State,
     id: &str,
     clock: u64,
 ) -> Option<GxRec>
-    ensures { (s : Session) → ToldUpTo clock (under s (record_facts result)) }
+    ensures { list_all (is_up_to clock) (record_facts result) ≡ true }
 {
-    let id = session_id(rt, id);
-    state.note_told();
+    let id = gateway_id(rt, id);
+    state.note_form();
     assert!(rt; state.clock() <= clock);
     let known = state.gx(&id)?;
     Some(known.try_copy().expect(rt, "memory"))
 }
 
 /// The record that it has of a call.
-#[tactic(auto, using(crate::proofs::Putting::record_told))]
+#[tactic(auto, using(crate::proofs::Putting::record_up_to))]
 pub fn call_record(
     rt: &(impl AllocGlobal + Abort),
     state: &State,
     id: &str,
     clock: u64,
 ) -> Option<AfRec>
-    ensures { (s : Session) → ToldUpTo clock (under s (record_facts result)) }
+    ensures { list_all (is_up_to clock) (record_facts result) ≡ true }
 {
-    let id = session_id(rt, id);
-    state.note_told();
+    let id = call_id(rt, id);
+    state.note_form();
     assert!(rt; state.clock() <= clock);
     let known = state.af(&id)?;
     Some(known.try_copy().expect(rt, "memory"))
@@ -174,7 +179,7 @@ pub fn call_record(
 
 /// Puts a record, or none, in the place of that of a gateway's session, sets the clock, which doesn't go back, and gives
 /// the record that stood.
-#[tactic(auto, using(crate::proofs::Putting::put_told, crate::proofs::Putting::record_told))]
+#[tactic(auto, using(crate::proofs::Putting::put_up_to, crate::proofs::Putting::record_up_to))]
 pub fn put_gateway(
     rt: &(impl AllocGlobal + Abort),
     state: &mut State,
@@ -183,17 +188,17 @@ pub fn put_gateway(
     clock: u64,
 ) -> Option<GxRec>
     requires within { clock ≤ last_counter }
-    requires told { (s : Session) → ToldUpTo clock (under s (record_facts given)) }
-    ensures { (s : Session) → ToldUpTo clock (under s (record_facts result)) }
+    requires counted { list_all (is_up_to clock) (record_facts given) ≡ true }
+    ensures { list_all (is_up_to clock) (record_facts result) ≡ true }
 {
-    let id = session_id(rt, id);
-    state.note_told();
+    let id = gateway_id(rt, id);
+    state.note_form();
     assert!(rt; state.clock() <= clock);
     state.put_gx(&id, given, clock).expect(rt, "memory")
 }
 
 /// Puts a record, or none, in the place of that of a call, as `put_gateway` does.
-#[tactic(auto, using(crate::proofs::Putting::put_told, crate::proofs::Putting::record_told))]
+#[tactic(auto, using(crate::proofs::Putting::put_up_to, crate::proofs::Putting::record_up_to))]
 pub fn put_call(
     rt: &(impl AllocGlobal + Abort),
     state: &mut State,
@@ -202,10 +207,10 @@ pub fn put_call(
     clock: u64,
 ) -> Option<AfRec>
     requires within { clock ≤ last_counter }
-    requires told { (s : Session) → ToldUpTo clock (under s (record_facts given)) }
+    requires counted { list_all (is_up_to clock) (record_facts given) ≡ true }
 {
-    let id = session_id(rt, id);
-    state.note_told();
+    let id = call_id(rt, id);
+    state.note_form();
     assert!(rt; state.clock() <= clock);
     state.put_af(&id, given, clock).expect(rt, "memory")
 }

@@ -3,13 +3,12 @@ ghost use Rattle.std.specs.Prelude.{◌≤◌};
 ghost use Rattle.pcrf_model.specs.Limits.{last_counter};
 
 use crate::building::{
-    call, call_fact, check_call_stood, check_gateway_stood, gateway_fact, put_call, put_gateway,
-    take, told_nothing, update,
+    call, call_fact, check_gateway_stood, gateway_fact, put_gateway, take, told_nothing, update,
 };
-use af_records::{AfFact, AfRec, ComponentValue, FlowValue};
-use gx_records::{GxFact, GxRec};
+use af_records::{AfFact, ComponentValue, FlowValue};
+use gx_records::GxFact;
 use lattice_core::Tag;
-use site_join::{Operation, State};
+use site_join::{Operation, State, are_af_facts, are_gx_facts};
 use std::alloc::AllocGlobal;
 use std::process::Abort;
 
@@ -84,7 +83,6 @@ fn copies_are_equal(rt: HostRuntime) {
 }
 
 /// Sets the clock alone: no record is put in the place of none.
-#[tactic(auto, using(crate::proofs::Putting::none_told))]
 fn set_clock(rt: &(impl AllocGlobal + Abort), state: &mut State, clock: u64)
     requires { clock ≤ last_counter }
 {
@@ -144,21 +142,10 @@ fn a_flow_more_sets_apart(rt: HostRuntime) {
     check_call(&rt, "a1", AfFact::FlowRemoved(1, 7));
 }
 
-/// Puts records without facts on sessions that have none.
-#[tactic(auto, using(crate::proofs::Putting::none_told))]
-fn put_empty_records(rt: &(impl AllocGlobal + Abort), state: &mut State) {
-    let record = Some(GxRec::start(rt.alloc()));
-    check_gateway_stood(rt, put_gateway(rt, state, "g2", record, 2), false);
-    let record = Some(AfRec::start(rt.alloc()));
-    check_call_stood(rt, put_call(rt, state, "a2", record, 2), false);
-}
-
 #[test]
-fn a_record_without_facts_is_as_good_as_none(rt: HostRuntime) {
-    let state = small_state(&rt);
-    let mut other = small_state(&rt);
-    put_empty_records(&rt, &mut other);
-    check_equal(&rt, &state, &other, true);
-    drop(other);
-    drop(state);
+fn no_record_is_without_facts(rt: HostRuntime) {
+    assert!(rt; !are_gx_facts(&[]));
+    assert!(rt; !are_af_facts(&[]));
+    assert!(rt; are_gx_facts(&[GxFact::End]));
+    assert!(rt; are_af_facts(&[AfFact::End]));
 }

@@ -8,7 +8,7 @@ use crate::deltas::rule;
 use crate::words::{address, apn, filters, number, parted, subscribers, tag, text};
 use af_records::{AfFact, ComponentValue, FlowValue};
 use gx_records::{GxFact, SessionValue};
-use pcrf_values::BoundedNumber;
+use pcrf_values::{AfSid, BoundedNumber, GxSid};
 use ranked::Tag;
 use site_join::{Operation, SessionFacts, State};
 use std::alloc::AllocGlobal;
@@ -140,11 +140,14 @@ fn operation(rt: &(impl AllocGlobal + Abort), line: &str) -> Operation {
     let (stamp, words) = rest.split_once(' ').unwrap_or((rest, ""));
     let at = tag(rt, stamp);
     let facts = match request {
-        "call" => SessionFacts::Af(text(rt, id), call_facts(rt, at, words)),
-        "hang-up" => SessionFacts::Af(text(rt, id), alone(rt, AfFact::End)),
-        "told" => SessionFacts::Gx(text(rt, id), alone(rt, told(rt, at, words))),
-        "terminate" => SessionFacts::Gx(text(rt, id), alone(rt, GxFact::End)),
-        _ => SessionFacts::Gx(text(rt, id), gateway_facts(rt, request, at, words)),
+        "call" => SessionFacts::Af(AfSid::of(text(rt, id)), call_facts(rt, at, words)),
+        "hang-up" => SessionFacts::Af(AfSid::of(text(rt, id)), alone(rt, AfFact::End)),
+        "told" => SessionFacts::Gx(GxSid::of(text(rt, id)), alone(rt, told(rt, at, words))),
+        "terminate" => SessionFacts::Gx(GxSid::of(text(rt, id)), alone(rt, GxFact::End)),
+        _ => SessionFacts::Gx(
+            GxSid::of(text(rt, id)),
+            gateway_facts(rt, request, at, words),
+        ),
     };
     let made = Operation::of(at.counter, at.site, at.number, facts);
     made.expect(rt, "an operation")

@@ -1,5 +1,5 @@
 //! Which parts make an operation.
-use crate::building::{call_facts, session_id, update_facts};
+use crate::building::{call_facts, call_id, gateway_id, update_facts};
 use af_records::{AfFact, ComponentValue, FlowValue};
 use gx_records::GxFact;
 use lattice_core::Tag;
@@ -30,13 +30,13 @@ const UNNUMBERED: Tag = Tag {
 
 /// What the facts of a gateway's session make with a stamp.
 fn gateway(rt: &(impl AllocGlobal + Abort), stamp: Tag, facts: Vec<GxFact>) -> Option<Operation> {
-    let facts = SessionFacts::Gx(session_id(rt, "g1"), facts);
+    let facts = SessionFacts::Gx(gateway_id(rt, "g1"), facts);
     Operation::of(stamp.counter, stamp.site, stamp.number, facts)
 }
 
 /// What the facts of a call make with a stamp.
 fn function(rt: &(impl AllocGlobal + Abort), stamp: Tag, facts: Vec<AfFact>) -> Option<Operation> {
-    let facts = SessionFacts::Af(session_id(rt, "a1"), facts);
+    let facts = SessionFacts::Af(call_id(rt, "a1"), facts);
     Operation::of(stamp.counter, stamp.site, stamp.number, facts)
 }
 

@@ -5,6 +5,7 @@ use crate::record_building::{
 use crate::record_text::{compare_text, gx_text};
 use gx_records::{GxFact, GxRec};
 use lattice_core::Join;
+use site_join::are_gx_facts;
 use std::alloc::AllocGlobal;
 use std::process::Abort;
 
@@ -18,12 +19,18 @@ fn copies_of(rt: &(impl AllocGlobal + Abort), facts: &[GxFact]) -> Vec<GxFact> {
     copies
 }
 
-/// Joins the record of copies of these facts in.
-fn join_part(rt: &(impl AllocGlobal + Abort), record: &mut GxRec, facts: &[GxFact]) {
+/// The record of copies of these facts.
+fn part_of(rt: &(impl AllocGlobal + Abort), facts: &[GxFact]) -> GxRec {
     let copies = copies_of(rt, facts);
+    assert!(rt; are_gx_facts(copies.as_slice()));
     let part = GxRec::of_facts(rt.alloc(), copies.as_slice()).expect(rt, "memory");
     drop(copies);
-    let joined = record.join_in(part);
+    part
+}
+
+/// Joins the record of copies of these facts in.
+fn join_part(rt: &(impl AllocGlobal + Abort), record: &mut GxRec, facts: &[GxFact]) {
+    let joined = record.join_in(part_of(rt, facts));
     let is_joined = joined.is_ok();
     drop(joined);
     assert!(rt; is_joined);
@@ -43,8 +50,7 @@ fn compare_joined(
     second: &[GxFact],
     want: &str,
 ) {
-    let mut record = GxRec::start(rt.alloc());
-    join_part(rt, &mut record, first);
+    let mut record = part_of(rt, first);
     join_part(rt, &mut record, second);
     compare(rt, &record, want);
     join_part(rt, &mut record, first);
@@ -65,7 +71,7 @@ fn an_initial_request_is_live(rt: HostRuntime) {
     check(
         &rt,
         &facts,
-        &[],
+        &facts,
         "live address 10.0.0.1@0.1.0 apn ims@0.1.0 subscribers 0:15550001 1:001010000000001@0.1.0 \
          host gw@0.1.0 realm r@0.1.0 last 1@0.1.0 home 0 told op/sip@0.1.0:40 rule op/sip:40",
     );
@@ -191,9 +197,8 @@ fn compare_with_copies(rt: &(impl AllocGlobal + Abort), record: &GxRec) {
 
 #[test]
 fn a_copy_and_a_joined_copy_show_the_same(rt: HostRuntime) {
-    let mut record = GxRec::start(rt.alloc());
     let facts = initial_request(&rt, tag(0, 1, 0), 1);
-    join_part(&rt, &mut record, &facts);
+    let record = part_of(&rt, &facts);
     drop(facts);
     compare_with_copies(&rt, &record);
     drop(record);

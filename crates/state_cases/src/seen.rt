@@ -7,7 +7,7 @@ use af_records::{ComponentValue, FlowValue};
 use operator_view::{
     AfField, AfSeen, GxClient, GxSeen, GxUser, OperatorValue, SessionSeen, bindings, value,
 };
-use pcrf_values::{Rule, RuleName, SessionId, Subscriber};
+use pcrf_values::{AfSid, GxSid, Rule, RuleName, Subscriber};
 use ranked::Ranked;
 use record_levels::SessionValue;
 use site_join::State;
@@ -34,7 +34,7 @@ fn put_subscribers(out: &mut String, subscribers: &[Subscriber]) -> Result<(), A
 }
 
 /// The binding of a call.
-fn put_binding(out: &mut String, binding: &Option<SessionId>) -> Result<(), AllocError> {
+fn put_binding(out: &mut String, binding: &Option<GxSid>) -> Result<(), AllocError> {
     match binding {
         Some(bound) => put_word(out, "to ", bound.as_slice()),
         None => out.push_str(" to none"),
@@ -42,10 +42,7 @@ fn put_binding(out: &mut String, binding: &Option<SessionId>) -> Result<(), Allo
 }
 
 /// Each call with its binding.
-fn put_all_bindings(
-    out: &mut String,
-    found: &[(SessionId, Option<SessionId>)],
-) -> Result<(), AllocError> {
+fn put_all_bindings(out: &mut String, found: &[(AfSid, Option<GxSid>)]) -> Result<(), AllocError> {
     for (session, binding) in found {
         put_word(out, "", session.as_slice())?;
         put_binding(out, binding)?;
@@ -148,7 +145,7 @@ fn put_call(out: &mut String, seen: &AfSeen) -> Result<(), AllocError> {
 /// What gateways' sessions show.
 fn put_gateways(
     out: &mut String,
-    sessions: &[(SessionId, SessionSeen<GxSeen>)],
+    sessions: &[(GxSid, SessionSeen<GxSeen>)],
 ) -> Result<(), AllocError> {
     for (session, seen) in sessions {
         out.push_str("\n>")?;
@@ -165,7 +162,7 @@ fn put_gateways(
 /// What calls show.
 fn put_calls(
     out: &mut String,
-    sessions: &[(SessionId, SessionSeen<AfSeen>)],
+    sessions: &[(AfSid, SessionSeen<AfSeen>)],
 ) -> Result<(), AllocError> {
     for (session, seen) in sessions {
         out.push_str("\n>")?;

@@ -1,9 +1,8 @@
 //! What a state shows of the operations that it took.
-ghost use Rattle.std.specs.Prelude.{◌≤◌};
-ghost use Rattle.pcrf_model.specs.Holdings.{under};
+ghost use Rattle.std.specs.Prelude.{◌≡◌, ◌≤◌, true};
+ghost use Rattle.std.specs.List.{list_all};
+ghost use Rattle.pcrf_model.specs.Forms.{is_up_to};
 ghost use Rattle.pcrf_model.specs.Limits.{last_counter};
-ghost use Rattle.pcrf_model.specs.Sessions.{Session};
-ghost use Rattle.pcrf_model.specs.ToldTags.{ToldUpTo};
 ghost use Rattle.site_join.specs.States.{record_facts};
 
 use crate::building::{
@@ -260,8 +259,8 @@ fn put_and_compare(
     want: &str,
 ) -> Option<GxRec>
     requires within { clock ≤ last_counter }
-    requires told { (s : Session) → ToldUpTo clock (under s (record_facts given)) }
-    ensures { (s : Session) → ToldUpTo clock (under s (record_facts result)) }
+    requires counted { list_all (is_up_to clock) (record_facts given) ≡ true }
+    ensures { list_all (is_up_to clock) (record_facts result) ≡ true }
 {
     let stood = put_gateway(rt, state, "g1", given, clock);
     compare(rt, state, want);
@@ -281,7 +280,6 @@ fn put_by_turns(rt: &(impl AllocGlobal + Abort), state: &mut State) {
 }
 
 #[test]
-#[tactic(auto, using(crate::proofs::Putting::none_told))]
 fn records_are_put_and_handed_back(rt: HostRuntime) {
     let mut state = updated(&rt, 3, "a");
     put_by_turns(&rt, &mut state);
@@ -299,14 +297,13 @@ fn check_put(
     stands: bool,
 )
     requires within { clock ≤ last_counter }
-    requires told { (s : Session) → ToldUpTo clock (under s (record_facts given)) }
+    requires counted { list_all (is_up_to clock) (record_facts given) ≡ true }
 {
     let stood = put_call(rt, state, "a1", given, clock);
     check_call_stood(rt, stood, stands);
 }
 
 #[test]
-#[tactic(auto, using(crate::proofs::Putting::none_told))]
 fn calls_are_put_and_handed_back(rt: HostRuntime) {
     let mut state = State::start(rt.alloc());
     let beside = called(&rt);

@@ -1,7 +1,7 @@
 //! Answers as bytes.
 use dia_base::{Identity, Refusal, base_key, refusal_answer};
 use dia_codec::{Flags, Header, Message, write_message};
-use pcrf_values::{DiameterIdentity, SessionId};
+use pcrf_values::{AfSid, DiameterIdentity, SessionId};
 use rx_profile::{write_aaa, write_sta};
 use std::alloc::{AllocError, Global};
 use std::net::Ipv4Addr;
@@ -40,8 +40,9 @@ fn identity(alloc: Global) -> Result<Identity, AllocError> {
 }
 
 /// The session of the answers that are written.
-fn session(alloc: Global) -> Result<SessionId, AllocError> {
-    SessionId::read(alloc, b"af;1")?.ok_or(AllocError)
+fn session(alloc: Global) -> Result<AfSid, AllocError> {
+    let id = SessionId::read(alloc, b"af;1")?.ok_or(AllocError)?;
+    Ok(AfSid::of(id))
 }
 
 /// The header of the request, with P.
@@ -64,7 +65,7 @@ fn header(command: u32) -> Header {
 fn answer_in(
     alloc: Global,
     identity: &Identity,
-    session: &SessionId,
+    session: &AfSid,
     line: &str,
 ) -> Result<Message, AllocError> {
     if let Some(words) = line.strip_prefix("aaa ") {

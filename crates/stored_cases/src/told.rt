@@ -1,6 +1,5 @@
 //! What was read, as a line of text.
 use dia_base::{Origin, ReadFault};
-use pcrf_values::SessionId;
 use rx_profile::{Aar, Component, Flow, FlowUsage, MediaStatus, Rates, Str};
 use std::alloc::AllocError;
 use std::fmt::Write as _;
@@ -38,8 +37,8 @@ fn put_word(out: &mut String, bytes: &[u8]) -> Result<(), AllocError> {
 }
 
 /// The session and its origin.
-fn put_session(out: &mut String, session: &SessionId, origin: &Origin) -> Result<(), AllocError> {
-    put_word(out, session.as_slice())?;
+fn put_session(out: &mut String, session: &[u8], origin: &Origin) -> Result<(), AllocError> {
+    put_word(out, session)?;
     put_word(out, origin.host.as_slice())?;
     put_word(out, origin.realm.as_slice())
 }
@@ -47,7 +46,7 @@ fn put_session(out: &mut String, session: &SessionId, origin: &Origin) -> Result
 /// The session and its origin.
 pub fn put_str(out: &mut String, termination: &Str) -> Result<(), AllocError> {
     out.push_str("str")?;
-    put_session(out, &termination.session, &termination.origin)
+    put_session(out, termination.session.as_slice(), &termination.origin)
 }
 
 /// The number, the usage, the status, the rates and the filters of a flow.
@@ -103,7 +102,7 @@ fn put_access(out: &mut String, aar: &Aar) -> Result<(), AllocError> {
 /// The session, its origin, whom it serves, and its components.
 pub fn put_aar(out: &mut String, aar: &Aar) -> Result<(), AllocError> {
     out.push_str("aar")?;
-    put_session(out, &aar.session, &aar.origin)?;
+    put_session(out, aar.session.as_slice(), &aar.origin)?;
     put_access(out, aar)?;
     for component in aar.components.as_slice() {
         put_component(out, component)?;

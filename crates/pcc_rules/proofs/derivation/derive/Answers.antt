@@ -9,6 +9,7 @@ use Rattle.pcrf_model.specs.Differences.{rule_name_of}
 use Rattle.bind_index.proofs.Entries.{AreRecordsOf}
 use Rattle.pcc_rules.specs.FlowsAlone.{rules_of_sessions}
 use Rattle.pcc_rules.specs.Listing.{keyed}
+use Rattle.pcc_rules.proofs.Flows.{all_have}
 use Rattle.pcc_rules.proofs.Derived.{dead_has_none, derived_is, derived_apart}
 use Rattle.pcc_rules.proofs.derivation.derive.Goals as goal
 
@@ -25,7 +26,7 @@ returns-clause-derived c =
     let records : AreRecordsOf af c.args.state.now.facts c.all_af.result = record { ascending = c.all_af.ensures.ascending; reads = c.all_af.ensures.facts } in
     let live = sym c.live.ensures ∙ c.if-not-live.false in
     subst (λ (xs : List RuleValue). IfOk c.in_order.result (λ made. made.items ≡ xs))
-    (derived_is c.args.tables.now c.args.state.now.facts c.args.session.now c.all_af.result records c.in-Some.gateway.now c.in-Some.ensures live c.add_bound.new.found.items
+    (derived_is c.args.tables.now c.args.state.now.facts c.args.session.now c.all_af.result (all_have c.args.state.now.facts (gx c.args.session.now) c.all_af.result records) c.in-Some.gateway.now c.in-Some.ensures live c.add_bound.new.found.items
     (c.in_ok-add_bound.ensures.added ∙ ap (λ (xs : List (ℕ × RuleValue)). xs ++ map keyed (rules_of_sessions c.args.tables.now (view c.args.state.now.facts) (gx c.args.session.now) c.all_af.result)) c.in_ok-found.ensures.given))
     c.in_order.ensures
 
@@ -36,5 +37,5 @@ returns-clause-names_apart c =
     let all = rules c.args.tables.now (view c.args.state.now.facts) (gx c.args.session.now) in
     IfOk-weaker c.in_order.result (λ made. made.items ≡ all) (λ made. Distinct (map rule_name_of made.items))
     (λ made h. subst (λ (xs : List RuleValue). Distinct (map rule_name_of xs)) (sym h)
-    (derived_apart c.args.tables.now c.args.state.now.facts c.args.session.now c.all_af.result records c.in-Some.gateway.now c.in-Some.ensures live c.in_ok-add_bound.ensures.low c.in_ok-found.ensures.apart))
+    (derived_apart c.args.tables.now c.args.state.now.facts c.args.session.now c.all_af.result (all_have c.args.state.now.facts (gx c.args.session.now) c.all_af.result records) c.in-Some.gateway.now c.in-Some.ensures live c.in_ok-add_bound.ensures.low c.in_ok-found.ensures.apart))
     (returns-clause-derived c)

@@ -1,4 +1,4 @@
-use Rattle.std.proofs.Common.{◌≡◌, ℕ, List, [], ◌∷◌, ◌++◌, map, Some, refl, sym, ap, ◌∙◌, subst}
+use Rattle.std.proofs.Common.{◌≡◌, ℕ, true, List, [], ◌∷◌, ◌++◌, map, Some, refl, sym, ap, ◌∙◌, subst}
 use Rattle.ranked.specs.Ascending.{ascending}
 use Rattle.ranked.specs.Sets.{In, Distinct}
 use Rattle.ranked.specs.declared.tag.Tag.{Tag}
@@ -12,7 +12,7 @@ use Rattle.pcrf_model.specs.Operations.{Operation, with_operation}
 use Rattle.pcrf_model.specs.Views.{View, view}
 use Rattle.pcrf_model.specs.Rules.{rules}
 use Rattle.pcrf_model.specs.Differences.{rule_name_of}
-use Rattle.pcrf_model.specs.ToldTags.{ToldUpTo}
+use Rattle.pcrf_model.specs.Forms.{are_up_to}
 use Rattle.pcrf_model.specs.Making.{told_facts}
 use Rattle.pcrf_model.specs.Replies.{Outcome}
 use Rattle.pcrf_model.specs.Serving.{delta_of}
@@ -25,7 +25,7 @@ use Rattle.site_core.specs.Replies.{told_reply}
 use Rattle.site_core.specs.Sites.{with_made, with_one, with_record}
 use Rattle.site_core.proofs.Replies.{provisioned_is, host_is_made}
 use Rattle.site_core.proofs.Restoring.{restored, once_more, known_after}
-use Rattle.site_core.proofs.ToldTags.{put_back_up_to}
+use Rattle.site_core.proofs.Formed.{put_back_up_to}
 use Rattle.site_core.proofs.Left.{shown_fields, provisioned_leaves}
 use Rattle.site_core.proofs.site.Site.provision.Goals as goal
 
@@ -38,8 +38,8 @@ put_back-requires-clause-known c = λ none.
     known_after s.state.holding o _ (host_is_made q q.kind (record { number = q.number; counter = c.args.counter; site = s.number }) c.requires.opens)
     (sym (ap (λ (x : SiteValue). facts_on x.state.holding.facts (gx q.session)) after) ∙ none)
 
-pub put_back-requires-clause-told : goal.put_back-requires-clause-told
-put_back-requires-clause-told c =
+pub put_back-requires-clause-back : goal.put_back-requires-clause-back
+put_back-requires-clause-back c =
     let s = c.args.self.now in
     let h = s.state.holding in
     let q = ccr_view c.args.ccr.now in
@@ -50,7 +50,7 @@ put_back-requires-clause-told c =
     ap (λ (x : SiteValue). with_record x (gx q.session) (record_facts c.in_ok-before.before) c.clock-clock.result) after
     ∙ ap (λ (fs : List Fact). with_record (with_one s o) (gx q.session) fs c.clock-clock.result) c.in_ok-before.ensures
     ∙ ap (λ (n : ℕ). with_record (with_one s o) (gx q.session) (facts_on h.facts (gx q.session)) n) clock in
-    subst (λ (x : SiteValue). ToldUpTo x.state.holding.clock x.state.holding.facts) (sym is) (put_back_up_to h o c.note_kept.ensures c.note_told.ensures)
+    subst (λ (x : SiteValue). are_up_to x.state.holding.clock x.state.holding.facts ≡ true) (sym is) (put_back_up_to h o c.note_kept.ensures c.note_form.ensures)
 
 pub returns-in-Ok-clause-reply : goal.returns-in-Ok-clause-reply
 returns-in-Ok-clause-reply c =

@@ -1,4 +1,4 @@
-use Rattle.std.proofs.Common.{◌≡◌, ℕ, ◌+◌, List, Some, Option, is_none, map, IfSome, ap, sym, ◌∙◌, subst}
+use Rattle.std.proofs.Common.{◌≡◌, ℕ, ◌+◌, List, Some, Option, is_none, map, IfSome, ap, sym, ◌∙◌, subst, arith}
 use Rattle.ranked.specs.Ascending.{ascending}
 use Rattle.pcrf_values.specs.declared.refusal.Refusal.{Refusal}
 use Rattle.pcrf_facts.specs.Facts.{Fact, fact_cmp}
@@ -10,6 +10,8 @@ use Rattle.request_facts.specs.Call.{described}
 use Rattle.site_core.specs.Calls.{late_refusal}
 use Rattle.site_core.specs.Facts.{operation_on_call}
 use Rattle.site_core.specs.Sites.{with_made}
+use Rattle.pcrf_model.specs.Forms.{is_operation}
+use Rattle.site_core.proofs.Formed.{stamped, call_formed}
 use Rattle.site_core.proofs.CallLaws.{late_unbound, late_full, late_none, aar_refused, aar_accepted}
 use Rattle.site_core.proofs.site.Site.serve_aar.Goals as goal
 
@@ -84,3 +86,14 @@ returns-clause-ok c =
     ∙ ap (λ (n : ℕ). with_made s (Some (operation_on_call s.number n q.session (map fact_of c.in-Some-2.facts.items)))) c.in-Some-next_counter.ensures.some
     ∙ ap (λ (fs : List Fact). with_made s (Some (operation_on_call s.number (s.state.holding.clock + 1) q.session fs))) facts
     ∙ sym (ap (λ (o : Outcome). with_made s o.added) (aar_accepted s q granted))
+
+pub add_on_call-requires-clause-formed : goal.add_on_call-requires-clause-formed
+add_on_call-requires-clause-formed c =
+    let s = c.args.self.now in
+    let q = aar_view c.args.aar.now in
+    let n = c.in-Some-next_counter.counter in
+    let next = c.in-Some-next_counter.ensures.some in
+    let made = subst (λ o. IfSome o (λ made. map fact_of made.items ≡ ascending fact_cmp (described s.number (s.state.holding.clock + 1) q))) c.in-Some-2.is c.in_ok-facts.ensures.facts in
+    let facts = made ∙ ap (λ (m : ℕ). ascending fact_cmp (described s.number m q)) (sym next) in
+    (λ i. is_operation (operation_on_call s.number n q.session (facts i)))
+    ∙ call_formed n s.number q (stamped n s.number (omega (arith, next)) c.in-Some-next_counter.ensures.within c.note_number.ensures) c.note_aar.ensures

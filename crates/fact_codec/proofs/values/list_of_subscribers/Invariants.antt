@@ -1,0 +1,15 @@
+use Rattle.std.proofs.Common.{◌≡◌, ◌-◌, ◌≤◌, ◌++◌, length}
+use Rattle.std.specs.List.{flat_map}
+use Rattle.fact_codec.specs.Spelling.{subscriber_bytes}
+use Rattle.fact_codec.specs.Reading.{many}
+use Rattle.fact_codec.specs.Said.{subscriber}
+use Rattle.fact_codec.proofs.Loops.{with_front}
+use Rattle.fact_codec.proofs.values.list_of_subscribers.Given as goal
+
+abbrev pub invariant-loop : goal.invariant-loop
+invariant-loop l = record {
+  read : with_front l.items.items (many subscriber (l.count - l.counter) l.rest) ≡ many subscriber l.count l.bytes;
+  spelled : l.bytes ≡ flat_map subscriber_bytes l.items.items ++ l.rest;
+  counted : length l.items.items ≡ l.counter;
+  within : l.counter ≤ l.count;
+}

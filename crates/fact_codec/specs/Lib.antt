@@ -1,0 +1,4 @@
+pub mod Reading
+pub mod Said
+pub mod Spelling
+pub mod Values

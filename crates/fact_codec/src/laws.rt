@@ -1,0 +1,26 @@
+//! Laws of spellings.
+//!
+//! The functions do nothing: what they say are their contracts.
+ghost use Rattle.std.specs.Prelude.{◌≡◌, ◌++◌, ◌&&◌, ◌<◌, ◌^◌, ℕ, List, length, true, Some};
+ghost use Rattle.std.specs.List.{list_all};
+ghost use Rattle.pcrf_facts.specs.Facts.{Fact};
+ghost use Rattle.pcrf_model.specs.Sessions.{Gx, Af};
+ghost use Rattle.pcrf_model.specs.Forms.{fits, is_tagged};
+ghost use Rattle.fact_codec.specs.Spelling.{facts_bytes};
+ghost use Rattle.fact_codec.specs.Said.{stamped, gx_fact, af_fact, facts};
+
+/// The facts of an operation on a gateway's session are read again where they are spelled, whatever follows them: so the
+/// spelling of such facts begins no other.
+pub fn spelled_gx_facts_are_read()
+    ensures { (counter site number : ℕ) (fs : List Fact) (rest : List ℕ) → length fs < 2 ^ 32
+        → list_all (λ f. fits Gx f && is_tagged Gx counter site number f) fs ≡ true
+        → facts (gx_fact (stamped number counter site) (stamped 0 counter site))
+        (facts_bytes fs ++ rest) ≡ Some (fs, rest) }
+{}
+
+/// And so are those of an operation on an application function's session.
+pub fn spelled_af_facts_are_read()
+    ensures { (counter site number : ℕ) (fs : List Fact) (rest : List ℕ) → length fs < 2 ^ 32
+        → list_all (λ f. fits Af f && is_tagged Af counter site number f) fs ≡ true
+        → facts (af_fact (stamped 0 counter site)) (facts_bytes fs ++ rest) ≡ Some (fs, rest) }
+{}

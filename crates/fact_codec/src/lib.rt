@@ -1,0 +1,20 @@
+//! What facts say, and facts, as the bytes that letters carry: one spelling of each, read at the front of longer ones.
+#![tactic(auto)]
+
+mod facts;
+mod fault;
+pub mod laws;
+mod numbers;
+mod put_facts;
+mod put_values;
+mod rules;
+mod said;
+mod texts;
+mod values;
+
+pub use facts::{af_facts_at, gx_facts_at};
+pub use fault::{Unread, Unwritten};
+pub use numbers::{byte_at, bytes_at, long_at, short_at, word_at};
+pub use put_facts::{put_af_facts, put_gx_facts};
+pub use put_values::{put_long, put_short, put_text, put_word};
+pub use texts::text_at;

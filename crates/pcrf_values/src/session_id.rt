@@ -1,0 +1,114 @@
+//! The Session-Ids of both interfaces: neither is taken for the other.
+ghost use Rattle.std.specs.Prelude.{◌≡◌, ◌<◌, ◌≤◌, length};
+ghost use Rattle.pcrf_values.specs.Limits.{session_id_limit};
+
+use crate::bounded_list::SessionId;
+use ranked::Ranked;
+use std::alloc::AllocError;
+use std::marker::Model;
+
+/// The Session-Id of a gateway's session (Gx, TS 29.212, 4a.5.1), which contracts see as its bytes.
+#[derive(Drop, PartialEq, Eq, PartialOrd, Ord)]
+pub struct GxSid {
+    id: SessionId,
+}
+
+/// The Session-Id of an application function's session (Rx, TS 29.214, 5.6), which contracts see as its bytes.
+#[derive(Drop, PartialEq, Eq, PartialOrd, Ord)]
+pub struct AfSid {
+    id: SessionId,
+}
+
+impl Model for GxSid {
+    ghost use Rattle.std.specs.Prelude.{ℕ, List};
+
+    ghost Value = { List ℕ };
+
+    ghost view = { λ s. s.id };
+
+    ghost inverse = { λ id. record { id = id } };
+}
+
+impl Model for AfSid {
+    ghost use Rattle.std.specs.Prelude.{ℕ, List};
+
+    ghost Value = { List ℕ };
+
+    ghost view = { λ s. s.id };
+
+    ghost inverse = { λ id. record { id = id } };
+}
+
+impl GxSid {
+    /// That of the gateway's session with this Session-Id.
+    pub fn of(id: SessionId) -> GxSid
+        ensures { result ≡ id }
+    {
+        GxSid { id }
+    }
+
+    /// The Session-Id, as a message carries it.
+    pub fn id(&self) -> &SessionId
+        ensures { result.now ≡ self.now }
+    {
+        &self.id
+    }
+
+    /// Its bytes.
+    pub fn as_slice(&self) -> &[u8]
+        ensures items { result.now ≡ self.now }
+        ensures not_empty { 0 < length self.now }
+        ensures within { length self.now ≤ session_id_limit }
+    {
+        self.id.as_slice()
+    }
+}
+
+impl AfSid {
+    /// That of the application function's session with this Session-Id.
+    pub fn of(id: SessionId) -> AfSid
+        ensures { result ≡ id }
+    {
+        AfSid { id }
+    }
+
+    /// The Session-Id, as a message carries it.
+    pub fn id(&self) -> &SessionId
+        ensures { result.now ≡ self.now }
+    {
+        &self.id
+    }
+
+    /// Its bytes.
+    pub fn as_slice(&self) -> &[u8]
+        ensures items { result.now ≡ self.now }
+        ensures not_empty { 0 < length self.now }
+        ensures within { length self.now ≤ session_id_limit }
+    {
+        self.id.as_slice()
+    }
+}
+
+impl Ranked for GxSid {
+    ghost use Rattle.ranked.specs.laws.Exact.{text_same};
+
+    ghost same = { text_same };
+
+    fn try_copy(&self) -> Result<GxSid, AllocError> {
+        Ok(GxSid {
+            id: self.id.try_copy()?,
+        })
+    }
+}
+
+impl Ranked for AfSid {
+    ghost use Rattle.ranked.specs.laws.Exact.{text_same};
+
+    ghost same = { text_same };
+
+    fn try_copy(&self) -> Result<AfSid, AllocError> {
+        Ok(AfSid {
+            id: self.id.try_copy()?,
+        })
+    }
+}

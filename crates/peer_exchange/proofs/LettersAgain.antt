@@ -1,0 +1,180 @@
+-- What is spelled so is read again: operations, what letters say, and letters.
+use Rattle.std.proofs.Common.{◌≡◌, ℕ, ◌+◌, ◌^◌, ◌<◌, ◌≤◌, ◌==◌, Bool, true, ◌&&◌, nat_lt, nat_le, List, [], ◌∷◌, ◌++◌, length, Some, Ok, refl, sym, ap, ◌∙◌, append_assoc, length-append, subst, arith, eqb-true, ltb-true}
+use Rattle.std.specs.Cmp.{first_so, second_so}
+use Rattle.std.specs.List.{flat_map, list_all}
+use Rattle.std.proofs.lemmas.Bool.{eq-eqb}
+use Rattle.std.proofs.lemmas.Bool.Decides.{nat_tests}
+use Rattle.std.proofs.lemmas.List.{append-nil}
+use Rattle.ranked.proofs.Plain.{both}
+use Rattle.pcrf_values.specs.Limits.{session_id_limit}
+use Rattle.pcrf_facts.specs.Facts.{Fact}
+use Rattle.pcrf_model.specs.Limits.{last_counter, last_epoch}
+use Rattle.pcrf_model.specs.Sessions.{Kind, Gx, Af}
+use Rattle.pcrf_model.specs.Operations.{Operation}
+use Rattle.pcrf_model.specs.Forms.{is_within, is_unsigned, is_text, is_stamp, is_session, is_request_number, stand_together, fits, is_operation}
+use Rattle.pcrf_model.specs.Letters.{LetterBody, Range, Snapshot, Acknowledgement, LetterValue}
+use Rattle.pcrf_model.proofs.FormLaws.{within_most, le_passes, passes_le}
+use Rattle.fact_codec.specs.Spelling.{short_bytes, word_bytes, long_bytes, text_bytes, facts_bytes}
+use Rattle.fact_codec.specs.Reading.{byte}
+use Rattle.fact_codec.proofs.NumberLaws.{short_again, word_again, long_again}
+use Rattle.fact_codec.proofs.ValuesAgain.{many_again, text_again}
+use Rattle.fact_codec.proofs.FactsAgain.{is_made, gx_facts_again, af_facts_again}
+use Rattle.fact_codec.proofs.FactLengths.{facts_no_more}
+use Rattle.peer_exchange.specs.Limits.{longest_letter}
+use Rattle.peer_exchange.specs.Form.{is_site, is_epoch, is_placed, carries_operations, is_addressed, is_letter}
+use Rattle.peer_exchange.specs.Spelling.{session_bytes, group_bytes, operation_bytes, operations_bytes, body_bytes, letter_bytes, spelling}
+use Rattle.peer_exchange.specs.Reading.{group, operation, range, acknowledgement, body, content, letter_of}
+use Rattle.peer_exchange.proofs.Lengths.{operations_least}
+
+-- ---- operations
+
+-- a session with the facts of an operation on it
+group_again : (counter site number : ℕ) (k : Kind) (id : List ℕ) (fs : List Fact) (rest : List ℕ) → is_text session_id_limit id ≡ true → length fs < 2 ^ 32 → list_all (is_made k counter site number) fs ≡ true
+    → group counter site number (group_bytes (record { kind = k; id = id }) fs ++ rest) ≡ Some ((record { kind = k; id = id }, fs), rest)
+unfolding group group_bytes byte
+group_again counter site number Gx id fs rest named low made =
+    rw (append_assoc (text_bytes id) (facts_bytes fs) rest, text_again session_id_limit id (facts_bytes fs ++ rest) (omega arith) named, gx_facts_again counter site number fs rest low made) refl
+group_again counter site number Af id fs rest named low made =
+    rw (append_assoc (text_bytes id) (facts_bytes fs) rest, text_again session_id_limit id (facts_bytes fs ++ rest) (omega arith) named, af_facts_again counter site number fs rest low made) refl
+
+-- the number of a request has 32 bits
+number_low : (k : Kind) (n : ℕ) → is_request_number k n ≡ true → n < 2 ^ 32
+number_low Gx n h = ltb-true n (2 ^ 32) h
+number_low Af n h = omega (arith, eqb-true n 0 h)
+
+-- the form of an operation that has a spelling, by parts
+record IsSpelled (o : Operation) : Type 0 where
+  counter : o.counter < 2 ^ 64
+  number : o.number < 2 ^ 32
+  session : is_text session_id_limit o.session.id ≡ true
+  made : list_all (is_made o.session.kind o.counter o.site o.number) o.facts ≡ true
+
+-- an operation of the form has one
+spelled : (o : Operation) → is_operation o ≡ true → IsSpelled o
+spelled o h =
+    let four = first_so _ _ h in
+    let three = first_so _ _ four in
+    let two = first_so _ _ three in
+    let stamp : is_stamp o.counter o.site ≡ true = first_so _ _ two in
+    let counted : is_within 1 last_counter o.counter ≡ true = first_so _ _ stamp in
+    record {
+      counter = omega (arith, within_most 1 last_counter o.counter counted);
+      number = number_low o.session.kind o.number (second_so (is_stamp o.counter o.site) _ two);
+      session = second_so (is_stamp o.counter o.site && is_request_number o.session.kind o.number) _ three;
+      made = second_so (is_stamp o.counter o.site && is_request_number o.session.kind o.number && is_session o.session && stand_together o.facts) _ h;
+    }
+
+-- of the form, with facts that can be counted
+abbrev pub is_countable : Operation → Bool
+is_countable o = is_operation o && nat_lt (length o.facts) (2 ^ 32)
+
+-- an operation
+operation_again : (o : Operation) (rest : List ℕ) → is_countable o ≡ true → operation (operation_bytes o ++ rest) ≡ Some (o, rest)
+unfolding operation operation_bytes byte
+operation_again o rest h =
+    let formed : is_operation o ≡ true = first_so _ _ h in
+    let low : length o.facts < 2 ^ 32 = ltb-true (length o.facts) (2 ^ 32) (second_so (is_operation o) _ h) in
+    let s = spelled o formed in
+    let on = group_bytes o.session o.facts in
+    let numbered = word_bytes o.number ++ (on ++ rest) in
+    let parts : (((long_bytes o.counter ++ o.site ∷ []) ++ word_bytes o.number) ++ on) ++ rest ≡ long_bytes o.counter ++ (o.site ∷ numbered) =
+    append_assoc ((long_bytes o.counter ++ o.site ∷ []) ++ word_bytes o.number) on rest
+    ∙ append_assoc (long_bytes o.counter ++ o.site ∷ []) (word_bytes o.number) (on ++ rest)
+    ∙ append_assoc (long_bytes o.counter) (o.site ∷ []) numbered in
+    rw (parts, long_again o.counter (o.site ∷ numbered) s.counter, word_again o.number (on ++ rest) s.number, group_again o.counter o.site o.number o.session.kind o.session.id o.facts rest s.session low s.made, formed) refl
+
+-- an operation has no fewer bytes than facts
+facts_within : (o : Operation) → length o.facts ≤ length (operation_bytes o)
+unfolding operation_bytes group_bytes
+facts_within o =
+    let head = (long_bytes o.counter ++ o.site ∷ []) ++ word_bytes o.number in
+    omega (arith, facts_no_more o.facts, length-append (session_bytes o.session) (facts_bytes o.facts), length-append head (session_bytes o.session ++ facts_bytes o.facts))
+
+-- the operations of so few bytes can be counted
+each_countable : (os : List Operation) → list_all is_operation os ≡ true → length (flat_map operation_bytes os) < 2 ^ 32 → list_all is_countable os ≡ true
+each_countable [] h low = refl
+each_countable (o ∷ os) h low =
+    let all = length-append (operation_bytes o) (flat_map operation_bytes os) in
+    let few : nat_lt (length o.facts) (2 ^ 32) ≡ true = (let lt : length o.facts < 2 ^ 32 = omega (arith, facts_within o, all) in grind (arith, nat_tests, lt)) in
+    let first : is_countable o ≡ true = both _ _ (first_so (is_operation o) _ h) few in
+    both _ _ first (each_countable os (second_so (is_operation o) _ h) (omega (arith, all)))
+
+-- ---- letters
+
+-- what a letter says
+body_again : (b : LetterBody) (rest : List ℕ) → carries_operations b ≡ true → is_placed b ≡ true → length (body_bytes b) ≤ longest_letter → body (body_bytes b ++ rest) ≡ Some (b, rest)
+unfolding body range acknowledgement byte
+body_again (Range from os) rest formed placed fits =
+    let last : from + length os ≤ last_counter = passes_le (from + length os) last_counter placed in
+    let each = flat_map operation_bytes os in
+    let bytes : length (long_bytes from ++ operations_bytes os) ≤ longest_letter = omega (arith, fits) in
+    let whole = length-append (long_bytes from) (operations_bytes os) in
+    let counted = length-append (word_bytes (length os)) each in
+    let few : length os < 2 ^ 32 = omega (arith, bytes, whole, operations_least os) in
+    let low : length each < 2 ^ 32 = omega (arith, bytes, whole, counted) in
+    let parts : (long_bytes from ++ operations_bytes os) ++ rest ≡ long_bytes from ++ (word_bytes (length os) ++ (each ++ rest)) =
+    append_assoc (long_bytes from) (operations_bytes os) rest ∙ ap (λ (x : List ℕ). long_bytes from ++ x) (append_assoc (word_bytes (length os)) each rest) in
+    rw (parts, long_again from (word_bytes (length os) ++ (each ++ rest)) (omega (arith, last)), word_again (length os) (each ++ rest) few, many_again operation operation_bytes is_countable operation_again os rest (each_countable os formed low)) refl
+body_again (Snapshot h n) rest formed placed fits = absurd cc
+body_again (Acknowledgement m e c) rest formed placed fits =
+    let two = first_so (is_site m && is_epoch e) _ placed in
+    let epoch : e < 2 ^ 16 = ltb-true e (2 ^ 16) (second_so (is_site m) _ two) in
+    let cursor : c ≤ last_counter = passes_le c last_counter (second_so (is_site m && is_epoch e) _ placed) in
+    rw (append_assoc (short_bytes e) (long_bytes c) rest, short_again e (long_bytes c ++ rest) epoch, long_again c rest (omega (arith, cursor))) refl
+
+-- what follows the edition
+content_again : (l : LetterValue) → is_letter l ≡ true → content l.edition (l.site ∷ (short_bytes l.epoch ++ (body_bytes l.body ++ []))) ≡ Some (l, [])
+unfolding content byte letter_bytes
+content_again l h =
+    let two = first_so (is_addressed l && carries_operations l.body) _ h in
+    let addressed : is_addressed l ≡ true = first_so _ _ two in
+    let formed : carries_operations l.body ≡ true = second_so (is_addressed l) _ two in
+    let placed : is_placed l.body ≡ true = second_so (is_unsigned l.edition && is_site l.site && is_within 1 last_epoch l.epoch) _ addressed in
+    let three = first_so (is_unsigned l.edition && is_site l.site && is_within 1 last_epoch l.epoch) _ addressed in
+    let epoch : is_within 1 last_epoch l.epoch ≡ true = second_so (is_unsigned l.edition && is_site l.site) _ three in
+    let low : l.epoch < 2 ^ 16 = omega (arith, within_most 1 last_epoch l.epoch epoch) in
+    let short_enough : length (letter_bytes l) ≤ longest_letter = passes_le _ longest_letter (second_so (is_addressed l && carries_operations l.body) _ h) in
+    let head = (1 ∷ [] ++ word_bytes l.edition ++ l.site ∷ []) ++ short_bytes l.epoch in
+    let fits : length (body_bytes l.body) ≤ longest_letter = omega (arith, short_enough, length-append head (body_bytes l.body)) in
+    rw (short_again l.epoch (body_bytes l.body ++ []) low, body_again l.body [] formed placed fits, addressed) refl
+
+-- a letter by what follows its edition
+letter_by_content : (edition : ℕ) (rest : List ℕ) (l : LetterValue) → edition < 2 ^ 32 → length (1 ∷ (word_bytes edition ++ rest)) ≤ longest_letter → content edition rest ≡ Some (l, [])
+    → letter_of edition (word_bytes (length (1 ∷ (word_bytes edition ++ rest))) ++ (1 ∷ (word_bytes edition ++ rest))) ≡ Ok l
+unfolding letter_of byte
+letter_by_content edition rest l low fits read =
+    let bytes = 1 ∷ (word_bytes edition ++ rest) in
+    let counted : (length bytes == length bytes) ≡ true = eq-eqb (length bytes) (length bytes) refl in
+    let within : nat_le (length bytes) longest_letter ≡ true = le_passes (length bytes) longest_letter fits in
+    let same : (edition == edition) ≡ true = eq-eqb edition edition refl in
+    rw (word_again (length bytes) bytes (omega (arith, fits)), word_again edition rest low, same, counted, within, read) refl
+
+-- the bytes of a letter behind its length, part by part
+pub letter_parts : (l : LetterValue) → letter_bytes l ≡ 1 ∷ (word_bytes l.edition ++ (l.site ∷ (short_bytes l.epoch ++ (body_bytes l.body ++ []))))
+unfolding letter_bytes
+letter_parts l =
+    let said = short_bytes l.epoch ++ body_bytes l.body in
+    ap (λ (x : List ℕ). 1 ∷ x)
+    (append_assoc (word_bytes l.edition ++ l.site ∷ []) (short_bytes l.epoch) (body_bytes l.body)
+    ∙ append_assoc (word_bytes l.edition) (l.site ∷ []) said
+    ∙ ap (λ (x : List ℕ). word_bytes l.edition ++ (l.site ∷ (short_bytes l.epoch ++ x))) (sym (append-nil (body_bytes l.body))))
+
+-- the edition of a letter has 32 bits, and the letter is no longer than letters are
+pub edition_low : (l : LetterValue) → is_letter l ≡ true → l.edition < 2 ^ 32
+edition_low l h =
+    let addressed : is_addressed l ≡ true = first_so (is_addressed l) _ (first_so (is_addressed l && carries_operations l.body) _ h) in
+    let three = first_so (is_unsigned l.edition && is_site l.site && is_within 1 last_epoch l.epoch) _ addressed in
+    let two = first_so (is_unsigned l.edition && is_site l.site) _ three in
+    ltb-true l.edition (2 ^ 32) (first_so _ _ two)
+
+pub letter_fits : (l : LetterValue) → is_letter l ≡ true → length (letter_bytes l) ≤ longest_letter
+letter_fits l h = passes_le _ longest_letter (second_so (is_addressed l && carries_operations l.body) _ h)
+
+-- a letter
+pub letter_again : (l : LetterValue) → is_letter l ≡ true → letter_of l.edition (spelling l) ≡ Ok l
+unfolding spelling
+letter_again l h =
+    let rest = l.site ∷ (short_bytes l.epoch ++ (body_bytes l.body ++ [])) in
+    let parts = letter_parts l in
+    let fits : length (1 ∷ (word_bytes l.edition ++ rest)) ≤ longest_letter = subst (λ (x : List ℕ). length x ≤ longest_letter) parts (letter_fits l h) in
+    ap (λ (x : List ℕ). letter_of l.edition (word_bytes (length x) ++ x)) parts ∙ letter_by_content l.edition rest l (edition_low l h) fits (content_again l h)

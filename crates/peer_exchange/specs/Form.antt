@@ -1,0 +1,41 @@
+-- Which letters have a spelling (this project's profile).
+use Rattle.std.specs.Prelude.{ℕ, ◌+◌, ◌^◌, Bool, true, false, ◌&&◌, nat_lt, nat_le, length, Option, Some, None, if◌then◌else◌}
+use Rattle.std.specs.List.{list_all}
+use Rattle.pcrf_model.specs.Limits.{last_counter, last_epoch, site_limit}
+use Rattle.pcrf_model.specs.Forms.{is_within, is_unsigned, is_operation}
+use Rattle.pcrf_model.specs.Letters.{LetterBody, Range, Snapshot, Acknowledgement, LetterValue}
+use Rattle.peer_exchange.specs.Limits.{longest_letter}
+use Rattle.peer_exchange.specs.Spelling.{letter_bytes}
+
+-- a site by its number
+abbrev pub is_site : ℕ → Bool
+is_site n = nat_lt n site_limit
+
+-- an epoch, of two bytes
+abbrev pub is_epoch : ℕ → Bool
+is_epoch n = nat_lt n (2 ^ 16)
+
+-- A range up to the last position that a log may have; the entry of a maker, in epoch 0 where nothing of it was taken. Snapshots are not
+-- spelled yet.
+abbrev pub is_placed : LetterBody → Bool
+is_placed (Range from os) = nat_le (from + length os) last_counter
+is_placed (Snapshot h n) = false
+is_placed (Acknowledgement m e c) = is_site m && is_epoch e && nat_le c last_counter
+
+-- the operations of a range have the form of those that sites make
+abbrev pub carries_operations : LetterBody → Bool
+carries_operations (Range from os) = list_all is_operation os
+carries_operations (Snapshot h n) = false
+carries_operations (Acknowledgement m e c) = true
+
+-- what stands on a letter is within its range
+abbrev pub is_addressed : LetterValue → Bool
+is_addressed l = is_unsigned l.edition && is_site l.site && is_within 1 last_epoch l.epoch && is_placed l.body
+
+-- the letter, where it is within its ranges
+abbrev pub if_addressed : LetterValue → Option LetterValue
+if_addressed l = if is_addressed l then Some l else None
+
+-- a letter
+abbrev pub is_letter : LetterValue → Bool
+is_letter l = is_addressed l && carries_operations l.body && nat_le (length (letter_bytes l)) longest_letter

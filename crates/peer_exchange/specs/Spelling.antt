@@ -1,0 +1,44 @@
+-- The one spelling of a letter in bytes (this project's profile): four bytes with the number of those that follow; then the version, the
+-- edition of the sender's operator tables, the sender, its epoch, and what the letter says.
+use Rattle.std.specs.Prelude.{ℕ, List, [], ◌∷◌, ◌++◌, length}
+use Rattle.std.specs.List.{flat_map}
+use Rattle.pcrf_facts.specs.Facts.{Fact}
+use Rattle.pcrf_model.specs.Sessions.{Session, kind_number}
+use Rattle.pcrf_model.specs.Operations.{Operation}
+use Rattle.pcrf_model.specs.Letters.{LetterBody, Range, Snapshot, Acknowledgement, LetterValue}
+use Rattle.fact_codec.specs.Spelling.{short_bytes, word_bytes, long_bytes, text_bytes, facts_bytes}
+use Rattle.peer_exchange.specs.Limits.{letter_version}
+
+-- a session by its kind and its Session-Id
+abbrev pub session_bytes : Session → List ℕ
+session_bytes s = kind_number s.kind ∷ [] ++ text_bytes s.id
+
+-- a session with facts on it
+unfoldable pub group_bytes : Session → List Fact → List ℕ
+group_bytes s fs = session_bytes s ++ facts_bytes fs
+
+-- an operation: its stamp, its number, and the facts on its session
+unfoldable pub operation_bytes : Operation → List ℕ
+operation_bytes o = long_bytes o.counter ++ o.site ∷ [] ++ word_bytes o.number ++ group_bytes o.session o.facts
+
+-- operations, and before them how many they are
+abbrev pub operations_bytes : List Operation → List ℕ
+operations_bytes os = word_bytes (length os) ++ flat_map operation_bytes os
+
+-- what a letter says, by its kind; snapshots have no spelling yet
+abbrev pub body_bytes : LetterBody → List ℕ
+body_bytes (Range from os) = 1 ∷ [] ++ long_bytes from ++ operations_bytes os
+body_bytes (Snapshot h n) = []
+body_bytes (Acknowledgement m e c) = 3 ∷ m ∷ [] ++ short_bytes e ++ long_bytes c
+
+-- what stands before it
+abbrev pub head_bytes : LetterValue → List ℕ
+head_bytes l = letter_version ∷ [] ++ word_bytes l.edition ++ l.site ∷ [] ++ short_bytes l.epoch
+
+-- a letter without its length
+unfoldable pub letter_bytes : LetterValue → List ℕ
+letter_bytes l = head_bytes l ++ body_bytes l.body
+
+-- a letter
+unfoldable pub spelling : LetterValue → List ℕ
+spelling l = word_bytes (length (letter_bytes l)) ++ letter_bytes l

@@ -1,0 +1,252 @@
+//! Letters read from bytes.
+ghost use Rattle.std.specs.Prelude.{◌≡◌, ◌++◌, ◌∷◌, ◌≤◌, [], true, length, IfOk, Some, None, Ok};
+ghost use Rattle.std.specs.List.{flat_map, list_all};
+ghost use Rattle.pcrf_model.specs.Sessions.{gx, af};
+ghost use Rattle.pcrf_model.specs.Forms.{is_operation};
+ghost use Rattle.pcrf_model.specs.Letters.{LetterValue};
+ghost use Rattle.fact_codec.specs.Reading.{many};
+ghost use Rattle.fact_codec.specs.Reading as parts;
+ghost use Rattle.site_join.specs.States.{session_of, facts_in};
+ghost use Rattle.peer_exchange.specs.Form.{carries_operations, is_addressed, is_letter};
+ghost use Rattle.peer_exchange.specs.Reading.{Gives, gx_group, af_group, group, operation, range, acknowledgement, body, content, letter_of};
+ghost use Rattle.peer_exchange.specs.Spelling.{group_bytes, operation_bytes, body_bytes, letter_bytes, spelling};
+ghost use Rattle.peer_exchange.specs.Limits.{letter_version};
+ghost use Rattle.fact_codec.specs.Spelling.{word_bytes};
+ghost use Rattle.peer_exchange.specs.Values.{body_value};
+
+use crate::body::{Acknowledgement, Body, Range};
+use crate::fault::LetterFault;
+use crate::letter::Letter;
+use fact_codec::{Unread, af_facts_at, byte_at, gx_facts_at, long_at, short_at, text_at, word_at};
+use lattice_core::Tag;
+use pcrf_values::{AfSid, GxSid};
+use site_join::{Operation, SessionFacts};
+use std::alloc::Global;
+
+/// The version of the format.
+pub(crate) const VERSION: u8 = 1;
+
+/// The most bytes of a letter.
+pub(crate) const MOST_BYTES: u32 = 1 << 30;
+
+/// The facts of an operation on a gateway's session, behind the kind of the session.
+#[tactic(auto, using(crate::proofs::Added::added), unfolding(crate::specs::Spelling::group_bytes))]
+fn gx_facts_on(
+    alloc: Global,
+    counter: u64,
+    site: u8,
+    number: u32,
+    bytes: &[u8],
+) -> Result<(SessionFacts, &[u8]), Unread>
+    ensures read { parts.Gives (λ x. ((session_of x.0, facts_in x.0), x.1.now)) result
+        (gx_group counter site number bytes.now) }
+    ensures spelled { IfOk result (λ x. 1 ∷ bytes.now
+        ≡ group_bytes (session_of x.0) (facts_in x.0) ++ x.1.now) }
+{
+    let field_tag = Tag {
+        number,
+        counter,
+        site,
+    };
+    let told_tag = Tag {
+        number: 0,
+        counter,
+        site,
+    };
+    let (id, rest) = text_at(alloc, bytes)?;
+    let (facts, rest) = gx_facts_at(alloc, field_tag, told_tag, rest)?;
+    Ok((SessionFacts::Gx(GxSid::of(id), facts), rest))
+}
+
+/// Those of an operation on an AF session.
+#[tactic(auto, using(crate::proofs::Added::added), unfolding(crate::specs::Spelling::group_bytes))]
+fn af_facts_on(
+    alloc: Global,
+    counter: u64,
+    site: u8,
+    bytes: &[u8],
+) -> Result<(SessionFacts, &[u8]), Unread>
+    ensures read { parts.Gives (λ x. ((session_of x.0, facts_in x.0), x.1.now)) result
+        (af_group counter site bytes.now) }
+    ensures spelled { IfOk result (λ x. 2 ∷ bytes.now
+        ≡ group_bytes (session_of x.0) (facts_in x.0) ++ x.1.now) }
+{
+    let tag = Tag {
+        number: 0,
+        counter,
+        site,
+    };
+    let (id, rest) = text_at(alloc, bytes)?;
+    let (facts, rest) = af_facts_at(alloc, tag, rest)?;
+    Ok((SessionFacts::Af(AfSid::of(id), facts), rest))
+}
+
+/// A session with the facts of an operation of that stamp and number on it.
+#[tactic(auto, unfolding(crate::specs::Reading::group))]
+fn session_facts_at(
+    alloc: Global,
+    counter: u64,
+    site: u8,
+    number: u32,
+    bytes: &[u8],
+) -> Result<(SessionFacts, &[u8]), Unread>
+    ensures read { parts.Gives (λ x. ((session_of x.0, facts_in x.0), x.1.now)) result
+        (group counter site number bytes.now) }
+    ensures spelled { IfOk result (λ x. bytes.now
+        ≡ group_bytes (session_of x.0) (facts_in x.0) ++ x.1.now) }
+{
+    let (kind, rest) = byte_at(bytes)?;
+    match kind {
+        1 => gx_facts_on(alloc, counter, site, number, rest),
+        2 => af_facts_on(alloc, counter, site, rest),
+        _ => Err(Unread::BadShape),
+    }
+}
+
+/// An operation that a site may make.
+#[tactic(auto, using(crate::proofs::Added::added), unfolding(crate::specs::Reading::operation, crate::specs::Spelling::operation_bytes))]
+fn operation_at(alloc: Global, bytes: &[u8]) -> Result<(Operation, &[u8]), Unread>
+    ensures read { parts.Gives (λ x. (x.0, x.1.now)) result (operation bytes.now) }
+    ensures spelled { IfOk result (λ x. bytes.now ≡ operation_bytes x.0 ++ x.1.now) }
+    ensures formed { IfOk result (λ x. is_operation x.0 ≡ true) }
+{
+    let (counter, rest) = long_at(bytes)?;
+    let (site, rest) = byte_at(rest)?;
+    let (number, rest) = word_at(rest)?;
+    let (facts, rest) = session_facts_at(alloc, counter, site, number, rest)?;
+    let Some(operation) = Operation::of(counter, site, number, facts) else {
+        return Err(Unread::BadShape);
+    };
+    Ok((operation, rest))
+}
+
+/// So many operations. Room is made for each as it is read.
+fn list_of_operations(
+    alloc: Global,
+    count: u32,
+    bytes: &[u8],
+) -> Result<(Vec<Operation>, &[u8]), Unread>
+    ensures read { parts.Gives (λ x. (x.0.items, x.1.now)) result
+        (many operation count bytes.now) }
+    ensures spelled { IfOk result (λ x. bytes.now
+        ≡ flat_map operation_bytes x.0.items ++ x.1.now) }
+    ensures counted { IfOk result (λ x. length x.0.items ≡ count) }
+    ensures formed { IfOk result (λ x. list_all is_operation x.0.items ≡ true) }
+{
+    let mut items = Vec::new(alloc);
+    let mut rest = bytes;
+    for _ in 0..count {
+        let (item, after) = operation_at(alloc, rest)?;
+        items.push(item)?;
+        rest = after;
+    }
+    Ok((items, rest))
+}
+
+/// A range, behind its kind.
+#[tactic(auto, using(crate::proofs::Added::added), unfolding(crate::specs::Reading::range))]
+fn range_at(alloc: Global, bytes: &[u8]) -> Result<(Body, &[u8]), Unread>
+    ensures read { parts.Gives (λ x. (body_value x.0, x.1.now)) result (range bytes.now) }
+    ensures spelled { IfOk result (λ x. 1 ∷ bytes.now ≡ body_bytes (body_value x.0) ++ x.1.now) }
+    ensures formed { IfOk result (λ x. carries_operations (body_value x.0) ≡ true) }
+{
+    let (from, rest) = long_at(bytes)?;
+    let (count, rest) = word_at(rest)?;
+    let (operations, rest) = list_of_operations(alloc, count, rest)?;
+    Ok((Body::Range(Range { from, operations }), rest))
+}
+
+/// An acknowledgement, behind its kind.
+#[tactic(auto, using(crate::proofs::Added::added), unfolding(crate::specs::Reading::acknowledgement))]
+fn acknowledgement_at(bytes: &[u8]) -> Result<(Body, &[u8]), Unread>
+    ensures read { parts.Gives (λ x. (body_value x.0, x.1.now)) result
+        (acknowledgement bytes.now) }
+    ensures spelled { IfOk result (λ x. 3 ∷ bytes.now ≡ body_bytes (body_value x.0) ++ x.1.now) }
+    ensures formed { IfOk result (λ x. carries_operations (body_value x.0) ≡ true) }
+{
+    let (maker, rest) = byte_at(bytes)?;
+    let (maker_epoch, rest) = short_at(rest)?;
+    let (cursor, rest) = long_at(rest)?;
+    let said = Acknowledgement {
+        maker,
+        maker_epoch,
+        cursor,
+    };
+    Ok((Body::Acknowledgement(said), rest))
+}
+
+/// What a letter says.
+#[tactic(auto, unfolding(crate::specs::Reading::body))]
+fn body_at(alloc: Global, bytes: &[u8]) -> Result<(Body, &[u8]), Unread>
+    ensures read { parts.Gives (λ x. (body_value x.0, x.1.now)) result (body bytes.now) }
+    ensures spelled { IfOk result (λ x. bytes.now ≡ body_bytes (body_value x.0) ++ x.1.now) }
+    ensures formed { IfOk result (λ x. carries_operations (body_value x.0) ≡ true) }
+{
+    let (kind, rest) = byte_at(bytes)?;
+    match kind {
+        1 => range_at(alloc, rest),
+        3 => acknowledgement_at(rest),
+        _ => Err(Unread::BadShape),
+    }
+}
+
+/// What follows the edition on a letter of that edition.
+#[tactic(auto, using(crate::proofs::Added::added), unfolding(crate::specs::Reading::content, crate::specs::Spelling::letter_bytes))]
+fn content_at(alloc: Global, edition: u32, bytes: &[u8]) -> Result<(Letter, &[u8]), Unread>
+    ensures read { parts.Gives (λ x. (x.0, x.1.now)) result (content edition bytes.now) }
+    ensures spelled { IfOk result (λ x. letter_version ∷ [] ++ word_bytes edition ++ bytes.now
+        ≡ letter_bytes x.0 ++ x.1.now) }
+    ensures edition { IfOk result (λ x. x.0.edition ≡ edition) }
+    ensures formed { IfOk result (λ x. carries_operations x.0.body ≡ true) }
+    ensures addressed { IfOk result (λ x. is_addressed x.0 ≡ true) }
+{
+    let (site, rest) = byte_at(bytes)?;
+    let (epoch, rest) = short_at(rest)?;
+    let (said, rest) = body_at(alloc, rest)?;
+    let Some(letter) = Letter::of(edition, site, epoch, said) else {
+        return Err(Unread::BadShape);
+    };
+    Ok((letter, rest))
+}
+
+/// The letter of that edition that the bytes are, judged in the order of its faults.
+#[tactic(auto, unfolding(crate::specs::Reading::letter_of))]
+fn letter_of(alloc: Global, frame: &[u8], edition: u32) -> Result<Letter, LetterFault>
+    ensures read { Gives (λ l. l) result (letter_of edition frame.now) }
+    ensures spelled { IfOk result (λ l. frame.now ≡ spelling l) }
+    ensures edition { IfOk result (λ l. l.edition ≡ edition) }
+    ensures formed { IfOk result (λ l. is_letter l ≡ true) }
+{
+    let (length, counted) = word_at(frame)?;
+    let (version, rest) = byte_at(counted)?;
+    if version != VERSION {
+        return Err(LetterFault::BadVersion);
+    }
+    let (found, rest) = word_at(rest)?;
+    if found != edition {
+        return Err(LetterFault::BadEdition);
+    }
+    if counted.len() != length as usize || length > MOST_BYTES {
+        return Err(LetterFault::BadShape);
+    }
+    let (letter, rest) = content_at(alloc, edition, rest)?;
+    if !rest.is_empty() {
+        return Err(LetterFault::BadShape);
+    }
+    Ok(letter)
+}
+
+/// The letter that all bytes of a frame are, its length before it, for a site whose operator tables have that edition.
+pub fn read_letter(alloc: Global, frame: &[u8], edition: u32) -> Result<Letter, LetterFault>
+    // What is read is spelled so, of the form, and of the edition.
+    ensures found { IfOk result (λ l. frame.now ≡ spelling l) }
+    ensures form { IfOk result (λ l. is_letter l ≡ true) }
+    ensures edition { IfOk result (λ l. l.edition ≡ edition) }
+    // What is spelled so is read, unless memory runs out.
+    ensures only { (l : LetterValue) → is_letter l ≡ true → l.edition ≡ edition
+        → frame.now ≡ spelling l → Gives (λ x. x) result (Ok l) }
+    // Which fault it is.
+    ensures exact { Gives (λ l. l) result (letter_of edition frame.now) }
+{
+    letter_of(alloc, frame, edition)
+}

@@ -1,0 +1,5 @@
+pub mod Indexed
+pub mod Covering
+pub mod Covered
+pub mod Records
+pub mod Forgotten

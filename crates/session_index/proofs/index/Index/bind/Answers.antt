@@ -1,0 +1,13 @@
+use Rattle.std.proofs.Common.{refl, sym, ap, ◌∙◌}
+use Rattle.pcrf_facts.specs.Held.{held}
+use Rattle.bind_index.proofs.Bound.{unknown_is_unbound}
+use Rattle.session_index.proofs.index.Index.bind.Goals as goal
+
+pub returns-in_default : goal.returns-in_default
+returns-in_default c = λ all. unknown_is_unbound c.args.state.now.facts c.args.session.now c.in_default.ensures
+
+pub returns : goal.returns
+returns c = λ all. c.bind_by.ensures c.args.state.now.facts c.args.session.now (record {
+  gateways = λ id. refl;
+  own = sym c.note_valid.ensures ∙ ap held c.in-Some.ensures;
+}) all

@@ -1,0 +1,19 @@
+use Rattle.std.proofs.lemmas.Result.{on_ok_weaker}
+use Rattle.session_index.proofs.Covering.{grows_through}
+use Rattle.session_index.proofs.Records.{addresses_grow, subscribers_each_grow, covers_records}
+use Rattle.session_index.proofs.index.Index.cover_state.Goals as goal
+
+pub returns-clause-grows : goal.returns-clause-grows
+returns-clause-grows c = grows_through _ _ _ c.list_gateways.ensures.grows c.list_calls.ensures.grows
+
+pub returns-clause-covers : goal.returns-clause-covers
+returns-clause-covers c =
+    on_ok_weaker c.list_calls.result
+    (λ listed. covers_records c.args.state.now.facts c.all_gx.result c.all_af.result
+    (record { ascending = c.all_gx.ensures.ascending; reads = c.all_gx.ensures.facts })
+    (record { ascending = c.all_af.ensures.ascending; reads = c.all_af.ensures.facts })
+    c.list_calls.new.self
+    (addresses_grow _ _ _ _ c.list_calls.ensures.grows c.in_ok-list_gateways.ensures.addresses)
+    (subscribers_each_grow _ _ _ c.list_calls.ensures.grows c.in_ok-list_gateways.ensures.subscribers)
+    listed)
+    c.list_calls.ensures.lists

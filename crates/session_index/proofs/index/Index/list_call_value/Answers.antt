@@ -1,0 +1,14 @@
+use Rattle.std.proofs.Common.{[], ◌∷◌, sym, subst}
+use Rattle.std.proofs.lemmas.Result.{on_ok_weaker}
+use Rattle.record_levels.specs.SessionFacts.{session_fact}
+use Rattle.pcrf_model.specs.Sessions.{af}
+use Rattle.session_index.specs.Index.{ListsFacts}
+use Rattle.session_index.proofs.Covering.{address_fact}
+use Rattle.session_index.proofs.index.Index.list_call_value.Goals as goal
+
+pub returns-in-Address-clause-lists : goal.returns-in-Address-clause-lists
+returns-in-Address-clause-lists c =
+    on_ok_weaker c.add_call.result
+    (λ added t. subst (λ v. ListsFacts c.add_call.new.self (af c.args.id.now) (session_fact t v ∷ [])) (sym c.in-Address.is)
+    (address_fact c.add_call.new.self (af c.args.id.now) t c.in-Address.address added))
+    c.add_call.ensures.lists

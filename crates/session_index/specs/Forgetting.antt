@@ -1,0 +1,52 @@
+-- What an index no longer lists once a session is forgotten.
+use Rattle.std.specs.Prelude.{◌≡◌, ℕ, true, Some, None, List}
+use Rattle.std.specs.Net.Addr.{ipv4_octets}
+use Rattle.std.specs.declared.net.ipv4_addr.Ipv4Addr.{Ipv4Addr}
+use Rattle.ranked.specs.Orders.{text_cmp}
+use Rattle.ranked.specs.Sets.{In}
+use Rattle.pcrf_values.specs.Subscribers.{subscriber_cmp}
+use Rattle.pcrf_facts.specs.Facts.{Fact}
+use Rattle.pcrf_facts.specs.FlowWords.{value_at}
+use Rattle.pcrf_facts.specs.Held.{shown}
+use Rattle.pcrf_facts.specs.Places.{Place, address, subscribers}
+use Rattle.pcrf_facts.specs.Values.{Subscriber, Address, Subscribers}
+use Rattle.pcrf_model.specs.Holdings.{SessionFact}
+use Rattle.pcrf_model.specs.Sessions.{Session}
+use Rattle.pcrf_model.specs.Views.{View, view, value}
+use Rattle.session_lists.specs.Lists.{ids_at, without}
+use Rattle.session_index.specs.Index.{BySubscriber, IndexValue, listed_at}
+
+-- the session shows the address
+abbrev pub ShowsAddress : View → Session → Ipv4Addr → Type 0
+ShowsAddress v s a = value v s address ≡ Some (Address (ipv4_octets a))
+
+-- nor anything else
+abbrev pub ShowsNothing : View → Session → Type 0
+ShowsNothing v s = (p : Place) → value v s p ≡ None
+
+-- an ended session shows nothing
+abbrev pub EndedShowNothing : Type 0
+EndedShowNothing = (facts : List SessionFact) (s : Session) → (view facts).ended s ≡ true → ShowsNothing (view facts) s
+
+-- these facts of a session show the address
+abbrev pub GivesAddress : List Fact → Ipv4Addr → Type 0
+GivesAddress facts a = value_at (shown facts) address ≡ Some (Address (ipv4_octets a))
+
+-- the session is taken out from under the address that these facts show, and from under no other
+pub record ForgetsAddress (before after : IndexValue) (s : Session) (facts : List Fact) : Type 0 where
+  pub gone : (a : Ipv4Addr) → GivesAddress facts a → listed_at after s.kind a ≡ without text_cmp s.id (listed_at before s.kind a)
+  pub others : (a : Ipv4Addr) → ¬ GivesAddress facts a → listed_at after s.kind a ≡ listed_at before s.kind a
+
+-- the session is taken out from under these subscribers, and from under no others
+pub record ForgetsEach (before after : BySubscriber) (id : List ℕ) (xs : List Subscriber) : Type 0 where
+  pub gone : (x : Subscriber) → In x xs → ids_at subscriber_cmp after x ≡ without text_cmp id (ids_at subscriber_cmp before x)
+  pub others : (x : Subscriber) → ¬ In x xs → ids_at subscriber_cmp after x ≡ ids_at subscriber_cmp before x
+
+-- these facts of a session show the subscriber among its own
+abbrev pub GivesSubscriber : List Fact → Subscriber → Type 0
+GivesSubscriber facts x = (xs : List Subscriber) × (value_at (shown facts) subscribers ≡ Some (Subscribers xs)) × In x xs
+
+-- the session is taken out from under the subscribers that these facts show, and from under no others
+pub record ForgetsSubscribers (before after : BySubscriber) (id : List ℕ) (facts : List Fact) : Type 0 where
+  pub gone : (x : Subscriber) → GivesSubscriber facts x → ids_at subscriber_cmp after x ≡ without text_cmp id (ids_at subscriber_cmp before x)
+  pub others : (x : Subscriber) → ¬ GivesSubscriber facts x → ids_at subscriber_cmp after x ≡ ids_at subscriber_cmp before x

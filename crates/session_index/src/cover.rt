@@ -1,0 +1,183 @@
+//! What an index lists: the sessions of operations and of states.
+ghost use Rattle.std.specs.Prelude.{◌≡◌, [], ◌∷◌, OnOk, map};
+ghost use Rattle.af_records.specs.RecordFacts as af_facts;
+ghost use Rattle.gx_records.specs.GxFacts as gx_facts;
+ghost use Rattle.pcrf_model.specs.Sessions.{gx, af};
+ghost use Rattle.pcrf_model.specs.Views.{view};
+ghost use Rattle.ranked.specs.declared.tag.Tag.{Tag};
+ghost use Rattle.record_levels.specs.SessionFacts.{session_fact};
+ghost use Rattle.session_index.specs.Index.{Covers, Grows, ListAddresses, ListSubscribers, ListsAddress, ListsFacts, ListsSubscribers};
+
+use crate::index::Index;
+use af_records::{AfFact, AfRec, AfRequestType};
+use gx_records::{GxFact, GxRec, OpenRequestType};
+use pcrf_values::{AfSid, GxSid};
+use record_levels::SessionValue;
+use site_join::{Operation, SessionFacts, State};
+use std::alloc::AllocError;
+use std::collections::btree_map::Iter;
+
+impl Index {
+    /// Lists the session of an operation under each address that it gives it, and one of a gateway under each subscriber. A
+    /// refusal leaves what was listed so far. An index that covers a state before then covers it with the operation.
+    pub fn cover(&mut self, operation: &Operation) -> Result<(), AllocError>
+        ensures grows { Grows self.old self.new }
+        ensures lists { OnOk result
+            (ListsFacts self.new operation.now.session operation.now.facts) }
+    {
+        match operation.facts() {
+            SessionFacts::Gx(id, facts) => self.list_gateway(id, facts.as_slice()),
+            SessionFacts::Af(id, facts) => self.list_call(id, facts.as_slice()),
+        }
+    }
+
+    /// Lists each session of a state under the address that it shows, and each of a gateway under the subscribers that it
+    /// shows. A refusal leaves what was listed so far.
+    pub fn cover_state(&mut self, state: &State) -> Result<(), AllocError>
+        ensures grows { Grows self.old self.new }
+        ensures covers { OnOk result (Covers (view state.now.facts) self.new) }
+    {
+        self.list_gateways(state.all_gx())?;
+        self.list_calls(state.all_af())
+    }
+
+    /// Lists a gateway's session by these facts.
+    fn list_gateway(&mut self, id: &GxSid, facts: &[GxFact]) -> Result<(), AllocError>
+        ensures grows { Grows self.old self.new }
+        ensures lists { OnOk result
+            (ListsFacts self.new (gx id.now) (map gx_facts.fact_of facts.now)) }
+    {
+        for fact in facts {
+            self.list_gateway_fact(id, fact)?;
+        }
+        Ok(())
+    }
+
+    /// Lists a gateway's session by this fact.
+    fn list_gateway_fact(&mut self, id: &GxSid, fact: &GxFact) -> Result<(), AllocError>
+        ensures grows { Grows self.old self.new }
+        ensures lists { OnOk result
+            (ListsFacts self.new (gx id.now) (gx_facts.fact_of fact.now ∷ [])) }
+    {
+        match fact {
+            GxFact::Field(_, value) => self.list_gateway_value(id, value),
+            _ => Ok(()),
+        }
+    }
+
+    /// Lists a gateway's session by the value of a field.
+    fn list_gateway_value(
+        &mut self,
+        id: &GxSid,
+        value: &SessionValue<OpenRequestType>,
+    ) -> Result<(), AllocError>
+        ensures grows { Grows self.old self.new }
+        ensures lists { OnOk result ((t : Tag) →
+            ListsFacts self.new (gx id.now) (session_fact t value.now ∷ [])) }
+    {
+        match value {
+            SessionValue::Address(address) => self.add_gateway(address, id),
+            SessionValue::Subscribers(subscribers) => {
+                self.add_subscribed(subscribers.as_slice(), id)
+            }
+            _ => Ok(()),
+        }
+    }
+
+    /// Lists an application function's session by these facts.
+    fn list_call(&mut self, id: &AfSid, facts: &[AfFact]) -> Result<(), AllocError>
+        ensures grows { Grows self.old self.new }
+        ensures lists { OnOk result
+            (ListsFacts self.new (af id.now) (map af_facts.fact_of facts.now)) }
+    {
+        for fact in facts {
+            self.list_call_fact(id, fact)?;
+        }
+        Ok(())
+    }
+
+    /// Lists an application function's session by this fact.
+    fn list_call_fact(&mut self, id: &AfSid, fact: &AfFact) -> Result<(), AllocError>
+        ensures grows { Grows self.old self.new }
+        ensures lists { OnOk result
+            (ListsFacts self.new (af id.now) (af_facts.fact_of fact.now ∷ [])) }
+    {
+        match fact {
+            AfFact::Session(_, value) => self.list_call_value(id, value),
+            _ => Ok(()),
+        }
+    }
+
+    /// Lists an application function's session by the value of a field.
+    fn list_call_value(
+        &mut self,
+        id: &AfSid,
+        value: &SessionValue<AfRequestType>,
+    ) -> Result<(), AllocError>
+        ensures grows { Grows self.old self.new }
+        ensures lists { OnOk result ((t : Tag) →
+            ListsFacts self.new (af id.now) (session_fact t value.now ∷ [])) }
+    {
+        match value {
+            SessionValue::Address(address) => self.add_call(address, id),
+            _ => Ok(()),
+        }
+    }
+
+    /// Lists gateways' sessions by what their records show.
+    fn list_gateways(&mut self, sessions: Iter<'_, GxSid, GxRec>) -> Result<(), AllocError>
+        ensures grows { Grows self.old self.new }
+        ensures addresses { OnOk result (ListAddresses self.new gx sessions.entry) }
+        ensures subscribers { OnOk result (ListSubscribers self.new sessions.entry) }
+    {
+        for (id, known) in sessions {
+            self.list_gateway_address(id, known)?;
+            self.list_gateway_subscribers(id, known)?;
+        }
+        Ok(())
+    }
+
+    /// Lists a gateway's session under the address that its record shows.
+    fn list_gateway_address(&mut self, id: &GxSid, known: &GxRec) -> Result<(), AllocError>
+        ensures grows { Grows self.old self.new }
+        ensures lists { OnOk result (ListsAddress self.new (gx id.now) known.now) }
+    {
+        let Some((_, address)) = known.address() else {
+            return Ok(());
+        };
+        self.add_gateway(address, id)
+    }
+
+    /// Lists a gateway's session under each subscriber that its record shows.
+    fn list_gateway_subscribers(&mut self, id: &GxSid, known: &GxRec) -> Result<(), AllocError>
+        ensures grows { Grows self.old self.new }
+        ensures lists { OnOk result (ListsSubscribers self.new id.now known.now) }
+    {
+        let Some((_, subscribers)) = known.subscribers() else {
+            return Ok(());
+        };
+        self.add_subscribed(subscribers.as_slice(), id)
+    }
+
+    /// Lists application functions' sessions under the addresses that their records show.
+    fn list_calls(&mut self, sessions: Iter<'_, AfSid, AfRec>) -> Result<(), AllocError>
+        ensures grows { Grows self.old self.new }
+        ensures lists { OnOk result (ListAddresses self.new af sessions.entry) }
+    {
+        for (id, known) in sessions {
+            self.list_call_address(id, known)?;
+        }
+        Ok(())
+    }
+
+    /// Lists an application function's session under the address that its record shows.
+    fn list_call_address(&mut self, id: &AfSid, known: &AfRec) -> Result<(), AllocError>
+        ensures grows { Grows self.old self.new }
+        ensures lists { OnOk result (ListsAddress self.new (af id.now) known.now) }
+    {
+        let Some((_, address)) = known.address() else {
+            return Ok(());
+        };
+        self.add_call(address, id)
+    }
+}

@@ -1,0 +1,85 @@
+//! The gateway's session to which an application function's session is bound, by an index.
+ghost use Rattle.std.specs.Prelude.{◌≡◌, ℕ, List, option_map};
+ghost use Rattle.std.specs.Option.{option_copied};
+ghost use Rattle.pcrf_model.specs.Bindings.{bind, candidate_cmp};
+ghost use Rattle.pcrf_model.specs.Holdings.{SessionFact, facts_on};
+ghost use Rattle.pcrf_model.specs.Sessions.{gx, af};
+ghost use Rattle.pcrf_model.specs.Views.{view};
+ghost use Rattle.ranked.specs.Sets.{greatest};
+ghost use Rattle.bind_index.specs.Asking.{HasRecord};
+ghost use Rattle.session_index.specs.Index.{Covers, matches_listed};
+ghost use Rattle.bind_index.specs.Matches.{match_of, match_value};
+
+use crate::index::Index;
+use af_records::AfRec;
+use bind_index::{Match, greater, match_of};
+use lattice_core::Join;
+use pcrf_values::{AfSid, GxSid};
+use session_lists::SessionIds;
+use site_join::State;
+
+impl Index {
+    /// The gateway's session to which an application function's session is bound, `None` where it is bound to none, by an
+    /// index that covers the state. Its time grows with the number of gateways' sessions that are listed under the address;
+    /// it takes no memory.
+    pub fn bind(&self, state: &State, session: &AfSid) -> Option<&GxSid>
+        ensures { Covers (view state.now.facts) self.now → option_map gx (option_copied result)
+            ≡ bind (view state.now.facts) (af session.now) }
+    {
+        let Some(asking) = state.af(session) else {
+            return None;
+        };
+        asking.note_valid();
+        self.bind_by(state, asking)
+    }
+
+    /// The gateway's session to which an application function's session would be bound, were this its record, by an index
+    /// that covers the state. Its time grows with the number of gateways' sessions that are listed under the address; it
+    /// takes no memory.
+    pub fn bind_by(&self, state: &State, asking: &AfRec) -> Option<&GxSid>
+        ensures { (facts : List SessionFact) (a : List ℕ)
+            → HasRecord state.now.facts asking.now facts a
+            → Covers (view state.now.facts) self.now
+            → option_map gx (option_copied result) ≡ bind (view facts) (af a) }
+    {
+        let Some((_, address)) = asking.address() else {
+            return None;
+        };
+        let Some(ids) = self.gateways_at(*address) else {
+            return None;
+        };
+        let Some(found) = greatest_listed(asking, state, ids) else {
+            return None;
+        };
+        Some(found.session)
+    }
+}
+
+/// The greatest of these sessions that match.
+fn greatest_listed<'i>(
+    asking: &AfRec,
+    state: &State,
+    ids: &'i SessionIds<GxSid>,
+) -> Option<Match<'i>>
+    ensures { option_map match_value result
+        ≡ greatest candidate_cmp (matches_listed asking.now state.now.facts ids.now) }
+{
+    let mut best = None;
+    for session in ids.iter() {
+        if let Some(found) = listed_match(asking, state, session) {
+            best = Some(greater(best, found));
+        }
+    }
+    best
+}
+
+/// The gateway's session, if it matches.
+fn listed_match<'i>(asking: &AfRec, state: &State, session: &'i GxSid) -> Option<Match<'i>>
+    ensures { option_map match_value result
+        ≡ match_of asking.now session.now (facts_on state.now.facts (gx session.now)) }
+{
+    let Some(gateway) = state.gx(session) else {
+        return None;
+    };
+    match_of(asking, session, gateway)
+}

@@ -1,0 +1,462 @@
+"""A plain reader and writer of letters, written from docs/LETTERS.md and sharing nothing with the product, and the cases
+that `letter_cases` runs.
+
+    python3 oracle/letters.py stdin > crates/letter_cases/stdin
+    python3 oracle/letters.py stdout > crates/letter_cases/stdout
+"""
+import random
+import sys
+
+EDITION = 7
+LAST = 2 ** 63 - 1
+MOST = 2 ** 30
+
+# what a field says, by its number
+SESSION = {1: "address", 2: "apn", 3: "subscribers", 4: "identity", 5: "identity", 6: "last"}
+COMPONENT = {1: (0, 2 ** 32 - 1), 2: (0, 3), 3: (0, 2 ** 32 - 1), 4: (0, 2 ** 32 - 1)}
+FLOW = {1: "filters", 2: (0, 2), 3: (0, 3), 4: (0, 2 ** 32 - 1), 5: (0, 2 ** 32 - 1)}
+
+
+class Bad(Exception):
+    """The bytes are no letter."""
+
+
+class Reader:
+    def __init__(self, data):
+        self.data, self.at = data, 0
+
+    def take(self, count):
+        if self.at + count > len(self.data):
+            raise Bad()
+        self.at += count
+        return self.data[self.at - count:self.at]
+
+    def number(self, size, least=0, most=None):
+        found = int.from_bytes(self.take(size), "big")
+        if found < least or (most is not None and found > most):
+            raise Bad()
+        return found
+
+    def text(self, most):
+        found = self.take(self.number(2))
+        if not 1 <= len(found) <= most:
+            raise Bad()
+        return found
+
+    def filters(self):
+        count = self.number(1, 1, 2)
+        return [self.text(255) for _ in range(count)]
+
+    def rule(self):
+        self.number(1, 0, 3)
+        self.filters()
+        self.number(1, 1, 9)
+        self.number(1, 1, 15)
+        self.number(1, 0, 1)
+        self.number(1, 0, 1)
+        for _ in range(3):
+            self.number(4)
+
+    def session_value(self, kind, field):
+        if field == "address":
+            self.number(1, 4, 4)
+            self.take(4)
+        elif field == "apn":
+            name = self.text(255)
+            if any(0x41 <= byte <= 0x5A for byte in name):
+                raise Bad()
+        elif field == "subscribers":
+            count = self.number(2, 1, 16)
+            found = [(self.number(1, 0, 4), self.text(255)) for _ in range(count)]
+            if any(a >= b for a, b in zip(found, found[1:])):
+                raise Bad()
+        elif field == "identity":
+            self.text(255)
+        else:
+            self.number(4, *((1, 2) if kind == 1 else (0, 0)))
+
+    def ranged(self, row):
+        if row == "filters":
+            self.filters()
+        else:
+            self.number(4, *row)
+
+    def row(self, rows):
+        number = self.number(1)
+        if number not in rows:
+            raise Bad()
+        return number
+
+    def fact(self, kind):
+        """Its position: kind of fact, component, flow, field, name."""
+        code = self.number(1)
+        if code == 1:
+            return (1, 0, 0, 0, b"")
+        if code == 2:
+            field = self.row(SESSION)
+            self.session_value(kind, SESSION[field])
+            return (2, 0, 0, field, b"")
+        if kind == 1:
+            if code != 7:
+                raise Bad()
+            name = self.text(600)
+            if self.number(1, 0, 1):
+                self.rule()
+            return (7, 0, 0, 0, name)
+        if code not in (3, 4, 5, 6):
+            raise Bad()
+        component = self.number(4)
+        if code == 3:
+            return (3, component, 0, 0, b"")
+        if code == 5:
+            field = self.row(COMPONENT)
+            self.ranged(COMPONENT[field])
+            return (5, component, 0, field, b"")
+        flow = self.number(4)
+        if code == 4:
+            return (4, component, flow, 0, b"")
+        field = self.row(FLOW)
+        self.ranged(FLOW[field])
+        return (6, component, flow, field, b"")
+
+    def operation(self):
+        self.number(8, 1, LAST)
+        self.number(1, 0, 15)
+        number = self.number(4)
+        kind = self.number(1, 1, 2)
+        if kind == 2 and number != 0:
+            raise Bad()
+        self.text(512)
+        facts = [self.fact(kind) for _ in range(self.number(4, 1))]
+        if any(a >= b for a, b in zip(facts, facts[1:])):
+            raise Bad()
+        if facts[0][0] == 1 and len(facts) > 1:
+            raise Bad()
+        components = {fact[1] for fact in facts if fact[0] == 3}
+        flows = {fact[1:3] for fact in facts if fact[0] == 4}
+        for fact in facts:
+            if fact[0] in (4, 5, 6) and fact[1] in components:
+                raise Bad()
+            if fact[0] == 6 and fact[1:3] in flows:
+                raise Bad()
+
+    def body(self):
+        kind = self.number(1)
+        if kind == 1:
+            first = self.number(8)
+            count = self.number(4)
+            if first + count > LAST:
+                raise Bad()
+            for _ in range(count):
+                self.operation()
+        elif kind == 3:
+            self.number(1, 0, 15)
+            self.number(2)
+            self.number(8, 0, LAST)
+        else:
+            raise Bad()
+
+
+def verdict(frame):
+    """What a site of edition 7 says of a frame."""
+    reader = Reader(frame)
+    try:
+        length = reader.number(4)
+        if reader.number(1) != 1:
+            return "the letter's version is not 1"
+        if reader.number(4) != EDITION:
+            return "the letter is of another edition of the operator tables"
+        if length != len(frame) - 4 or length > MOST:
+            raise Bad()
+        reader.number(1, 0, 15)
+        reader.number(2, 1)
+        reader.body()
+        if reader.at != len(frame):
+            raise Bad()
+    except Bad:
+        return "the bytes are no letter"
+    return "read"
+
+
+# ---- the same, written
+
+def u(size, number):
+    return number.to_bytes(size, "big")
+
+
+def text(data):
+    return u(2, len(data)) + data
+
+
+def framed(content):
+    return u(4, len(content)) + content
+
+
+def letter(body, version=1, edition=EDITION, site=0, epoch=1):
+    return framed(u(1, version) + u(4, edition) + u(1, site) + u(2, epoch) + body)
+
+
+def log_range(operations, first=0, count=None):
+    count = len(operations) if count is None else count
+    return u(1, 1) + u(8, first) + u(4, count) + b"".join(operations)
+
+
+def acknowledgement(maker=0, epoch=1, cursor=1):
+    return u(1, 3) + u(1, maker) + u(2, epoch) + u(8, cursor)
+
+
+def operation(facts, counter=1, site=0, number=0, kind=2, session=b"af;1", count=None):
+    count = len(facts) if count is None else count
+    return u(8, counter) + u(1, site) + u(4, number) + u(1, kind) + text(session) + u(4, count) + b"".join(facts)
+
+
+END = u(1, 1)
+
+
+def field(number, value):
+    return u(1, 2) + u(1, number) + value
+
+
+def address(octets=b"\x0a\x00\x00\x01", size=4):
+    return field(1, u(1, size) + octets)
+
+
+def apn(name=b"ims"):
+    return field(2, text(name))
+
+
+def subscribers(found, count=None):
+    count = len(found) if count is None else count
+    return field(3, u(2, count) + b"".join(u(1, kind) + text(name) for kind, name in found))
+
+
+def host(name=b"af"):
+    return field(4, text(name))
+
+
+def realm(name=b"r"):
+    return field(5, text(name))
+
+
+def last(number):
+    return field(6, u(4, number))
+
+
+def component_removed(component):
+    return u(1, 3) + u(4, component)
+
+
+def flow_removed(component, flow):
+    return u(1, 4) + u(4, component) + u(4, flow)
+
+
+def component(number, row, value):
+    return u(1, 5) + u(4, number) + u(1, row) + u(4, value)
+
+
+def flow(number, index, row, value):
+    return u(1, 6) + u(4, number) + u(4, index) + u(1, row) + (value if isinstance(value, bytes) else u(4, value))
+
+
+def filters(found, count=None):
+    count = len(found) if count is None else count
+    return u(1, count) + b"".join(text(one) for one in found)
+
+
+def rule(status=2, found=None, qci=5, priority=9, capability=1, vulnerability=0):
+    found = filters([b"permit out ip from any to any"]) if found is None else found
+    return (u(1, status) + found + u(1, qci) + u(1, priority) + u(1, capability) + u(1, vulnerability)
+            + u(4, 32000) + u(4, 32000) + u(4, 40))
+
+
+def told(name, what=None):
+    return u(1, 7) + text(name) + (u(1, 0) if what is None else u(1, 1) + what)
+
+
+IMSI, E164 = (1, b"001010000000001"), (0, b"15550001")
+
+
+def gx(facts, number=0, session=b"gw;1;1", **more):
+    return operation(facts, kind=1, number=number, session=session, **more)
+
+
+def one(op):
+    return letter(log_range([op]))
+
+
+def attach(number=3):
+    return gx([address(), apn(), subscribers([E164, IMSI]), host(b"gw"), realm(), last(1), told(b"op/old"),
+               told(b"op/sip", rule())], number=number)
+
+
+def call():
+    two = filters([b"permit in ip from any to any", b"permit out ip from any to any"])
+    return operation([address(), host(), realm(), last(0), component_removed(9), flow_removed(1, 7), component(1, 1, 0),
+                      component(1, 2, 3), component(1, 3, 41000), component(1, 4, 80000), flow(1, 1, 1, two),
+                      flow(1, 2, 2, 1), flow(1, 2, 3, 2), flow(1, 2, 4, 5000), flow(1, 2, 5, 5000)])
+
+
+def whole():
+    """Letters that are read: each form of fact, and each bound at its end."""
+    yield "a range of the end of a session", letter(log_range([gx([END], number=5, counter=2)], first=1))
+    yield "an acknowledgement", letter(acknowledgement(), site=1)
+    yield "a range of no operation", letter(log_range([], first=LAST))
+    yield "a gateway's session", one(attach())
+    yield "a call", one(call())
+    yield "several operations", letter(log_range([attach(), call(), operation([END], counter=LAST, site=15)], first=4))
+    yield "the last site and epoch", letter(acknowledgement(15, 65535, LAST), site=15, epoch=65535)
+    yield "the greatest request number", one(gx([END], number=2 ** 32 - 1))
+    yield "a session of 512 bytes", one(operation([END], session=b"s" * 512))
+    yield "texts of 255 bytes", one(operation([apn(b"n" * 255), subscribers([(4, b"d" * 255)]), host(b"h" * 255)]))
+    yield "any bytes in texts", one(operation([apn(bytes(range(0x5B, 0xDB))), host(bytes(range(256))[1:])]))
+    yield "sixteen subscribers", one(operation([subscribers([(0, u(1, 65 + i)) for i in range(16)])]))
+    yield "a rule's name of 600 bytes", one(gx([told(b"n" * 600)]))
+    yield "an update", one(gx([last(2)], number=1))
+    yield "the greatest of each of a rule", one(gx([told(b"a", rule(3, filters([b"f" * 255] * 2), 9, 15, 1, 1))]))
+    yield "the least of each of a rule", one(gx([told(b"a", rule(0, None, 1, 1, 0, 0))]))
+
+
+def broken():
+    """Letters that are not: each bound one past its end, each count larger than its body, each order broken."""
+    yield "version 9", letter(acknowledgement(), version=9)
+    yield "version 0 of another edition", letter(acknowledgement(), version=0, edition=8)
+    yield "version 2", letter(acknowledgement(), version=2)
+    yield "edition 8", letter(acknowledgement(), edition=8)
+    yield "edition 8 of no form", framed(u(1, 1) + u(4, 8))
+    yield "no byte", b""
+    yield "a cut length", b"\0\0\0"
+    yield "a length alone", framed(b"")
+    yield "a version alone", framed(b"\1")
+    yield "another version alone", framed(b"\2")
+    yield "an edition cut off", framed(b"\1\0\0\0")
+    yield "a byte behind", letter(acknowledgement() + b"\0")
+    yield "a length one more", u(4, 21) + letter(acknowledgement())[4:]
+    yield "a length one less", u(4, 19) + letter(acknowledgement())[4:]
+    yield "site 16", letter(acknowledgement(), site=16)
+    yield "epoch 0", letter(acknowledgement(), epoch=0)
+    yield "kind 0", letter(u(1, 0))
+    yield "kind 4", letter(u(1, 4) + acknowledgement()[1:])
+    yield "maker 16", letter(acknowledgement(maker=16))
+    yield "cursor 2^63", letter(acknowledgement(cursor=2 ** 63))
+    yield "a range past the last position", letter(log_range([call()], first=LAST))
+    yield "a range from 2^63", letter(log_range([], first=2 ** 63))
+    yield "a count of operations above them", letter(log_range([call()], count=2))
+    yield "the greatest count of operations", letter(log_range([call()], count=2 ** 32 - 1))
+    yield "a count of operations below them", letter(log_range([call(), call()], count=1))
+    yield "counter 0", one(operation([END], counter=0))
+    yield "counter 2^63", one(operation([END], counter=2 ** 63))
+    yield "an operation of site 16", one(operation([END], site=16))
+    yield "a number on a call", one(operation([END], number=1))
+    yield "session kind 0", one(operation([END], kind=0))
+    yield "session kind 3", one(operation([END], kind=3))
+    yield "an empty session", one(operation([END], session=b""))
+    yield "a session of 513 bytes", one(operation([END], session=b"s" * 513))
+    yield "no fact", one(operation([]))
+    yield "a count of facts above them", one(operation([END], count=2))
+    yield "the greatest count of facts", one(operation([END], count=2 ** 32 - 1))
+    yield "a count of facts below them", one(operation([host(), realm()], count=1))
+    yield "facts out of order", one(operation([realm(), host()]))
+    yield "a fact twice", one(operation([host(), host()]))
+    yield "another value of a field", one(operation([host(b"a"), host(b"b")]))
+    yield "an end beside another fact", one(operation([END, host()]))
+    yield "an end twice", one(operation([END, END]))
+    yield "an end behind another fact", one(operation([host(), END]))
+    yield "a component beneath its removal", one(operation([component_removed(1), component(1, 1, 0)]))
+    yield "a flow beneath its component's removal", one(operation([component_removed(1), flow(1, 2, 2, 0)]))
+    yield "a removal beneath another", one(operation([component_removed(1), flow_removed(1, 2)]))
+    yield "a flow beneath its removal", one(operation([flow_removed(1, 2), flow(1, 2, 2, 0)]))
+    yield "flows out of order", one(operation([flow(1, 2, 2, 0), flow(1, 1, 2, 0)]))
+    yield "told names out of order", one(gx([told(b"b"), told(b"a")]))
+    yield "a told name behind its beginning", one(gx([told(b"ab"), told(b"a")]))
+    yield "fact 0", one(operation([u(1, 0)]))
+    yield "fact 8", one(operation([u(1, 8)]))
+    yield "what was told of a call", one(operation([told(b"a")]))
+    for code in (component_removed(1), flow_removed(1, 1), component(1, 1, 0), flow(1, 1, 2, 0)):
+        yield "a fact of a call on a gateway's session", one(gx([code]))
+    yield "session field 0", one(operation([field(0, b"")]))
+    yield "session field 7", one(operation([field(7, b"")]))
+    yield "an address of three octets", one(operation([address(b"\x0a\0\0", 3)]))
+    yield "an address of sixteen", one(operation([address(b"\0" * 16, 16)]))
+    yield "an empty access point", one(operation([apn(b"")]))
+    yield "an access point of 256 bytes", one(operation([apn(b"n" * 256)]))
+    yield "a capital in an access point", one(operation([apn(b"imS")]))
+    yield "no subscriber", one(operation([subscribers([])]))
+    yield "seventeen subscribers", one(operation([subscribers([(0, u(1, 65 + i)) for i in range(17)])]))
+    yield "subscribers out of order", one(operation([subscribers([IMSI, E164])]))
+    yield "a subscriber twice", one(operation([subscribers([IMSI, IMSI])]))
+    yield "a count of subscribers above them", one(operation([subscribers([IMSI], count=2)]))
+    yield "a subscriber of type 5", one(operation([subscribers([(5, b"a")])]))
+    yield "an empty subscriber", one(operation([subscribers([(1, b"")])]))
+    yield "a subscriber of 256 bytes", one(operation([subscribers([(1, b"a" * 256)])]))
+    yield "an empty host", one(operation([host(b"")]))
+    yield "a realm of 256 bytes", one(operation([realm(b"r" * 256)]))
+    yield "a request type of a call", one(operation([last(1)]))
+    yield "request type 0", one(gx([last(0)]))
+    yield "request type 3", one(gx([last(3)]))
+    yield "component field 0", one(operation([component(1, 0, 0)]))
+    yield "component field 5", one(operation([component(1, 5, 0)]))
+    yield "a component's status 4", one(operation([component(1, 2, 4)]))
+    yield "flow field 0", one(operation([flow(1, 1, 0, 0)]))
+    yield "flow field 6", one(operation([flow(1, 1, 6, 0)]))
+    yield "a flow's usage 3", one(operation([flow(1, 1, 2, 3)]))
+    yield "a flow's status 4", one(operation([flow(1, 1, 3, 4)]))
+    yield "no filter", one(operation([flow(1, 1, 1, filters([]))]))
+    yield "three filters", one(operation([flow(1, 1, 1, filters([b"a"] * 3))]))
+    yield "a count of filters above them", one(operation([flow(1, 1, 1, filters([b"a"], count=2))]))
+    yield "an empty filter", one(operation([flow(1, 1, 1, filters([b""]))]))
+    yield "a filter of 256 bytes", one(operation([flow(1, 1, 1, filters([b"a" * 256]))]))
+    yield "an empty rule's name", one(gx([told(b"")]))
+    yield "a rule's name of 601 bytes", one(gx([told(b"n" * 601)]))
+    yield "neither a rule nothing", one(gx([u(1, 7) + text(b"a") + u(1, 2)]))
+    for made in (rule(status=4), rule(qci=0), rule(qci=10), rule(priority=0), rule(priority=16), rule(capability=2),
+                 rule(vulnerability=2), rule(found=filters([])), rule(found=filters([b"a"] * 3))):
+        yield "a rule out of its ranges", one(gx([told(b"a", made)]))
+
+
+def changed(count):
+    """Letters with one byte changed."""
+    draw = random.Random(34)
+    good = [frame for _, frame in whole() if len(frame) < 400]
+    for _ in range(count):
+        frame = bytearray(draw.choice(good))
+        frame[draw.randrange(len(frame))] = draw.randrange(256)
+        yield bytes(frame)
+
+
+def held():
+    """Ranges with what a state holds that took their operations: of each session the facts that no end overshadows."""
+    yield log_range([]), "clock 0"
+    yield log_range([attach()]), "clock 1 gx gw;1;1 8"
+    yield log_range([call(), attach()]), "clock 1 gx gw;1;1 8 af af;1 15"
+    yield log_range([attach(), call(), operation([END], counter=9)]), "clock 9 gx gw;1;1 8 af af;1 1"
+    yield log_range([operation([END], counter=9), call()]), "clock 9 af af;1 1"
+    yield (log_range([gx([last(1)], session=b"b"), gx([END], session=b"a", counter=4), operation([host()], session=b"b"),
+                      operation([host(), realm()], session=b"a", counter=3)]),
+           "clock 4 gx a 1 gx b 1 af a 2 af b 1")
+    yield (log_range([call(), operation([component_removed(1)], counter=2)]), "clock 2 af af;1 6")
+    yield (log_range([gx([last(1), told(b"b")]), gx([last(2), told(b"a"), told(b"b", rule())], counter=2, number=1)]),
+           "clock 2 gx gw;1;1 3")
+
+
+def lines():
+    """Each line with what is said of it."""
+    for name, frame in whole():
+        assert verdict(frame) == "read", name
+        yield "# " + name, "# " + name
+        yield "cut " + frame.hex(), "read, and cut at %d places" % len(frame)
+    for name, frame in broken():
+        assert verdict(frame) != "read", name
+        yield "# " + name, "# " + name
+        yield "letter " + frame.hex(), verdict(frame)
+    yield "# what is held", "# what is held"
+    for body, said in held():
+        yield "held " + letter(body).hex(), said
+    yield "held " + letter(acknowledgement()).hex(), "no operation"
+    yield "# letters with one byte changed", "# letters with one byte changed"
+    for frame in changed(400):
+        yield "letter " + frame.hex(), verdict(frame)
+
+
+if __name__ == "__main__":
+    for line, said in lines():
+        print(line if sys.argv[1] == "stdin" else said)
