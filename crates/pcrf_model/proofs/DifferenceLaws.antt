@@ -1,5 +1,5 @@
 -- What a difference leads to, and what its first entries leave of it.
-use Rattle.std.proofs.Common.{◌≡◌, ℕ, Bool, true, false, not, ◌&&◌, List, ◌++◌, map, ◌⊎◌, inl, inr, sym, ap, ◌∙◌, subst, filter}
+use Rattle.std.proofs.Common.{◌≡◌, ℕ, Bool, true, false, cond, not, ◌&&◌, List, [], ◌∷◌, ◌++◌, map, ◌⊎◌, inl, inr, refl, sym, ap, ◌∙◌, subst, filter}
 use Rattle.std.specs.Ordering.{is_eq}
 use Rattle.std.specs.Cmp.{first_so, second_so}
 use Rattle.std.specs.List.{list_any}
@@ -9,7 +9,7 @@ use Rattle.pcrf_values.specs.RuleValues.{RuleValue, DeltaValue, rule_cmp}
 use Rattle.ranked.proofs.Plain.{clash, is_false, split, not_true, both}
 use Rattle.ranked.specs.Sets.{In, Same, Distinct}
 use Rattle.pcrf_facts.specs.ToldWords.{ToldRule}
-use Rattle.pcrf_model.specs.Differences.{told_cmp, told_name_of, rule_name_of, has_name, holds, difference, as_told, stays, apply}
+use Rattle.pcrf_model.specs.Differences.{told_cmp, told_name_of, rule_name_of, has_name, holds, difference, as_told, stays, last_of_names, apply}
 use Rattle.ranked.proofs.SetLaws.{In-left, In-right, In-cases, In-filter, filter-In, In-any, any-In, any-none, In-map, map-In}
 use Rattle.ranked.proofs.DistinctLaws.{one_of_key}
 use Rattle.ranked.proofs.OrderLaws.{IsRanked, text_ranked, pair_ranked}
@@ -55,6 +55,29 @@ held t x h =
 pub holds_one : (t : List ToldRule) (x : RuleValue) → In (as_told x) t → holds t x ≡ true
 holds_one t x i = In-any (λ (p : ToldRule). is_eq (text_cmp p.0 x.name) && is_eq (rule_cmp p.1 x)) (as_told x) t i (both _ _ (eq_itself text_ranked x.name) (eq_itself rule_ranked x))
 
+-- ---- the last rule of each name
+
+-- it is one of the rules
+last-In : (x : RuleValue) (rs : List RuleValue) → In x (last_of_names rs) → In x rs
+last-In x [] i = i
+last-In x (r ∷ rs) i = elim (list_any (has_name r.name) rs) as (λ b. In x (cond b (last_of_names rs) (r ∷ last_of_names rs)) → In x (r ∷ rs)) [
+  | true ↦ λ j. inr (last-In x rs j)
+  | false ↦ λ j. elim j [ inl e ↦ inl e | inr k ↦ inr (last-In x rs k) ]
+] i
+
+-- where rules of one name are one, each of them is the last of its name
+pub last-is : (rs : List RuleValue) → ((a b : RuleValue) → In a rs → In b rs → a.name ≡ b.name → a ≡ b) → (x : RuleValue) → In x rs → In x (last_of_names rs)
+last-is [] one x i = i
+last-is (r ∷ rs) one x i =
+    let later : In x rs → In x (last_of_names rs) = last-is rs (λ a b j k. one a b (inr j) (inr k)) x in
+    elim (split (list_any (has_name r.name) rs)) [
+      | inl y ↦ subst (λ (b : Bool). In x (cond b (last_of_names rs) (r ∷ last_of_names rs))) (sym y) (later (elim i [
+        | inl e ↦ let w = who_has r.name rs y in subst (λ (z : RuleValue). In z rs) (one w.0 r (inr w.1) (inl refl) w.2 ∙ sym e) w.1
+        | inr j ↦ j
+      ]))
+      | inr n ↦ subst (λ (b : Bool). In x (cond b (last_of_names rs) (r ∷ last_of_names rs))) (sym n) (elim i [ inl e ↦ inl e | inr j ↦ inr (later j) ])
+    ]
+
 -- ---- what stays, and what is there after a difference
 
 module _ (t : List ToldRule) (d : DeltaValue) where
@@ -76,22 +99,23 @@ module _ (t : List ToldRule) (d : DeltaValue) where
 
   -- what is there afterwards stayed, or was installed
   pub there : (p : ToldRule) → In p (apply t d) → (In p t × (stays d p ≡ true)) ⊎ ((r : RuleValue) × In r d.installed × (p ≡ as_told r))
-  there p i = elim (In-cases p (filter (stays d) t) (map as_told d.installed) ((ascending-In told_cmp told_ranked (filter (stays d) t ++ map as_told d.installed) p).0 i)) [
+  there p i = elim (In-cases p (filter (stays d) t) (map as_told (last_of_names d.installed)) ((ascending-In told_cmp told_ranked (filter (stays d) t ++ map as_told (last_of_names d.installed)) p).0 i)) [
     | inl j ↦ inl (filter-In (stays d) p t j)
-    | inr j ↦ inr (map-In as_told p d.installed j)
+    | inr j ↦ let r = map-In as_told p (last_of_names d.installed) j in inr (r.0, last-In r.0 d.installed r.1, r.2)
   ]
 
   -- both are there
-  put_in : (p : ToldRule) → In p (filter (stays d) t ++ map as_told d.installed) → In p (apply t d)
-  put_in p = (ascending-In told_cmp told_ranked (filter (stays d) t ++ map as_told d.installed) p).1
+  put_in : (p : ToldRule) → In p (filter (stays d) t ++ map as_told (last_of_names d.installed)) → In p (apply t d)
+  put_in p = (ascending-In told_cmp told_ranked (filter (stays d) t ++ map as_told (last_of_names d.installed)) p).1
 
   -- what stays is there
   pub stays_in : (p : ToldRule) → In p t → stays d p ≡ true → In p (apply t d)
-  stays_in p i s = put_in p (In-left p (filter (stays d) t) (map as_told d.installed) (In-filter (stays d) p t i s))
+  stays_in p i s = put_in p (In-left p (filter (stays d) t) (map as_told (last_of_names d.installed)) (In-filter (stays d) p t i s))
 
-  -- what is installed is there
-  pub installed_in : (r : RuleValue) → In r d.installed → In (as_told r) (apply t d)
-  installed_in r i = put_in (as_told r) (In-right (as_told r) (filter (stays d) t) (map as_told d.installed) (In-map as_told r d.installed i))
+  -- what is installed is there, where rules of one name are one
+  pub installed_in : ((a b : RuleValue) → In a d.installed → In b d.installed → a.name ≡ b.name → a ≡ b) → (r : RuleValue) → In r d.installed → In (as_told r) (apply t d)
+  installed_in one r i = put_in (as_told r)
+      (In-right (as_told r) (filter (stays d) t) (map as_told (last_of_names d.installed)) (In-map as_told r (last_of_names d.installed) (last-is d.installed one r i)))
 
 -- ---- the difference of told entries and rules
 
@@ -131,6 +155,10 @@ module _ (t : List ToldRule) (rs : List RuleValue) where
     pub same_told : (p q : ToldRule) → In p t → In q t → p.0 ≡ q.0 → p ≡ q
     same_told = one_of_key told_name_of t f
 
+    -- and so are those of them that are installed
+    pub one_installed : (ins : List RuleValue) → ((y : RuleValue) → In y ins → In y (difference t rs).installed) → (a b : RuleValue) → In a ins → In b ins → a.name ≡ b.name → a ≡ b
+    one_installed ins part a b i j = same_rule a b (installed-In a (part a i)).0 (installed-In b (part b j)).0
+
     -- of a rule that was told no other is installed under its name
     pub none_anew : (x : RuleValue) → In x rs → holds t x ≡ true → (ins : List RuleValue) → ((y : RuleValue) → In y ins → In y (difference t rs).installed) → In x.name (map rule_name_of ins) → ⊥
     none_anew x i h ins part j =
@@ -168,11 +196,11 @@ module _ (t : List ToldRule) (rs : List RuleValue) where
         back x i = elim (split (holds t x)) [
           | inl h ↦ stays_in t (difference t rs) (as_told x) (held t x h)
               (stays_if t (difference t rs) (as_told x) (λ j. lacks_none x i (removed-In x.name j).1) (none_anew x i h (difference t rs).installed (λ y j. j)))
-          | inr h ↦ installed_in t (difference t rs) x (In-filter is_new x rs i (ap not h))
+          | inr h ↦ installed_in t (difference t rs) (one_installed (difference t rs).installed (λ y j. j)) x (In-filter is_new x rs i (ap not h))
         ]
 
     -- and so the told entries are the rules
     pub apply-difference : apply t (difference t rs) ≡ ascending told_cmp (map as_told rs)
     apply-difference =
-        same_ascending told_cmp told_ranked _ _ (ascending-ascending told_cmp told_ranked (filter (stays (difference t rs)) t ++ map as_told (difference t rs).installed)) (ascending-ascending told_cmp told_ranked (map as_told rs))
+        same_ascending told_cmp told_ranked _ _ (ascending-ascending told_cmp told_ranked (filter (stays (difference t rs)) t ++ map as_told (last_of_names (difference t rs).installed))) (ascending-ascending told_cmp told_ranked (map as_told rs))
         (λ p. (λ h. (ascending-In told_cmp told_ranked (map as_told rs) p).1 ((same_pairs p).0 h), λ h. (same_pairs p).1 ((ascending-In told_cmp told_ranked (map as_told rs) p).0 h)))

@@ -7,13 +7,13 @@ use Rattle.pcrf_values.specs.RuleValues.{RuleValue, DeltaValue, rule_cmp}
 use Rattle.ranked.proofs.Plain.{clash, is_false, split, not_true}
 use Rattle.ranked.specs.Sets.{In, Same, Distinct}
 use Rattle.pcrf_facts.specs.ToldWords.{ToldRule}
-use Rattle.pcrf_model.specs.Differences.{told_cmp, told_name_of, rule_name_of, IsTold, holds, difference, first, rest, as_told, stays, apply}
+use Rattle.pcrf_model.specs.Differences.{told_cmp, told_name_of, rule_name_of, IsTold, holds, difference, first, rest, as_told, stays, last_of_names, apply}
 use Rattle.ranked.proofs.SetLaws.{In-filter, filter-In, In-map, map-In}
 use Rattle.ranked.proofs.DistinctLaws.{take_or_drop, take-In, drop-In, not_in_both, Distinct-of_map, filter_past}
 use Rattle.ranked.proofs.OrderLaws.{text_ranked}
 use Rattle.ranked.proofs.AscendingLaws.{map-ascending, ascending-ascending, same_ascending, filter-ascending, drop-ascending, Distinct-ascending}
 use Rattle.ranked.specs.Ascending.{Rises}
-use Rattle.pcrf_model.proofs.DifferenceLaws.{told_ranked, held, holds_one, stays_if, not_removed, not_installed, there, stays_in, installed_in, lacks, removed-In, installed-In, lacks_none, same_rule, same_told, none_anew}
+use Rattle.pcrf_model.proofs.DifferenceLaws.{told_ranked, held, holds_one, stays_if, not_removed, not_installed, there, stays_in, installed_in, one_installed, lacks, removed-In, installed-In, lacks_none, same_rule, same_told, none_anew}
 
 -- the name is below, where the entries are in order and no two have one name
 name_below : (p q : ToldRule) → told_cmp p q ≡ Less → (p.0 ≡ q.0 → p ≡ q) → text_cmp p.0 q.0 ≡ Less
@@ -62,7 +62,7 @@ module _ (n : ℕ) (t : List ToldRule) (rs : List RuleValue) (w : IsTold t) (g :
 
   -- what is new afterwards was not installed
   none_installed : (x : RuleValue) → In x rs → not (holds u x) ≡ true → In x (take k installed) → ⊥
-  none_installed x i h j = clash (holds u x) (holds_one u x (installed_in t e x j)) (not_true _ h)
+  none_installed x i h j = clash (holds u x) (holds_one u x (installed_in t e (one_installed t rs w.one_each g e.installed (λ y i. take-In k y installed i)) x j)) (not_true _ h)
 
   -- what was new and not installed is new still
   still_new : (x : RuleValue) → In x rs → not (holds t x) ≡ true → (In x (take k installed) → ⊥) → not (holds u x) ≡ true
@@ -102,7 +102,7 @@ module _ (n : ℕ) (t : List ToldRule) (rs : List RuleValue) (w : IsTold t) (g :
 
   -- the names told after are in order
   new_names : Rises text_cmp (map told_name_of u)
-  new_names = names_ascending u (ascending-ascending told_cmp told_ranked (filter (stays e) t ++ map as_told e.installed)) one_name
+  new_names = names_ascending u (ascending-ascending told_cmp told_ranked (filter (stays e) t ++ map as_told (last_of_names e.installed))) one_name
 
   -- the names to be removed are in order
   removed_ascending : Rises text_cmp removed

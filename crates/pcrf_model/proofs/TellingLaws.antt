@@ -25,7 +25,7 @@ use Rattle.pcrf_model.specs.Bindings.{bind, is_bound_to}
 use Rattle.pcrf_model.specs.Tables.{Tables}
 use Rattle.pcrf_model.specs.Rules.{flow_at, rule_of, rule_at, operator_rules, listed_cmp, rules}
 use Rattle.pcrf_facts.specs.ToldWords.{ToldRule}
-use Rattle.pcrf_model.specs.Differences.{told_cmp, told, rule_name_of, as_told, stays, apply}
+use Rattle.pcrf_model.specs.Differences.{told_cmp, told, rule_name_of, as_told, stays, last_of_names, apply}
 use Rattle.pcrf_model.specs.Making.{told_facts}
 use Rattle.pcrf_model.proofs.HoldingLaws.{session_ranked, facts_on-In, under-In}
 use Rattle.pcrf_model.proofs.ViewLaws.{shown_ranked, its_session, sessions_alone, all-shows, In-all}
@@ -230,7 +230,7 @@ module _ (xs : List SessionFact) (s : Session) (g : Tag) (d : DeltaValue)
               let r = map-In rule_name_of p.0 d.installed j in
               let shows : after.shows s (OfRuleName r.0.name) ≡ Some (g, Told r.0) = shows_after (OfRuleName r.0.name) ∙ shows_told (facts_on xs s) g d older open_ its r.0 r.1 in
               let q = one_told r.0 p.1 (ap (λ (z : Entry). z.1) (entries_of (g, Told r.0) (h.0, Told p.1) (sym shows ∙ ap (λ (n : List ℕ). after.shows s (OfRuleName n)) (sym r.2) ∙ h.1))) in
-              subst (λ (z : ToldRule). In z (apply (told before s) d)) (λ k. (sym r.2 k, q k)) (installed_in (told before s) d r.0 r.1)
+              subst (λ (z : ToldRule). In z (apply (told before s) d)) (λ k. (sym r.2 k, q k)) (installed_in (told before s) d its.one_each r.0 r.1)
           | inr b ↦ stays_in (told before s) d p (In-told xs s p.0 h.0 p.1 (sym (old_after p.0 a b) ∙ h.1)) (stays_if (told before s) d p a b)
         ]
       ]
@@ -250,5 +250,5 @@ module _ (xs : List SessionFact) (s : Session) (g : Tag) (d : DeltaValue)
   pub told_after : told after s ≡ apply (told before s) d
   told_after = same_ascending told_cmp told_ranked _ _
       (subst (Rises told_cmp) (told_is_told (xs ++ under s ts) s).in_order (ascending-ascending told_cmp told_ranked (told after s)))
-      (ascending-ascending told_cmp told_ranked (filter (stays d) (told before s) ++ map as_told d.installed))
+      (ascending-ascending told_cmp told_ranked (filter (stays d) (told before s) ++ map as_told (last_of_names d.installed)))
       (λ p. (told_onward p, told_backward p))

@@ -1,5 +1,5 @@
 -- What a gateway was told, and how that differs from the rules that hold (TS 29.212, 4.5.2: Charging-Rule-Remove and -Install).
-use Rattle.std.specs.Prelude.{◌≡◌, ℕ, ◌+◌, ◌-◌, ◌==◌, Bool, cond, not, ◌&&◌, List, ◌++◌, map, take, drop, length, None}
+use Rattle.std.specs.Prelude.{◌≡◌, ℕ, ◌+◌, ◌-◌, ◌==◌, Bool, cond, not, ◌&&◌, List, [], ◌∷◌, ◌++◌, map, take, drop, length, None}
 use Rattle.std.proofs.Common.{Ordering}
 use Rattle.std.specs.Ordering.{is_eq}
 use Rattle.std.specs.List.{list_any, filter, filter_map}
@@ -73,6 +73,11 @@ as_told r = (r.name, r)
 abbrev pub stays : DeltaValue → ToldRule → Bool
 stays d p = not (list_any (λ n. is_eq (text_cmp n p.0)) d.removed) && not (list_any (has_name p.0) d.installed)
 
--- without the removed names, and with the installed rules in place
+-- the installed rules of which no later one takes the place: the last of each name
+abbrev pub last_of_names : List RuleValue → List RuleValue
+last_of_names [] = []
+last_of_names (r ∷ rs) = cond (list_any (has_name r.name) rs) (last_of_names rs) (r ∷ last_of_names rs)
+
+-- without the removed names, and with each installed rule in the place of what its name had
 abbrev pub apply : List ToldRule → DeltaValue → List ToldRule
-apply t d = ascending told_cmp (filter (stays d) t ++ map as_told d.installed)
+apply t d = ascending told_cmp (filter (stays d) t ++ map as_told (last_of_names d.installed))

@@ -2,10 +2,10 @@
 
 ghost use Rattle.std.specs.Prelude.{◌≡◌, [], ◌∷◌, Some, None, codes, true, false};
 ghost use Rattle.pcrf_facts.specs.Values.{Address};
-ghost use Rattle.pcrf_model.specs.CursorLaws.{FirstTaken, Reaches};
+ghost use Rattle.pcrf_model.specs.CursorLaws.{AllSound, FirstTaken, Reaches};
 ghost use Rattle.pcrf_model.specs.Laws.{BindsAlike, HasAddress, NeverMeet};
 ghost use Rattle.pcrf_model.specs.Waiting.{first_waiting, may_be_due};
-ghost use Rattle.pcrf_model.specs.Neighbours.{count_rules, counted, far_call, none_waits, refreshed, two_apart, waits};
+ghost use Rattle.pcrf_model.specs.Neighbours.{count_rules, counted, far_call, none_waits, refreshed, two_apart, waits, written_from};
 ghost use Rattle.pcrf_model.specs.Samples.{operator, call_session, first_session, second_session, host_address};
 ghost use Rattle.pcrf_model.specs.Scenes.{call_pushed, one, seen, updated, with_call};
 
@@ -52,4 +52,11 @@ pub fn cursors_count_the_first_operations_of_a_log()
     ensures shorter { Reaches (counted 1 3) (counted 1 2) → ⊥ }
     ensures first { FirstTaken 1 one.log one.log }
     ensures no_second { FirstTaken 2 one.log one.log → ⊥ }
+{}
+
+/// A world is sound whose site tells its one operation at the place where its log has it, and not where the letter tells it
+/// one place further on.
+pub fn letters_tell_a_log_at_its_places()
+    ensures sound { AllSound (written_from 0) }
+    ensures further { AllSound (written_from 1) → ⊥ }
 {}

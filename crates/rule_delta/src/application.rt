@@ -1,7 +1,7 @@
 //! What a gateway has after it was told a difference.
 ghost use Rattle.std.specs.Prelude.{◌≡◌, ◌++◌, map, IfOk, OnOk};
-ghost use Rattle.std.specs.List.{filter};
-ghost use Rattle.pcrf_model.specs.Differences.{apply, as_told, stays};
+ghost use Rattle.std.specs.List.{filter, list_any};
+ghost use Rattle.pcrf_model.specs.Differences.{apply, as_told, has_name, last_of_names, stays};
 
 use crate::names::{names_of, set_of};
 use gx_records::Told;
@@ -10,7 +10,7 @@ use ranked::{Ranked, ascending_of};
 use std::alloc::{AllocError, Global};
 
 /// What a gateway that was told these rules has after this difference: without the removed names, and with the installed
-/// rules in place of those of their names.
+/// rules in the place of those of their names; of two that are installed under one name the later one.
 pub fn apply(alloc: Global, told: &Told, delta: &Delta) -> Result<Told, AllocError>
     ensures { IfOk result (λ after. after ≡ apply told.now delta.now) }
 {
@@ -39,14 +39,26 @@ fn staying(
     Ok(kept)
 }
 
-/// Adds rules under their names.
+/// Adds rules under their names; of one name the last.
 fn add_rules(pairs: &mut Vec<(RuleName, Rule)>, rules: &[Rule]) -> Result<(), AllocError>
-    ensures { OnOk result (pairs.new.items ≡ pairs.old.items ++ map as_told rules.now) }
+    ensures { OnOk result (pairs.new.items
+        ≡ pairs.old.items ++ map as_told (last_of_names rules.now)) }
 {
-    for rule in rules {
-        let name = rule.name().try_copy()?;
-        let copy = rule.try_copy()?;
-        pairs.push((name, copy))?;
+    let mut rest = rules;
+    while let Some((rule, later)) = rest.split_first() {
+        if !has_name(later, rule.name()) {
+            let name = rule.name().try_copy()?;
+            let copy = rule.try_copy()?;
+            pairs.push((name, copy))?;
+        }
+        rest = later;
     }
     Ok(())
+}
+
+/// Whether a rule has this name.
+fn has_name(rules: &[Rule], name: &RuleName) -> bool
+    ensures { result ≡ list_any (has_name name.now) rules.now }
+{
+    rules.iter().any(|rule| rule.name() == name)
 }
