@@ -14,7 +14,7 @@ use Rattle.pcrf_facts.specs.Facts.{Fact, End, Removed, Field}
 use Rattle.pcrf_model.specs.Forms.{is_rising}
 use Rattle.record_levels.specs.SessionFacts.{session_fields}
 use Rattle.af_records.specs.RecordFacts.{component_fields, flow_fields}
-use Rattle.fact_codec.specs.Reading.{Reader, ◌>>=◌, give, refuse, given, many, row_with, byte, short, word, exactly}
+use Rattle.fact_codec.specs.Reading.{Reader, ◌>>=◌, give, refuse, given, many, row_with, byte, short, word, long, exactly}
 
 -- ---- numbers and texts in their ranges
 
@@ -280,3 +280,37 @@ unfoldable pub facts : Reader Fact → Reader (List Fact)
 facts fact = do
   n ← word
   many fact n
+
+-- ---- facts as states hold them: each value with its own tag
+
+-- a tag: the number of the request, the counter and the site
+unfoldable pub tag : Reader Tag
+tag = do
+  number ← word
+  counter ← long
+  site ← byte
+  give (stamped number counter site)
+
+-- the tag of a fact whose own follows it
+abbrev pub untagged : Tag
+untagged = stamped 0 0 0
+
+-- the fact under its own tag, which follows a value
+abbrev pub with_tag : Fact → Reader Fact
+with_tag End = give End
+with_tag (Removed r) = give (Removed r)
+with_tag (Field p t x) = do
+  own ← tag
+  give (Field p own x)
+
+-- a fact of a gateway's session
+unfoldable pub held_gx_fact : Reader Fact
+held_gx_fact = do
+  f ← gx_fact untagged untagged
+  with_tag f
+
+-- and of an application function's session
+unfoldable pub held_af_fact : Reader Fact
+held_af_fact = do
+  f ← af_fact untagged
+  with_tag f

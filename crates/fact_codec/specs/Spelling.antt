@@ -2,6 +2,7 @@
 use Rattle.std.specs.Prelude.{ℕ, List, [], ◌∷◌, ◌++◌, length}
 use Rattle.std.specs.List.{flat_map}
 use Rattle.std.specs.Int.{w16, w32, w64, to_be_bytes}
+use Rattle.ranked.specs.declared.tag.Tag.{Tag}
 use Rattle.pcrf_values.specs.RuleValues.{RuleValue}
 use Rattle.pcrf_facts.specs.Places.{session_field_number, component_field_number, flow_field_number, Place, OfSession, OfComponent, OfFlow, OfRuleName, Removable, Component, Flow}
 use Rattle.pcrf_facts.specs.Values.{Subscriber, Value, Number, Text, Address, Subscribers, Filters, Untold, Told}
@@ -74,3 +75,19 @@ fact_bytes (Field p t x) = place_bytes p ++ value_bytes x
 -- facts: how many they are, and these
 unfoldable pub facts_bytes : List Fact → List ℕ
 facts_bytes fs = word_bytes (length fs) ++ flat_map fact_bytes fs
+
+-- ---- facts as states hold them: each value with its own tag
+
+-- a tag: the number of the request, the counter and the site
+unfoldable pub tag_bytes : Tag → List ℕ
+tag_bytes t = word_bytes t.number ++ long_bytes t.counter ++ t.site ∷ []
+
+-- a fact; behind a value its tag
+unfoldable pub held_fact_bytes : Fact → List ℕ
+held_fact_bytes End = fact_bytes End
+held_fact_bytes (Removed r) = fact_bytes (Removed r)
+held_fact_bytes (Field p t x) = fact_bytes (Field p t x) ++ tag_bytes t
+
+-- facts: how many they are, and these
+unfoldable pub held_facts_bytes : List Fact → List ℕ
+held_facts_bytes fs = word_bytes (length fs) ++ flat_map held_fact_bytes fs

@@ -18,7 +18,7 @@ use std::alloc::Global;
 
 /// A fact of a gateway's session.
 #[tactic(auto, using(crate::proofs::FactViews::session_is), unfolding(crate::specs::Said::gx_fact, crate::specs::Spelling::fact_bytes))]
-fn gx_fact_at(
+pub(crate) fn gx_fact_at(
     alloc: Global,
     field_tag: Tag,
     told_tag: Tag,
@@ -46,7 +46,7 @@ fn gx_fact_at(
 
 /// A fact of an AF session.
 #[tactic(auto, using(crate::proofs::FactViews::session_is, crate::proofs::FactViews::component_is, crate::proofs::FactViews::flow_is), unfolding(crate::specs::Said::af_fact, crate::specs::Spelling::fact_bytes))]
-fn af_fact_at(alloc: Global, tag: Tag, bytes: &[u8]) -> Result<(AfFact, &[u8]), Unread>
+pub(crate) fn af_fact_at(alloc: Global, tag: Tag, bytes: &[u8]) -> Result<(AfFact, &[u8]), Unread>
     ensures read { Gives (λ x. (af_facts.fact_of x.0, x.1.now)) result (af_fact tag bytes.now) }
     ensures spelled { IfOk result (λ x. bytes.now
         ≡ fact_bytes (af_facts.fact_of x.0) ++ x.1.now) }

@@ -3,9 +3,11 @@
 
 mod facts;
 mod fault;
+mod held_facts;
 pub mod laws;
 mod numbers;
 mod put_facts;
+mod put_held_facts;
 mod put_values;
 mod rules;
 mod said;
@@ -14,7 +16,9 @@ mod values;
 
 pub use facts::{af_facts_at, gx_facts_at};
 pub use fault::{Unread, Unwritten};
+pub use held_facts::{held_af_facts_at, held_gx_facts_at};
 pub use numbers::{byte_at, bytes_at, long_at, short_at, word_at};
 pub use put_facts::{put_af_facts, put_gx_facts};
+pub use put_held_facts::{put_held_af_facts, put_held_gx_facts};
 pub use put_values::{put_long, put_short, put_text, put_word};
 pub use texts::text_at;

@@ -15,7 +15,7 @@ use std::alloc::AllocError;
 
 /// Adds a fact of a gateway's session.
 #[tactic(auto, using(crate::proofs::Added::added, crate::proofs::FactViews::session_is), unfolding(crate::specs::Spelling::fact_bytes))]
-fn put_gx_fact(out: &mut Vec<u8>, fact: &GxFact) -> Result<(), AllocError>
+pub(crate) fn put_gx_fact(out: &mut Vec<u8>, fact: &GxFact) -> Result<(), AllocError>
     ensures { OnOk result (out.new.items
         ≡ out.old.items ++ fact_bytes (gx_facts.fact_of fact.now)) }
 {
@@ -47,7 +47,7 @@ fn put_flow_path(out: &mut Vec<u8>, component: u32, flow: u32) -> Result<(), All
 
 /// Adds a fact of an AF session.
 #[tactic(auto, using(crate::proofs::Added::added, crate::proofs::FactViews::session_is, crate::proofs::FactViews::component_is, crate::proofs::FactViews::flow_is), unfolding(crate::specs::Spelling::fact_bytes))]
-fn put_af_fact(out: &mut Vec<u8>, fact: &AfFact) -> Result<(), AllocError>
+pub(crate) fn put_af_fact(out: &mut Vec<u8>, fact: &AfFact) -> Result<(), AllocError>
     ensures { OnOk result (out.new.items
         ≡ out.old.items ++ fact_bytes (af_facts.fact_of fact.now)) }
 {

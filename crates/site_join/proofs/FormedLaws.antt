@@ -1,5 +1,5 @@
 -- What the form of operations and of holdings says of their counters, and of records.
-use Rattle.std.proofs.Common.{◌≡◌, ◌≤◌, ℕ, true, List}
+use Rattle.std.proofs.Common.{◌≡◌, ◌≤◌, true, List}
 use Rattle.std.specs.Cmp.{first_so, second_so}
 use Rattle.std.specs.List.{list_all}
 use Rattle.pcrf_facts.specs.Facts.{Fact}

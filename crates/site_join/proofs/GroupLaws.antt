@@ -3,9 +3,9 @@ use Rattle.std.proofs.Common.{◌≡◌, ℕ, true, List, [], ◌∷◌, ◌++�
 use Rattle.std.specs.Ordering.{ordering_then}
 use Rattle.std.specs.Cmp.{tied_itself}
 use Rattle.std.specs.List.{filter_map, list_all}
-use Rattle.ranked.specs.Ascending.{ascending, Rises}
+use Rattle.ranked.specs.Ascending.{Rises}
 use Rattle.ranked.specs.Orders.{text_cmp}
-use Rattle.ranked.specs.Sets.{In, Same}
+use Rattle.ranked.specs.Sets.{In}
 use Rattle.ranked.proofs.Plain.{none_some, some_same}
 use Rattle.ranked.proofs.OrderLaws.{text_ranked}
 use Rattle.ranked.proofs.SetLaws.{In-cases, In-left, In-right, In-filter_map, filter_map-In}
@@ -15,10 +15,16 @@ use Rattle.lattice_core.proofs.MapParts.{entry_found, found_entry, below_member}
 use Rattle.pcrf_facts.specs.Facts.{Fact, fact_cmp}
 use Rattle.pcrf_model.specs.Sessions.{Kind, Gx, Af, Session, session_cmp, gx, af}
 use Rattle.pcrf_model.specs.Holdings.{SessionFact, session_fact_cmp, on_session, under, facts_on, kept_facts, Holding, kept_of}
+use Rattle.pcrf_model.specs.Forms.{is_rising}
 use Rattle.pcrf_model.proofs.FormLaws.{all_pass, le_passes, test_by_rises}
 use Rattle.pcrf_model.proofs.HoldingLaws.{session_ranked, session_fact_ranked, on_session-is, In-facts_on, facts_on-In, In-under, under-In}
-use Rattle.site_join.specs.Groups.{Group, ungrouped, AreGroups, group_at}
+use Rattle.site_join.specs.Groups.{Group, ungrouped, group_at}
 use Rattle.site_join.specs.States.{Records, record_facts}
+
+-- Each has a fact, and they stand strictly ascending by session.
+pub record AreGroups (gs : List Group) : Type 0 where
+  pub some : list_all (λ g. nat_le 1 (length g.1)) gs ≡ true
+  pub rise : is_rising session_cmp (map (λ g. g.0) gs) ≡ true
 
 -- ---- rising lists, one behind another
 
@@ -31,11 +37,11 @@ rises_on {A} cmp (x ∷ xs) ys r s below = (first, rises_on cmp xs ys r.1 s (λ 
     first y i = elim (In-cases y xs ys i) [ inl j ↦ r.0 y j | inr j ↦ below x y (inl refl) j ]
 
 -- by session
-abbrev group_cmp : Group → Group → Ordering
+abbrev pub group_cmp : Group → Group → Ordering
 group_cmp g h = session_cmp g.0 h.0
 
 -- a fact of groups is of one of them
-one_group : (gs : List Group) (x : SessionFact) → In x (ungrouped gs) → (g : Group) × In g gs × (x.0 ≡ g.0) × In x.1 g.1
+pub one_group : (gs : List Group) (x : SessionFact) → In x (ungrouped gs) → (g : Group) × In g gs × (x.0 ≡ g.0) × In x.1 g.1
 one_group [] x i = absurd i
 one_group (g ∷ gs) x i = elim (In-cases x (under g.0 g.1) (ungrouped gs) i) [
   | inl j ↦ let r = under-In g.0 x g.1 j in (g, inl refl, r.0, r.1)
@@ -43,7 +49,7 @@ one_group (g ∷ gs) x i = elim (In-cases x (under g.0 g.1) (ungrouped gs) i) [
 ]
 
 -- and a fact of one of them is theirs
-of_groups : (gs : List Group) (g : Group) (f : Fact) → In g gs → In f g.1 → In (g.0, f) (ungrouped gs)
+pub of_groups : (gs : List Group) (g : Group) (f : Fact) → In g gs → In f g.1 → In (g.0, f) (ungrouped gs)
 of_groups [] g f i j = absurd i
 of_groups (h ∷ gs) g f (inl e) j = In-left (g.0, f) (under h.0 h.1) (ungrouped gs) (subst (λ (k : Group). In (g.0, f) (under k.0 k.1)) e (In-under g.0 f g.1 j))
 of_groups (h ∷ gs) g f (inr i) j = In-right (g.0, f) (under h.0 h.1) (ungrouped gs) (of_groups gs g f i j)
@@ -53,7 +59,7 @@ under_rises : (s : Session) (fs : List Fact) → Rises fact_cmp fs → Rises ses
 under_rises s fs r = map-ascending fact_cmp session_fact_cmp (λ f. (s, f)) fs (λ f g i j l. ap (λ o. ordering_then o (fact_cmp f g)) (tied_itself session_ranked.total s) ∙ l) r
 
 -- the facts of groups rise, where groups and the facts of each do
-groups_rise : (gs : List Group) → Rises group_cmp gs → ((g : Group) → In g gs → Rises fact_cmp g.1) → Rises session_fact_cmp (ungrouped gs)
+pub groups_rise : (gs : List Group) → Rises group_cmp gs → ((g : Group) → In g gs → Rises fact_cmp g.1) → Rises session_fact_cmp (ungrouped gs)
 groups_rise [] r each = tt
 groups_rise (g ∷ gs) r each =
     rises_on session_fact_cmp (under g.0 g.1) (ungrouped gs) (under_rises g.0 g.1 (each g (inl refl))) (groups_rise gs r.1 (λ h i. each h (inr i)))
@@ -203,8 +209,8 @@ module _ (h : Holding) (kept : kept_of h ≡ h) (gxs afs : Records) (gr : AreRec
       facts_rise (λ x. (back x, forth x))
 
   -- each some, and stand in order.
-  pub are_groups : AreGroups all_groups
-  are_groups = record {
+  pub groups_apart : AreGroups all_groups
+  groups_apart = record {
     some = all_pass (λ (g : Group). nat_le 1 (length g.1)) all_groups (λ g i. le_passes 1 (length g.1) (all_facts g i).1);
     rise = test_by_rises session_cmp (map (λ (g : Group). g.0) all_groups) (map-ascending group_cmp session_cmp (λ (g : Group). g.0) all_groups (λ g k _ _ l. l) all_rise);
   }

@@ -1,7 +1,9 @@
 pub mod BeneathLaws
 pub mod EqualStates
+pub mod FormedGroups
 pub mod FormedLaws
 pub mod GroupLaws
+pub mod HeldGroups
 pub mod MergeLaws
 pub mod PlacedRecords
 pub mod RisingLaws

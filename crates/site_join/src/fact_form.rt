@@ -5,7 +5,7 @@ ghost use Rattle.ranked.specs.declared.tag.Tag.{Tag};
 ghost use Rattle.ranked.specs.Tags.{tag_cmp};
 ghost use Rattle.pcrf_facts.specs.Facts.{position};
 ghost use Rattle.pcrf_model.specs.Limits.{site_limit};
-ghost use Rattle.pcrf_model.specs.Forms.{fits_rule_name, is_unsigned};
+ghost use Rattle.pcrf_model.specs.Forms.{fits_rule_name, is_stamp, is_unsigned};
 ghost use Rattle.record_levels.specs.SessionFacts.{session_fact};
 ghost use Rattle.gx_records.specs.GxFacts.{told_value};
 ghost use Rattle.af_records.specs.RecordFacts as af_facts;
@@ -13,6 +13,7 @@ ghost use Rattle.af_records.specs.declared.fact.AfFact.TheVariants.{Component, F
 
 use crate::form::{
     Beneath, COMPONENT_FIELD, FLOW_FIELD, FormFact, Position, RULE_NAME, SESSION_FIELD, SITE_LIMIT,
+    is_stamp,
 };
 use crate::ranges::{
     note_af_value, note_component_value, note_flow_value, note_gx_value, note_unsigned,
@@ -43,6 +44,15 @@ fn is_numbered(tag: &Tag, number: u32) -> bool
 {
     note_unsigned(tag.number);
     1 <= tag.counter && tag.site < SITE_LIMIT && tag.number == number
+}
+
+/// The tag is that of some operation with this CC-Request-Number, whose counter is not above the clock.
+fn is_counted(tag: &Tag, clock: u64, number: u32) -> bool
+    ensures { result ≡ (is_stamp tag.now.counter tag.now.site && nat_le tag.now.counter clock
+        && is_unsigned tag.now.number && tag.now.number == number) }
+{
+    note_unsigned(tag.number);
+    is_stamp(tag.counter, tag.site) && tag.counter <= clock && tag.number == number
 }
 
 /// Where a field of a session stands.
@@ -176,6 +186,20 @@ impl FormFact for GxFact {
             }
         }
     }
+
+    fn is_counted(&self, clock: u64) -> bool {
+        match self {
+            GxFact::End => true,
+            GxFact::Field(tag, value) => {
+                note_gx_value(value);
+                is_counted(tag, clock, tag.number)
+            }
+            GxFact::Told(tag, name, rule) => {
+                note_text(name);
+                is_told(name, rule) && is_counted(tag, clock, 0)
+            }
+        }
+    }
 }
 
 impl FormFact for AfFact {
@@ -255,6 +279,32 @@ impl FormFact for AfFact {
             AfFact::Flow(component, flow, tag, value) => {
                 note_flow_value(*component, *flow, value);
                 is_numbered(tag, 0)
+            }
+        }
+    }
+
+    fn is_counted(&self, clock: u64) -> bool {
+        match self {
+            AfFact::End => true,
+            AfFact::ComponentRemoved(component) => {
+                let _component = *component;
+                true
+            }
+            AfFact::FlowRemoved(component, flow) => {
+                let (_component, _flow) = (*component, *flow);
+                true
+            }
+            AfFact::Session(tag, value) => {
+                note_af_value(value);
+                is_counted(tag, clock, 0)
+            }
+            AfFact::Component(component, tag, value) => {
+                note_component_value(*component, value);
+                is_counted(tag, clock, 0)
+            }
+            AfFact::Flow(component, flow, tag, value) => {
+                note_flow_value(*component, *flow, value);
+                is_counted(tag, clock, 0)
             }
         }
     }

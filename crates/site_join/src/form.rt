@@ -6,7 +6,7 @@ ghost use Rattle.std.specs.List.{list_all, list_any};
 ghost use Rattle.pcrf_facts.specs.Places.{Component, Flow, position_cmp, removed_position};
 ghost use Rattle.pcrf_facts.specs.Facts.{Fact, End, position, is_shaded_by};
 ghost use Rattle.pcrf_model.specs.Sessions.{Kind};
-ghost use Rattle.pcrf_model.specs.Forms.{fits, is_operation, is_record, is_recorded, is_rising, is_stamp, is_tagged, stand_together};
+ghost use Rattle.pcrf_model.specs.Forms.{fits, is_counted, is_operation, is_record, is_recorded, is_rising, is_stamp, is_tagged, stand_together};
 ghost use Rattle.site_join.specs.declared.form.Beneath.TheVariants as beneath;
 ghost use Rattle.site_join.specs.Beneath.{beneath_of, removes, stands_at};
 ghost use Rattle.site_join.specs.Formed.{operation_of};
@@ -143,6 +143,10 @@ pub(crate) trait FormFact {
     /// The fact is one of its kind, with the tag of some operation.
     fn is_recorded(&self) -> bool
         ensures { result ≡ is_recorded kind (fact self.now) };
+
+    /// The fact is one of its kind, with the tag of some operation whose counter is not above the clock.
+    fn is_counted(&self, clock: u64) -> bool
+        ensures { result ≡ (fits kind (fact self.now) && is_counted kind clock (fact self.now)) };
 }
 
 /// A stamp that a site may give.
@@ -273,11 +277,34 @@ fn are_recorded<F: FormFact>(facts: &[F]) -> bool
     true
 }
 
+/// Each fact is one of some operation whose counter is not above the clock.
+fn are_counted<F: FormFact>(facts: &[F], clock: u64) -> bool
+    ensures { result ≡ list_all (λ f. fits F.kind f && is_counted F.kind clock f)
+        (map F.fact facts.now) }
+{
+    let mut left = facts;
+    while let Some((first, rest)) = left.split_first() {
+        if !first.is_counted(clock) {
+            return false;
+        }
+        left = rest;
+    }
+    true
+}
+
 /// There is a fact, and each is one of some operation.
 pub(crate) fn is_record<F: FormFact>(facts: &[F]) -> bool
     ensures { result ≡ is_record F.kind (map F.fact facts.now) }
 {
     !facts.is_empty() && are_recorded(facts)
+}
+
+/// A state with that clock may hold the facts of one session.
+pub(crate) fn are_held<F: FormFact>(facts: &[F], clock: u64) -> bool
+    ensures { result ≡ (stand_together (map F.fact facts.now)
+        && list_all (λ f. fits F.kind f && is_counted F.kind clock f) (map F.fact facts.now)) }
+{
+    stand_together(facts) && are_counted(facts, clock)
 }
 
 /// The facts are those of an operation of that stamp and number.

@@ -1,5 +1,5 @@
 //! The records of all sessions, with the clock.
-ghost use Rattle.std.specs.Prelude.{◌≡◌, ℕ, List, ◌≤◌, ◌↔◌, [], true, IsTrue, IfOk, IfErr, OnOk, OnErr, IsSome};
+ghost use Rattle.std.specs.Prelude.{◌≡◌, ℕ, List, ◌≤◌, ◌↔◌, [], map, true, IsTrue, IfOk, IfErr, OnOk, OnErr, IsSome};
 ghost use Rattle.std.specs.List.{list_all};
 ghost use Rattle.std.specs.Option.{option_copied};
 ghost use Rattle.pcrf_model.specs.Limits.{last_counter};
@@ -10,6 +10,7 @@ ghost use Rattle.pcrf_model.specs.ToldTags.{ToldUpTo};
 ghost use Rattle.pcrf_model.specs.Forms.{are_up_to, is_holding, is_record, is_recorded};
 ghost use Rattle.ranked.specs.Orders.{text_cmp};
 ghost use Rattle.lattice_core.specs.Entries.{IsAscending, put, value_at};
+ghost use Rattle.site_join.specs.Groups.{are_groups, group_of, grouped, held_in};
 ghost use Rattle.site_join.specs.States.{record_facts, session_of, facts_in, gx_with, af_with};
 
 use crate::operation::{Operation, SessionFacts};
@@ -58,6 +59,34 @@ impl State {
             af: JoinTree::start(alloc),
             clock: 0,
         }
+    }
+
+    /// The state that holds just the facts of these groups, under that clock. Its time and memory grow with the number of facts.
+    pub fn of_groups(
+        alloc: Global,
+        clock: u64,
+        groups: Vec<SessionFacts>,
+    ) -> Result<State, AllocError>
+        requires { are_groups clock (map group_of groups.items) ≡ true }
+        ensures { IfOk result (λ s. s ≡ held_in clock (map group_of groups.items)) }
+    {
+        let mut gx = JoinTree::start(alloc);
+        let mut af = JoinTree::start(alloc);
+        let mut left = groups.as_slice();
+        while let Some((first, rest)) = left.split_first() {
+            gx.note_valid();
+            af.note_valid();
+            join_facts(alloc, &mut gx, &mut af, first)?;
+            left = rest;
+        }
+        gx.note_valid();
+        af.note_valid();
+        Ok(State {
+            alloc,
+            gx,
+            af,
+            clock,
+        })
     }
 
     /// The greatest counter of the operations that were taken, 0 at first.
@@ -118,6 +147,15 @@ impl State {
         ensures { is_holding self.now ≡ true }
     {
         let _ = &self.clock;
+    }
+
+    /// Does nothing: its contract tells a proof that of each session stands what a state with that clock may hold.
+    #[tactic(auto, using(crate::proofs::FormedGroups::held_formed))]
+    pub fn note_groups(&self)
+        ensures { are_groups self.now.clock (grouped self.now.facts) ≡ true }
+    {
+        self.note_kept();
+        self.note_form();
     }
 
     /// Does nothing: its contract tells a proof that what gateways were told has tags up to the clock.

@@ -1,0 +1,13 @@
+use Rattle.std.proofs.Common.{◌≡◌, ◌&&◌, length, map}
+use Rattle.std.specs.List.{list_all}
+use Rattle.pcrf_model.specs.Forms.{fits, is_counted}
+use Rattle.site_join.proofs.form.are_counted.Given as goal
+
+-- all are so just where those that are left are
+abbrev pub invariant-loop-first : goal.invariant-loop-first
+invariant-loop-first g l =
+    list_all (λ f. fits g.F.FormFact.kind f && is_counted g.F.FormFact.kind l.clock f) (map g.F.FormFact.fact l.facts)
+    ≡ list_all (λ f. fits g.F.FormFact.kind f && is_counted g.F.FormFact.kind l.clock f) (map g.F.FormFact.fact l.left)
+
+abbrev pub decreases-loop-first : goal.decreases-loop-first
+decreases-loop-first g l = length l.left
