@@ -6,8 +6,8 @@ use Rattle.pcrf_model.specs.Tables.{Tables}
 use Rattle.pcrf_model.specs.Rules.{quality_of}
 use Rattle.pcrf_model.specs.Serving.{delta_of}
 use Rattle.pcrf_model.specs.Replies.{ReplyValue, OnGx, Granted, Rejected}
-use Rattle.gx_profile.specs.declared.answer.GxReply.{GxReply}
-use Rattle.gx_profile.specs.declared.answer.GxReply.TheVariants as gx_reply
+use Rattle.reply_values.specs.declared.answer.GxReply.{GxReply}
+use Rattle.reply_values.specs.declared.answer.GxReply.TheVariants as gx_reply
 
 -- a reply to a gateway
 abbrev pub gx_reply_value : GxReply → ReplyValue

@@ -21,7 +21,7 @@ ghost use Rattle.pcrf_model.specs.Refusals.{is_clock_full, ccr_refusal, lacks_pa
 ghost use Rattle.pcrf_model.specs.ToldTags.{ToldUpTo};
 ghost use Rattle.pcrf_model.specs.Forms.{are_up_to, is_holding, is_operation};
 ghost use Rattle.pcrf_facts.specs.FlowWords.{or_else};
-ghost use Rattle.gx_profile.specs.Pushes.{push_view};
+ghost use Rattle.reply_values.specs.Replies.{push_view};
 ghost use Rattle.gx_profile.specs.Requests.{ccr_view};
 ghost use Rattle.base_profile.specs.Requests.{base_view};
 ghost use Rattle.site_join.specs.States.{record_facts};

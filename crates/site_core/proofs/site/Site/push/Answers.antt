@@ -13,11 +13,11 @@ use Rattle.pcrf_model.specs.Sessions.{gx}
 use Rattle.pcrf_model.specs.Views.{view}
 use Rattle.pcrf_model.specs.Rules as session
 use Rattle.pcrf_model.specs.Differences.{rule_name_of}
-use Rattle.gx_profile.specs.declared.push.PushOut.{PushOut}
+use Rattle.reply_values.specs.declared.push.PushOut.{PushOut}
 use Rattle.pcrf_model.specs.Pushing.{due}
 use Rattle.pcrf_model.specs.Replies.{Outcome}
 use Rattle.site_core.specs.Sites.{SiteValue}
-use Rattle.gx_profile.specs.Pushes.{push_view}
+use Rattle.reply_values.specs.Replies.{push_view}
 use Rattle.rule_telling.specs.Pushed.{push_of}
 use Rattle.site_core.specs.Facts.{operation_pushed}
 use Rattle.site_core.specs.Sites.{with_made}
