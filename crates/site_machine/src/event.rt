@@ -1,6 +1,6 @@
 //! What happens at a site, and what it replies.
 use crate::request::Request;
-use gx_profile::{GxReply, PushOut};
+use reply_values::{GxReply, PushOut};
 use pcrf_values::{DiameterIdentity, Refusal};
 use site_join::{Operation, State};
 

@@ -37,7 +37,7 @@ use dia_base::Identity;
 use dia_base::codes::results::{
     AUTHORIZATION_REJECTED, INITIAL_PARAMETERS, SUCCESS, UNABLE_TO_COMPLY, UNKNOWN_SESSION_ID,
 };
-use gx_profile::{Ccr, FirstEntries, GxReply, PushOut};
+use gx_profile::Ccr;
 use gx_records::GxRec;
 use lattice_core::Join;
 use op_tables::Tables;
