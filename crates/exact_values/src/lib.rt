@@ -3,4 +3,4 @@
 
 mod equal;
 
-pub use equal::{Exact, same, same_items};
+pub use equal::{Exact, same, same_address, same_items};

@@ -1,9 +1,11 @@
 //! What a site answers to a credit control request.
-ghost use Rattle.std.specs.Prelude.{◌≡◌};
+ghost use Rattle.std.specs.Prelude.{◌≡◌, ◌↔◌, IfOk, IsTrue};
 ghost use Rattle.reply_values.specs.Replies.{reply_refusal, reply_quality};
 
 use crate::entries::FirstEntries;
+use exact_values::Exact;
 use pcrf_values::{DefaultQuality, Refusal};
+use std::alloc::AllocError;
 
 /// What a site answers to a credit control request.
 #[derive(Drop, PartialEq, Eq)]
@@ -35,4 +37,33 @@ impl GxReply {
             GxReply::Refused(_) => None,
         }
     }
+
+    /// An equal reply.
+    pub fn try_copy(&self) -> Result<GxReply, AllocError>
+        ensures { IfOk result (λ copy. copy ≡ self.now) }
+    {
+        match self {
+            GxReply::Granted(delta, quality) => Ok(GxReply::Granted(delta.try_copy()?, *quality)),
+            GxReply::Refused(refusal) => Ok(GxReply::Refused(*refusal)),
+        }
+    }
+}
+
+impl Exact for GxReply {
+    fn equal(&self, other: &GxReply) -> bool {
+        match (self, other) {
+            (GxReply::Granted(ours, quality), GxReply::Granted(theirs, other_quality)) => {
+                ours.equal(theirs) && are_equal(quality, other_quality)
+            }
+            (GxReply::Refused(ours), GxReply::Refused(theirs)) => *ours == *theirs,
+            _ => false,
+        }
+    }
+}
+
+/// Both default qualities of service are the same.
+fn are_equal(ours: &Option<DefaultQuality>, theirs: &Option<DefaultQuality>) -> bool
+    ensures { IsTrue result ↔ (ours.now ≡ theirs.now) }
+{
+    *ours == *theirs
 }

@@ -24,7 +24,7 @@ use Rattle.site_machine.specs.Sites.{with_made}
 use Rattle.site_machine.proofs.Pushes.{nothing_is, nothing_lacks, session_due, pushed_delta, something_is, something_lacks}
 use Rattle.site_machine.proofs.Formed.{stamped, entries_tell, pushed_formed}
 use Rattle.site_machine.proofs.Left.{pushed_leaves}
-use Rattle.site_machine.proofs.site.Site.push.Goals as goal
+use Rattle.site_machine.proofs.site.Site.push_told.Goals as goal
 
 pub returns-in_default-found-clause-push : goal.returns-in_default-found-clause-push
 returns-in_default-found-clause-push c =
