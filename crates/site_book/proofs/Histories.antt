@@ -14,4 +14,4 @@ leads_more opening s h k e r leads may =
     let after : SiteState = left_by delta_limit s.tables s.number s.state e r in
     let Q : List (SiteEvent × ReplyValue) → Type 0 = λ xs. Replays delta_limit s.tables s.number opening xs after in
     subst Q (sym (map-append called h (entry_of k e r ∷ [])))
-      (compose delta_limit s.tables s.number opening s.state after (map called h) ((e, r) ∷ []) leads (may, refl))
+    (compose delta_limit s.tables s.number opening s.state after (map called h) ((e, r) ∷ []) leads (may, refl))

@@ -228,11 +228,7 @@ fn place_of<L: Ledger>(seats: &[Seat<L>], number: usize) -> usize
 }
 
 /// The receipts of each seat, by the seats' numbers.
-fn moved<L: Ledger>(
-    seats: Vec<Seat<L>>,
-    room: Vec<Vec<Receipt>>,
-    count: usize,
-) -> Vec<Vec<Receipt>>
+fn moved<L: Ledger>(seats: Vec<Seat<L>>, room: Vec<Vec<Receipt>>, count: usize) -> Vec<Vec<Receipt>>
     requires once { EachOnce count seats.items }
     requires none { vec_len room ≡ 0 }
     requires room { count ≤ vec_capacity room }

@@ -71,7 +71,11 @@ fn altered_receipts<L: Ledger, R: Abort>(rt: &R, alloc: Global, blank: Blank)
         rt.abort()
     };
     assert_eq!(rt; unsettled.fault, SettleFault::WrongPlace);
-    let Unsettled { fault: _, book, mut seats } = unsettled;
+    let Unsettled {
+        fault: _,
+        book,
+        mut seats,
+    } = unsettled;
     altered_reply(rt, &mut seats);
     let Err(unsettled) = book.settle(seats) else {
         rt.abort()

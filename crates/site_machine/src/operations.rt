@@ -121,10 +121,7 @@ fn same_af_fact(ours: &AfFact, theirs: &AfFact) -> bool
             *at == *other_at && same(tag, other_tag) && same_component(value, other)
         }
         (AfFact::Flow(at, flow, tag, value), AfFact::Flow(other_at, beside, other_tag, other)) => {
-            *at == *other_at
-                && *flow == *beside
-                && same(tag, other_tag)
-                && same_flow(value, other)
+            *at == *other_at && *flow == *beside && same(tag, other_tag) && same_flow(value, other)
         }
         _ => false,
     }

@@ -812,7 +812,10 @@ fn part_from(log: &[Operation], from: u64) -> &[Operation]
 }
 
 /// Equal operations, in order.
-pub(crate) fn copy_all(alloc: Global, operations: &[Operation]) -> Result<Vec<Operation>, AllocError>
+pub(crate) fn copy_all(
+    alloc: Global,
+    operations: &[Operation],
+) -> Result<Vec<Operation>, AllocError>
     ensures { IfOk result (λ copies. copies.items ≡ operations.now) }
 {
     let mut copies = Vec::new(alloc);

@@ -48,7 +48,10 @@ pub(crate) fn refused(refusal: Refusal, thrice: bool) -> (GxReply, Option<(GxRep
     if !thrice {
         return (reply, None);
     }
-    (reply, Some((GxReply::Refused(refusal), GxReply::Refused(refusal))))
+    (
+        reply,
+        Some((GxReply::Refused(refusal), GxReply::Refused(refusal))),
+    )
 }
 
 /// A request that is accepted, and nothing to tell.

@@ -100,7 +100,11 @@ impl Site {
         self.note_kept();
         let host = host.as_ref().map(|host| host.as_slice());
         let Some((push, spare)) = self.push_told(host, true)? else {
-            return Ok((Reply::Pushed(None), Reply::Pushed(None), Reply::Pushed(None)));
+            return Ok((
+                Reply::Pushed(None),
+                Reply::Pushed(None),
+                Reply::Pushed(None),
+            ));
         };
         let Some((second, third)) = spare else {
             unreachable!()
