@@ -9,6 +9,7 @@ mod operations;
 mod request;
 mod site;
 mod spare;
+mod steps;
 mod thrice;
 mod told;
 

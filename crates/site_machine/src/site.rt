@@ -11,7 +11,7 @@ ghost use Rattle.pcrf_model.specs.Pushing.{lacks_counter};
 ghost use Rattle.pcrf_model.specs.Replies.{OnGx, Granted, Pushed};
 ghost use Rattle.pcrf_model.specs.Serving.{delta_of, empty_delta, provisioned, serve_base};
 ghost use Rattle.pcrf_model.specs.Sessions.{gx};
-ghost use Rattle.pcrf_model.specs.Steps.{MayReply, Serve, Push, Ops, Whole, AskOwn, AskWhole, own_from};
+ghost use Rattle.pcrf_model.specs.Steps.{own_from};
 ghost use Rattle.pcrf_model.specs.Views.{view};
 ghost use Rattle.pcrf_model.specs.Rules.{quality_of, rules};
 ghost use Rattle.pcrf_model.specs.Differences.{rule_name_of};
@@ -26,9 +26,9 @@ ghost use Rattle.gx_profile.specs.Requests.{ccr_view};
 ghost use Rattle.base_profile.specs.Requests.{base_view};
 ghost use Rattle.site_join.specs.States.{record_facts};
 ghost use Rattle.site_machine.specs.Replies.{gx_reply_value, is_plain, spares};
-ghost use Rattle.site_machine.specs.Values.{event_lacks_counter, event_value, reply_value, request_value};
+ghost use Rattle.site_machine.specs.Values.{reply_value, request_value};
 
-use crate::event::{Event, Reply};
+use crate::event::Reply;
 use crate::fault::StepFault;
 use crate::request::Request;
 use crate::spare::{nothing_told, refused, spare_pushes, spare_replies};
@@ -45,9 +45,7 @@ use op_tables::Tables;
 use operator_view::{OperatorValue, bindings, value};
 use pcc_rules::derive;
 use pcrf_model::ranges::note_text;
-use pcrf_values::{
-    AfSid, Apn, DefaultQuality, DiameterIdentity, GxSid, Refusal, RequestKind, Rule,
-};
+use pcrf_values::{AfSid, Apn, DefaultQuality, GxSid, Refusal, RequestKind, Rule};
 use ranked::{Ranked, Tag};
 use reply_values::{FirstEntries, GxReply, PushOut};
 use request_facts::{facts_made, note_ccr};
@@ -92,7 +90,7 @@ impl Site {
     ghost use Rattle.site_machine.specs.Facts.{opens, operation_made, operation_pushed, operation_told};
     ghost use Rattle.site_machine.specs.Left.{ProvisionLeaves, PushLeaves, ReplyLeaves, RequestLeaves};
     ghost use Rattle.site_machine.specs.Replies.{told_reply};
-    ghost use Rattle.site_machine.specs.Sites.{new_site, after_event, ccr_served, emptied, pushed, served, with_made, with_one, with_record, with_state, with_taken};
+    ghost use Rattle.site_machine.specs.Sites.{new_site, ccr_served, emptied, pushed, served, with_made, with_one, with_record, with_state, with_taken};
 
     /// A site that took nothing.
     pub fn start(alloc: Global, tables: Tables, identity: Identity, number: u8) -> Site
@@ -206,27 +204,6 @@ impl Site {
     {
         self.state = self.state.merged_copy(state)?;
         Ok(())
-    }
-
-    /// Makes an event happen. A fault changes nothing.
-    pub fn step(&mut self, event: &Event) -> Result<Reply, StepFault>
-        ensures reply { IfOk result (λ reply. MayReply delta_limit self.old.tables self.old.number
-            self.old.state (event_value event.now) (reply_value reply)) }
-        ensures ok { IfOk result (λ reply. self.new
-            ≡ after_event self.old (event_value event.now) (reply_value reply)) }
-        ensures full { IfErr result (λ fault. fault ≡ StepFault.ClockFull → event_lacks_counter
-            self.old.tables self.old.number self.old.state.holding (event_value event.now) ≡ true) }
-        ensures memory { IfErr result (λ fault. fault ≢ StepFault.HistoryFull) }
-        ensures err { OnErr result (self.new ≡ self.old) }
-    {
-        match event {
-            Event::Serve(request) => self.step_serve(request),
-            Event::Push(host) => self.step_push(host),
-            Event::Ops(operations) => Ok(self.step_take(operations.as_slice())),
-            Event::Whole(state) => self.step_whole(state),
-            Event::AskOwn(from) => self.step_ask_own(*from),
-            Event::AskWhole => self.step_ask_whole(),
-        }
     }
 
     /// Serves a request. Where it grants an initial request or an update, the gateway lacks then just what the first 40 entries
@@ -650,97 +627,6 @@ impl Site {
     {
         self.state = State::start(self.alloc);
         self.log = Vec::new(self.alloc);
-    }
-
-    /// Serves the request of an event.
-    fn step_serve(&mut self, request: &Request) -> Result<Reply, StepFault>
-        ensures reply { IfOk result (λ reply. MayReply delta_limit self.old.tables self.old.number
-            self.old.state (Serve (request_value request.now)) (reply_value reply)) }
-        ensures ok { IfOk result (λ reply. self.new
-            ≡ after_event self.old (Serve (request_value request.now)) (reply_value reply)) }
-        ensures memory { IfErr result (λ fault. fault ≡ StepFault.NoMemory) }
-        ensures err { OnErr result (self.new ≡ self.old) }
-    {
-        self.note_kept();
-        match self.serve(request) {
-            Ok(reply) => Ok(reply),
-            Err(_) => Err(StepFault::NoMemory),
-        }
-    }
-
-    /// Pushes as an event asks for it.
-    fn step_push(&mut self, host: &Option<DiameterIdentity>) -> Result<Reply, StepFault>
-        ensures reply { IfOk result (λ reply. MayReply delta_limit self.old.tables self.old.number
-            self.old.state (Push host.now) (reply_value reply)) }
-        ensures ok { IfOk result (λ reply. self.new
-            ≡ after_event self.old (Push host.now) (reply_value reply)) }
-        ensures full { IfErr result (λ fault. fault ≡ StepFault.ClockFull → event_lacks_counter
-            self.old.tables self.old.number self.old.state.holding (Push host.now) ≡ true) }
-        ensures memory { IfErr result (λ fault. fault ≢ StepFault.HistoryFull) }
-        ensures err { OnErr result (self.new ≡ self.old) }
-    {
-        self.note_kept();
-        let host = host.as_ref().map(|host| host.as_slice());
-        Ok(Reply::Pushed(self.push(host)?))
-    }
-
-    /// Takes the operations of an event.
-    pub(crate) fn step_take(&mut self, operations: &[Operation]) -> Reply
-        ensures plain { is_plain result ≡ true }
-        ensures reply { MayReply delta_limit self.old.tables self.old.number
-            self.old.state (Ops operations.now) (reply_value result) }
-        ensures ok { self.new ≡ after_event self.old (Ops operations.now) (reply_value result) }
-    {
-        match self.take_all(operations) {
-            Ok(()) => Reply::Taken(operations.len()),
-            Err((count, _)) => Reply::Taken(count),
-        }
-    }
-
-    /// Takes the state of an event.
-    pub(crate) fn step_whole(&mut self, state: &State) -> Result<Reply, StepFault>
-        ensures plain { IfOk result (λ reply. is_plain reply ≡ true) }
-        ensures reply { IfOk result (λ reply. MayReply delta_limit self.old.tables self.old.number
-            self.old.state (Whole state.now) (reply_value reply)) }
-        ensures ok { IfOk result (λ reply. self.new
-            ≡ after_event self.old (Whole state.now) (reply_value reply)) }
-        ensures memory { IfErr result (λ fault. fault ≡ StepFault.NoMemory) }
-        ensures err { OnErr result (self.new ≡ self.old) }
-    {
-        match self.take_state(state) {
-            Ok(()) => Ok(Reply::Done),
-            Err(_) => Err(StepFault::NoMemory),
-        }
-    }
-
-    /// Tells the operations that an event asks for.
-    pub(crate) fn step_ask_own(&self, from: u64) -> Result<Reply, StepFault>
-        ensures reply { IfOk result (λ reply. MayReply delta_limit self.now.tables self.now.number
-            self.now.state (AskOwn from) (reply_value reply)) }
-        ensures ok { IfOk result (λ reply. self.now
-            ≡ after_event self.now (AskOwn from) (reply_value reply)) }
-        ensures memory { IfErr result (λ fault. fault ≡ StepFault.NoMemory) }
-    {
-        self.note_kept();
-        match self.own_since(from) {
-            Ok((operations, length)) => Ok(Reply::Own(operations, length)),
-            Err(_) => Err(StepFault::NoMemory),
-        }
-    }
-
-    /// Tells all that the site holds.
-    pub(crate) fn step_ask_whole(&self) -> Result<Reply, StepFault>
-        ensures reply { IfOk result (λ reply. MayReply delta_limit self.now.tables self.now.number
-            self.now.state AskWhole (reply_value reply)) }
-        ensures ok { IfOk result (λ reply. self.now
-            ≡ after_event self.now AskWhole (reply_value reply)) }
-        ensures memory { IfErr result (λ fault. fault ≡ StepFault.NoMemory) }
-    {
-        self.note_kept();
-        match self.whole() {
-            Ok((state, length)) => Ok(Reply::Copy(state, length)),
-            Err(_) => Err(StepFault::NoMemory),
-        }
     }
 }
 
