@@ -1,9 +1,9 @@
 //! The applications that a capabilities exchange advertises.
-ghost use Rattle.std.specs.Prelude.{◌≡◌, ◌++◌, length, IfOk, IfErr, OnOk};
+ghost use Rattle.std.specs.Prelude.{◌≡◌, ◌↔◌, ◌++◌, length, map, IfOk, IfErr, IsTrue, OnOk};
 ghost use Rattle.std.specs.List.{flat_map};
 ghost use Rattle.dia_codec.specs.Spelling.{avp_views};
 ghost use Rattle.dia_base.specs.Rows.{AcceptsAll, IsFaultOf, rows_refusal};
-ghost use Rattle.base_profile.specs.Requests.{alone_rows, application_rows, applications_among, applications_of};
+ghost use Rattle.base_profile.specs.Requests.{alone_rows, application_rows, applications_among, applications_of, number_of};
 
 use crate::codes::avps::VENDOR_SPECIFIC_APPLICATION_ID;
 use dia_base::codes::avps::AUTH_APPLICATION_ID;
@@ -114,4 +114,21 @@ pub(crate) fn read_applications(
     let groups = read_each::<VendorApplications>(alloc, avps, vendors, None)?;
     add_groups(&mut found, groups.as_slice())?;
     Ok(found)
+}
+
+/// Both lists have the same applications in the same order.
+pub(crate) fn same_applications(ours: &[ApplicationId], theirs: &[ApplicationId]) -> bool
+    ensures { IsTrue result ↔ (map number_of ours.now ≡ map number_of theirs.now) }
+{
+    let mut rest = theirs;
+    for application in ours {
+        let Some((first, others)) = rest.split_first() else {
+            return false;
+        };
+        if application.number != first.number {
+            return false;
+        }
+        rest = others;
+    }
+    rest.is_empty()
 }

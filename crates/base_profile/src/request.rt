@@ -1,15 +1,16 @@
 //! Requests of the base protocol.
-ghost use Rattle.std.specs.Prelude.{◌≡◌, OnOk, IfOk, IfErr};
+ghost use Rattle.std.specs.Prelude.{◌≡◌, ◌↔◌, OnOk, IfOk, IfErr, IsTrue};
 ghost use Rattle.dia_codec.specs.Spelling.{avp_views};
 ghost use Rattle.dia_base.specs.Rows.{AcceptsAll, IsFaultOf, rows_refusal};
 ghost use Rattle.base_profile.specs.Avps.{is_base_command};
 ghost use Rattle.base_profile.specs.Requests.{base_of, base_rows, base_view, kind_of, kind_rows, kind_view};
 
-use crate::applications::{ApplicationId, read_applications};
+use crate::applications::{ApplicationId, read_applications, same_applications};
 use crate::codes::commands::{CAPABILITIES_EXCHANGE, DEVICE_WATCHDOG, DISCONNECT_PEER};
 use dia_base::{Origin, ReadFault, read_origin};
 use dia_codec::{Avp, Message};
-use std::alloc::Global;
+use exact_values::Exact;
+use std::alloc::{AllocError, Global};
 
 /// What a request of the base protocol asks for.
 #[derive(Drop, PartialEq, Eq)]
@@ -29,6 +30,54 @@ pub struct BaseRequest {
     pub kind: BaseKind,
     /// Origin-Host and Origin-Realm: the peer.
     pub origin: Origin,
+}
+
+impl BaseKind {
+    /// The same, copied.
+    fn try_copy(&self) -> Result<BaseKind, AllocError>
+        ensures { IfOk result (λ copy. kind_view copy ≡ kind_view self.now) }
+    {
+        match self {
+            BaseKind::CapabilitiesExchange(each) => {
+                let copies = Vec::from_slice(*each.allocator(), each.as_slice())?;
+                Ok(BaseKind::CapabilitiesExchange(copies))
+            }
+            BaseKind::DeviceWatchdog => Ok(BaseKind::DeviceWatchdog),
+            BaseKind::DisconnectPeer => Ok(BaseKind::DisconnectPeer),
+        }
+    }
+
+    /// Both ask for the same.
+    fn equal(&self, other: &BaseKind) -> bool
+        ensures { IsTrue result ↔ (kind_view self.now ≡ kind_view other.now) }
+    {
+        match (self, other) {
+            (BaseKind::CapabilitiesExchange(ours), BaseKind::CapabilitiesExchange(theirs)) => {
+                same_applications(ours.as_slice(), theirs.as_slice())
+            }
+            (BaseKind::DeviceWatchdog, BaseKind::DeviceWatchdog) => true,
+            (BaseKind::DisconnectPeer, BaseKind::DisconnectPeer) => true,
+            _ => false,
+        }
+    }
+}
+
+impl BaseRequest {
+    /// An equal request.
+    pub fn try_copy(&self) -> Result<BaseRequest, AllocError>
+        ensures { IfOk result (λ copy. base_view copy ≡ base_view self.now) }
+    {
+        let kind = self.kind.try_copy()?;
+        let origin = self.origin.try_copy()?;
+        Ok(BaseRequest { kind, origin })
+    }
+
+    /// Both ask for the same.
+    pub fn equal(&self, other: &BaseRequest) -> bool
+        ensures { IsTrue result ↔ (base_view self.now ≡ base_view other.now) }
+    {
+        self.kind.equal(&other.kind) && self.origin.equal(&other.origin)
+    }
 }
 
 /// Whether a command is one of these requests'.

@@ -1,5 +1,5 @@
 //! Who sent a request.
-ghost use Rattle.std.specs.Prelude.{◌≡◌, OnOk, IfOk, IfErr, Some};
+ghost use Rattle.std.specs.Prelude.{◌≡◌, ◌↔◌, OnOk, IfOk, IfErr, IsTrue, Some};
 ghost use Rattle.dia_codec.specs.Spelling.{avp_views};
 ghost use Rattle.dia_base.specs.Avps.{origin_host, origin_realm};
 ghost use Rattle.dia_base.specs.Origins.{origin_rows};
@@ -9,8 +9,10 @@ use crate::codes::avps::{ORIGIN_HOST, ORIGIN_REALM};
 use crate::read_fault::ReadFault;
 use crate::rows::{base_key, required_text};
 use dia_codec::Avp;
+use exact_values::{Exact, same};
 use pcrf_values::DiameterIdentity;
-use std::alloc::Global;
+use ranked::Ranked;
+use std::alloc::{AllocError, Global};
 
 /// The node that sent a request (RFC 6733, 6.3 and 6.4).
 #[derive(Drop, PartialEq, Eq)]
@@ -19,6 +21,23 @@ pub struct Origin {
     pub host: DiameterIdentity,
     /// Origin-Realm.
     pub realm: DiameterIdentity,
+}
+
+impl Origin {
+    /// An equal origin.
+    pub fn try_copy(&self) -> Result<Origin, AllocError>
+        ensures { IfOk result (λ copy. copy ≡ self.now) }
+    {
+        let host = self.host.try_copy()?;
+        let realm = self.realm.try_copy()?;
+        Ok(Origin { host, realm })
+    }
+}
+
+impl Exact for Origin {
+    fn equal(&self, other: &Origin) -> bool {
+        same(&self.host, &other.host) && same(&self.realm, &other.realm)
+    }
 }
 
 /// Reads Origin-Host, and then Origin-Realm.

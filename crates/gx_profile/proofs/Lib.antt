@@ -1,4 +1,3 @@
-pub mod Firsts
 pub mod Lengths
 pub mod MessageLengths
 pub mod RuleLengths

@@ -15,7 +15,8 @@ use Rattle.dia_base.specs.Answers.{text_avp, number_avp, result_avp}
 use Rattle.dia_base.specs.declared.identity.Identity.{Identity}
 use Rattle.dia_base.proofs.AnswerLengths.{text_within, number_within, result_within}
 use Rattle.pcrf_values.specs.Numbers.{request_kind_number}
-use Rattle.gx_profile.specs.Answers.{cca, reply_refusal, reply_delta, reply_quality}
+use Rattle.gx_profile.specs.Answers.{cca}
+use Rattle.reply_values.specs.Replies.{reply_refusal, reply_delta, reply_quality}
 use Rattle.gx_profile.specs.Avps.{destination_realm, destination_host, re_auth_request_type}
 use Rattle.gx_profile.specs.Lengths.{delta_room, opening_room}
 use Rattle.gx_profile.specs.Openings.{opening_avps}
@@ -23,7 +24,7 @@ use Rattle.gx_profile.specs.Pushes.{rar, authorize_only}
 use Rattle.gx_profile.specs.Qualities.{quality_avps}
 use Rattle.gx_profile.specs.Rules.{delta_avps}
 use Rattle.gx_profile.specs.declared.ccr.Ccr.{Ccr}
-use Rattle.gx_profile.specs.declared.answer.GxReply.{GxReply}
+use Rattle.reply_values.specs.declared.answer.GxReply.{GxReply}
 
 -- what a message begins with
 pub opening_within : (session : List ℕ) (i : Identity) → length session ≤ 512 → length i.host ≤ 255 → length i.realm ≤ 255 → sum_by padded_len (opening_avps session i) ≤ opening_room

@@ -9,11 +9,6 @@ use Rattle.dia_base.specs.declared.identity.Identity.{Identity}
 use Rattle.gx_profile.specs.Avps.{destination_realm, destination_host, re_auth_request_type}
 use Rattle.gx_profile.specs.Openings.{opening_avps}
 use Rattle.gx_profile.specs.Rules.{delta_avps}
-use Rattle.gx_profile.specs.declared.push.PushOut.{PushOut}
-
--- a push, as the definitions have it
-abbrev pub push_view : PushOut → PushValue
-push_view p = record { session = p.session; host = p.host; realm = p.realm; delta = p.delta }
 
 -- the command Re-Auth (RFC 6733, 8.3)
 abbrev pub re_auth_command : ℕ

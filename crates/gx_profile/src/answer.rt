@@ -4,52 +4,20 @@ ghost use Rattle.std.specs.List.{sum_by};
 ghost use Rattle.dia_codec.specs.Limits.{longest_message};
 ghost use Rattle.dia_codec.specs.Spelling.{message_view};
 ghost use Rattle.dia_codec.specs.Written.{padded_len, written_len};
-ghost use Rattle.gx_profile.specs.Answers.{cca, reply_refusal, reply_delta, reply_quality};
+ghost use Rattle.gx_profile.specs.Answers.{cca};
 ghost use Rattle.gx_profile.specs.Lengths.{delta_room};
 ghost use Rattle.gx_profile.specs.Rules.{delta_avps};
+ghost use Rattle.reply_values.specs.Replies.{reply_refusal, reply_delta, reply_quality};
 
 use crate::ccr::Ccr;
-use crate::entries::FirstEntries;
 use crate::opening::put_opening;
 use crate::quality::put_quality;
 use crate::rules::put_delta;
 use dia_base::codes::avps;
-use dia_base::{AvpWriter, Identity, Refusal, answer_header, put_result};
+use dia_base::{AvpWriter, Identity, answer_header, put_result};
 use dia_codec::{Header, Message};
-use pcrf_values::DefaultQuality;
+use reply_values::GxReply;
 use std::alloc::{AllocError, Global};
-
-/// What a site answers to a credit control request.
-#[derive(Drop, PartialEq, Eq)]
-pub enum GxReply {
-    /// The request is accepted: what of the session's rules is removed and installed, and the default quality of service of
-    /// its access point, where it has one.
-    Granted(FirstEntries, Option<DefaultQuality>),
-    /// The request is refused, and has changed nothing.
-    Refused(Refusal),
-}
-
-impl GxReply {
-    /// The refusal that the reply is, if it is one.
-    pub fn refusal(&self) -> Option<Refusal>
-        ensures { result ≡ reply_refusal self.now }
-    {
-        match self {
-            GxReply::Granted(_, _) => None,
-            GxReply::Refused(refusal) => Some(*refusal),
-        }
-    }
-
-    /// The default quality of service that the reply tells, if it does.
-    pub fn quality(&self) -> Option<DefaultQuality>
-        ensures { result ≡ reply_quality self.now }
-    {
-        match self {
-            GxReply::Granted(_, quality) => *quality,
-            GxReply::Refused(_) => None,
-        }
-    }
-}
 
 /// Writes what a reply removes and installs.
 #[tactic(auto, unfolding(crate::specs::Rules::delta_avps))]

@@ -1,5 +1,5 @@
 //! Credit control requests (TS 29.212, 5.6.2).
-ghost use Rattle.std.specs.Prelude.{◌≡◌, OnOk, IfOk, IfErr, option_map};
+ghost use Rattle.std.specs.Prelude.{◌≡◌, ◌↔◌, OnOk, IfOk, IfErr, IsTrue, option_map};
 ghost use Rattle.std.specs.Net.Addr.{ipv4_octets};
 ghost use Rattle.pcrf_values.specs.Texts.{folded};
 ghost use Rattle.dia_codec.specs.Spelling.{avp_views};
@@ -16,8 +16,10 @@ use dia_base::{
     read_subscribers, required_number, required_number_within, required_text,
 };
 use dia_codec::{Avp, Message};
+use exact_values::{Exact, same, same_address};
 use pcrf_values::{Apn, GxSid, RequestKind, Subscribers};
-use std::alloc::Global;
+use ranked::Ranked;
+use std::alloc::{AllocError, Global};
 use std::net::Ipv4Addr;
 
 /// A credit control request as it was read: what this profile asks of it, and nothing else.
@@ -37,6 +39,40 @@ pub struct Ccr {
     pub apn: Option<Apn>,
     /// The Subscription-Ids, each once; None where none was given.
     pub subscribers: Option<Subscribers>,
+}
+
+impl Ccr {
+    /// An equal request.
+    pub fn try_copy(&self) -> Result<Ccr, AllocError>
+        ensures { IfOk result (λ copy. ccr_view copy ≡ ccr_view self.now) }
+    {
+        let session = self.session.try_copy()?;
+        let origin = self.origin.try_copy()?;
+        let apn = self.apn.try_copy()?;
+        let subscribers = self.subscribers.try_copy()?;
+        Ok(Ccr {
+            session,
+            origin,
+            kind: self.kind,
+            number: self.number,
+            address: self.address,
+            apn,
+            subscribers,
+        })
+    }
+
+    /// Both ask for the same.
+    pub fn equal(&self, other: &Ccr) -> bool
+        ensures { IsTrue result ↔ (ccr_view self.now ≡ ccr_view other.now) }
+    {
+        same(&self.session, &other.session)
+            && self.origin.equal(&other.origin)
+            && self.kind == other.kind
+            && self.number == other.number
+            && same_address(self.address, other.address)
+            && same(&self.apn, &other.apn)
+            && same(&self.subscribers, &other.subscribers)
+    }
 }
 
 /// Whom a session serves, and where: what calls are bound by (TS 29.213, 5.2).

@@ -5,16 +5,15 @@
 mod answer;
 mod ccr;
 mod codes;
-mod entries;
 mod opening;
 mod push;
 mod quality;
 mod raa;
 mod rules;
 
-pub use answer::{GxReply, write_cca};
+pub use answer::write_cca;
 pub use ccr::{Ccr, read_ccr};
-pub use entries::{DELTA_LIMIT, FirstEntries};
 pub use pcrf_values::{DefaultQuality, RequestKind};
-pub use push::{PushOut, write_rar};
+pub use push::write_rar;
 pub use raa::{Raa, read_raa};
+pub use reply_values::{DELTA_LIMIT, FirstEntries, GxReply, PushOut};

@@ -3,30 +3,17 @@ ghost use Rattle.std.specs.Prelude.{◌≡◌, ◌≤◌, IfOk};
 ghost use Rattle.dia_codec.specs.Limits.{longest_message};
 ghost use Rattle.dia_codec.specs.Spelling.{message_view};
 ghost use Rattle.dia_codec.specs.Written.{written_len};
-ghost use Rattle.gx_profile.specs.Pushes.{push_view, rar, rar_header};
+ghost use Rattle.gx_profile.specs.Pushes.{rar, rar_header};
+ghost use Rattle.reply_values.specs.Replies.{push_view};
 
 use crate::codes::base;
-use crate::entries::FirstEntries;
 use crate::opening::put_opening;
 use crate::rules::put_delta;
 use dia_base::codes::GX;
 use dia_base::{AvpWriter, Identity};
 use dia_codec::{Flags, Header, Message};
-use pcrf_values::{DiameterIdentity, GxSid};
+use reply_values::PushOut;
 use std::alloc::{AllocError, Global};
-
-/// A push: what the gateway of a session is told by a re-authorisation request (TS 29.212, 4.5.2 and 5.6.4).
-#[derive(Drop, PartialEq, Eq)]
-pub struct PushOut {
-    /// The gateway's session.
-    pub session: GxSid,
-    /// The Origin-Host of the session's requests, to which the push goes.
-    pub host: DiameterIdentity,
-    /// Its Origin-Realm.
-    pub realm: DiameterIdentity,
-    /// The rules that are removed and installed.
-    pub delta: FirstEntries,
-}
 
 /// The header of a re-authorisation request with these identifiers.
 fn rar_header(hop_id: u32, end_id: u32) -> Header

@@ -8,10 +8,10 @@ ghost use Rattle.gx_profile.specs.Lengths.{filter_room, name_room, rule_room, de
 ghost use Rattle.gx_profile.specs.Rules.{has_guaranteed_rate, guaranteed_avps, rule_quality_avps, name_avp, description_avps, filter_avp, rule_avps, rule_avp, remove_avps, install_avps, delta_avps};
 
 use crate::codes::avps;
-use crate::entries::FirstEntries;
 use crate::quality::{NEEDED, OPTIONAL, priority_value};
 use dia_base::AvpWriter;
 use pcrf_values::{FilterText, Filters, QosClass, Rule, RuleName};
+use reply_values::FirstEntries;
 use std::alloc::{AllocError, Global};
 
 /// The last of the classes with a guaranteed bit rate, which are 1 to 4 (TS 23.203, table 6.1.7).

@@ -175,6 +175,7 @@ impl World {
             Ok(push) => Ok(WorldOutcome::Pushed(push)),
             Err(StepFault::ClockFull) => Err(WorldFault::ClockFull),
             Err(StepFault::NoMemory) => Err(WorldFault::NoMemory { taken: 0 }),
+            Err(StepFault::HistoryFull) => unreachable!(),
         }
     }
 

@@ -8,16 +8,16 @@ ghost use Rattle.pcrf_model.specs.Pushing.{due, push_to};
 ghost use Rattle.pcrf_model.specs.Rules.{rules};
 ghost use Rattle.pcrf_model.specs.Sessions.{gx};
 ghost use Rattle.pcrf_model.specs.Views.{view};
-ghost use Rattle.gx_profile.specs.Pushes.{push_view};
+ghost use Rattle.reply_values.specs.Replies.{push_view};
 ghost use Rattle.rule_telling.specs.Pushed.{push_of};
 ghost use Rattle.rule_telling.specs.ByRecord.{alone, first_push, is_asked, is_at_host, is_at_home, push_due};
 
 use crate::telling::untold;
-use gx_profile::{FirstEntries, PushOut};
 use gx_records::GxRec;
 use op_tables::Tables;
 use pcrf_values::{Delta, GxSid};
 use ranked::Ranked;
+use reply_values::{FirstEntries, PushOut};
 use site_join::State;
 use std::alloc::{AllocError, Global};
 use std::collections::btree_map::Iter;

@@ -1,19 +1,20 @@
 //! Media components and flows as a request describes them (TS 29.214, 5.3.16 and 5.3.18).
-ghost use Rattle.std.specs.Prelude.{◌≡◌, ◌≤◌, false, length, None, OnOk, IfOk, IfErr, option_copied};
+ghost use Rattle.std.specs.Prelude.{◌≡◌, ◌↔◌, ◌≤◌, false, length, None, OnOk, IfOk, IfErr, IsTrue, option_copied};
 ghost use Rattle.dia_base.specs.Rows.{IsFaultOf};
 ghost use Rattle.pcrf_values.specs.Limits.{components_limit, flows_limit};
 ghost use Rattle.rx_profile.specs.Services.{flow_numbers, numbers_refusal, repeats, services_refusal};
 ghost use Rattle.rx_profile.specs.Values.{component_value, flow_value};
 
 use crate::judging::{FromRaw, each_from};
-use crate::media::{ComponentParts, FlowParts};
+use crate::media::{ComponentParts, FlowParts, same_status, same_usage};
 use crate::numbers::repeats;
 use crate::raw::{RawComponent, RawFlow};
 use dia_base::codes::results::INVALID_SERVICE_INFORMATION;
 use dia_base::{ReadFault, Refusal};
+use exact_values::{Exact, same, same_items};
 use pcrf_values::{PermitFilter, PermitFilters};
-use ranked::Text;
-use std::alloc::Global;
+use ranked::{Ranked, Text};
+use std::alloc::{AllocError, Global};
 use std::marker::Model;
 
 /// A flow (Media-Sub-Component, TS 29.214, 5.3.18), which contracts see as a `FlowValue`.
@@ -46,6 +47,40 @@ impl Flow {
     {
         self.filters.as_ref()
     }
+
+    /// An equal flow.
+    pub fn try_copy(&self) -> Result<Flow, AllocError>
+        ensures { IfOk result (λ copy. copy ≡ self.now) }
+    {
+        Ok(Flow {
+            parts: self.parts,
+            filters: self.filters.try_copy()?,
+        })
+    }
+}
+
+impl Exact for Flow {
+    fn equal(&self, other: &Flow) -> bool {
+        let ours = self.parts;
+        let theirs = other.parts;
+        ours.number == theirs.number
+            && same(&self.filters, &other.filters)
+            && same_usage(ours.usage, theirs.usage)
+            && same_status(ours.status, theirs.status)
+            && same(&ours.rates.up, &theirs.rates.up)
+            && same(&ours.rates.down, &theirs.rates.down)
+    }
+}
+
+/// Equal flows, in order.
+fn copy_flows(flows: &Vec<Flow>) -> Result<Vec<Flow>, AllocError>
+    ensures { IfOk result (λ copies. copies.items ≡ flows.now.items) }
+{
+    let mut copies = Vec::new(*flows.allocator());
+    for flow in flows.as_slice() {
+        copies.push(flow.try_copy()?)?;
+    }
+    Ok(copies)
 }
 
 impl FromRaw<RawFlow> for Flow {
@@ -141,6 +176,40 @@ impl Component {
     {
         self.flows.as_slice()
     }
+
+    /// An equal component.
+    pub fn try_copy(&self) -> Result<Component, AllocError>
+        ensures { IfOk result (λ copy. copy ≡ self.now) }
+    {
+        Ok(Component {
+            parts: self.parts,
+            flows: copy_flows(&self.flows)?,
+        })
+    }
+}
+
+impl Exact for Component {
+    fn equal(&self, other: &Component) -> bool {
+        let ours = self.parts;
+        let theirs = other.parts;
+        ours.number == theirs.number
+            && same(&ours.media_type, &theirs.media_type)
+            && same_status(ours.status, theirs.status)
+            && same(&ours.rates.up, &theirs.rates.up)
+            && same(&ours.rates.down, &theirs.rates.down)
+            && same_items(self.flows.as_slice(), other.flows.as_slice())
+    }
+}
+
+/// Equal components, in order.
+fn copy_components(components: &Vec<Component>) -> Result<Vec<Component>, AllocError>
+    ensures { IfOk result (λ copies. copies.items ≡ components.now.items) }
+{
+    let mut copies = Vec::new(*components.allocator());
+    for component in components.as_slice() {
+        copies.push(component.try_copy()?)?;
+    }
+    Ok(copies)
 }
 
 impl FromRaw<NumberedComponent> for Component {
@@ -188,6 +257,15 @@ impl Components {
         self.list.as_slice()
     }
 
+    /// Equal components.
+    pub fn try_copy(&self) -> Result<Components, AllocError>
+        ensures { IfOk result (λ copy. copy ≡ self.now) }
+    {
+        Ok(Components {
+            list: copy_components(&self.list)?,
+        })
+    }
+
     /// The components that were read, judged among themselves: all numbers first, and then all filters.
     pub fn judged(alloc: Global, raw: Vec<RawComponent>) -> Result<Components, ReadFault>
         requires { length raw.items ≤ components_limit }
@@ -201,5 +279,11 @@ impl Components {
         let numbered = each_from::<RawComponent, NumberedComponent>(alloc, raw)?;
         let list = each_from::<NumberedComponent, Component>(alloc, numbered)?;
         Ok(Components { list })
+    }
+}
+
+impl Exact for Components {
+    fn equal(&self, other: &Components) -> bool {
+        same_items(self.list.as_slice(), other.list.as_slice())
     }
 }

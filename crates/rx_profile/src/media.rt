@@ -1,5 +1,5 @@
 //! What a media component and a flow say besides their flows and filters (TS 29.214, 5.3).
-ghost use Rattle.std.specs.Prelude.{◌≡◌, ◌<◌, ◌≤◌, OnOk, IfOk, IfErr, IfSome, IfNone, Some, option_map};
+ghost use Rattle.std.specs.Prelude.{◌≡◌, ◌↔◌, ◌<◌, ◌≤◌, OnOk, IfOk, IfErr, IfSome, IfNone, IsTrue, Some, option_map};
 ghost use Rattle.dia_codec.specs.Spelling.{avp_views};
 ghost use Rattle.pcrf_model.specs.Making.{is_removed};
 ghost use Rattle.dia_base.specs.Rows.{Accepts, AcceptsAll, RefusesWith, number_at, rows_refusal};
@@ -94,6 +94,30 @@ pub fn is_removed(status: Option<MediaStatus>) -> bool
     match status {
         Some(MediaStatus::Removed) => true,
         Some(MediaStatus::Open(_)) | None => false,
+    }
+}
+
+/// Both say the same of a use, or nothing.
+pub(crate) fn same_usage(ours: Option<FlowUsage>, theirs: Option<FlowUsage>) -> bool
+    ensures { IsTrue result
+        ↔ (option_map flow_usage_number ours ≡ option_map flow_usage_number theirs) }
+{
+    match (ours, theirs) {
+        (Some(ours), Some(theirs)) => ours.number() == theirs.number(),
+        (None, None) => true,
+        _ => false,
+    }
+}
+
+/// Both say the same of the directions, or nothing.
+pub(crate) fn same_status(ours: Option<MediaStatus>, theirs: Option<MediaStatus>) -> bool
+    ensures { IsTrue result
+        ↔ (option_map media_status_number ours ≡ option_map media_status_number theirs) }
+{
+    match (ours, theirs) {
+        (Some(ours), Some(theirs)) => ours.number() == theirs.number(),
+        (None, None) => true,
+        _ => false,
     }
 }
 

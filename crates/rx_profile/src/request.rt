@@ -1,5 +1,5 @@
 //! AA requests (TS 29.214, 5.6.1).
-ghost use Rattle.std.specs.Prelude.{◌≡◌, ◌≤◌, length, None, OnOk, IfOk, IfErr, option_map};
+ghost use Rattle.std.specs.Prelude.{◌≡◌, ◌↔◌, ◌≤◌, length, None, OnOk, IfOk, IfErr, IsTrue, option_map};
 ghost use Rattle.std.specs.Net.Addr.{ipv4_octets};
 ghost use Rattle.pcrf_values.specs.Texts.{folded};
 ghost use Rattle.dia_codec.specs.Spelling.{avp_views};
@@ -18,8 +18,10 @@ use dia_base::{
     read_subscribers, required_text, tgpp_key,
 };
 use dia_codec::{Avp, Message};
+use exact_values::{Exact, same, same_address};
 use pcrf_values::{AfSid, Apn, Subscribers};
-use std::alloc::Global;
+use ranked::Ranked;
+use std::alloc::{AllocError, Global};
 use std::net::Ipv4Addr;
 
 /// How many components a request may have.
@@ -40,6 +42,39 @@ pub struct Aar {
     pub subscribers: Option<Subscribers>,
     /// The Media-Component-Descriptions.
     pub components: Components,
+}
+
+impl Aar {
+    /// An equal request.
+    pub fn try_copy(&self) -> Result<Aar, AllocError>
+        ensures { IfOk result (λ copy. aar_view copy ≡ aar_view self.now) }
+    {
+        let session = self.session.try_copy()?;
+        let origin = self.origin.try_copy()?;
+        let apn = self.apn.try_copy()?;
+        let subscribers = self.subscribers.try_copy()?;
+        let components = self.components.try_copy()?;
+        Ok(Aar {
+            session,
+            origin,
+            address: self.address,
+            apn,
+            subscribers,
+            components,
+        })
+    }
+
+    /// Both ask for the same.
+    pub fn equal(&self, other: &Aar) -> bool
+        ensures { IsTrue result ↔ (aar_view self.now ≡ aar_view other.now) }
+    {
+        same(&self.session, &other.session)
+            && self.origin.equal(&other.origin)
+            && same_address(self.address, other.address)
+            && same(&self.apn, &other.apn)
+            && same(&self.subscribers, &other.subscribers)
+            && self.components.equal(&other.components)
+    }
 }
 
 /// Whom a call serves, and where: what it is bound by (TS 29.213, 5.2).

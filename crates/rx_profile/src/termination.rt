@@ -1,5 +1,5 @@
 //! Session termination requests (TS 29.214, 5.6.4).
-ghost use Rattle.std.specs.Prelude.{◌≡◌, OnOk, IfOk, IfErr};
+ghost use Rattle.std.specs.Prelude.{◌≡◌, ◌↔◌, OnOk, IfOk, IfErr, IsTrue};
 ghost use Rattle.dia_codec.specs.Spelling.{avp_views};
 ghost use Rattle.dia_base.specs.Rows.{AcceptsAll, IsFaultOf, rows_refusal};
 ghost use Rattle.rx_profile.specs.Terminations.{str_of, str_rows, str_view};
@@ -7,8 +7,10 @@ ghost use Rattle.rx_profile.specs.Terminations.{str_of, str_rows, str_view};
 use dia_base::codes::avps::SESSION_ID;
 use dia_base::{Origin, ReadFault, base_key, read_origin, required_text};
 use dia_codec::Message;
+use exact_values::{Exact, same};
 use pcrf_values::AfSid;
-use std::alloc::Global;
+use ranked::Ranked;
+use std::alloc::{AllocError, Global};
 
 /// A session termination request as it was read: what this profile asks of it, and nothing else.
 #[derive(Drop, PartialEq, Eq)]
@@ -17,6 +19,24 @@ pub struct Str {
     pub session: AfSid,
     /// Origin-Host and Origin-Realm: the application function.
     pub origin: Origin,
+}
+
+impl Str {
+    /// An equal request.
+    pub fn try_copy(&self) -> Result<Str, AllocError>
+        ensures { IfOk result (λ copy. str_view copy ≡ str_view self.now) }
+    {
+        let session = self.session.try_copy()?;
+        let origin = self.origin.try_copy()?;
+        Ok(Str { session, origin })
+    }
+
+    /// Both ask for the same.
+    pub fn equal(&self, other: &Str) -> bool
+        ensures { IsTrue result ↔ (str_view self.now ≡ str_view other.now) }
+    {
+        same(&self.session, &other.session) && self.origin.equal(&other.origin)
+    }
 }
 
 /// Reads a session termination request, or gives the first refusal of what breaks its table.

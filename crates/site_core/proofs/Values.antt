@@ -6,7 +6,7 @@ use Rattle.dia_codec.specs.declared.message.Header.{Header}
 use Rattle.dia_base.specs.declared.identity.Identity.{Identity}
 use Rattle.gx_profile.specs.Answers.{cca}
 use Rattle.gx_profile.specs.Requests.{ccr_view}
-use Rattle.gx_profile.specs.declared.answer.GxReply.TheVariants as gx_reply
+use Rattle.reply_values.specs.declared.answer.GxReply.TheVariants as gx_reply
 use Rattle.gx_profile.specs.declared.ccr.Ccr.{Ccr}
 use Rattle.rx_profile.specs.Answers.{aaa, sta}
 use Rattle.base_profile.specs.Answers.{base_answer}

@@ -8,7 +8,7 @@ use Rattle.dia_codec.specs.Written.{written, written_len}
 use Rattle.dia_base.specs.declared.identity.Identity.{Identity}
 use Rattle.dia_base.specs.Answers.{refusal_answer}
 use Rattle.gx_profile.specs.Answers.{cca}
-use Rattle.gx_profile.specs.declared.answer.GxReply.{GxReply}
+use Rattle.reply_values.specs.declared.answer.GxReply.{GxReply}
 use Rattle.rx_profile.specs.Answers.{aaa, sta}
 use Rattle.base_profile.specs.Answers.{base_answer}
 use Rattle.base_profile.specs.Requests.{base_view}

@@ -27,8 +27,8 @@ use Rattle.pcrf_model.specs.ToldTags.{ToldUpTo}
 use Rattle.pcrf_model.proofs.UnionLaws.{view-kept_of}
 use Rattle.pcrf_model.proofs.ProvisionLaws.{provisioning-tells_up_to, pushing-tells_up_to}
 use Rattle.site_machine.specs.Facts.{opens, operation_made}
-use Rattle.gx_profile.specs.declared.answer.GxReply.{GxReply}
-use Rattle.gx_profile.specs.declared.answer.GxReply.TheVariants.{Granted, Refused}
+use Rattle.reply_values.specs.declared.answer.GxReply.{GxReply}
+use Rattle.reply_values.specs.declared.answer.GxReply.TheVariants.{Granted, Refused}
 use Rattle.site_machine.specs.Left.{with_fields, ProvisionLeaves, RequestLeaves}
 use Rattle.site_machine.specs.Sites.{SiteValue, with_made}
 use Rattle.site_machine.proofs.Replies.{fields_made, shown_with}

@@ -4,6 +4,7 @@ pub mod Left
 pub mod Pushes
 pub mod Replies
 pub mod Restoring
+pub mod SameFacts
 pub mod Steps
 pub mod Taking
 pub mod ToldOrder

@@ -1,4 +1,5 @@
 -- Replies as the definitions have them.
+use Rattle.std.specs.Prelude.{Bool, true, false, cond, Option, Some, None}
 use Rattle.pcrf_model.specs.Limits.{delta_limit}
 use Rattle.pcrf_model.specs.Sessions.{Session}
 use Rattle.pcrf_model.specs.Views.{View}
@@ -6,8 +7,10 @@ use Rattle.pcrf_model.specs.Tables.{Tables}
 use Rattle.pcrf_model.specs.Rules.{quality_of}
 use Rattle.pcrf_model.specs.Serving.{delta_of}
 use Rattle.pcrf_model.specs.Replies.{ReplyValue, OnGx, Granted, Rejected}
-use Rattle.gx_profile.specs.declared.answer.GxReply.{GxReply}
-use Rattle.gx_profile.specs.declared.answer.GxReply.TheVariants as gx_reply
+use Rattle.reply_values.specs.declared.answer.GxReply.{GxReply}
+use Rattle.reply_values.specs.declared.answer.GxReply.TheVariants as gx_reply
+use Rattle.site_machine.specs.declared.event.Reply.{Reply}
+use Rattle.site_machine.specs.declared.event.Reply.TheVariants as reply
 
 -- a reply to a gateway
 abbrev pub gx_reply_value : GxReply → ReplyValue
@@ -17,3 +20,15 @@ gx_reply_value (gx_reply.Refused r) = OnGx (Rejected r)
 -- the reply to an accepted initial request or update, by what is read with its fields
 abbrev pub told_reply : Tables → View → Session → ReplyValue
 told_reply t v s = OnGx (Granted (delta_of delta_limit t v s) (quality_of t v s))
+
+-- two more of a reply that is wanted three times
+abbrev pub spares : {A : Type 0} → Bool → A → Option (A × A)
+spares thrice a = cond thrice (Some (a, a)) None
+
+-- a reply that takes no memory
+abbrev pub is_plain : Reply → Bool
+is_plain reply.Done = true
+is_plain (reply.Refused r) = true
+is_plain (reply.Base code) = true
+is_plain (reply.Taken count) = true
+is_plain r = false

@@ -10,7 +10,7 @@ use Rattle.pcrf_model.specs.Replies as replies
 use Rattle.pcrf_model.specs.Pushing.{lacks_counter}
 use Rattle.pcrf_model.specs.Steps.{SiteEvent}
 use Rattle.pcrf_model.specs.Steps as events
-use Rattle.gx_profile.specs.Pushes.{push_view}
+use Rattle.reply_values.specs.Replies.{push_view}
 use Rattle.gx_profile.specs.Requests.{ccr_view}
 use Rattle.rx_profile.specs.Requests.{aar_view}
 use Rattle.rx_profile.specs.Terminations.{str_view}

@@ -19,6 +19,7 @@ ghost use Rattle.rx_profile.specs.Requests.{aar_view};
 ghost use Rattle.rx_profile.specs.Terminations.{str_view};
 ghost use Rattle.request_facts.specs.Call.{described};
 ghost use Rattle.site_machine.specs.Calls.{late_refusal};
+ghost use Rattle.site_machine.specs.Replies.{is_plain};
 ghost use Rattle.site_machine.specs.Values.{reply_value};
 
 use crate::event::Reply;
@@ -44,6 +45,7 @@ impl Site {
 
     /// Serves an AA request: what it describes is added to its session, if that can be bound then. An error changes nothing.
     pub(crate) fn serve_aar(&mut self, aar: &Aar) -> Result<Reply, AllocError>
+        ensures plain { IfOk result (λ reply. is_plain reply ≡ true) }
         ensures reply { IfOk result (λ reply.
             reply_value reply ≡ (aar_served self.old (aar_view aar.now)).reply) }
         ensures ok { OnOk result (self.new
@@ -125,6 +127,7 @@ impl Site {
 
     /// Serves a session termination request: its session ends, for good. An error changes nothing.
     pub(crate) fn serve_str(&mut self, call: &Str) -> Result<Reply, AllocError>
+        ensures plain { IfOk result (λ reply. is_plain reply ≡ true) }
         ensures reply { IfOk result (λ reply.
             reply_value reply ≡ (str_served self.old (str_view call.now)).reply) }
         ensures ok { OnOk result (self.new

@@ -1,8 +1,16 @@
 //! What happens at a site, and what it replies.
+ghost use Rattle.std.specs.Prelude.{◌≡◌, ◌↔◌, IfOk, IsTrue};
+ghost use Rattle.site_machine.specs.Values.{event_value, reply_value};
+
+use crate::operations::same_operations;
 use crate::request::Request;
-use gx_profile::{GxReply, PushOut};
+use crate::site::copy_all;
+use exact_values::{Exact, same};
 use pcrf_values::{DiameterIdentity, Refusal};
+use ranked::Ranked;
+use reply_values::{GxReply, PushOut};
 use site_join::{Operation, State};
+use std::alloc::AllocError;
 
 /// What may happen at a site.
 #[derive(Drop)]
@@ -40,4 +48,97 @@ pub enum Reply {
     Own(Vec<Operation>, u64),
     /// A copy of all that the site holds, and how many operations it made itself.
     Copy(State, u64),
+}
+
+impl Event {
+    /// An equal event.
+    pub fn try_copy(&self) -> Result<Event, AllocError>
+        ensures { IfOk result (λ copy. event_value copy ≡ event_value self.now) }
+    {
+        match self {
+            Event::Serve(request) => Ok(Event::Serve(request.try_copy()?)),
+            Event::Push(host) => Ok(Event::Push(host.try_copy()?)),
+            Event::Ops(operations) => Ok(Event::Ops(copy_operations(operations)?)),
+            Event::Whole(state) => Ok(Event::Whole(state.try_copy()?)),
+            Event::AskOwn(from) => Ok(Event::AskOwn(*from)),
+            Event::AskWhole => Ok(Event::AskWhole),
+        }
+    }
+
+    /// The same would happen. It takes no memory.
+    pub fn equal(&self, other: &Event) -> bool
+        ensures { IsTrue result ↔ (event_value self.now ≡ event_value other.now) }
+    {
+        match (self, other) {
+            (Event::Serve(ours), Event::Serve(theirs)) => ours.equal(theirs),
+            (Event::Push(ours), Event::Push(theirs)) => same(ours, theirs),
+            (Event::Ops(ours), Event::Ops(theirs)) => {
+                same_operations(ours.as_slice(), theirs.as_slice())
+            }
+            (Event::Whole(ours), Event::Whole(theirs)) => ours.equal(theirs),
+            (Event::AskOwn(ours), Event::AskOwn(theirs)) => *ours == *theirs,
+            (Event::AskWhole, Event::AskWhole) => true,
+            _ => false,
+        }
+    }
+}
+
+impl Reply {
+    /// An equal reply.
+    pub fn try_copy(&self) -> Result<Reply, AllocError>
+        ensures { IfOk result (λ copy. reply_value copy ≡ reply_value self.now) }
+    {
+        match self {
+            Reply::Gx(reply) => Ok(Reply::Gx(reply.try_copy()?)),
+            Reply::Done => Ok(Reply::Done),
+            Reply::Refused(refusal) => Ok(Reply::Refused(*refusal)),
+            Reply::Base(code) => Ok(Reply::Base(*code)),
+            Reply::Pushed(Some(push)) => Ok(Reply::Pushed(Some(push.try_copy()?))),
+            Reply::Pushed(None) => Ok(Reply::Pushed(None)),
+            Reply::Taken(count) => Ok(Reply::Taken(*count)),
+            Reply::Own(operations, length) => {
+                Ok(Reply::Own(copy_operations(operations)?, *length))
+            }
+            Reply::Copy(state, length) => Ok(Reply::Copy(state.try_copy()?, *length)),
+        }
+    }
+
+    /// Both tell the same. It takes no memory.
+    pub fn equal(&self, other: &Reply) -> bool
+        ensures { IsTrue result ↔ (reply_value self.now ≡ reply_value other.now) }
+    {
+        match (self, other) {
+            (Reply::Gx(ours), Reply::Gx(theirs)) => ours.equal(theirs),
+            (Reply::Done, Reply::Done) => true,
+            (Reply::Refused(ours), Reply::Refused(theirs)) => *ours == *theirs,
+            (Reply::Base(ours), Reply::Base(theirs)) => *ours == *theirs,
+            (Reply::Pushed(ours), Reply::Pushed(theirs)) => same_push(ours, theirs),
+            (Reply::Taken(ours), Reply::Taken(theirs)) => *ours == *theirs,
+            (Reply::Own(ours, length), Reply::Own(theirs, other_length)) => {
+                *length == *other_length && same_operations(ours.as_slice(), theirs.as_slice())
+            }
+            (Reply::Copy(ours, length), Reply::Copy(theirs, other_length)) => {
+                *length == *other_length && ours.equal(theirs)
+            }
+            _ => false,
+        }
+    }
+}
+
+/// Both push the same, or nothing.
+fn same_push(ours: &Option<PushOut>, theirs: &Option<PushOut>) -> bool
+    ensures { IsTrue result ↔ (ours.now ≡ theirs.now) }
+{
+    match (ours, theirs) {
+        (Some(ours), Some(theirs)) => ours.equal(theirs),
+        (None, None) => true,
+        _ => false,
+    }
+}
+
+/// Equal operations, in order.
+fn copy_operations(operations: &Vec<Operation>) -> Result<Vec<Operation>, AllocError>
+    ensures { IfOk result (λ copies. copies.items ≡ operations.now.items) }
+{
+    copy_all(*operations.allocator(), operations.as_slice())
 }

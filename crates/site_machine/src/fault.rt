@@ -4,6 +4,9 @@ use thiserror::Error;
 /// Why an event gave nothing, and changed nothing.
 #[derive(Clone, Copy, Debug, PartialEq, Eq, Error)]
 pub enum StepFault {
+    /// The history that is kept of the site is at its limit. A site alone, which keeps none, never answers so.
+    #[error("the history is full")]
+    HistoryFull,
     /// Something is to be pushed, and the clock is at its end.
     #[error("the clock is at its end")]
     ClockFull,

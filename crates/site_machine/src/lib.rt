@@ -5,8 +5,12 @@
 mod calls;
 mod event;
 mod fault;
+mod operations;
 mod request;
 mod site;
+mod spare;
+mod steps;
+mod thrice;
 mod told;
 
 pub use event::{Event, Reply};

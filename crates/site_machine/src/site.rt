@@ -11,7 +11,7 @@ ghost use Rattle.pcrf_model.specs.Pushing.{lacks_counter};
 ghost use Rattle.pcrf_model.specs.Replies.{OnGx, Granted, Pushed};
 ghost use Rattle.pcrf_model.specs.Serving.{delta_of, empty_delta, provisioned, serve_base};
 ghost use Rattle.pcrf_model.specs.Sessions.{gx};
-ghost use Rattle.pcrf_model.specs.Steps.{MayReply, Serve, Push, Ops, Whole, AskOwn, AskWhole, own_from};
+ghost use Rattle.pcrf_model.specs.Steps.{own_from};
 ghost use Rattle.pcrf_model.specs.Views.{view};
 ghost use Rattle.pcrf_model.specs.Rules.{quality_of, rules};
 ghost use Rattle.pcrf_model.specs.Differences.{rule_name_of};
@@ -21,33 +21,33 @@ ghost use Rattle.pcrf_model.specs.Refusals.{is_clock_full, ccr_refusal, lacks_pa
 ghost use Rattle.pcrf_model.specs.ToldTags.{ToldUpTo};
 ghost use Rattle.pcrf_model.specs.Forms.{are_up_to, is_holding, is_operation};
 ghost use Rattle.pcrf_facts.specs.FlowWords.{or_else};
-ghost use Rattle.gx_profile.specs.Pushes.{push_view};
+ghost use Rattle.reply_values.specs.Replies.{push_view};
 ghost use Rattle.gx_profile.specs.Requests.{ccr_view};
 ghost use Rattle.base_profile.specs.Requests.{base_view};
 ghost use Rattle.site_join.specs.States.{record_facts};
-ghost use Rattle.site_machine.specs.Replies.{gx_reply_value};
-ghost use Rattle.site_machine.specs.Values.{event_lacks_counter, event_value, reply_value, request_value};
+ghost use Rattle.site_machine.specs.Replies.{gx_reply_value, is_plain, spares};
+ghost use Rattle.site_machine.specs.Values.{reply_value, request_value};
 
-use crate::event::{Event, Reply};
+use crate::event::Reply;
 use crate::fault::StepFault;
 use crate::request::Request;
+use crate::spare::{nothing_told, refused, spare_pushes, spare_replies};
 use crate::told::{note_entries, put_told};
 use base_profile::{BaseRequest, base_refusal};
 use dia_base::Identity;
 use dia_base::codes::results::{
     AUTHORIZATION_REJECTED, INITIAL_PARAMETERS, SUCCESS, UNABLE_TO_COMPLY, UNKNOWN_SESSION_ID,
 };
-use gx_profile::{Ccr, FirstEntries, GxReply, PushOut};
+use gx_profile::Ccr;
 use gx_records::GxRec;
 use lattice_core::Join;
 use op_tables::Tables;
 use operator_view::{OperatorValue, bindings, value};
 use pcc_rules::derive;
 use pcrf_model::ranges::note_text;
-use pcrf_values::{
-    AfSid, Apn, DefaultQuality, DiameterIdentity, GxSid, Refusal, RequestKind, Rule,
-};
+use pcrf_values::{AfSid, Apn, DefaultQuality, GxSid, Refusal, RequestKind, Rule};
 use ranked::{Ranked, Tag};
+use reply_values::{FirstEntries, GxReply, PushOut};
 use request_facts::{facts_made, note_ccr};
 use rule_telling::{next_push, untold};
 use site_join::{LAST_COUNTER, Operation, SessionFacts, State};
@@ -90,7 +90,7 @@ impl Site {
     ghost use Rattle.site_machine.specs.Facts.{opens, operation_made, operation_pushed, operation_told};
     ghost use Rattle.site_machine.specs.Left.{ProvisionLeaves, PushLeaves, ReplyLeaves, RequestLeaves};
     ghost use Rattle.site_machine.specs.Replies.{told_reply};
-    ghost use Rattle.site_machine.specs.Sites.{new_site, after_event, ccr_served, emptied, pushed, served, with_made, with_one, with_record, with_state, with_taken};
+    ghost use Rattle.site_machine.specs.Sites.{new_site, ccr_served, emptied, pushed, served, with_made, with_one, with_record, with_state, with_taken};
 
     /// A site that took nothing.
     pub fn start(alloc: Global, tables: Tables, identity: Identity, number: u8) -> Site
@@ -172,6 +172,20 @@ impl Site {
         Ok((copies, self.log.len() as u64))
     }
 
+    /// All operations that the site made itself, in order.
+    pub fn log_copy(&self) -> Result<Vec<Operation>, AllocError>
+        ensures { IfOk result (λ copies. copies.items ≡ self.now.state.log) }
+    {
+        copy_all(self.alloc, self.log.as_slice())
+    }
+
+    /// How many operations the site made itself.
+    pub fn logged(&self) -> u64
+        ensures { result ≡ length self.now.state.log }
+    {
+        self.log.len() as u64
+    }
+
     /// A copy of all that the site holds, and how many operations it made itself.
     pub fn whole(&self) -> Result<(State, u64), AllocError>
         ensures state { IfOk result (λ r. r.0 ≡ self.now.state.holding) }
@@ -192,26 +206,6 @@ impl Site {
         Ok(())
     }
 
-    /// Makes an event happen. A fault changes nothing.
-    pub fn step(&mut self, event: &Event) -> Result<Reply, StepFault>
-        ensures reply { IfOk result (λ reply. MayReply delta_limit self.old.tables self.old.number
-            self.old.state (event_value event.now) (reply_value reply)) }
-        ensures ok { IfOk result (λ reply. self.new
-            ≡ after_event self.old (event_value event.now) (reply_value reply)) }
-        ensures full { IfErr result (λ fault. fault ≡ StepFault.ClockFull → event_lacks_counter
-            self.old.tables self.old.number self.old.state.holding (event_value event.now) ≡ true) }
-        ensures err { OnErr result (self.new ≡ self.old) }
-    {
-        match event {
-            Event::Serve(request) => self.step_serve(request),
-            Event::Push(host) => self.step_push(host),
-            Event::Ops(operations) => Ok(self.step_take(operations.as_slice())),
-            Event::Whole(state) => self.step_whole(state),
-            Event::AskOwn(from) => self.step_ask_own(*from),
-            Event::AskWhole => self.step_ask_whole(),
-        }
-    }
-
     /// Serves a request. Where it grants an initial request or an update, the gateway lacks then just what the first 40 entries
     /// of the difference left. An error changes nothing.
     pub fn serve(&mut self, request: &Request) -> Result<Reply, AllocError>
@@ -223,59 +217,80 @@ impl Site {
         ensures err { OnErr result (self.new ≡ self.old) }
     {
         match request {
-            Request::Ccr(ccr) => Ok(Reply::Gx(self.serve_ccr(ccr)?)),
+            Request::Ccr(ccr) => {
+                let (reply, _) = self.serve_ccr(ccr, false)?;
+                Ok(Reply::Gx(reply))
+            }
             Request::Aar(aar) => self.serve_aar(aar),
             Request::Str(call) => self.serve_str(call),
             Request::Base(base) => Ok(reply_to_base(base)),
         }
     }
 
-    /// Serves a credit control request. An error changes nothing.
-    fn serve_ccr(&mut self, ccr: &Ccr) -> Result<GxReply, AllocError>
-        ensures reply { IfOk result (λ reply. gx_reply_value reply
+    /// Serves a credit control request; where its reply is wanted three times, two spare ones come with it. An error changes
+    /// nothing.
+    pub(crate) fn serve_ccr(
+        &mut self,
+        ccr: &Ccr,
+        thrice: bool,
+    ) -> Result<(GxReply, Option<(GxReply, GxReply)>), AllocError>
+        ensures reply { IfOk result (λ told. gx_reply_value told.0
             ≡ (ccr_served self.old (ccr_view ccr.now)).reply) }
+        ensures spare { IfOk result (λ told. told.1 ≡ spares thrice told.0) }
         ensures ok { OnOk result (self.new
             ≡ with_made self.old (ccr_served self.old (ccr_view ccr.now)).added) }
-        ensures left { IfOk result (λ reply.
-            RequestLeaves self.old self.new (ccr_view ccr.now) reply) }
+        ensures left { IfOk result (λ told.
+            RequestLeaves self.old self.new (ccr_view ccr.now) told.0) }
         ensures err { OnErr result (self.new ≡ self.old) }
     {
         if let Some(refusal) = self.standing_refusal(ccr) {
-            return Ok(GxReply::Refused(refusal));
+            return Ok(refused(refusal, thrice));
         }
         let Some(counter) = self.next_counter() else {
-            return Ok(GxReply::Refused(Refusal::base(UNABLE_TO_COMPLY)));
+            return Ok(refused(Refusal::base(UNABLE_TO_COMPLY), thrice));
         };
         match ccr.kind {
-            RequestKind::Termination => self.close(ccr, counter),
-            RequestKind::Initial | RequestKind::Update => self.provision(ccr, counter),
+            RequestKind::Termination => self.close(ccr, counter, thrice),
+            RequestKind::Initial | RequestKind::Update => self.provision(ccr, counter, thrice),
         }
     }
 
     /// Ends the session of an accepted request, or changes nothing.
-    fn close(&mut self, ccr: &Ccr, counter: u64) -> Result<GxReply, AllocError>
+    fn close(
+        &mut self,
+        ccr: &Ccr,
+        counter: u64,
+        thrice: bool,
+    ) -> Result<(GxReply, Option<(GxReply, GxReply)>), AllocError>
         requires within { counter ≤ last_counter }
         requires first { 1 ≤ counter }
         requires later { length self.old.state.log < counter }
-        ensures reply { IfOk result (λ reply.
-            gx_reply_value reply ≡ OnGx (Granted empty_delta None)) }
+        ensures reply { IfOk result (λ told.
+            gx_reply_value told.0 ≡ OnGx (Granted empty_delta None)) }
+        ensures spare { IfOk result (λ told. told.1 ≡ spares thrice told.0) }
         ensures ok { OnOk result (self.new ≡ with_made self.old (Some
             (operation_made self.old.number counter (ccr_view ccr.now) ccr.now.kind))) }
         ensures err { OnErr result (self.new ≡ self.old) }
     {
         let operation = self.fields_made(ccr, counter)?;
         self.add(operation)?;
-        Ok(GxReply::Granted(FirstEntries::none(self.alloc), None))
+        Ok(nothing_told(self.alloc, thrice))
     }
 
     /// Sets the fields of an accepted request and tells the gateway what it lacks then, or changes nothing.
-    fn provision(&mut self, ccr: &Ccr, counter: u64) -> Result<GxReply, AllocError>
+    fn provision(
+        &mut self,
+        ccr: &Ccr,
+        counter: u64,
+        thrice: bool,
+    ) -> Result<(GxReply, Option<(GxReply, GxReply)>), AllocError>
         requires within { counter ≤ last_counter }
         requires next { counter ≡ self.old.state.holding.clock + 1 }
         requires opens { opens ccr.now.kind ≡ true }
         requires alive { (view self.old.state.holding.facts).ended (gx ccr.now.session) ≡ false }
-        ensures reply { IfOk result (λ reply. gx_reply_value reply ≡ (provisioned delta_limit
+        ensures reply { IfOk result (λ told. gx_reply_value told.0 ≡ (provisioned delta_limit
             self.old.tables self.old.number self.old.state.holding (ccr_view ccr.now)).reply) }
+        ensures spare { IfOk result (λ told. told.1 ≡ spares thrice told.0) }
         ensures ok { OnOk result (self.new ≡ with_made self.old (provisioned delta_limit
             self.old.tables self.old.number self.old.state.holding (ccr_view ccr.now)).added) }
         ensures left { OnOk result (ProvisionLeaves self.old self.new (ccr_view ccr.now)) }
@@ -287,8 +302,8 @@ impl Site {
         let before = self.copy_of(&ccr.session)?;
         let clock = self.state.clock();
         self.set_fields(ccr, counter)?;
-        match self.tell(ccr, counter) {
-            Ok(reply) => Ok(reply),
+        match self.tell(ccr, counter, thrice) {
+            Ok(told) => Ok(told),
             Err(refused) => {
                 self.put_back(&ccr.session, before, clock);
                 Err(refused)
@@ -332,11 +347,16 @@ impl Site {
     }
 
     /// Tells the gateway what it lacks of the rules that its session has now, or changes nothing.
-    fn tell(&mut self, ccr: &Ccr, counter: u64) -> Result<GxReply, AllocError>
+    fn tell(
+        &mut self,
+        ccr: &Ccr,
+        counter: u64,
+        thrice: bool,
+    ) -> Result<(GxReply, Option<(GxReply, GxReply)>), AllocError>
         requires within { counter ≤ last_counter }
         requires later { length self.old.state.log < counter }
         requires opens { opens ccr.now.kind ≡ true }
-        ensures reply { IfOk result (λ reply. gx_reply_value reply
+        ensures reply { IfOk result (λ told. gx_reply_value told.0
             ≡ told_reply self.old.tables (view self.old.state.holding.facts) (gx ccr.now.session)) }
         ensures ok { OnOk result (self.new ≡ with_made self.old (Some (operation_told
             self.old.number counter (ccr_view ccr.now) ccr.now.kind
@@ -344,6 +364,7 @@ impl Site {
             self.old.tables (view self.old.state.holding.facts) (gx ccr.now.session))))) }
         ensures names { OnOk result (Distinct (map rule_name_of
             (rules self.old.tables (view self.old.state.holding.facts) (gx ccr.now.session)))) }
+        ensures spare { IfOk result (λ told. told.1 ≡ spares thrice told.0) }
         ensures err { OnErr result (self.new ≡ self.old) }
     {
         let quality = self.quality_of(&ccr.session);
@@ -353,8 +374,10 @@ impl Site {
         note_ccr(ccr);
         self.note_number();
         let operation = self.all_made(ccr, counter, &delta)?;
+        let reply = GxReply::Granted(delta, quality);
+        let spare = spare_replies(&reply, thrice)?;
         self.add(operation)?;
-        Ok(GxReply::Granted(delta, quality))
+        Ok((reply, spare))
     }
 
     /// The operation of the fields that an accepted request sets, or of the end that it makes.
@@ -471,6 +494,35 @@ impl Site {
         ensures full { IfErr result (λ fault. fault ≡ StepFault.ClockFull → lacks_counter
             self.old.tables self.old.number self.old.state.holding
             (option_copied host.entry) ≡ true) }
+        ensures memory { IfErr result (λ fault. fault ≢ StepFault.HistoryFull) }
+        ensures err { OnErr result (self.new ≡ self.old) }
+    {
+        match self.push_told(host, false)? {
+            Some((push, _)) => Ok(Some(push)),
+            None => Ok(None),
+        }
+    }
+
+    /// Pushes; where the push is wanted three times, two spare ones come with it. An error changes nothing.
+    pub(crate) fn push_told(
+        &mut self,
+        host: Option<&[u8]>,
+        thrice: bool,
+    ) -> Result<Option<(PushOut, Option<(PushOut, PushOut)>)>, StepFault>
+        ensures push { IfOk result (λ found. Pushed (option_map (λ told. push_view told.0) found)
+            ≡ (pushed self.old (option_copied host.entry)).reply) }
+        ensures ok { OnOk result (self.new
+            ≡ with_made self.old (pushed self.old (option_copied host.entry)).added) }
+        ensures left { IfOk result (λ found. IfSome found (λ told.
+            PushLeaves self.old self.new (gx told.0.session))) }
+        ensures spare { IfOk result (λ found. IfSome found (λ told.
+            told.1 ≡ spares thrice told.0)) }
+        ensures room { OnOk result (lacks_counter self.old.tables self.old.number
+            self.old.state.holding (option_copied host.entry) ≡ false) }
+        ensures full { IfErr result (λ fault. fault ≡ StepFault.ClockFull → lacks_counter
+            self.old.tables self.old.number self.old.state.holding
+            (option_copied host.entry) ≡ true) }
+        ensures memory { IfErr result (λ fault. fault ≢ StepFault.HistoryFull) }
         ensures err { OnErr result (self.new ≡ self.old) }
     {
         self.note_told();
@@ -487,10 +539,13 @@ impl Site {
         note_entries(&push.delta);
         note_text(push.session.id());
         self.note_number();
+        let Ok(spare) = spare_pushes(&push, thrice) else {
+            return Err(StepFault::NoMemory);
+        };
         if self.tell_push(&push, counter).is_err() {
             return Err(StepFault::NoMemory);
         }
-        Ok(Some(push))
+        Ok(Some((push, spare)))
     }
 
     /// Adds the operation of a push, or changes nothing.
@@ -573,99 +628,12 @@ impl Site {
         self.state = State::start(self.alloc);
         self.log = Vec::new(self.alloc);
     }
-
-    /// Serves the request of an event.
-    fn step_serve(&mut self, request: &Request) -> Result<Reply, StepFault>
-        ensures reply { IfOk result (λ reply. MayReply delta_limit self.old.tables self.old.number
-            self.old.state (Serve (request_value request.now)) (reply_value reply)) }
-        ensures ok { IfOk result (λ reply. self.new
-            ≡ after_event self.old (Serve (request_value request.now)) (reply_value reply)) }
-        ensures memory { IfErr result (λ fault. fault ≡ StepFault.NoMemory) }
-        ensures err { OnErr result (self.new ≡ self.old) }
-    {
-        self.note_kept();
-        match self.serve(request) {
-            Ok(reply) => Ok(reply),
-            Err(_) => Err(StepFault::NoMemory),
-        }
-    }
-
-    /// Pushes as an event asks for it.
-    fn step_push(&mut self, host: &Option<DiameterIdentity>) -> Result<Reply, StepFault>
-        ensures reply { IfOk result (λ reply. MayReply delta_limit self.old.tables self.old.number
-            self.old.state (Push host.now) (reply_value reply)) }
-        ensures ok { IfOk result (λ reply. self.new
-            ≡ after_event self.old (Push host.now) (reply_value reply)) }
-        ensures full { IfErr result (λ fault. fault ≡ StepFault.ClockFull → event_lacks_counter
-            self.old.tables self.old.number self.old.state.holding (Push host.now) ≡ true) }
-        ensures err { OnErr result (self.new ≡ self.old) }
-    {
-        self.note_kept();
-        let host = host.as_ref().map(|host| host.as_slice());
-        Ok(Reply::Pushed(self.push(host)?))
-    }
-
-    /// Takes the operations of an event.
-    fn step_take(&mut self, operations: &[Operation]) -> Reply
-        ensures reply { MayReply delta_limit self.old.tables self.old.number
-            self.old.state (Ops operations.now) (reply_value result) }
-        ensures ok { self.new ≡ after_event self.old (Ops operations.now) (reply_value result) }
-    {
-        match self.take_all(operations) {
-            Ok(()) => Reply::Taken(operations.len()),
-            Err((count, _)) => Reply::Taken(count),
-        }
-    }
-
-    /// Takes the state of an event.
-    fn step_whole(&mut self, state: &State) -> Result<Reply, StepFault>
-        ensures reply { IfOk result (λ reply. MayReply delta_limit self.old.tables self.old.number
-            self.old.state (Whole state.now) (reply_value reply)) }
-        ensures ok { IfOk result (λ reply. self.new
-            ≡ after_event self.old (Whole state.now) (reply_value reply)) }
-        ensures memory { IfErr result (λ fault. fault ≡ StepFault.NoMemory) }
-        ensures err { OnErr result (self.new ≡ self.old) }
-    {
-        match self.take_state(state) {
-            Ok(()) => Ok(Reply::Done),
-            Err(_) => Err(StepFault::NoMemory),
-        }
-    }
-
-    /// Tells the operations that an event asks for.
-    fn step_ask_own(&self, from: u64) -> Result<Reply, StepFault>
-        ensures reply { IfOk result (λ reply. MayReply delta_limit self.now.tables self.now.number
-            self.now.state (AskOwn from) (reply_value reply)) }
-        ensures ok { IfOk result (λ reply. self.now
-            ≡ after_event self.now (AskOwn from) (reply_value reply)) }
-        ensures memory { IfErr result (λ fault. fault ≡ StepFault.NoMemory) }
-    {
-        self.note_kept();
-        match self.own_since(from) {
-            Ok((operations, length)) => Ok(Reply::Own(operations, length)),
-            Err(_) => Err(StepFault::NoMemory),
-        }
-    }
-
-    /// Tells all that the site holds.
-    fn step_ask_whole(&self) -> Result<Reply, StepFault>
-        ensures reply { IfOk result (λ reply. MayReply delta_limit self.now.tables self.now.number
-            self.now.state AskWhole (reply_value reply)) }
-        ensures ok { IfOk result (λ reply. self.now
-            ≡ after_event self.now AskWhole (reply_value reply)) }
-        ensures memory { IfErr result (λ fault. fault ≡ StepFault.NoMemory) }
-    {
-        self.note_kept();
-        match self.whole() {
-            Ok((state, length)) => Ok(Reply::Copy(state, length)),
-            Err(_) => Err(StepFault::NoMemory),
-        }
-    }
 }
 
 /// The reply to a request of the base protocol: success, or why it is refused.
-fn reply_to_base(request: &BaseRequest) -> Reply
-    ensures { reply_value result ≡ (serve_base (base_view request.now)).reply }
+pub(crate) fn reply_to_base(request: &BaseRequest) -> Reply
+    ensures plain { is_plain result ≡ true }
+    ensures reply { reply_value result ≡ (serve_base (base_view request.now)).reply }
 {
     match base_refusal(request) {
         Some(refusal) => Reply::Base(refusal.code),
@@ -730,7 +698,10 @@ fn part_from(log: &[Operation], from: u64) -> &[Operation]
 }
 
 /// Equal operations, in order.
-fn copy_all(alloc: Global, operations: &[Operation]) -> Result<Vec<Operation>, AllocError>
+pub(crate) fn copy_all(
+    alloc: Global,
+    operations: &[Operation],
+) -> Result<Vec<Operation>, AllocError>
     ensures { IfOk result (λ copies. copies.items ≡ operations.now) }
 {
     let mut copies = Vec::new(alloc);

@@ -10,11 +10,11 @@ ghost use Rattle.pcrf_model.specs.Forms.{is_rule, is_text};
 ghost use Rattle.pcrf_model.specs.Making.{told_facts};
 ghost use Rattle.site_machine.specs.Facts.{entries_told, installed_entry, removed_entry, told_fact};
 
-use gx_profile::FirstEntries;
 use gx_records::GxFact;
 use pcrf_model::ranges::{note_rule, note_text};
 use pcrf_values::{Rule, RuleName};
 use ranked::{Ranked, Tag, ascending_of};
+use reply_values::FirstEntries;
 use std::alloc::{AllocError, Global};
 
 /// With what the gateway is told under each name, ascending.

@@ -1,5 +1,6 @@
 use Rattle.std.proofs.Common.{rules}
-use Rattle.gx_profile.specs.Pushes.{rar, push_view}
+use Rattle.gx_profile.specs.Pushes.{rar}
+use Rattle.reply_values.specs.Replies.{push_view}
 use Rattle.gx_profile.proofs.MessageLengths.{rar_fits}
 use Rattle.gx_profile.proofs.push.write_rar.Goals as goal
 

@@ -23,7 +23,7 @@ returns-in-Some-clause-reply c =
     let s = c.args.self.now in
     let q = ccr_view c.args.ccr.now in
     let refused = c.standing_refusal.ensures ∙ ap (λ (x : Option Refusal). or_else x (by_clock s.state.holding)) c.in-Some.is in
-    sym (ap (λ (o : Outcome). o.reply) (served_refused s q c.in-Some.refusal refused))
+    c.refused.ensures.reply ∙ sym (ap (λ (o : Outcome). o.reply) (served_refused s q c.in-Some.refusal refused))
 
 pub returns-in-Some-clause-ok : goal.returns-in-Some-clause-ok
 returns-in-Some-clause-ok c =
@@ -38,7 +38,7 @@ returns-in_default-next_counter-clause-reply c =
     let q = ccr_view c.args.ccr.now in
     let full = ap (λ (b : Bool). cond b (Some unable_to_comply) None) (c.next_counter.ensures.full c.in_default-next_counter.is) in
     let refused = c.standing_refusal.ensures ∙ ap (λ (x : Option Refusal). or_else x (by_clock s.state.holding)) c.in_default.is ∙ full ∙ ap Some (sym c.base.ensures) in
-    sym (ap (λ (o : Outcome). o.reply) (served_refused s q c.base.result refused))
+    c.refused.ensures.reply ∙ sym (ap (λ (o : Outcome). o.reply) (served_refused s q c.base.result refused))
 
 pub returns-in_default-next_counter-clause-ok : goal.returns-in_default-next_counter-clause-ok
 returns-in_default-next_counter-clause-ok c =
@@ -55,7 +55,7 @@ returns-in-Termination-clause-reply c =
     let room = ap (λ (b : Bool). cond b (Some unable_to_comply) None) c.in-Some-next_counter.ensures.open in
     let none = c.standing_refusal.ensures ∙ ap (λ (x : Option Refusal). or_else x (by_clock s.state.holding)) c.in_default.is ∙ room in
     let served = ap (λ (o : Outcome). o.reply) (served_accepted s q Termination c.in-Termination.is none) in
-    subst (λ (r : ReplyValue). IfOk c.close.result (λ reply. gx_reply_value reply ≡ r)) (sym served) c.close.ensures.reply
+    subst (λ (r : ReplyValue). IfOk c.close.result (λ told. gx_reply_value told.0 ≡ r)) (sym served) c.close.ensures.reply
 
 pub returns-in-Termination-clause-ok : goal.returns-in-Termination-clause-ok
 returns-in-Termination-clause-ok c =
@@ -69,7 +69,7 @@ returns-in-Termination-clause-ok c =
     subst (λ (x : SiteValue). OnOk c.close.result (c.close.new.self ≡ x)) (made ∙ next ∙ sym served) c.close.ensures.ok
 
 pub returns-in-Termination-clause-left : goal.returns-in-Termination-clause-left
-returns-in-Termination-clause-left c = IfOk-weaker c.close.result _ _ (λ reply _. ended_leaves c.args.self.now c.close.new.self (ccr_view c.args.ccr.now) reply c.in-Termination.is) c.close.ensures.reply
+returns-in-Termination-clause-left c = IfOk-weaker c.close.result _ _ (λ told _. ended_leaves c.args.self.now c.close.new.self (ccr_view c.args.ccr.now) told.0 c.in-Termination.is) c.close.ensures.reply
 
 pub provision-requires-clause-alive : goal.provision-requires-clause-alive
 provision-requires-clause-alive c =
@@ -89,8 +89,9 @@ returns-in-Initial c =
     let opening : opens q.kind ≡ true = search rules in
     let served = served_accepted s q q.kind refl none ∙ opening_is s.tables s.number s.state.holding q q.kind opening in
     record {
-      reply = subst (λ (o : Outcome). IfOk c.provision.result (λ reply. gx_reply_value reply ≡ o.reply)) (sym served) c.provision.ensures.reply;
+      reply = subst (λ (o : Outcome). IfOk c.provision.result (λ told. gx_reply_value told.0 ≡ o.reply)) (sym served) c.provision.ensures.reply;
       ok = subst (λ (o : Outcome). OnOk c.provision.result (c.provision.new.self ≡ with_made s o.added)) (sym served) c.provision.ensures.ok;
-      left = IfOk-weaker c.provision.result _ _ (λ reply leaves. granted_leaves s c.provision.new.self q reply leaves) c.provision.ensures.left;
+      left = IfOk-weaker c.provision.result _ _ (λ told leaves. granted_leaves s c.provision.new.self q told.0 leaves) c.provision.ensures.left;
+      spare = c.provision.ensures.spare;
       err = c.provision.ensures.err;
     }

@@ -1,11 +1,13 @@
 //! How much of a difference one message carries.
-ghost use Rattle.std.specs.Prelude.{◌≡◌, ◌+◌, ◌≤◌, length};
+ghost use Rattle.std.specs.Prelude.{◌≡◌, ◌↔◌, ◌+◌, ◌≤◌, IfOk, IsTrue, length};
 ghost use Rattle.pcrf_model.specs.Differences.{first};
 ghost use Rattle.pcrf_model.specs.Limits.{delta_limit};
 ghost use Rattle.pcrf_model.specs.Serving.{empty_delta};
 
+use exact_values::{Exact, same};
 use pcrf_values::{Delta, Rule, RuleName};
-use std::alloc::Global;
+use ranked::Ranked;
+use std::alloc::{AllocError, Global};
 use std::marker::Model;
 
 /// How many entries of a difference a message carries at most, so that every message has room for them.
@@ -64,5 +66,20 @@ impl FirstEntries {
         ensures within { length self.now.removed + length self.now.installed ≤ delta_limit }
     {
         self.delta.installed()
+    }
+
+    /// Equal entries.
+    pub fn try_copy(&self) -> Result<FirstEntries, AllocError>
+        ensures { IfOk result (λ copy. copy ≡ self.now) }
+    {
+        Ok(FirstEntries {
+            delta: self.delta.try_copy()?,
+        })
+    }
+}
+
+impl Exact for FirstEntries {
+    fn equal(&self, other: &FirstEntries) -> bool {
+        same(&self.delta, &other.delta)
     }
 }

@@ -13,18 +13,18 @@ use Rattle.pcrf_model.specs.Sessions.{gx}
 use Rattle.pcrf_model.specs.Views.{view}
 use Rattle.pcrf_model.specs.Rules as session
 use Rattle.pcrf_model.specs.Differences.{rule_name_of}
-use Rattle.gx_profile.specs.declared.push.PushOut.{PushOut}
+use Rattle.reply_values.specs.declared.push.PushOut.{PushOut}
 use Rattle.pcrf_model.specs.Pushing.{due}
 use Rattle.pcrf_model.specs.Replies.{Outcome}
 use Rattle.site_machine.specs.Sites.{SiteValue}
-use Rattle.gx_profile.specs.Pushes.{push_view}
+use Rattle.reply_values.specs.Replies.{push_view}
 use Rattle.rule_telling.specs.Pushed.{push_of}
 use Rattle.site_machine.specs.Facts.{operation_pushed}
 use Rattle.site_machine.specs.Sites.{with_made}
 use Rattle.site_machine.proofs.Pushes.{nothing_is, nothing_lacks, session_due, pushed_delta, something_is, something_lacks}
 use Rattle.site_machine.proofs.Formed.{stamped, entries_tell, pushed_formed}
 use Rattle.site_machine.proofs.Left.{pushed_leaves}
-use Rattle.site_machine.proofs.site.Site.push.Goals as goal
+use Rattle.site_machine.proofs.site.Site.push_told.Goals as goal
 
 pub returns-in_default-found-clause-push : goal.returns-in_default-found-clause-push
 returns-in_default-found-clause-push c =

@@ -1,6 +1,6 @@
 use Rattle.pcrf_model.specs.Limits.{delta_limit}
-use Rattle.gx_profile.proofs.Firsts.{first_is_short}
-use Rattle.gx_profile.proofs.entries.FirstEntries.of.Goals as goal
+use Rattle.reply_values.proofs.Firsts.{first_is_short}
+use Rattle.reply_values.proofs.entries.FirstEntries.of.Goals as goal
 
 -- src/entries.rt:36:5
 pub invariant_of-result : goal.invariant_of-result

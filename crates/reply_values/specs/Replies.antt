@@ -1,0 +1,33 @@
+-- What a site tells a gateway, as the definitions have it.
+use Rattle.std.specs.Prelude.{Option, Some, None}
+use Rattle.pcrf_values.specs.RuleValues.{DeltaValue}
+use Rattle.pcrf_values.specs.declared.default_quality.DefaultQuality.{DefaultQuality}
+use Rattle.pcrf_values.specs.declared.refusal.Refusal.{Refusal}
+use Rattle.pcrf_model.specs.Replies.{PushValue}
+use Rattle.pcrf_model.specs.Serving.{empty_delta}
+use Rattle.reply_values.specs.declared.answer.GxReply.{GxReply}
+use Rattle.reply_values.specs.declared.answer.GxReply.TheVariants.{Granted, Refused}
+use Rattle.reply_values.specs.declared.push.PushOut.{PushOut}
+
+-- ---- an answer to a credit control request
+
+-- the refusal that the reply is, if it is one
+abbrev pub reply_refusal : GxReply → Option Refusal
+reply_refusal (Granted delta quality) = None
+reply_refusal (Refused refusal) = Some refusal
+
+-- the default quality of service that it tells, if it does
+abbrev pub reply_quality : GxReply → Option DefaultQuality
+reply_quality (Granted delta quality) = quality
+reply_quality (Refused refusal) = None
+
+-- what it removes and installs: a refusal nothing
+abbrev pub reply_delta : GxReply → DeltaValue
+reply_delta (Granted delta quality) = delta
+reply_delta (Refused refusal) = empty_delta
+
+-- ---- a push
+
+-- a push, as the definitions have it
+abbrev pub push_view : PushOut → PushValue
+push_view p = record { session = p.session; host = p.host; realm = p.realm; delta = p.delta }

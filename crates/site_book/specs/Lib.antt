@@ -1,0 +1,5 @@
+pub mod Books
+pub mod Gains
+pub mod Limits
+pub mod Settling
+pub mod Sound

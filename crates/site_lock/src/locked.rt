@@ -1,0 +1,80 @@
+//! A site with its history under one lock.
+ghost use Rattle.std.specs.Prelude.{◌≡◌, ◌≤◌, IfOk, IfErr, OnErr};
+ghost use Rattle.site_machine.specs.Values.{event_value, reply_value};
+ghost use Rattle.site_book.specs.Books.{IsHistoryOf, new_seats};
+ghost use Rattle.site_book.specs.Gains.{HoldsAll};
+ghost use Rattle.site_book.specs.Limits.{most_entries, most_seats};
+ghost use Rattle.site_book.specs.Settling.{FirstFault, Settles, receipts_below};
+ghost use Rattle.site_lock.specs.Calls.{GainsReceipt};
+
+use site_book::{Seat, Settled, SiteBook, Unsettled};
+use site_machine::{Event, Reply, Site, StepFault};
+use std::alloc::{AllocError, Global};
+use std::sync::ledger::{Blank, Ledger};
+use std::sync::{Mutex, Wait};
+
+/// A book that threads share, under the one lock of its site. What a thread is told by a call is what the book's own call told:
+/// the seat has a receipt of it, and only that call gives receipts.
+#[derive(Drop)]
+pub struct LockedSite<L: Ledger> {
+    book: Mutex<SiteBook<L>>,
+}
+
+impl<L: Ledger> LockedSite<L> {
+    /// A locked book over a site, and its seats. Where memory is refused all comes back.
+    pub fn start(
+        alloc: Global,
+        blank: Blank,
+        site: Site,
+        seats: usize,
+        limit: usize,
+    ) -> Result<(LockedSite<L>, Vec<Seat<L>>), (AllocError, Blank, Site)>
+        requires name { blank.name ≡ L.name }
+        requires parts { blank.parts ≡ L.parts }
+        requires one_each { blank.parts ≡ seats }
+        requires seats { (1 ≤ seats) × (seats ≤ most_seats) }
+        requires limit { limit ≤ most_entries }
+        ensures seats { IfOk result (λ r. r.1.items ≡ new_seats seats) }
+        ensures blank { IfErr result (λ r. r.1 ≡ blank) }
+        ensures site { IfErr result (λ r. r.2 ≡ site) }
+    {
+        let (book, chairs) = SiteBook::start(alloc, blank, site, seats, limit)?;
+        Ok((LockedSite::over(book), chairs))
+    }
+
+    /// A book under a lock.
+    pub fn over(book: SiteBook<L>) -> LockedSite<L> {
+        LockedSite {
+            book: Mutex::new(book),
+        }
+    }
+
+    /// Makes an event happen, as a call of a seat, once the lock is free. The seat gains the receipt of this event with the
+    /// reply that is answered, or stays as it was.
+    pub fn call<R: Wait>(
+        &self,
+        rt: &R,
+        seat: &mut Seat<L>,
+        event: &Event,
+    ) -> Result<Reply, StepFault>
+        ensures receipt { IfOk result (λ reply. GainsReceipt
+            seat.old (event_value event.now) (reply_value reply) seat.new) }
+        ensures err { OnErr result (seat.new ≡ seat.old) }
+    {
+        let mut book = self.book.lock(rt);
+        book.step(seat, event)
+    }
+
+    /// Settles the book, or tells the first fault that stands and gives the book and the seats back. It waits for nobody.
+    pub fn settle(self, seats: Vec<Seat<L>>) -> Result<Settled<L>, Unsettled<L>>
+        ensures settles { IfOk result (λ s. Settles s.book seats.items) }
+        ensures receipts { IfOk result (λ s. s.receipts ≡ receipts_below s.book.seats seats.items) }
+        ensures replays { IfOk result (λ s. IsHistoryOf s.book) }
+        ensures holds { IfOk result (λ s. HoldsAll s.book) }
+        ensures fault { IfErr result (λ u. FirstFault u.book seats.items u.fault) }
+        ensures seats_back { IfErr result (λ u. u.seats.items ≡ seats.items) }
+    {
+        let LockedSite { book } = self;
+        book.into_inner().settle(seats)
+    }
+}
