@@ -51,6 +51,7 @@ gx_read (facts.Field (OfRuleName name) t (values.Told r)) = Some (gx.Told t name
 gx_read f = None
 
 gx_read_back : (x : GxFact) → gx_read (gx_facts.fact_of x) ≡ Some x
+unfolding gx_read
 gx_read_back gx.End = refl
 gx_read_back (gx.Field t (Address a)) = refl
 gx_read_back (gx.Field t (Apn x)) = refl
@@ -88,6 +89,7 @@ af_read (facts.Field (OfFlow c n FlowRateDown) t (values.Number x)) = Some (af.F
 af_read f = None
 
 af_read_back : (x : AfFact) → af_read (af_facts.fact_of x) ≡ Some x
+unfolding af_read
 af_read_back af.End = refl
 af_read_back (af.ComponentRemoved c) = refl
 af_read_back (af.FlowRemoved c n) = refl
