@@ -5,6 +5,5 @@ pub mod Pushes
 pub mod Replies
 pub mod Restoring
 pub mod SameFacts
-pub mod Steps
 pub mod Taking
 pub mod ToldOrder
