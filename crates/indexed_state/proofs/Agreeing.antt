@@ -1,0 +1,142 @@
+-- The parts of an indexed state agree after it changed.
+use Rattle.std.proofs.Common.{◌≡◌, ℕ, Bool, true, false, List, [], ◌⊎◌, Option, Some, None, inl, inr, refl, sym, ap, ◌∙◌, subst}
+use Rattle.std.specs.declared.net.ipv4_addr.Ipv4Addr.{Ipv4Addr}
+use Rattle.ranked.specs.Sets.{In}
+use Rattle.ranked.proofs.Plain.{clash, none_some}
+use Rattle.pcrf_values.specs.RuleValues.{RuleValue}
+use Rattle.pcrf_facts.specs.Places.{Place}
+use Rattle.pcrf_facts.specs.Values.{Value}
+use Rattle.pcrf_model.specs.Holdings.{Holding, kept_of, union}
+use Rattle.pcrf_model.specs.Laws.{DifferInOne, HasAddress, NeverMeet}
+use Rattle.pcrf_model.specs.Operations.{Operation, with_operation}
+use Rattle.pcrf_model.specs.Sessions.{Kind, Gx, Af, Session, gx, is_gx}
+use Rattle.pcrf_model.specs.Tables.{Tables}
+use Rattle.pcrf_model.specs.Views.{View, view, value}
+use Rattle.pcrf_model.specs.Waiting.{NeighboursWait}
+use Rattle.pcrf_model.proofs.NeighbourLaws.{others_keep}
+use Rattle.pcrf_model.proofs.TakingLaws.{taking_changes_one}
+use Rattle.pcrf_model.proofs.WaitingLaws.{neighbours_enough}
+use Rattle.session_index.specs.Index.{IndexValue, listed_at, Covers, Grows, ListsFacts}
+use Rattle.session_index.proofs.Covered.{covers_grow, covers_taken, covers_union}
+use Rattle.kept_rules.specs.Kept.{RulesValue, kept_at, AreKept}
+use Rattle.kept_rules.proofs.Keeping.{none_kept}
+use Rattle.waiting_sessions.specs.Waits.{WaitingValue, waiting_of, DueWait, Keeps, WaitsIfDue, ListedWait}
+use Rattle.waiting_sessions.proofs.Waited.{may_wait}
+use Rattle.indexed_state.specs.Indexed.{Agree, address_value, IsAddressOf, TouchesAt}
+use Rattle.indexed_state.proofs.Reading.{mapped}
+
+-- a session of a gateway is of that kind
+of_kind : (k : Kind) → is_gx k ≡ true → k ≡ Gx
+of_kind Gx h = refl
+of_kind Af h = clash false h refl
+
+-- with another index that is whole only where it covers
+pub agree_index : (t : Tables) (i : ℕ) (h : Holding) (b c : Bool) (old new : IndexValue) (r : RulesValue) (w : WaitingValue) → (c ≡ true → Covers (view h.facts) new) → Agree t i h b old r w → Agree t i h c new r w
+agree_index t i h b c old new r w covers a = record { covers = covers; kept = a.kept; due = a.due }
+
+-- with one that grew
+pub agree_grown : (t : Tables) (i : ℕ) (h : Holding) (b : Bool) (old new : IndexValue) (r : RulesValue) (w : WaitingValue) → Grows old new → Agree t i h b old r w → Agree t i h b new r w
+agree_grown t i h b old new r w g a = record { covers = λ e. covers_grow (view h.facts) old new g (a.covers e); kept = a.kept; due = a.due }
+
+-- where all wait, all that are due do
+pub all_wait : (t : Tables) (i : ℕ) (v : View) (w : WaitingValue) → w.all ≡ true → DueWait t i v w
+all_wait t i v w all = record { listed = λ a. clash w.all all a }
+
+-- where no list is kept and all wait, an index is enough
+pub agree_anew : (t : Tables) (i : ℕ) (h : Holding) (c : Bool) (index : IndexValue) (r : RulesValue) (w : WaitingValue) → (c ≡ true → Covers (view h.facts) index)
+    → ((id : List ℕ) → kept_at r id ≡ None) → w.all ≡ true → Agree t i h c index r w
+agree_anew t i h c index r w covers none all = record { covers = covers; kept = none_kept t (view h.facts) r none; due = all_wait t i (view h.facts) w all }
+
+-- nothing is shown where nothing is held
+nothing_shown : (s : Session) (p : Place) → value (view []) s p ≡ None
+unfolding view
+nothing_shown s p = refl
+
+-- so any index covers it
+pub covers_nothing : (index : IndexValue) → Covers (view []) index
+covers_nothing index = record {
+  addresses = λ s a e. none_some _ (sym (nothing_shown s _) ∙ e);
+  subscribed = λ id xs x e m. none_some _ (sym (nothing_shown (gx id) _) ∙ e);
+}
+
+-- ---- an operation
+
+module _ (t : Tables) (i : ℕ) (h k : Holding) (o : Operation) (old new : IndexValue) (first second third : RulesValue) (u w : WaitingValue) (before after : Option Ipv4Addr) where
+  -- what the code did
+  pub record Took : Type 0 where
+    pub is : k ≡ kept_of (with_operation h o)
+    pub held : kept_of h ≡ h
+    pub covers : Covers (view h.facts) old
+    pub kept : AreKept t (view h.facts) first
+    pub due : DueWait t i (view h.facts) u
+    pub grows : Grows old new
+    pub lists : ListsFacts new o.session o.facts
+    pub was_at : IsAddressOf (view h.facts) o.session before
+    pub is_at : IsAddressOf (view k.facts) o.session after
+    pub touched_before : TouchesAt first second new before
+    pub touched_after : TouchesAt second third new after
+    pub keeps : Keeps u w
+    pub own : is_gx o.session.kind ≡ true → WaitsIfDue (view k.facts) w o.session
+    pub near_before : ListedWait (view k.facts) new w before
+    pub near_after : ListedWait (view k.facts) new w after
+
+  module _ (z : Took) where
+    -- the index covers what is held
+    pub covered : Covers (view k.facts) new
+    covered = subst (λ (m : Holding). Covers (view m.facts) new) (sym z.is) (covers_taken h o old new z.covers z.grows z.lists)
+
+    -- its session alone has other facts
+    differs : DifferInOne h.facts k.facts o.session
+    differs = subst (λ (m : Holding). DifferInOne h.facts m.facts o.session) (sym z.is) (taking_changes_one h o z.held)
+
+    -- a session that has the address is listed under it
+    listed : (s : Session) (a : Ipv4Addr) → HasAddress (view h.facts) (view k.facts) s (address_value a) → In s.id (listed_at new s.kind a)
+    listed s a (inl e) = z.grows.addresses s.kind a s.id (z.covers.addresses s a e)
+    listed s a (inr e) = covered.addresses s a e
+
+    -- an address by its value
+    by_value : (s : Session) (x : Value) (a : Ipv4Addr) → address_value a ≡ x → HasAddress (view h.facts) (view k.facts) s x → HasAddress (view h.facts) (view k.facts) s (address_value a)
+    by_value s x a e y = subst (λ (q : Value). HasAddress (view h.facts) (view k.facts) s q) (sym e) y
+
+    -- a session whose list isn't stale shows no address that the operation's session shows
+    apart : (id : List ℕ) (rs : List RuleValue) → kept_at third id ≡ Some rs → NeverMeet (view h.facts) (view k.facts) o.session (gx id)
+    apart id rs e = record { apart = by }
+      where
+        by : (x : Value) → HasAddress (view h.facts) (view k.facts) o.session x → HasAddress (view h.facts) (view k.facts) (gx id) x → ⊥
+        by x (inl d) y =
+            let m = mapped address_value before x (z.was_at ∙ d) in
+            none_some rs (sym (z.touched_before.gone m.0 m.1 id (listed (gx id) m.0 (by_value (gx id) x m.0 m.2 y))) ∙ z.touched_after.same id rs e)
+        by x (inr d) y =
+            let m = mapped address_value after x (z.is_at ∙ d) in
+            none_some rs (sym (z.touched_after.gone m.0 m.1 id (listed (gx id) m.0 (by_value (gx id) x m.0 m.2 y))) ∙ e)
+
+    -- so its list is still its own
+    pub lists_kept : AreKept t (view k.facts) third
+    lists_kept = record {
+      each = λ id rs e. z.kept.each id rs (z.touched_before.same id rs (z.touched_after.same id rs e)) ∙ others_keep t h.facts k.facts o.session (gx id) differs (apart id rs e);
+      apart = λ id rs e. z.kept.apart id rs (z.touched_before.same id rs (z.touched_after.same id rs e));
+    }
+
+    -- a session at an address waits, where the address is one that the operation's session has
+    at_address : (s : Session) (a : Ipv4Addr) (at : Option Ipv4Addr) → ListedWait (view k.facts) new w at → at ≡ Some a
+        → HasAddress (view h.facts) (view k.facts) s (address_value a) → is_gx s.kind ≡ true → WaitsIfDue (view k.facts) w s
+    at_address s a at l e x g = let kind = of_kind s.kind g in l.each a s e kind (subst (λ (m : Kind). In s.id (listed_at new m a)) kind (listed s a x))
+
+    -- the neighbours wait
+    near : w.all ≡ false → NeighboursWait i (view h.facts) (view k.facts) o.session (waiting_of w)
+    near all = record { met = λ s x d y. may_wait i (view k.facts) w s all (λ g. by s x d y g) }
+      where
+        by : (s : Session) (x : Value) → HasAddress (view h.facts) (view k.facts) o.session x → HasAddress (view h.facts) (view k.facts) s x → is_gx s.kind ≡ true → WaitsIfDue (view k.facts) w s
+        by s x (inl d) y g = let m = mapped address_value before x (z.was_at ∙ d) in at_address s m.0 before z.near_before m.1 (by_value s x m.0 m.2 y) g
+        by s x (inr d) y g = let m = mapped address_value after x (z.is_at ∙ d) in at_address s m.0 after z.near_after m.1 (by_value s x m.0 m.2 y) g
+
+    -- and all that are due wait
+    pub due_wait : DueWait t i (view k.facts) w
+    due_wait = record {
+      listed = λ all. neighbours_enough t i h.facts k.facts o.session (waiting_of u) (waiting_of w) differs
+          (z.due.listed (z.keeps.some all)) (z.keeps.stay all) (may_wait i (view k.facts) w o.session all z.own) (near all);
+    }
+
+    -- so the parts agree, also with an index that covers without what the session no longer shows
+    pub agree_taken : (b : Bool) (index : IndexValue) → (Covers (view k.facts) new → Covers (view k.facts) index) → Agree t i k b index third w
+    agree_taken b index forgets = record { covers = λ _. forgets covered; kept = lists_kept; due = due_wait }
