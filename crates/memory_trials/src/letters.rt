@@ -5,8 +5,8 @@ use crate::trial::Call;
 use dia_base::Identity;
 use op_tables::{Tables, read_tables};
 use pcrf_values::{BoundedText, DiameterIdentity};
-use site_core::Site;
 use site_join::Operation;
+use site_machine::Site;
 use std::alloc::{AllocError, Global};
 use std::net::Ipv4Addr;
 

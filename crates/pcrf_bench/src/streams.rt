@@ -1,4 +1,4 @@
-//! Requests of each kind as a stream of bytes (`site_stream`: `converse`), at a site with so many sessions, and as many
+//! Requests of each kind as a stream of bytes (`site_core`: `converse`), at a site with so many sessions, and as many
 //! read, served and answered one after the other, each timed apart.
 ghost use Rattle.std.specs.Prelude.{◌<◌};
 ghost use Rattle.dia_codec.specs.Limits.{command_bound};
@@ -10,8 +10,7 @@ use crate::requests::{Kind, requests};
 use crate::sites::new_site;
 use dia_codec::{Assembler, Counted, Header};
 use gx_profile::GxReply;
-use site_core::{Asked, Reply, Request, Site, read_request, write_reply};
-use site_stream::{Ended, converse};
+use site_core::{Asked, Ended, Reply, Request, Site, converse, read_request, write_reply};
 use std::alloc::{AllocGlobal, Global};
 use std::io::{self, Print, Write};
 use std::time::{Clock, Duration, Instant};

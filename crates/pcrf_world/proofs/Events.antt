@@ -10,7 +10,7 @@ use Rattle.pcrf_model.specs.Tables.{Tables}
 use Rattle.pcrf_model.specs.Letters.{LetterBody, Range, LetterValue}
 use Rattle.pcrf_model.specs.Worlds.{WorldEvent, WorldAnswer, ServeAt, PushAt, Letter, Merge, Restart, Replied, PushedOut, Lettered, Merged, Restarted, ClockFull, NoMemory, Gives, SiteView, WorldView, first_taken}
 use Rattle.pcrf_model.specs.Seen.{view_made, view_served, view_pushed, view_merged, view_in_part, view_again, view_letter, brought, see_change, see_change_by, see_letter, seen_after}
-use Rattle.site_core.specs.Sites.{with_made, with_taken, served, pushed}
+use Rattle.site_machine.specs.Sites.{with_made, with_taken, served, pushed}
 use Rattle.pcrf_world.specs.Members.{seen_of, with_site, started_again}
 use Rattle.pcrf_world.specs.Values.{setting}
 use Rattle.pcrf_world.specs.Letters.{letter_of_log}

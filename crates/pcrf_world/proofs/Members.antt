@@ -7,7 +7,7 @@ use Rattle.pcrf_model.specs.Letters.{LetterValue}
 use Rattle.pcrf_model.specs.Operations.{Operation}
 use Rattle.pcrf_model.specs.Tables.{Tables}
 use Rattle.pcrf_model.specs.Worlds.{SiteView, WorldView}
-use Rattle.site_core.specs.Sites.{SiteValue, emptied, with_made, with_taken}
+use Rattle.site_machine.specs.Sites.{SiteValue, emptied, with_made, with_taken}
 use Rattle.pcrf_world.specs.Identities.{identity_of}
 use Rattle.pcrf_world.specs.Members.{AreMembers, IsMember, new_member, seen_of, site_seen, started_again, with_site}
 use Rattle.pcrf_world.specs.declared.site.Member.{Member}

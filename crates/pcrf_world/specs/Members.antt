@@ -3,7 +3,7 @@ use Rattle.std.specs.Prelude.{◌≡◌, ℕ, ◌+◌, List, [], ◌∷◌}
 use Rattle.pcrf_model.specs.Cursors.{start_cursors}
 use Rattle.pcrf_model.specs.Tables.{Tables}
 use Rattle.pcrf_model.specs.Worlds.{SiteView}
-use Rattle.site_core.specs.Sites.{SiteValue, new_site, emptied}
+use Rattle.site_machine.specs.Sites.{SiteValue, new_site, emptied}
 use Rattle.pcrf_world.specs.Identities.{identity_of}
 use Rattle.pcrf_world.specs.declared.site.Member.{Member}
 

@@ -6,7 +6,7 @@ use Rattle.pcrf_model.specs.Tables.{Tables}
 use Rattle.pcrf_model.specs.Worlds as model
 use Rattle.pcrf_model.specs.Worlds.{WorldView, Setting, WholeLogs, WorldAnswer}
 use Rattle.gx_profile.specs.Pushes.{push_view}
-use Rattle.site_core.specs.Values.{request_value, reply_value}
+use Rattle.site_machine.specs.Values.{request_value, reply_value}
 use Rattle.pcrf_world.specs.declared.world.WorldEvent.{WorldEvent}
 use Rattle.pcrf_world.specs.declared.world.WorldEvent.TheVariants as event
 use Rattle.pcrf_world.specs.declared.world.WorldOutcome.{WorldOutcome}

@@ -4,8 +4,8 @@ ghost use Rattle.pcrf_world.specs.Letters.{letter_of_log};
 ghost use Rattle.pcrf_world.specs.Members.{seen_of};
 
 use crate::site::Member;
-use site_core::Site;
 use site_join::Operation;
+use site_machine::Site;
 use std::alloc::AllocError;
 use std::marker::Model;
 

@@ -5,7 +5,7 @@ ghost use Rattle.pcrf_world.specs.Members.{IsMember, new_member, started_again};
 
 use crate::identity::identity_of;
 use op_tables::Tables;
-use site_core::Site;
+use site_machine::Site;
 use std::alloc::{AllocError, Global};
 
 /// A site of a world, and how often it began.

@@ -12,7 +12,7 @@ use crate::site::Member;
 use gx_profile::{GxReply, PushOut};
 use op_tables::Tables;
 use pcrf_values::{DefaultQuality, DiameterIdentity};
-use site_core::{Reply, Request, Site, StepFault};
+use site_machine::{Reply, Request, Site, StepFault};
 use std::alloc::{AllocError, Global};
 use std::marker::Model;
 use thiserror::Error;

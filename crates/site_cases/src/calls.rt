@@ -3,8 +3,7 @@
 use crate::streams::{PLAIN, answered, bytes, same_bytes, site};
 use crate::taken::{takes_copy, takes_last};
 use pcrf_values::{AfSid, GxSid};
-use site_core::Site;
-use site_stream::Ended;
+use site_core::{Ended, Site};
 use std::alloc::AllocGlobal;
 use std::process::Abort;
 

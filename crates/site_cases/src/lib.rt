@@ -1,4 +1,4 @@
-//! Tests of `site_core`, `site_stream` and `base_profile`, which stand apart so that their proofs are made once: what a site
+//! Tests of `site_machine`, `site_core` and `base_profile`, which stand apart so that their proofs are made once: what a site
 //! replies to requests and holds then, after letters and restarts too, which rules and which default quality of service its
 //! replies and pushes tell by the operator tables, that its calls which allocate succeed, the messages of pushes, whole
 //! streams with how each ends and the bytes of the answers, and requests of the base protocol.

@@ -1,10 +1,8 @@
+pub mod Turns
+pub mod Putting
+pub mod Reading
+pub mod Cutting
+pub mod Wholes
+pub mod Somes
+pub mod Values
 pub mod AnswersLaws
-pub mod CallLaws
-pub mod Formed
-pub mod Left
-pub mod Pushes
-pub mod Replies
-pub mod Restoring
-pub mod Steps
-pub mod Taking
-pub mod ToldOrder

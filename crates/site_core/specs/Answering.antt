@@ -12,10 +12,10 @@ use Rattle.gx_profile.specs.declared.answer.GxReply.{GxReply}
 use Rattle.rx_profile.specs.Answers.{aaa, sta}
 use Rattle.base_profile.specs.Answers.{base_answer}
 use Rattle.base_profile.specs.Requests.{base_view}
-use Rattle.site_core.specs.declared.request.Request.{Request}
-use Rattle.site_core.specs.declared.request.Request.TheVariants as request
-use Rattle.site_core.specs.declared.event.Reply.{Reply}
-use Rattle.site_core.specs.declared.event.Reply.TheVariants.{Gx, Done, Refused, Base}
+use Rattle.site_machine.specs.declared.request.Request.{Request}
+use Rattle.site_machine.specs.declared.request.Request.TheVariants as request
+use Rattle.site_machine.specs.declared.event.Reply.{Reply}
+use Rattle.site_machine.specs.declared.event.Reply.TheVariants.{Gx, Done, Refused, Base}
 
 -- the bytes of an answer; none where it is longer than any message
 abbrev pub answer_bytes : MessageValue → List ℕ

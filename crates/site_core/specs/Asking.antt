@@ -22,7 +22,7 @@ use Rattle.rx_profile.specs.Requests.{aar_refusal, aar_of}
 use Rattle.rx_profile.specs.Terminations.{str_rows, str_of}
 use Rattle.base_profile.specs.Avps.{is_base_command}
 use Rattle.base_profile.specs.Requests.{base_rows, base_of}
-use Rattle.site_core.specs.Values.{request_value}
+use Rattle.site_machine.specs.Values.{request_value}
 use Rattle.site_core.specs.declared.reading.Command.{Command}
 use Rattle.site_core.specs.declared.reading.Command.TheVariants.{CreditControl, Authorization, SessionTermination, Base}
 use Rattle.site_core.specs.declared.reading.Asked.{Asked}

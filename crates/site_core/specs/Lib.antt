@@ -1,8 +1,8 @@
+pub mod Limits
+pub mod Cuts
+pub mod Replies
+pub mod Frames
+pub mod Conversations
+pub mod Conversing
 pub mod Answering
 pub mod Asking
-pub mod Calls
-pub mod Facts
-pub mod Left
-pub mod Replies
-pub mod Sites
-pub mod Values

@@ -1,186 +1,141 @@
-//! From the reply to the bytes of the answer.
-ghost use Rattle.std.specs.Prelude.{◌≡◌, ◌≢◌, ◌<◌, ◌≤◌, ◌&&◌, [], is_some, true, false, IfOk};
+//! What a site answers to one frame.
+ghost use Rattle.std.specs.Prelude.{◌≡◌, ◌<◌, ◌⊎◌, [], false, IfOk, OnOk, OnErr};
 ghost use Rattle.std.specs.Option.{option_copied};
-ghost use Rattle.dia_codec.specs.Limits.{command_bound, longest_message};
-ghost use Rattle.dia_codec.specs.Spelling.{message_view};
-ghost use Rattle.dia_codec.specs.Written.{written_len};
-ghost use Rattle.dia_base.specs.Answers.{IsShortId};
-ghost use Rattle.gx_profile.specs.Answers.{cca};
-ghost use Rattle.rx_profile.specs.Answers.{aaa, sta};
-ghost use Rattle.base_profile.specs.Answers.{base_answer};
-ghost use Rattle.base_profile.specs.Requests.{base_view};
-ghost use Rattle.site_core.specs.Answering.{answer_bytes, base_result, bytes_by, gx_result, is_of_kind, refusal_bytes, reply_bytes, rx_result};
+ghost use Rattle.dia_codec.specs.Limits.{command_bound};
+ghost use Rattle.dia_codec.specs.Spelling.{IsFrame};
+ghost use Rattle.base_profile.specs.Requests.{kind_view};
+ghost use Rattle.site_core.specs.Answering.{refusal_bytes};
+ghost use Rattle.site_core.specs.Asking.{HeaderFits, asked_value};
+ghost use Rattle.site_machine.specs.Sites.{served, with_made};
+ghost use Rattle.site_machine.specs.Values.{reply_value, request_value};
+ghost use Rattle.site_core.specs.Frames.{after, after_by, answer_by, answer_of, asks_to_disconnect, disconnects, ends, ends_by, is_disconnect, succeeds};
+ghost use Rattle.site_core.specs.Replies.{answer_to};
 
-use crate::event::Reply;
-use crate::request::Request;
-use base_profile::{BaseRequest, base_answer};
-use dia_base::{Identity, refusal_answer};
-use dia_codec::{Header, Message, WriteFault, write_message};
-use gx_profile::{Ccr, write_cca};
-use pcrf_values::{AfSid, Refusal, SessionId};
-use rx_profile::{write_aaa, write_sta};
+use crate::reading::{Asked, read_request};
+use crate::writing::{write_refusal, write_reply};
+use base_profile::BaseKind;
+use dia_base::Identity;
+use dia_base::codes::results::SUCCESS;
+use dia_codec::Header;
+use pcrf_values::{Refusal, SessionId};
+use site_machine::{Reply, Request, Site};
 use std::alloc::{AllocError, Global};
 
-/// The bytes of an answer; none where it is longer than any message.
-fn bytes_of(alloc: Global, answer: &Message) -> Result<Vec<u8>, AllocError>
-    requires command { answer.now.header.command < command_bound }
-    requires flags { (answer.now.header.flags.request && answer.now.header.flags.error) ≡ false }
-    ensures bytes { IfOk result (λ bytes. bytes.items ≡ answer_bytes (message_view answer.now)) }
-    ensures some { IfOk result (λ bytes.
-        written_len (message_view answer.now) ≤ longest_message → bytes.items ≢ []) }
+/// What a frame is answered.
+#[derive(Drop)]
+pub struct Answer {
+    /// The bytes of the answer, none where there is none.
+    pub bytes: Vec<u8>,
+    /// Whether the stream ends here.
+    pub last: bool,
+}
+
+/// Whether a peer asks for the end of the connection.
+fn is_disconnect(kind: &BaseKind) -> bool
+    ensures { result ≡ is_disconnect (kind_view kind.now) }
 {
-    match write_message(alloc, answer) {
-        Ok(bytes) => Ok(bytes),
-        Err(WriteFault::TooLong) => Ok(Vec::new(alloc)),
-        Err(WriteFault::NoMemory) => Err(AllocError),
+    match kind {
+        BaseKind::DisconnectPeer => true,
+        BaseKind::CapabilitiesExchange(_) | BaseKind::DeviceWatchdog => false,
     }
 }
 
-/// The bytes of the answer to a credit control request.
-#[tactic(auto, unfolding(gx_profile::specs::Answers::cca))]
-fn write_gx(
-    alloc: Global,
-    identity: &Identity,
-    header: &Header,
-    ccr: &Ccr,
-    reply: &Reply,
-) -> Result<Vec<u8>, AllocError>
-    requires { header.now.command < command_bound }
-    ensures bytes { IfOk result (λ bytes. bytes.items
-        ≡ bytes_by (cca identity.now header.now ccr.now) (gx_result reply.now)) }
-    ensures some { IfOk result (λ bytes. is_some (gx_result reply.now) ≡ true → bytes.items ≢ []) }
-{
-    let Reply::Gx(reply) = reply else {
-        return Ok(Vec::new(alloc));
-    };
-    let answer = write_cca(alloc, identity, header, ccr, reply)?;
-    bytes_of(alloc, &answer)
-}
-
-/// What an application function's request came to, if that is what is replied.
-fn rx_result(reply: &Reply) -> Option<Option<Refusal>>
-    ensures { result ≡ rx_result reply.now }
-{
-    match reply {
-        Reply::Done => Some(None),
-        Reply::Refused(refusal) => Some(Some(*refusal)),
-        _ => None,
-    }
-}
-
-/// The bytes of the answer to an AA request of a session.
-#[tactic(auto, unfolding(rx_profile::specs::Answers::aaa))]
-fn write_aa(
-    alloc: Global,
-    identity: &Identity,
-    header: &Header,
-    session: &AfSid,
-    reply: &Reply,
-) -> Result<Vec<u8>, AllocError>
-    requires { header.now.command < command_bound }
-    ensures bytes { IfOk result (λ bytes. bytes.items
-        ≡ bytes_by (aaa identity.now header.now session.now) (rx_result reply.now)) }
-    ensures some { IfOk result (λ bytes. is_some (rx_result reply.now) ≡ true → bytes.items ≢ []) }
-{
-    let Some(refusal) = rx_result(reply) else {
-        return Ok(Vec::new(alloc));
-    };
-    let answer = write_aaa(alloc, identity, header, session, refusal)?;
-    bytes_of(alloc, &answer)
-}
-
-/// The bytes of the answer to a session termination request of a session.
-#[tactic(auto, unfolding(rx_profile::specs::Answers::sta))]
-fn write_termination(
-    alloc: Global,
-    identity: &Identity,
-    header: &Header,
-    session: &AfSid,
-    reply: &Reply,
-) -> Result<Vec<u8>, AllocError>
-    requires { header.now.command < command_bound }
-    ensures bytes { IfOk result (λ bytes. bytes.items
-        ≡ bytes_by (sta identity.now header.now session.now) (rx_result reply.now)) }
-    ensures some { IfOk result (λ bytes. is_some (rx_result reply.now) ≡ true → bytes.items ≢ []) }
-{
-    let Some(refusal) = rx_result(reply) else {
-        return Ok(Vec::new(alloc));
-    };
-    let answer = write_sta(alloc, identity, header, session, refusal)?;
-    bytes_of(alloc, &answer)
-}
-
-/// The bytes of the answer to a request of the base protocol.
-#[tactic(auto, unfolding(base_profile::specs::Answers::base_answer))]
-fn write_base(
-    alloc: Global,
-    identity: &Identity,
-    header: &Header,
-    request: &BaseRequest,
-    reply: &Reply,
-) -> Result<Vec<u8>, AllocError>
-    requires { header.now.command < command_bound }
-    ensures bytes { IfOk result (λ bytes. bytes.items ≡ bytes_by
-        (λ _. base_answer identity.now header.now (base_view request.now)) (base_result reply.now)) }
-    ensures some { IfOk result (λ bytes.
-        is_some (base_result reply.now) ≡ true → bytes.items ≢ []) }
-{
-    let Reply::Base(_) = reply else {
-        return Ok(Vec::new(alloc));
-    };
-    let answer = base_answer(alloc, identity, header, request)?;
-    bytes_of(alloc, &answer)
-}
-
-/// The bytes of the answer to a request that was served: some where the reply is of the request's kind, and none where it
-/// is of another.
-pub fn write_reply(
-    alloc: Global,
-    identity: &Identity,
-    header: &Header,
-    request: &Request,
-    reply: &Reply,
-) -> Result<Vec<u8>, AllocError>
-    requires { header.now.command < command_bound }
-    ensures bytes { IfOk result (λ bytes.
-        bytes.items ≡ reply_bytes identity.now header.now request.now reply.now) }
-    ensures some { IfOk result (λ bytes.
-        is_of_kind request.now reply.now ≡ true → bytes.items ≢ []) }
+/// Whether a request is for the end of the connection.
+fn asks_to_disconnect(request: &Request) -> bool
+    ensures { result ≡ asks_to_disconnect (request_value request.now) }
 {
     match request {
-        Request::Ccr(ccr) => write_gx(alloc, identity, header, ccr, reply),
-        Request::Aar(aar) => write_aa(alloc, identity, header, &aar.session, reply),
-        Request::Str(call) => write_termination(alloc, identity, header, &call.session, reply),
-        Request::Base(request) => write_base(alloc, identity, header, request, reply),
+        Request::Base(base) => is_disconnect(&base.kind),
+        Request::Ccr(_) | Request::Aar(_) | Request::Str(_) => false,
     }
 }
 
-/// The bytes of a Session-Id, where there is one.
-fn bytes_of_id(session: Option<&SessionId>) -> Option<&[u8]>
-    ensures bytes { option_copied result ≡ option_copied session.entry }
-    ensures short { IsShortId (option_copied result) }
+/// Whether a request of the base protocol succeeded.
+fn succeeds(reply: &Reply) -> bool
+    ensures { result ≡ succeeds (reply_value reply.now) }
 {
-    match session {
-        Some(id) => Some(id.as_slice()),
-        None => None,
+    match reply {
+        Reply::Base(code) => *code == SUCCESS,
+        _ => false,
     }
 }
 
-/// The bytes of the answer to a request that could not be read, which are some.
-#[tactic(auto, unfolding(dia_base::specs::Answers::refusal_answer))]
-pub fn write_refusal(
+/// Serves a request. Where memory runs out, it may have been served without an answer.
+fn answer_request(
+    alloc: Global,
+    site: &mut Site,
+    header: &Header,
+    request: &Request,
+) -> Result<Answer, AllocError>
+    requires { header.now.command < command_bound }
+    ensures answer { IfOk result (λ answer. answer.bytes.items
+        ≡ answer_to site.old.identity header.now (request_value request.now)
+        (served site.old (request_value request.now)).reply) }
+    ensures ends { IfOk result (λ answer. answer.last ≡ disconnects (request_value request.now)
+        (served site.old (request_value request.now)).reply) }
+    ensures after { OnOk result (site.new
+        ≡ with_made site.old (served site.old (request_value request.now)).added) }
+    ensures refused { OnErr result ((site.new ≡ site.old) ⊎ (site.new
+        ≡ with_made site.old (served site.old (request_value request.now)).added)) }
+{
+    let reply = site.serve(request)?;
+    let bytes = write_reply(alloc, site.identity(), header, request, &reply)?;
+    Ok(Answer {
+        bytes,
+        last: asks_to_disconnect(request) && succeeds(&reply),
+    })
+}
+
+/// Refuses a request that could not be read, or isn't served.
+fn answer_refused(
     alloc: Global,
     identity: &Identity,
     header: &Header,
     session: Option<&SessionId>,
     refusal: Refusal,
-) -> Result<Vec<u8>, AllocError>
+) -> Result<Answer, AllocError>
     requires { header.now.command < command_bound }
-    ensures bytes { IfOk result (λ bytes.
-        bytes.items ≡ refusal_bytes identity.now header.now (option_copied session.entry) refusal) }
-    ensures some { IfOk result (λ bytes. bytes.items ≢ []) }
+    ensures answer { IfOk result (λ answer. answer.bytes.items
+        ≡ refusal_bytes identity.now header.now (option_copied session.entry) refusal) }
+    ensures ends { IfOk result (λ answer. answer.last ≡ false) }
 {
-    let id = bytes_of_id(session);
-    let answer = refusal_answer(alloc, identity, header, refusal, id)?;
-    bytes_of(alloc, &answer)
+    let bytes = write_refusal(alloc, identity, header, session, refusal)?;
+    Ok(Answer { bytes, last: false })
+}
+
+/// Does what a frame asks for. Where memory runs out, a request may have been served without an answer.
+fn answer_asked(alloc: Global, site: &mut Site, asked: &Asked) -> Result<Answer, AllocError>
+    requires { HeaderFits asked.now }
+    ensures answer { IfOk result (λ answer.
+        answer.bytes.items ≡ answer_by site.old (asked_value asked.now)) }
+    ensures ends { IfOk result (λ answer.
+        answer.last ≡ ends_by site.old (asked_value asked.now)) }
+    ensures after { OnOk result (site.new ≡ after_by site.old (asked_value asked.now)) }
+    ensures refused { OnErr result ((site.new ≡ site.old)
+        ⊎ (site.new ≡ after_by site.old (asked_value asked.now))) }
+{
+    match asked {
+        Asked::Request(header, request) => answer_request(alloc, site, header, request),
+        Asked::Refused(header, session, refusal) => {
+            answer_refused(alloc, site.identity(), header, session.as_ref(), *refusal)
+        }
+        Asked::Silent => Ok(Answer {
+            bytes: Vec::new(alloc),
+            last: false,
+        }),
+    }
+}
+
+/// Serves a frame. Where memory runs out, it may have been served without an answer.
+#[tactic(auto, unfolding(crate::specs::Frames::answer_of, crate::specs::Frames::ends, crate::specs::Frames::after))]
+pub fn answer_frame(alloc: Global, site: &mut Site, frame: &[u8]) -> Result<Answer, AllocError>
+    requires { IsFrame frame.now }
+    ensures answer { IfOk result (λ answer. answer.bytes.items ≡ answer_of site.old frame.now) }
+    ensures ends { IfOk result (λ answer. answer.last ≡ ends site.old frame.now) }
+    ensures after { OnOk result (site.new ≡ after site.old frame.now) }
+    ensures refused { OnErr result ((site.new ≡ site.old)
+        ⊎ (site.new ≡ after site.old frame.now)) }
+{
+    let asked = read_request(alloc, frame)?;
+    answer_asked(alloc, site, &asked)
 }

@@ -1,19 +1,21 @@
-//! One site: what it holds, what it replies to events, and the way of a message: from its bytes to the request that it asks
-//! to serve, and from the reply to the bytes of the answer.
+//! A message's way at a site: from its bytes to the request that it asks to serve, from the reply to the bytes of the
+//! answer, and so a whole stream, over any reader and writer. Hands on the site that decides (`site_machine`).
+//!
+//! `specs/Asking.antt` says what a frame asks for, `specs/Answering.antt` the bytes of an answer, `specs/Cuts.antt` what the
+//! frames of a stream are, `specs/Frames.antt` what a site answers to one, and `specs/Conversations.antt` what it answers to
+//! the stream.
 #![tactic(auto)]
 
 mod answering;
-mod calls;
-mod event;
-mod fault;
+mod conversing;
+mod ended;
+mod law;
 mod reading;
-mod request;
-mod site;
-mod told;
+mod writing;
 
-pub use answering::{write_refusal, write_reply};
-pub use event::{Event, Reply};
-pub use fault::StepFault;
+pub use conversing::converse;
+pub use ended::Ended;
+pub use law::one_conversation;
 pub use reading::{Asked, read_request};
-pub use request::Request;
-pub use site::Site;
+pub use site_machine::{Event, Reply, Request, Site, StepFault};
+pub use writing::{write_refusal, write_reply};

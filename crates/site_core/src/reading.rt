@@ -5,9 +5,8 @@ ghost use Rattle.dia_codec.specs.Reading.{avps_of};
 ghost use Rattle.dia_codec.specs.Spelling.{avp_views, message_view};
 ghost use Rattle.dia_base.specs.Rows.{IsFaultOf};
 ghost use Rattle.site_core.specs.Asking.{HeaderFits, ToRefuse, asked_value, command_of, fault_refusal, meaning_of_frame, meaning_of_request, meaning_of_table, request_of, session_among, session_if_cut, table_refusal};
-ghost use Rattle.site_core.specs.Values.{request_value};
+ghost use Rattle.site_machine.specs.Values.{request_value};
 
-use crate::request::Request;
 use base_profile::{is_base_command, read_base};
 use dia_base::codes::results::{
     APPLICATION_UNSUPPORTED, COMMAND_UNSUPPORTED, INVALID_AVP_LENGTH, INVALID_HDR_BITS,
@@ -21,6 +20,7 @@ use dia_codec::{
 use gx_profile::read_ccr;
 use pcrf_values::{Refusal, SessionId};
 use rx_profile::{read_aar, read_str};
+use site_machine::Request;
 use std::alloc::{AllocError, Global};
 
 /// What a frame asks for.

@@ -5,8 +5,7 @@ use dia_base::Identity;
 use dia_codec::{Counted, FrameFault};
 use op_tables::read_tables;
 use pcrf_values::{BoundedText, DiameterIdentity};
-use site_core::Site;
-use site_stream::{Ended, converse};
+use site_core::{Ended, Site, converse};
 use std::io;
 use std::net::Ipv4Addr;
 

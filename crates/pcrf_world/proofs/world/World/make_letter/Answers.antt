@@ -3,7 +3,7 @@ use Rattle.std.proofs.lemmas.Option.{slice_get_read, slice_get_within}
 use Rattle.pcrf_model.specs.Letters.{LetterValue}
 use Rattle.pcrf_model.specs.Worlds.{Letter, Lettered}
 use Rattle.pcrf_model.specs.Seen.{seen_after}
-use Rattle.site_core.specs.Sites.{SiteValue}
+use Rattle.site_machine.specs.Sites.{SiteValue}
 use Rattle.pcrf_world.specs.Members.{seen_of}
 use Rattle.pcrf_world.specs.Values.{WorldValue, setting}
 use Rattle.pcrf_world.specs.Happening.{HappensIn}

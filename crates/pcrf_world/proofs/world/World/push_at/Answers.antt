@@ -6,7 +6,7 @@ use Rattle.pcrf_model.specs.Replies.{Pushed, Outcome}
 use Rattle.pcrf_model.specs.Worlds.{PushAt, PushedOut, ClockFull, NoMemory, Gives}
 use Rattle.pcrf_model.specs.Seen.{seen_after}
 use Rattle.gx_profile.specs.Pushes.{push_view}
-use Rattle.site_core.specs.Sites.{SiteValue, pushed, with_made}
+use Rattle.site_machine.specs.Sites.{SiteValue, pushed, with_made}
 use Rattle.pcrf_world.specs.Members.{IsMember, seen_of, with_site}
 use Rattle.pcrf_world.specs.Values.{WorldValue, setting}
 use Rattle.pcrf_world.specs.Happening.{HappensIn}

@@ -3,8 +3,8 @@ use Rattle.std.proofs.lemmas.Option.{slice_get_read}
 use Rattle.pcrf_model.specs.Tables.{Tables}
 use Rattle.pcrf_model.specs.Worlds.{ServeAt, Replied, Gives, WorldView}
 use Rattle.pcrf_model.specs.Seen.{seen_after}
-use Rattle.site_core.specs.Sites.{SiteValue, served, with_made}
-use Rattle.site_core.specs.Values.{request_value, reply_value}
+use Rattle.site_machine.specs.Sites.{SiteValue, served, with_made}
+use Rattle.site_machine.specs.Values.{request_value, reply_value}
 use Rattle.pcrf_world.specs.Members.{IsMember, with_site}
 use Rattle.pcrf_world.specs.Values.{WorldValue, setting}
 use Rattle.pcrf_world.specs.Happening.{HappensIn}

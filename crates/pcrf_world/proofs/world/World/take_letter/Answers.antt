@@ -2,7 +2,7 @@ use Rattle.std.proofs.Common.{rules, ◌≡◌, ◌<◌, List, Some, Ok, Err, le
 use Rattle.std.proofs.lemmas.Option.{slice_get_read, slice_get_within}
 use Rattle.pcrf_model.specs.Operations.{Operation}
 use Rattle.pcrf_model.specs.Letters.{Range}
-use Rattle.site_core.specs.Sites.{SiteValue, with_taken}
+use Rattle.site_machine.specs.Sites.{SiteValue, with_taken}
 use Rattle.pcrf_world.specs.Members.{IsMember, seen_of, with_site}
 use Rattle.pcrf_model.specs.Worlds.{Merge, Merged, NoMemory}
 use Rattle.pcrf_model.specs.Seen.{seen_after}

@@ -1,0 +1,9 @@
+pub mod CallLaws
+pub mod Formed
+pub mod Left
+pub mod Pushes
+pub mod Replies
+pub mod Restoring
+pub mod Steps
+pub mod Taking
+pub mod ToldOrder

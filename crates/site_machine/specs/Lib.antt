@@ -1,0 +1,6 @@
+pub mod Calls
+pub mod Facts
+pub mod Left
+pub mod Replies
+pub mod Sites
+pub mod Values

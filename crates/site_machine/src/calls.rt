@@ -1,0 +1,227 @@
+//! How a site serves application functions (TS 29.214, 4.4).
+ghost use Rattle.std.specs.Prelude.{◌≡◌, ◌<◌, length, ◌+◌, ◌++◌, ◌∷◌, [], List, ◌&&◌, Some, true, IfOk, IfSome, OnOk, OnErr, is_none, map, not};
+ghost use Rattle.std.specs.List.{list_any};
+ghost use Rattle.std.specs.Option.{option_copied};
+ghost use Rattle.ranked.specs.Ascending.{ascending};
+ghost use Rattle.pcrf_facts.specs.Facts.{Fact, End, fact_cmp};
+ghost use Rattle.pcrf_facts.specs.FlowWords.{or_else};
+ghost use Rattle.pcrf_facts.specs.Held.{held, is_ended, joined};
+ghost use Rattle.pcrf_facts.specs.Live.{af_is_live};
+ghost use Rattle.pcrf_model.specs.Forms.{is_operation};
+ghost use Rattle.pcrf_model.specs.Sessions.{af};
+ghost use Rattle.pcrf_model.specs.Holdings.{facts_on, under};
+ghost use Rattle.pcrf_model.specs.Views.{view};
+ghost use Rattle.pcrf_model.specs.Bindings.{bind};
+ghost use Rattle.pcrf_model.specs.Refusals.{aar_refusal, binds_to_none, has_no_class};
+ghost use Rattle.af_records.specs.RecordFacts.{fact_of};
+ghost use Rattle.site_join.specs.States.{record_facts};
+ghost use Rattle.rx_profile.specs.Requests.{aar_view};
+ghost use Rattle.rx_profile.specs.Terminations.{str_view};
+ghost use Rattle.request_facts.specs.Call.{described};
+ghost use Rattle.site_machine.specs.Calls.{late_refusal};
+ghost use Rattle.site_machine.specs.Values.{reply_value};
+
+use crate::event::Reply;
+use crate::site::Site;
+use af_records::{AfFact, AfRec};
+use bind_index::bind_by;
+use dia_base::codes::results::{
+    MISSING_AVP, SERVICE_NOT_AUTHORIZED, SESSION_NOT_AVAILABLE, UNABLE_TO_COMPLY,
+    UNKNOWN_SESSION_ID,
+};
+use lattice_core::Join;
+use op_tables::Tables;
+use pcrf_values::{AfSid, Refusal};
+use ranked::Ranked;
+use request_facts::{call_of, note_aar, note_str};
+use rx_profile::{Aar, Component, Str, is_removed};
+use site_join::{Operation, SessionFacts};
+use std::alloc::{AllocError, Global};
+
+impl Site {
+    ghost use Rattle.site_machine.specs.Facts.{operation_on_call};
+    ghost use Rattle.site_machine.specs.Sites.{aar_served, str_served, with_made};
+
+    /// Serves an AA request: what it describes is added to its session, if that can be bound then. An error changes nothing.
+    pub(crate) fn serve_aar(&mut self, aar: &Aar) -> Result<Reply, AllocError>
+        ensures reply { IfOk result (λ reply.
+            reply_value reply ≡ (aar_served self.old (aar_view aar.now)).reply) }
+        ensures ok { OnOk result (self.new
+            ≡ with_made self.old (aar_served self.old (aar_view aar.now)).added) }
+        ensures err { OnErr result (self.new ≡ self.old) }
+    {
+        if let Some(refusal) = self.early_refusal(aar) {
+            return Ok(Reply::Refused(refusal));
+        }
+        let Some(facts) = self.facts_if_bound(aar)? else {
+            return Ok(Reply::Refused(Refusal::experimental(SESSION_NOT_AVAILABLE)));
+        };
+        let Some(counter) = self.next_counter() else {
+            return Ok(Reply::Refused(Refusal::base(UNABLE_TO_COMPLY)));
+        };
+        note_aar(aar);
+        self.note_number();
+        self.add_on_call(&aar.session, counter, facts)?;
+        Ok(Reply::Done)
+    }
+
+    /// The facts of what a request describes, under the counter that follows the clock; `None` where its session would be bound
+    /// to none with them.
+    fn facts_if_bound(&self, aar: &Aar) -> Result<Option<Vec<AfFact>>, AllocError>
+        ensures bound { IfOk result (λ facts. is_none facts
+            ≡ binds_to_none self.now.number self.now.state.holding (aar_view aar.now)) }
+        ensures facts { IfOk result (λ facts. IfSome facts (λ made. map fact_of made.items
+            ≡ ascending fact_cmp (described self.now.number (self.now.state.holding.clock + 1)
+            (aar_view aar.now)))) }
+    {
+        self.note_number();
+        let call = call_of(self.alloc, aar, self.state.clock() + 1, self.number)?;
+        if self.binds_to_none(&aar.session, &call)? {
+            return Ok(None);
+        }
+        Ok(Some(call.facts(self.alloc)?))
+    }
+
+    /// The refusal of an AA request by what is seen before it is bound.
+    fn early_refusal(&self, aar: &Aar) -> Option<Refusal>
+        ensures { aar_refusal self.now.tables self.now.number
+            self.now.state.holding (aar_view aar.now) ≡ or_else result
+            (late_refusal self.now.number self.now.state.holding (aar_view aar.now)) }
+    {
+        let known = self.state.af(&aar.session);
+        if has_ended(known) {
+            return Some(Refusal::base(UNKNOWN_SESSION_ID));
+        }
+        if lacks_address(known, aar) {
+            return Some(Refusal::base(MISSING_AVP));
+        }
+        if lack_class(&self.tables, aar.components.as_slice()) {
+            return Some(Refusal::experimental(SERVICE_NOT_AUTHORIZED));
+        }
+        None
+    }
+
+    /// With what a request describes, its session would be bound to none.
+    fn binds_to_none(&self, session: &AfSid, call: &AfRec) -> Result<bool, AllocError>
+        ensures { IfOk result (λ none. (facts : List Fact) → call.now ≡ held facts
+            → none ≡ is_none (bind (view (self.now.state.holding.facts
+            ++ under (af session.now) facts)) (af session.now))) }
+    {
+        let joined = self.with_call(session, call)?;
+        Ok(bind_by(&self.state, &joined).is_none())
+    }
+
+    /// The record of a session with what a request describes.
+    fn with_call(&self, session: &AfSid, call: &AfRec) -> Result<AfRec, AllocError>
+        ensures { IfOk result (λ both. both
+            ≡ joined (facts_on self.now.state.holding.facts (af session.now)) call.now) }
+    {
+        call.note_valid();
+        match self.state.af(session) {
+            Some(known) => known.joined_copy(call),
+            None => call.try_copy(),
+        }
+    }
+
+    /// Serves a session termination request: its session ends, for good. An error changes nothing.
+    pub(crate) fn serve_str(&mut self, call: &Str) -> Result<Reply, AllocError>
+        ensures reply { IfOk result (λ reply.
+            reply_value reply ≡ (str_served self.old (str_view call.now)).reply) }
+        ensures ok { OnOk result (self.new
+            ≡ with_made self.old (str_served self.old (str_view call.now)).added) }
+        ensures err { OnErr result (self.new ≡ self.old) }
+    {
+        if !is_live(self.state.af(&call.session)) {
+            return Ok(Reply::Refused(Refusal::base(UNKNOWN_SESSION_ID)));
+        }
+        let Some(counter) = self.next_counter() else {
+            return Ok(Reply::Refused(Refusal::base(UNABLE_TO_COMPLY)));
+        };
+        let facts = end_of(self.alloc)?;
+        note_str(call);
+        self.note_number();
+        self.add_on_call(&call.session, counter, facts)?;
+        Ok(Reply::Done)
+    }
+
+    /// Adds the operation of these facts on an application function's session, or changes nothing.
+    fn add_on_call(
+        &mut self,
+        session: &AfSid,
+        counter: u64,
+        facts: Vec<AfFact>,
+    ) -> Result<(), AllocError>
+        requires later { length self.old.state.log < counter }
+        requires formed { is_operation (operation_on_call
+            self.old.number counter session.now (map fact_of facts.items)) ≡ true }
+        ensures ok { OnOk result (self.new ≡ with_made self.old (Some (operation_on_call
+            self.old.number counter session.now (map fact_of facts.items)))) }
+        ensures err { OnErr result (self.new ≡ self.old) }
+    {
+        let facts = SessionFacts::Af(session.try_copy()?, facts);
+        self.add(Operation::stamped(counter, self.number, 0, facts))
+    }
+}
+
+/// The end of a session.
+fn end_of(alloc: Global) -> Result<Vec<AfFact>, AllocError>
+    ensures { IfOk result (λ facts. map fact_of facts.items ≡ End ∷ []) }
+{
+    let mut facts = Vec::new(alloc);
+    facts.push(AfFact::End)?;
+    Ok(facts)
+}
+
+/// The session has ended, as far as is known.
+fn has_ended(known: Option<&AfRec>) -> bool
+    ensures { result ≡ is_ended (record_facts (option_copied known.entry)) }
+{
+    match known {
+        Some(call) => call.ended(),
+        None => false,
+    }
+}
+
+/// The session is live.
+fn is_live(known: Option<&AfRec>) -> bool
+    ensures { result ≡ af_is_live (record_facts (option_copied known.entry)) }
+{
+    match known {
+        Some(call) => call.live(),
+        None => false,
+    }
+}
+
+/// The session isn't live, and the request gives no address.
+fn lacks_address(known: Option<&AfRec>, aar: &Aar) -> bool
+    ensures { result ≡ (not (af_is_live (record_facts (option_copied known.entry)))
+        && is_none (aar_view aar.now).address) }
+{
+    !is_live(known) && aar.address.is_none()
+}
+
+/// A component that isn't removed has a Media-Type without a row in the tables.
+fn lacks_class(tables: &Tables, component: &Component) -> bool
+    ensures { result ≡ has_no_class tables.now component.now }
+{
+    let parts = component.parts();
+    if is_removed(parts.status) {
+        return false;
+    }
+    match parts.media_type {
+        Some(media_type) => tables.media(media_type).is_none(),
+        None => false,
+    }
+}
+
+/// One of these components has such a Media-Type.
+fn lack_class(tables: &Tables, components: &[Component]) -> bool
+    ensures { result ≡ list_any (has_no_class tables.now) components.now }
+{
+    for component in components {
+        if lacks_class(tables, component) {
+            return true;
+        }
+    }
+    false
+}

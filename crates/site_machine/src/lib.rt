@@ -1,0 +1,15 @@
+//! One site that decides: what it holds, and what it replies to each event. No bytes of messages: these are read and written
+//! above (`site_core`).
+#![tactic(auto)]
+
+mod calls;
+mod event;
+mod fault;
+mod request;
+mod site;
+mod told;
+
+pub use event::{Event, Reply};
+pub use fault::StepFault;
+pub use request::Request;
+pub use site::Site;

@@ -1,0 +1,741 @@
+//! One site: what it holds, and the operations that it made itself.
+ghost use Rattle.std.specs.Prelude.{◌≡◌, ◌≢◌, ◌<◌, ◌≤◌, ◌+◌, [], ◌∷◌, None, Some, false, true, length, map, take, cond, IfOk, OnOk, OnErr, IfErr, IfSome, option_map};
+ghost use Rattle.std.specs.Option.{option_copied};
+ghost use Rattle.ranked.specs.Sets.{Distinct};
+ghost use Rattle.pcrf_values.specs.Results.{authorization_rejected, unable_to_comply};
+ghost use Rattle.pcrf_facts.specs.Held.{is_ended};
+ghost use Rattle.pcrf_facts.specs.Live.{gx_is_live};
+ghost use Rattle.pcrf_model.specs.Limits.{delta_limit, last_counter, site_limit};
+ghost use Rattle.pcrf_model.specs.Holdings.{facts_on, kept_of, replaced};
+ghost use Rattle.pcrf_model.specs.Pushing.{lacks_counter};
+ghost use Rattle.pcrf_model.specs.Replies.{OnGx, Granted, Pushed};
+ghost use Rattle.pcrf_model.specs.Serving.{delta_of, empty_delta, provisioned, serve_base};
+ghost use Rattle.pcrf_model.specs.Sessions.{gx};
+ghost use Rattle.pcrf_model.specs.Steps.{MayReply, Serve, Push, Ops, Whole, AskOwn, AskWhole, own_from};
+ghost use Rattle.pcrf_model.specs.Views.{view};
+ghost use Rattle.pcrf_model.specs.Rules.{quality_of, rules};
+ghost use Rattle.pcrf_model.specs.Differences.{rule_name_of};
+ghost use Rattle.pcrf_model.specs.OperatorValues.{bindings_of, operator_value};
+ghost use Rattle.operator_view.specs.Shown.{value_view};
+ghost use Rattle.pcrf_model.specs.Refusals.{is_clock_full, ccr_refusal, lacks_parameters, names_no_row};
+ghost use Rattle.pcrf_model.specs.ToldTags.{ToldUpTo};
+ghost use Rattle.pcrf_model.specs.Forms.{are_up_to, is_holding, is_operation};
+ghost use Rattle.pcrf_facts.specs.FlowWords.{or_else};
+ghost use Rattle.gx_profile.specs.Pushes.{push_view};
+ghost use Rattle.gx_profile.specs.Requests.{ccr_view};
+ghost use Rattle.base_profile.specs.Requests.{base_view};
+ghost use Rattle.site_join.specs.States.{record_facts};
+ghost use Rattle.site_machine.specs.Replies.{gx_reply_value};
+ghost use Rattle.site_machine.specs.Values.{event_lacks_counter, event_value, reply_value, request_value};
+
+use crate::event::{Event, Reply};
+use crate::fault::StepFault;
+use crate::request::Request;
+use crate::told::{note_entries, put_told};
+use base_profile::{BaseRequest, base_refusal};
+use dia_base::Identity;
+use dia_base::codes::results::{
+    AUTHORIZATION_REJECTED, INITIAL_PARAMETERS, SUCCESS, UNABLE_TO_COMPLY, UNKNOWN_SESSION_ID,
+};
+use gx_profile::{Ccr, FirstEntries, GxReply, PushOut};
+use gx_records::GxRec;
+use lattice_core::Join;
+use op_tables::Tables;
+use operator_view::{OperatorValue, bindings, value};
+use pcc_rules::derive;
+use pcrf_model::ranges::note_text;
+use pcrf_values::{
+    AfSid, Apn, DefaultQuality, DiameterIdentity, GxSid, Refusal, RequestKind, Rule,
+};
+use ranked::{Ranked, Tag};
+use request_facts::{facts_made, note_ccr};
+use rule_telling::{next_push, untold};
+use site_join::{LAST_COUNTER, Operation, SessionFacts, State};
+use std::alloc::{AllocError, Global};
+use std::marker::Model;
+
+/// The most operations that are told at once.
+const RANGE_LIMIT: usize = 100;
+
+/// A site: the operator tables that it decides by, the names that it answers under, its number, what it holds, and the
+/// operations that it made itself since it began, in order.
+#[derive(Drop)]
+pub struct Site {
+    pub(crate) alloc: Global,
+    pub(crate) tables: Tables,
+    identity: Identity,
+    pub(crate) number: u8,
+    pub(crate) state: State,
+    log: Vec<Operation>,
+}
+
+impl Model for Site {
+    ghost use Rattle.std.specs.Prelude.{◌<◌, ◌≤◌, length};
+    ghost use Rattle.pcrf_model.specs.Limits.{site_limit};
+    ghost use Rattle.site_machine.specs.Sites.{SiteValue};
+
+    ghost Value = { SiteValue };
+
+    ghost view = { λ s. record {
+      tables = s.tables;
+      identity = s.identity;
+      number = s.number;
+      state = record { holding = s.state; log = s.log.items };
+    } };
+
+    ghost invariant = { λ s. (s.number < site_limit) × (length s.log.items ≤ s.state.clock) };
+}
+
+impl Site {
+    ghost use Rattle.site_machine.specs.Facts.{opens, operation_made, operation_pushed, operation_told};
+    ghost use Rattle.site_machine.specs.Left.{ProvisionLeaves, PushLeaves, ReplyLeaves, RequestLeaves};
+    ghost use Rattle.site_machine.specs.Replies.{told_reply};
+    ghost use Rattle.site_machine.specs.Sites.{new_site, after_event, ccr_served, emptied, pushed, served, with_made, with_one, with_record, with_state, with_taken};
+
+    /// A site that took nothing.
+    pub fn start(alloc: Global, tables: Tables, identity: Identity, number: u8) -> Site
+        requires { number < site_limit }
+        ensures { result ≡ new_site tables identity number }
+    {
+        Site {
+            alloc,
+            tables,
+            identity,
+            number,
+            state: State::start(alloc),
+            log: Vec::new(alloc),
+        }
+    }
+
+    /// The number of the site.
+    pub fn number(&self) -> u8
+        ensures number { result ≡ self.now.number }
+        ensures within { result < site_limit }
+    {
+        self.number
+    }
+
+    /// The operator tables that the site decides by.
+    pub fn tables(&self) -> &Tables
+        ensures { result.now ≡ self.now.tables }
+    {
+        &self.tables
+    }
+
+    /// The names that the site answers under.
+    pub fn identity(&self) -> &Identity
+        ensures { result.now ≡ self.now.identity }
+    {
+        &self.identity
+    }
+
+    /// What the site holds: each session of which it knows a fact.
+    pub fn sessions(&self) -> &State
+        ensures { result.now ≡ self.now.state.holding }
+    {
+        &self.state
+    }
+
+    /// Each live session of an application function with the gateway's session to which it is bound, if it is bound, in the
+    /// order of their Session-Ids (TS 29.213, 5.2).
+    pub fn bindings(&self) -> Result<Vec<(AfSid, Option<GxSid>)>, AllocError>
+        ensures { IfOk result (λ found.
+            found.items ≡ bindings_of (view self.now.state.holding.facts)) }
+    {
+        bindings(self.alloc, &self.state)
+    }
+
+    /// The PCC rules of a gateway's session, by precedence and name; none where it isn't live (TS 23.203, 6.3.1).
+    pub fn rules_of(&self, session: &GxSid) -> Result<Vec<Rule>, AllocError>
+        ensures rules { IfOk result (λ made. made.items
+            ≡ rules self.now.tables (view self.now.state.holding.facts) (gx session.now)) }
+        ensures apart { IfOk result (λ made. Distinct (map rule_name_of made.items)) }
+    {
+        derive(self.alloc, &self.tables, &self.state, session)
+    }
+
+    /// All that an operator sees of the site.
+    pub fn value(&self) -> Result<OperatorValue, AllocError>
+        ensures { IfOk result (λ value.
+            value_view value ≡ operator_value self.now.tables self.now.state.holding) }
+    {
+        value(self.alloc, &self.tables, &self.state)
+    }
+
+    /// The operations that the site made itself from a position on, the first 100 if there are more, and how many it made in
+    /// all.
+    pub fn own_since(&self, from: u64) -> Result<(Vec<Operation>, u64), AllocError>
+        ensures operations { IfOk result (λ r. r.0.items ≡ own_from self.now.state.log from) }
+        ensures length { IfOk result (λ r. r.1 ≡ length self.now.state.log) }
+    {
+        let copies = copy_all(self.alloc, part_from(self.log.as_slice(), from))?;
+        Ok((copies, self.log.len() as u64))
+    }
+
+    /// A copy of all that the site holds, and how many operations it made itself.
+    pub fn whole(&self) -> Result<(State, u64), AllocError>
+        ensures state { IfOk result (λ r. r.0 ≡ self.now.state.holding) }
+        ensures kept { IfOk result (λ r. r.0 ≡ kept_of self.now.state.holding) }
+        ensures length { IfOk result (λ r. r.1 ≡ length self.now.state.log) }
+    {
+        self.note_kept();
+        let copy = self.state.try_copy()?;
+        Ok((copy, self.log.len() as u64))
+    }
+
+    /// Takes all that another site holds, or changes nothing.
+    pub fn take_state(&mut self, state: &State) -> Result<(), AllocError>
+        ensures ok { OnOk result (self.new ≡ with_state self.old state.now) }
+        ensures err { OnErr result (self.new ≡ self.old) }
+    {
+        self.state = self.state.merged_copy(state)?;
+        Ok(())
+    }
+
+    /// Makes an event happen. A fault changes nothing.
+    pub fn step(&mut self, event: &Event) -> Result<Reply, StepFault>
+        ensures reply { IfOk result (λ reply. MayReply delta_limit self.old.tables self.old.number
+            self.old.state (event_value event.now) (reply_value reply)) }
+        ensures ok { IfOk result (λ reply. self.new
+            ≡ after_event self.old (event_value event.now) (reply_value reply)) }
+        ensures full { IfErr result (λ fault. fault ≡ StepFault.ClockFull → event_lacks_counter
+            self.old.tables self.old.number self.old.state.holding (event_value event.now) ≡ true) }
+        ensures err { OnErr result (self.new ≡ self.old) }
+    {
+        match event {
+            Event::Serve(request) => self.step_serve(request),
+            Event::Push(host) => self.step_push(host),
+            Event::Ops(operations) => Ok(self.step_take(operations.as_slice())),
+            Event::Whole(state) => self.step_whole(state),
+            Event::AskOwn(from) => self.step_ask_own(*from),
+            Event::AskWhole => self.step_ask_whole(),
+        }
+    }
+
+    /// Serves a request. Where it grants an initial request or an update, the gateway lacks then just what the first 40 entries
+    /// of the difference left. An error changes nothing.
+    pub fn serve(&mut self, request: &Request) -> Result<Reply, AllocError>
+        ensures reply { IfOk result (λ reply.
+            reply_value reply ≡ (served self.old (request_value request.now)).reply) }
+        ensures ok { OnOk result (self.new
+            ≡ with_made self.old (served self.old (request_value request.now)).added) }
+        ensures left { IfOk result (λ reply. ReplyLeaves self.old self.new request.now reply) }
+        ensures err { OnErr result (self.new ≡ self.old) }
+    {
+        match request {
+            Request::Ccr(ccr) => Ok(Reply::Gx(self.serve_ccr(ccr)?)),
+            Request::Aar(aar) => self.serve_aar(aar),
+            Request::Str(call) => self.serve_str(call),
+            Request::Base(base) => Ok(reply_to_base(base)),
+        }
+    }
+
+    /// Serves a credit control request. An error changes nothing.
+    fn serve_ccr(&mut self, ccr: &Ccr) -> Result<GxReply, AllocError>
+        ensures reply { IfOk result (λ reply. gx_reply_value reply
+            ≡ (ccr_served self.old (ccr_view ccr.now)).reply) }
+        ensures ok { OnOk result (self.new
+            ≡ with_made self.old (ccr_served self.old (ccr_view ccr.now)).added) }
+        ensures left { IfOk result (λ reply.
+            RequestLeaves self.old self.new (ccr_view ccr.now) reply) }
+        ensures err { OnErr result (self.new ≡ self.old) }
+    {
+        if let Some(refusal) = self.standing_refusal(ccr) {
+            return Ok(GxReply::Refused(refusal));
+        }
+        let Some(counter) = self.next_counter() else {
+            return Ok(GxReply::Refused(Refusal::base(UNABLE_TO_COMPLY)));
+        };
+        match ccr.kind {
+            RequestKind::Termination => self.close(ccr, counter),
+            RequestKind::Initial | RequestKind::Update => self.provision(ccr, counter),
+        }
+    }
+
+    /// Ends the session of an accepted request, or changes nothing.
+    fn close(&mut self, ccr: &Ccr, counter: u64) -> Result<GxReply, AllocError>
+        requires within { counter ≤ last_counter }
+        requires first { 1 ≤ counter }
+        requires later { length self.old.state.log < counter }
+        ensures reply { IfOk result (λ reply.
+            gx_reply_value reply ≡ OnGx (Granted empty_delta None)) }
+        ensures ok { OnOk result (self.new ≡ with_made self.old (Some
+            (operation_made self.old.number counter (ccr_view ccr.now) ccr.now.kind))) }
+        ensures err { OnErr result (self.new ≡ self.old) }
+    {
+        let operation = self.fields_made(ccr, counter)?;
+        self.add(operation)?;
+        Ok(GxReply::Granted(FirstEntries::none(self.alloc), None))
+    }
+
+    /// Sets the fields of an accepted request and tells the gateway what it lacks then, or changes nothing.
+    fn provision(&mut self, ccr: &Ccr, counter: u64) -> Result<GxReply, AllocError>
+        requires within { counter ≤ last_counter }
+        requires next { counter ≡ self.old.state.holding.clock + 1 }
+        requires opens { opens ccr.now.kind ≡ true }
+        requires alive { (view self.old.state.holding.facts).ended (gx ccr.now.session) ≡ false }
+        ensures reply { IfOk result (λ reply. gx_reply_value reply ≡ (provisioned delta_limit
+            self.old.tables self.old.number self.old.state.holding (ccr_view ccr.now)).reply) }
+        ensures ok { OnOk result (self.new ≡ with_made self.old (provisioned delta_limit
+            self.old.tables self.old.number self.old.state.holding (ccr_view ccr.now)).added) }
+        ensures left { OnOk result (ProvisionLeaves self.old self.new (ccr_view ccr.now)) }
+        ensures err { OnErr result (self.new ≡ self.old) }
+    {
+        self.note_kept();
+        self.note_told();
+        self.note_form();
+        let before = self.copy_of(&ccr.session)?;
+        let clock = self.state.clock();
+        self.set_fields(ccr, counter)?;
+        match self.tell(ccr, counter) {
+            Ok(reply) => Ok(reply),
+            Err(refused) => {
+                self.put_back(&ccr.session, before, clock);
+                Err(refused)
+            }
+        }
+    }
+
+    /// A copy of the record of a session, if a fact of it is known.
+    fn copy_of(&self, session: &GxSid) -> Result<Option<GxRec>, AllocError>
+        ensures { IfOk result (λ copy. record_facts copy
+            ≡ facts_on self.now.state.holding.facts (gx session.now)) }
+    {
+        match self.state.gx(session) {
+            Some(known) => Ok(Some(known.try_copy()?)),
+            None => Ok(None),
+        }
+    }
+
+    /// Puts the record that stood in its place, with the clock that was.
+    fn put_back(&mut self, session: &GxSid, before: Option<GxRec>, clock: u64)
+        requires within { clock ≤ last_counter }
+        requires counted { length self.old.state.log ≤ clock }
+        requires known { facts_on self.old.state.holding.facts (gx session.now) ≢ [] }
+        requires back { are_up_to clock (replaced self.old.state.holding
+            (gx session.now) (record_facts before) clock).facts ≡ true }
+        ensures { self.new ≡ with_record self.old (gx session.now) (record_facts before) clock }
+    {
+        self.state.put_gx(session, before, clock).unwrap();
+    }
+
+    /// Sets the fields of an accepted request, or changes nothing.
+    fn set_fields(&mut self, ccr: &Ccr, counter: u64) -> Result<(), AllocError>
+        requires within { counter ≤ last_counter }
+        requires first { 1 ≤ counter }
+        ensures ok { OnOk result (self.new ≡ with_one self.old
+            (operation_made self.old.number counter (ccr_view ccr.now) ccr.now.kind)) }
+        ensures err { OnErr result (self.new ≡ self.old) }
+    {
+        let operation = self.fields_made(ccr, counter)?;
+        self.state.take(&operation)
+    }
+
+    /// Tells the gateway what it lacks of the rules that its session has now, or changes nothing.
+    fn tell(&mut self, ccr: &Ccr, counter: u64) -> Result<GxReply, AllocError>
+        requires within { counter ≤ last_counter }
+        requires later { length self.old.state.log < counter }
+        requires opens { opens ccr.now.kind ≡ true }
+        ensures reply { IfOk result (λ reply. gx_reply_value reply
+            ≡ told_reply self.old.tables (view self.old.state.holding.facts) (gx ccr.now.session)) }
+        ensures ok { OnOk result (self.new ≡ with_made self.old (Some (operation_told
+            self.old.number counter (ccr_view ccr.now) ccr.now.kind
+            (delta_of delta_limit
+            self.old.tables (view self.old.state.holding.facts) (gx ccr.now.session))))) }
+        ensures names { OnOk result (Distinct (map rule_name_of
+            (rules self.old.tables (view self.old.state.holding.facts) (gx ccr.now.session)))) }
+        ensures err { OnErr result (self.new ≡ self.old) }
+    {
+        let quality = self.quality_of(&ccr.session);
+        let missing = untold(self.alloc, &self.tables, &self.state, &ccr.session)?;
+        let delta = FirstEntries::of(missing);
+        note_entries(&delta);
+        note_ccr(ccr);
+        self.note_number();
+        let operation = self.all_made(ccr, counter, &delta)?;
+        self.add(operation)?;
+        Ok(GxReply::Granted(delta, quality))
+    }
+
+    /// The operation of the fields that an accepted request sets, or of the end that it makes.
+    fn fields_made(&self, ccr: &Ccr, counter: u64) -> Result<Operation, AllocError>
+        requires within { counter ≤ last_counter }
+        requires first { 1 ≤ counter }
+        ensures { IfOk result (λ operation. operation
+            ≡ operation_made self.now.number counter (ccr_view ccr.now) ccr.now.kind) }
+    {
+        note_ccr(ccr);
+        self.note_number();
+        let session = ccr.session.try_copy()?;
+        let facts = facts_made(self.alloc, ccr, self.tag(ccr.number, counter))?;
+        let facts = SessionFacts::Gx(session, facts);
+        Ok(Operation::stamped(counter, self.number, ccr.number, facts))
+    }
+
+    /// The operation of those fields, and of what the gateway is told.
+    fn all_made(
+        &self,
+        ccr: &Ccr,
+        counter: u64,
+        delta: &FirstEntries,
+    ) -> Result<Operation, AllocError>
+        requires { is_operation (operation_told self.now.number counter (ccr_view ccr.now)
+            ccr.now.kind delta.now) ≡ true }
+        ensures { IfOk result (λ operation. operation ≡ operation_told
+            self.now.number counter (ccr_view ccr.now) ccr.now.kind delta.now) }
+    {
+        let mut facts = facts_made(self.alloc, ccr, self.tag(ccr.number, counter))?;
+        put_told(self.alloc, &mut facts, self.tag(0, counter), delta)?;
+        let facts = SessionFacts::Gx(ccr.session.try_copy()?, facts);
+        Ok(Operation::stamped(counter, self.number, ccr.number, facts))
+    }
+
+    /// The tag of what an operation of this site says.
+    fn tag(&self, number: u32, counter: u64) -> Tag
+        ensures { result ≡ record { number = number; counter = counter; site = self.now.number } }
+    {
+        Tag {
+            number,
+            counter,
+            site: self.number,
+        }
+    }
+
+    /// The default quality of service of the access point that a session shows.
+    fn quality_of(&self, session: &GxSid) -> Option<DefaultQuality>
+        ensures { result
+            ≡ quality_of self.now.tables (view self.now.state.holding.facts) (gx session.now) }
+    {
+        let (_, apn) = self.state.gx(session)?.apn()?;
+        self.tables.apn(apn)?.default_quality()
+    }
+
+    /// The refusal by what is known of the session, given by the request and stands in the tables; the end of the clock
+    /// comes after it.
+    fn standing_refusal(&self, ccr: &Ccr) -> Option<Refusal>
+        ensures { ccr_refusal self.now.tables self.now.state.holding (ccr_view ccr.now)
+            ≡ or_else result
+            (cond (is_clock_full self.now.state.holding) (Some unable_to_comply) None) }
+    {
+        let known = self.state.gx(&ccr.session);
+        match ccr.kind {
+            RequestKind::Initial if has_ended(known) => Some(Refusal::base(UNKNOWN_SESSION_ID)),
+            RequestKind::Initial if lacks(ccr) => Some(Refusal::experimental(INITIAL_PARAMETERS)),
+            RequestKind::Initial => row_refusal(&self.tables, &ccr.apn),
+            RequestKind::Update if !is_live(known) => Some(Refusal::base(UNKNOWN_SESSION_ID)),
+            RequestKind::Update => row_refusal(&self.tables, &ccr.apn),
+            RequestKind::Termination if !is_live(known) => Some(Refusal::base(UNKNOWN_SESSION_ID)),
+            RequestKind::Termination => None,
+        }
+    }
+
+    /// The counter of the next operation, if there is one left.
+    pub(crate) fn next_counter(&self) -> Option<u64>
+        ensures some { IfSome result (λ counter. counter ≡ self.now.state.holding.clock + 1) }
+        ensures within { IfSome result (λ counter. counter ≤ last_counter) }
+        ensures later { IfSome result (λ counter. length self.now.state.log < counter) }
+        ensures open { IfSome result (λ _. is_clock_full self.now.state.holding ≡ false) }
+        ensures full { result ≡ None → is_clock_full self.now.state.holding ≡ true }
+    {
+        let clock = self.state.clock();
+        if clock >= LAST_COUNTER {
+            return None;
+        }
+        Some(clock + 1)
+    }
+
+    /// Adds an operation of the site's own, or changes nothing.
+    pub(crate) fn add(&mut self, operation: Operation) -> Result<(), AllocError>
+        requires { length self.old.state.log < operation.counter }
+        ensures ok { OnOk result (self.new ≡ with_made self.old (Some operation)) }
+        ensures err { OnErr result (self.new ≡ self.old) }
+    {
+        self.log.try_reserve(1)?;
+        self.state.take(&operation)?;
+        self.log.push(operation).unwrap();
+        Ok(())
+    }
+
+    /// Pushes what the gateway of the session that is due was not told (TS 29.212, 4.5.2): of the live sessions whose home is
+    /// this site and whose host is the given one, any where none is given, that with the least Session-Id; at most the first
+    /// 40 entries. Its gateway lacks then just what these left. An error changes nothing.
+    pub fn push(&mut self, host: Option<&[u8]>) -> Result<Option<PushOut>, StepFault>
+        ensures push { IfOk result (λ push. Pushed (option_map push_view push)
+            ≡ (pushed self.old (option_copied host.entry)).reply) }
+        ensures ok { OnOk result (self.new
+            ≡ with_made self.old (pushed self.old (option_copied host.entry)).added) }
+        ensures left { IfOk result (λ push. IfSome push (λ p.
+            PushLeaves self.old self.new (gx p.session))) }
+        ensures room { OnOk result (lacks_counter self.old.tables self.old.number
+            self.old.state.holding (option_copied host.entry) ≡ false) }
+        ensures full { IfErr result (λ fault. fault ≡ StepFault.ClockFull → lacks_counter
+            self.old.tables self.old.number self.old.state.holding
+            (option_copied host.entry) ≡ true) }
+        ensures err { OnErr result (self.new ≡ self.old) }
+    {
+        self.note_told();
+        let found = next_push(self.alloc, &self.tables, &self.state, self.number, host);
+        let Ok(found) = found else {
+            return Err(StepFault::NoMemory);
+        };
+        let Some(push) = found else {
+            return Ok(None);
+        };
+        let Some(counter) = self.next_counter() else {
+            return Err(StepFault::ClockFull);
+        };
+        note_entries(&push.delta);
+        note_text(push.session.id());
+        self.note_number();
+        if self.tell_push(&push, counter).is_err() {
+            return Err(StepFault::NoMemory);
+        }
+        Ok(Some(push))
+    }
+
+    /// Adds the operation of a push, or changes nothing.
+    fn tell_push(&mut self, push: &PushOut, counter: u64) -> Result<(), AllocError>
+        requires later { length self.old.state.log < counter }
+        requires formed { is_operation (operation_pushed
+            self.old.number counter push.now.session push.now.delta) ≡ true }
+        ensures ok { OnOk result (self.new ≡ with_made self.old
+            (Some (operation_pushed self.old.number counter push.now.session push.now.delta))) }
+        ensures err { OnErr result (self.new ≡ self.old) }
+    {
+        let mut facts = Vec::new(self.alloc);
+        put_told(self.alloc, &mut facts, self.tag(0, counter), &push.delta)?;
+        let facts = SessionFacts::Gx(push.session.try_copy()?, facts);
+        self.add(Operation::stamped(counter, self.number, 0, facts))
+    }
+
+    /// Takes operations in order. An error tells how many stand taken.
+    pub fn take_all(&mut self, operations: &[Operation]) -> Result<(), (usize, AllocError)>
+        ensures ok { OnOk result (self.new ≡ with_taken self.old operations.now) }
+        ensures part { IfErr result (λ e. e.0 < length operations.now) }
+        ensures err { IfErr result (λ e. self.new ≡ with_taken self.old (take e.0 operations.now)) }
+    {
+        self.note_kept();
+        for (count, operation) in operations.iter().enumerate() {
+            if self.take(operation).is_err() {
+                return Err((count, AllocError));
+            }
+        }
+        Ok(())
+    }
+
+    /// Does nothing: its contract tells a proof that what is held is kept.
+    pub(crate) fn note_kept(&self)
+        ensures { kept_of self.now.state.holding ≡ self.now.state.holding }
+    {
+        self.state.note_kept();
+    }
+
+    /// Does nothing: its contract tells a proof that each operation of the site's own raised the clock.
+    pub(crate) fn note_log(&self)
+        ensures { length self.now.state.log ≤ self.now.state.holding.clock }
+    {
+        let _ = &self.log;
+    }
+
+    /// Does nothing: its contract tells a proof that the site is one of those that there may be.
+    pub(crate) fn note_number(&self)
+        ensures { self.now.number < site_limit }
+    {
+        let _ = &self.log;
+    }
+
+    /// Does nothing: its contract tells a proof that what is held has the form of what operations make.
+    pub fn note_form(&self)
+        ensures { is_holding self.now.state.holding ≡ true }
+    {
+        self.state.note_form();
+    }
+
+    /// Does nothing: its contract tells a proof that what gateways were told has tags up to the clock.
+    fn note_told(&self)
+        ensures { ToldUpTo self.now.state.holding.clock self.now.state.holding.facts }
+    {
+        self.state.note_told();
+    }
+
+    /// Takes one operation, or changes nothing.
+    fn take(&mut self, operation: &Operation) -> Result<(), AllocError>
+        ensures ok { OnOk result (self.new ≡ with_one self.old operation.now) }
+        ensures err { OnErr result (self.new ≡ self.old) }
+    {
+        self.state.take(operation)
+    }
+
+    /// Forgets all that it took and made.
+    pub fn clear(&mut self)
+        ensures { self.new ≡ emptied self.old }
+    {
+        self.state = State::start(self.alloc);
+        self.log = Vec::new(self.alloc);
+    }
+
+    /// Serves the request of an event.
+    fn step_serve(&mut self, request: &Request) -> Result<Reply, StepFault>
+        ensures reply { IfOk result (λ reply. MayReply delta_limit self.old.tables self.old.number
+            self.old.state (Serve (request_value request.now)) (reply_value reply)) }
+        ensures ok { IfOk result (λ reply. self.new
+            ≡ after_event self.old (Serve (request_value request.now)) (reply_value reply)) }
+        ensures memory { IfErr result (λ fault. fault ≡ StepFault.NoMemory) }
+        ensures err { OnErr result (self.new ≡ self.old) }
+    {
+        self.note_kept();
+        match self.serve(request) {
+            Ok(reply) => Ok(reply),
+            Err(_) => Err(StepFault::NoMemory),
+        }
+    }
+
+    /// Pushes as an event asks for it.
+    fn step_push(&mut self, host: &Option<DiameterIdentity>) -> Result<Reply, StepFault>
+        ensures reply { IfOk result (λ reply. MayReply delta_limit self.old.tables self.old.number
+            self.old.state (Push host.now) (reply_value reply)) }
+        ensures ok { IfOk result (λ reply. self.new
+            ≡ after_event self.old (Push host.now) (reply_value reply)) }
+        ensures full { IfErr result (λ fault. fault ≡ StepFault.ClockFull → event_lacks_counter
+            self.old.tables self.old.number self.old.state.holding (Push host.now) ≡ true) }
+        ensures err { OnErr result (self.new ≡ self.old) }
+    {
+        self.note_kept();
+        let host = host.as_ref().map(|host| host.as_slice());
+        Ok(Reply::Pushed(self.push(host)?))
+    }
+
+    /// Takes the operations of an event.
+    fn step_take(&mut self, operations: &[Operation]) -> Reply
+        ensures reply { MayReply delta_limit self.old.tables self.old.number
+            self.old.state (Ops operations.now) (reply_value result) }
+        ensures ok { self.new ≡ after_event self.old (Ops operations.now) (reply_value result) }
+    {
+        match self.take_all(operations) {
+            Ok(()) => Reply::Taken(operations.len()),
+            Err((count, _)) => Reply::Taken(count),
+        }
+    }
+
+    /// Takes the state of an event.
+    fn step_whole(&mut self, state: &State) -> Result<Reply, StepFault>
+        ensures reply { IfOk result (λ reply. MayReply delta_limit self.old.tables self.old.number
+            self.old.state (Whole state.now) (reply_value reply)) }
+        ensures ok { IfOk result (λ reply. self.new
+            ≡ after_event self.old (Whole state.now) (reply_value reply)) }
+        ensures memory { IfErr result (λ fault. fault ≡ StepFault.NoMemory) }
+        ensures err { OnErr result (self.new ≡ self.old) }
+    {
+        match self.take_state(state) {
+            Ok(()) => Ok(Reply::Done),
+            Err(_) => Err(StepFault::NoMemory),
+        }
+    }
+
+    /// Tells the operations that an event asks for.
+    fn step_ask_own(&self, from: u64) -> Result<Reply, StepFault>
+        ensures reply { IfOk result (λ reply. MayReply delta_limit self.now.tables self.now.number
+            self.now.state (AskOwn from) (reply_value reply)) }
+        ensures ok { IfOk result (λ reply. self.now
+            ≡ after_event self.now (AskOwn from) (reply_value reply)) }
+        ensures memory { IfErr result (λ fault. fault ≡ StepFault.NoMemory) }
+    {
+        self.note_kept();
+        match self.own_since(from) {
+            Ok((operations, length)) => Ok(Reply::Own(operations, length)),
+            Err(_) => Err(StepFault::NoMemory),
+        }
+    }
+
+    /// Tells all that the site holds.
+    fn step_ask_whole(&self) -> Result<Reply, StepFault>
+        ensures reply { IfOk result (λ reply. MayReply delta_limit self.now.tables self.now.number
+            self.now.state AskWhole (reply_value reply)) }
+        ensures ok { IfOk result (λ reply. self.now
+            ≡ after_event self.now AskWhole (reply_value reply)) }
+        ensures memory { IfErr result (λ fault. fault ≡ StepFault.NoMemory) }
+    {
+        self.note_kept();
+        match self.whole() {
+            Ok((state, length)) => Ok(Reply::Copy(state, length)),
+            Err(_) => Err(StepFault::NoMemory),
+        }
+    }
+}
+
+/// The reply to a request of the base protocol: success, or why it is refused.
+fn reply_to_base(request: &BaseRequest) -> Reply
+    ensures { reply_value result ≡ (serve_base (base_view request.now)).reply }
+{
+    match base_refusal(request) {
+        Some(refusal) => Reply::Base(refusal.code),
+        None => Reply::Base(SUCCESS),
+    }
+}
+
+/// The session has ended, as far as is known.
+fn has_ended(known: Option<&GxRec>) -> bool
+    ensures { result ≡ is_ended (record_facts (option_copied known.entry)) }
+{
+    match known {
+        Some(session) => session.ended(),
+        None => false,
+    }
+}
+
+/// The session is live.
+fn is_live(known: Option<&GxRec>) -> bool
+    ensures { result ≡ gx_is_live (record_facts (option_copied known.entry)) }
+{
+    match known {
+        Some(session) => session.live(),
+        None => false,
+    }
+}
+
+/// The refusal of a request that names an access point without a row in the tables.
+fn row_refusal(tables: &Tables, apn: &Option<Apn>) -> Option<Refusal>
+    ensures { result ≡ cond (names_no_row tables.now apn.now) (Some authorization_rejected) None }
+{
+    match apn {
+        Some(name) if tables.apn(name).is_none() => Some(Refusal::base(AUTHORIZATION_REJECTED)),
+        _ => None,
+    }
+}
+
+/// The request lacks what an initial one must give (TS 29.212, 4.5.1).
+fn lacks(ccr: &Ccr) -> bool
+    ensures { result ≡ lacks_parameters (ccr_view ccr.now) }
+{
+    ccr.address.is_none() || ccr.apn.is_none() || ccr.subscribers.is_none()
+}
+
+/// The operations from a position on, as many as are told at once.
+#[tactic(auto, using(std::proofs::lemmas::List::drop_all, std::proofs::lemmas::List::take_all))]
+fn part_from(log: &[Operation], from: u64) -> &[Operation]
+    ensures { result.now ≡ own_from log.now from }
+{
+    let Ok(start) = usize::try_from(from) else {
+        return &[];
+    };
+    if start >= log.len() {
+        return &[];
+    }
+    let (_, left) = log.split_at(start);
+    if left.len() <= RANGE_LIMIT {
+        return left;
+    }
+    let (part, _) = left.split_at(RANGE_LIMIT);
+    part
+}
+
+/// Equal operations, in order.
+fn copy_all(alloc: Global, operations: &[Operation]) -> Result<Vec<Operation>, AllocError>
+    ensures { IfOk result (λ copies. copies.items ≡ operations.now) }
+{
+    let mut copies = Vec::new(alloc);
+    for operation in operations {
+        copies.push(operation.try_copy()?)?;
+    }
+    Ok(copies)
+}
