@@ -1,5 +1,5 @@
 -- The first that is due of those that wait.
-use Rattle.std.proofs.Common.{◌≡◌, ℕ, suc, ◌≤◌, arith, length, Bool, true, false, cond, drop, List, [], ◌∷◌, ◌⊎◌, map, Option, Some, None, find, inl, inr, refl, sym, ap, ◌∙◌, subst, if◌then◌else◌}
+use Rattle.std.proofs.Common.{◌≡◌, ℕ, suc, ◌≤◌, arith, length, Bool, true, false, cond, drop, List, [], ◌∷◌, ◌⊎◌, map, Some, None, find, inl, inr, refl, sym, ap, ◌∙◌, subst, if◌then◌else◌}
 use Rattle.std.specs.Ordering.{is_eq}
 use Rattle.ranked.specs.Ascending.{Rises}
 use Rattle.ranked.specs.Orders.{text_cmp}
@@ -8,10 +8,10 @@ use Rattle.ranked.proofs.OrderLaws.{text_ranked, eq_is, eq_itself}
 use Rattle.ranked.proofs.Plain.{none_some, some_same}
 use Rattle.pcrf_model.specs.Holdings.{SessionFact}
 use Rattle.pcrf_model.specs.Pushing.{is_due, due}
-use Rattle.pcrf_model.specs.Sessions.{Session, gx}
+use Rattle.pcrf_model.specs.Sessions.{gx}
 use Rattle.pcrf_model.specs.Tables.{Tables}
-use Rattle.pcrf_model.specs.Views.{View, view}
-use Rattle.pcrf_model.specs.Waiting.{Waiting, AllDueWait, LeavesOut}
+use Rattle.pcrf_model.specs.Views.{view}
+use Rattle.pcrf_model.specs.Waiting.{LeavesOut}
 use Rattle.pcrf_model.proofs.WaitingLaws.{first_waits, only_due}
 use Rattle.session_lists.specs.Lists.{first_of, without_first}
 use Rattle.waiting_sessions.specs.Waits.{WaitingValue, waiting_of, DueWait, Keeps, WaitsUnder}

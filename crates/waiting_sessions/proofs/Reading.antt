@@ -1,5 +1,5 @@
 -- What the code reads of records, and what it adds to those that wait.
-use Rattle.std.proofs.Common.{◌≡◌, ℕ, List, [], Option, Some, None, inl, inr, refl, sym, ap, ◌∙◌, subst, option_map, option_and_then}
+use Rattle.std.proofs.Common.{◌≡◌, ℕ, List, Option, Some, None, ap, ◌∙◌, subst, option_map, option_and_then}
 use Rattle.ranked.specs.Orders.{text_cmp}
 use Rattle.ranked.specs.Sets.{In}
 use Rattle.ranked.proofs.OrderLaws.{text_ranked, eq_itself}
@@ -8,10 +8,10 @@ use Rattle.ranked.specs.declared.tag.Tag.{Tag}
 use Rattle.pcrf_facts.specs.Facts.{Fact}
 use Rattle.pcrf_facts.specs.Held.{shown}
 use Rattle.pcrf_facts.specs.Places.{Place, host}
-use Rattle.pcrf_facts.specs.Values.{Value, Text, Entry}
+use Rattle.pcrf_facts.specs.Values.{Text, Entry}
 use Rattle.pcrf_model.specs.Holdings.{SessionFact, facts_on}
 use Rattle.pcrf_model.specs.Sessions.{Session, gx}
-use Rattle.pcrf_model.specs.Views.{view, value, as_text, text}
+use Rattle.pcrf_model.specs.Views.{view, value, as_text}
 use Rattle.session_lists.specs.Lists.{ids_at, with_id}
 use Rattle.session_index.proofs.Covering.{list_grows, list_has}
 use Rattle.waiting_sessions.specs.Waits.{WaitingValue, waiting_of, Keeps, WaitsUnder, WaitsIfDue}

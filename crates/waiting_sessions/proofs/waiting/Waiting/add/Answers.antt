@@ -1,5 +1,5 @@
 use Rattle.std.proofs.Common.{subst}
-use Rattle.waiting_sessions.specs.Waits.{WaitingValue, Keeps, WaitsUnder}
+use Rattle.waiting_sessions.specs.Waits.{WaitingValue, Keeps}
 use Rattle.waiting_sessions.proofs.Reading.{added_keeps, added_waits}
 use Rattle.waiting_sessions.proofs.waiting.Waiting.add.Goals as goal
 
