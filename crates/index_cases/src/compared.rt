@@ -12,6 +12,7 @@ use std::process::Abort;
 
 /// How many sessions of gateways and calls there are.
 pub const GATEWAYS: u8 = 36;
+
 pub const CALLS: u8 = 24;
 
 /// How many calls are bound, how many rules there are, and how many pushes are due.

@@ -1,9 +1,7 @@
 //! Operations drawn from a seed, after each of which all is as the passes over all sessions say.
 ghost use Rattle.std.specs.Prelude.{◌<◌};
 
-use crate::compared::{
-    CALLS, Counts, GATEWAYS, compare_bindings, compare_push, compare_rules,
-};
+use crate::compared::{CALLS, Counts, GATEWAYS, compare_bindings, compare_push, compare_rules};
 use crate::draws::Draws;
 use crate::making::{Given, call, call_end, gateway_end, request, told};
 use crate::tables::tables;
@@ -32,7 +30,11 @@ fn drawn_request(rt: &(impl AllocGlobal + Abort), draws: &mut Draws, at: Tag) ->
     let number = draws.byte_below(GATEWAYS);
     let place = draws.byte_below(ADDRESSES);
     let given = Given {
-        address: if draws.below(2) == 0 { Some(place) } else { None },
+        address: if draws.below(2) == 0 {
+            Some(place)
+        } else {
+            None
+        },
         is_ims: draws.below(4) > 0,
         host: number % 3,
         kind: if draws.below(2) == 0 { 1 } else { 2 },
@@ -46,12 +48,7 @@ fn drawn(rt: &(impl AllocGlobal + Abort), draws: &mut Draws, counter: u64) -> Op
     match draws.below(200) {
         0 => gateway_end(rt, draws.byte_below(GATEWAYS), at),
         1 => call_end(rt, draws.byte_below(CALLS), at),
-        2..=79 => call(
-            rt,
-            draws.byte_below(CALLS),
-            at,
-            draws.byte_below(ADDRESSES),
-        ),
+        2..=79 => call(rt, draws.byte_below(CALLS), at, draws.byte_below(ADDRESSES)),
         _ => drawn_request(rt, draws, at),
     }
 }

@@ -6,9 +6,9 @@
 #[cfg(test)]
 mod compared;
 #[cfg(test)]
-mod draws;
-#[cfg(test)]
 mod drawn;
+#[cfg(test)]
+mod draws;
 #[cfg(test)]
 mod examples;
 #[cfg(test)]

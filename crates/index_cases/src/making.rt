@@ -74,12 +74,22 @@ fn put(rt: &impl Abort, facts: &mut Vec<GxFact>, at: Tag, value: SessionValue<Op
 fn put_user(rt: &(impl AllocGlobal + Abort), facts: &mut Vec<GxFact>, at: Tag, is_ims: bool) {
     let name: &str = if is_ims { "ims" } else { "net" };
     let apn = Apn::folded(rt.alloc(), name.as_bytes()).expect(rt, "memory");
-    put(rt, facts, at, SessionValue::Apn(apn.expect(rt, "an access point")));
+    put(
+        rt,
+        facts,
+        at,
+        SessionValue::Apn(apn.expect(rt, "an access point")),
+    );
     let mut given = Vec::new(rt.alloc());
     let subscriber = Subscriber::of(SubscriptionType::EndUserImsi, text(rt, "x"));
     given.push(subscriber).expect(rt, "memory");
     let set = Subscribers::of(rt.alloc(), given).expect(rt, "memory");
-    put(rt, facts, at, SessionValue::Subscribers(set.expect(rt, "one subscriber")));
+    put(
+        rt,
+        facts,
+        at,
+        SessionValue::Subscribers(set.expect(rt, "one subscriber")),
+    );
 }
 
 /// The request of a gateway on its session of a number.
@@ -105,9 +115,17 @@ pub fn gateway_end(rt: &(impl AllocGlobal + Abort), number: u8, at: Tag) -> Oper
 }
 
 /// That a gateway was told of one rule of its session: it, or nothing.
-pub fn told(rt: &(impl AllocGlobal + Abort), id: GxSid, at: Tag, name: RuleName, rule: Option<Rule>) -> Operation {
+pub fn told(
+    rt: &(impl AllocGlobal + Abort),
+    id: GxSid,
+    at: Tag,
+    name: RuleName,
+    rule: Option<Rule>,
+) -> Operation {
     let mut facts = Vec::new(rt.alloc());
-    facts.push(GxFact::Told(at, name, rule)).expect(rt, "memory");
+    facts
+        .push(GxFact::Told(at, name, rule))
+        .expect(rt, "memory");
     operation(rt, at, SessionFacts::Gx(id, facts))
 }
 
@@ -119,12 +137,32 @@ fn put_call(rt: &impl Abort, facts: &mut Vec<AfFact>, fact: AfFact) {
 /// The request of a call of audio with one flow, for an address.
 pub fn call(rt: &(impl AllocGlobal + Abort), number: u8, at: Tag, place: u8) -> Operation {
     let mut facts = Vec::new(rt.alloc());
-    put_call(rt, &mut facts, AfFact::Session(at, SessionValue::Address(address(place))));
-    put_call(rt, &mut facts, AfFact::Session(at, SessionValue::Host(text(rt, "af"))));
-    put_call(rt, &mut facts, AfFact::Session(at, SessionValue::Realm(text(rt, "r"))));
+    put_call(
+        rt,
+        &mut facts,
+        AfFact::Session(at, SessionValue::Address(address(place))),
+    );
+    put_call(
+        rt,
+        &mut facts,
+        AfFact::Session(at, SessionValue::Host(text(rt, "af"))),
+    );
+    put_call(
+        rt,
+        &mut facts,
+        AfFact::Session(at, SessionValue::Realm(text(rt, "r"))),
+    );
     let last = BoundedNumber::of(0).expect(rt, "0");
-    put_call(rt, &mut facts, AfFact::Session(at, SessionValue::Last(last)));
-    put_call(rt, &mut facts, AfFact::Component(1, at, ComponentValue::MediaType(0)));
+    put_call(
+        rt,
+        &mut facts,
+        AfFact::Session(at, SessionValue::Last(last)),
+    );
+    put_call(
+        rt,
+        &mut facts,
+        AfFact::Component(1, at, ComponentValue::MediaType(0)),
+    );
     let mut filters = Vec::new(rt.alloc());
     let filter = text(rt, "permit out ip from any to any");
     filters.push(filter).expect(rt, "memory");

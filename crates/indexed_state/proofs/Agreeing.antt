@@ -1,12 +1,12 @@
 -- The parts of an indexed state agree after it changed.
-use Rattle.std.proofs.Common.{◌≡◌, ℕ, Bool, true, false, List, [], ◌⊎◌, Option, Some, None, inl, inr, refl, sym, ap, ◌∙◌, subst}
+use Rattle.std.proofs.Common.{◌≡◌, ℕ, Bool, true, false, List, [], Option, Some, None, inl, inr, refl, sym, ◌∙◌, subst}
 use Rattle.std.specs.declared.net.ipv4_addr.Ipv4Addr.{Ipv4Addr}
 use Rattle.ranked.specs.Sets.{In}
 use Rattle.ranked.proofs.Plain.{clash, none_some}
 use Rattle.pcrf_values.specs.RuleValues.{RuleValue}
 use Rattle.pcrf_facts.specs.Places.{Place}
 use Rattle.pcrf_facts.specs.Values.{Value}
-use Rattle.pcrf_model.specs.Holdings.{Holding, kept_of, union}
+use Rattle.pcrf_model.specs.Holdings.{Holding, kept_of}
 use Rattle.pcrf_model.specs.Laws.{DifferInOne, HasAddress, NeverMeet}
 use Rattle.pcrf_model.specs.Operations.{Operation, with_operation}
 use Rattle.pcrf_model.specs.Sessions.{Kind, Gx, Af, Session, gx, is_gx}
@@ -17,7 +17,7 @@ use Rattle.pcrf_model.proofs.NeighbourLaws.{others_keep}
 use Rattle.pcrf_model.proofs.TakingLaws.{taking_changes_one}
 use Rattle.pcrf_model.proofs.WaitingLaws.{neighbours_enough}
 use Rattle.session_index.specs.Index.{IndexValue, listed_at, Covers, Grows, ListsFacts}
-use Rattle.session_index.proofs.Covered.{covers_grow, covers_taken, covers_union}
+use Rattle.session_index.proofs.Covered.{covers_grow, covers_taken}
 use Rattle.kept_rules.specs.Kept.{RulesValue, kept_at, AreKept}
 use Rattle.kept_rules.proofs.Keeping.{none_kept}
 use Rattle.waiting_sessions.specs.Waits.{WaitingValue, waiting_of, DueWait, Keeps, WaitsIfDue, ListedWait}

@@ -1,10 +1,9 @@
 -- What the code reads of addresses, and what is stale and unlisted at them.
-use Rattle.std.proofs.Common.{◌≡◌, ℕ, true, false, List, [], Option, Some, None, refl, sym, ap, ◌∙◌, subst, option_map}
+use Rattle.std.proofs.Common.{◌≡◌, ℕ, List, [], Option, Some, None, refl, sym, ap, ◌∙◌, subst, option_map}
 use Rattle.std.specs.Net.Addr.{ipv4_octets}
 use Rattle.std.specs.declared.net.ipv4_addr.Ipv4Addr.{Ipv4Addr}
 use Rattle.ranked.specs.Sets.{In}
-use Rattle.ranked.proofs.Plain.{clash, none_some, some_same}
-use Rattle.pcrf_values.specs.RuleValues.{RuleValue}
+use Rattle.ranked.proofs.Plain.{none_some, some_same}
 use Rattle.pcrf_facts.specs.Facts.{Fact}
 use Rattle.pcrf_facts.specs.Held.{shown}
 use Rattle.pcrf_facts.specs.Places.{address}
@@ -14,7 +13,7 @@ use Rattle.pcrf_model.specs.Sessions.{Session, Gx}
 use Rattle.pcrf_model.specs.Views.{View, view, value}
 use Rattle.session_index.specs.Forgetting.{ShowsAddress}
 use Rattle.session_index.specs.Index.{IndexValue, listed_at}
-use Rattle.kept_rules.specs.Kept.{RulesValue, kept_at, AreStale}
+use Rattle.kept_rules.specs.Kept.{RulesValue, AreStale}
 use Rattle.indexed_state.specs.Indexed.{address_value, IsAddressOf, TouchesAt}
 
 -- what a record shows as its address is what the view has

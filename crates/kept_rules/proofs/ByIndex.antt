@@ -9,11 +9,10 @@ use Rattle.ranked.specs.declared.tag.Tag.{Tag}
 use Rattle.ranked.proofs.OrderLaws.{eq_is}
 use Rattle.ranked.proofs.Plain.{clash, none_some, some_same}
 use Rattle.ranked.proofs.SetLaws.{In-map, map-In}
-use Rattle.pcrf_values.specs.RuleValues.{RuleValue}
 use Rattle.pcrf_facts.specs.Facts.{Fact}
 use Rattle.pcrf_facts.specs.FlowWords.{flows}
 use Rattle.pcrf_facts.specs.Held.{shown}
-use Rattle.pcrf_facts.specs.Places.{Place, address}
+use Rattle.pcrf_facts.specs.Places.{address}
 use Rattle.pcrf_facts.specs.Values.{Value, Address, Entry}
 use Rattle.pcrf_model.specs.Bindings.{bind, is_bound_to}
 use Rattle.pcrf_model.specs.Holdings.{SessionFact, facts_on}
@@ -24,7 +23,7 @@ use Rattle.pcrf_model.proofs.BindLaws.{bind-greatest}
 use Rattle.pcrf_model.proofs.HoldingLaws.{session_ranked}
 use Rattle.pcrf_model.proofs.NeighbourLaws.{both_show}
 use Rattle.session_index.specs.Index.{IndexValue, Covers, listed_at}
-use Rattle.pcc_rules.specs.FlowsAlone.{AreLow, AreLowWhereBound, rules_of_flows, rules_of_sessions}
+use Rattle.pcc_rules.specs.FlowsAlone.{AreLow, rules_of_flows, rules_of_sessions}
 use Rattle.pcc_rules.specs.Listed.{AddsCalled, AddsRules, HasBound, record_of, records_of}
 use Rattle.pcc_rules.specs.Listing.{keyed}
 use Rattle.pcc_rules.proofs.SoFar.{Keyed, SessionsSoFar}

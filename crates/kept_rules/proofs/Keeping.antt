@@ -1,5 +1,5 @@
 -- Lists that are kept are those of their sessions.
-use Rattle.std.proofs.Common.{◌≡◌, ℕ, Bool, true, false, cond, List, map, Option, Some, None, Result, Ok, Err, is_some, OnOk, OnErr, refl, sym, ap, ◌∙◌, subst}
+use Rattle.std.proofs.Common.{◌≡◌, ℕ, Bool, true, false, cond, List, map, Option, Some, None, Result, Ok, Err, is_some, option_map, OnOk, OnErr, refl, sym, ap, ◌∙◌, subst}
 use Rattle.std.specs.Ordering.{is_eq}
 use Rattle.ranked.specs.Orders.{text_cmp}
 use Rattle.ranked.specs.Sets.{Distinct}
@@ -22,8 +22,11 @@ none_kept t v kept none = record {
 
 module _ (t : Tables) (v : View) (before : RulesValue) (h : AreKept t v before) where
   -- a list that is kept is the session's
-  pub kept_is : (id : List ℕ) (o : Option (List RuleValue)) → o ≡ kept_at before id → is_some o ≡ true → kept_at before id ≡ Some (rules t v (gx id))
-  kept_is id o e k = let w = some_is o k in sym e ∙ w.1 ∙ ap Some (h.each id w.0 (sym e ∙ w.1))
+  pub kept_is : {A : Type 0} (f : A → List RuleValue) (id : List ℕ) (o : Option A) → option_map f o ≡ kept_at before id → is_some o ≡ true → kept_at before id ≡ Some (rules t v (gx id))
+  kept_is f id o e k =
+      let w = some_is o k in
+      let there : kept_at before id ≡ Some (f w.0) = sym e ∙ ap (option_map f) w.1 in
+      there ∙ ap Some (h.each id (f w.0) there)
 
   module _ (id : List ℕ) (made : List RuleValue) (is : made ≡ rules t v (gx id)) (apart : Distinct (map rule_name_of made)) where
     -- the list that is there after one more is kept

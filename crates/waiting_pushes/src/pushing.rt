@@ -31,13 +31,13 @@ pub fn next_waiting(
     tables: &Tables,
     state: &State,
     index: &Index,
-    rules: &mut Rules,
+    lists: &mut Rules,
     waiting: &mut Waiting,
     site: u8,
     host: &DiameterIdentity,
 ) -> Result<Option<PushOut>, AllocError>
     requires covers { Covers (view state.now.facts) index.now }
-    requires kept { AreKept tables.now (view state.now.facts) rules.old }
+    requires kept { AreKept tables.now (view state.now.facts) lists.old }
     requires some { waiting.old.all ≡ false }
     requires due { DueWait tables.now site (view state.now.facts) waiting.old }
     ensures push { IfOk result (λ push. option_map push_view push
@@ -45,7 +45,7 @@ pub fn next_waiting(
         (due tables.now site (view state.now.facts) (Some host.now))) }
     ensures names { IfOk result (λ push. IfSome push (λ p. Distinct (map rule_name_of
         (rules tables.now (view state.now.facts) (gx p.session))))) }
-    ensures kept { AreKept tables.now (view state.now.facts) rules.new }
+    ensures kept { AreKept tables.now (view state.now.facts) lists.new }
     ensures due { DueWait tables.now site (view state.now.facts) waiting.new }
 {
     let asked = Asked {
@@ -53,7 +53,7 @@ pub fn next_waiting(
         host: Some(host.as_slice()),
     };
     while let Some(id) = waiting.take_first(host) {
-        let Ok(push) = push_by(alloc, tables, state, index, rules, &asked, &id) else {
+        let Ok(push) = push_by(alloc, tables, state, index, lists, &asked, &id) else {
             waiting.add(host, &id);
             return Err(AllocError);
         };

@@ -31,19 +31,19 @@ pub fn untold_by(
     tables: &Tables,
     state: &State,
     index: &Index,
-    rules: &mut Rules,
+    lists: &mut Rules,
     session: &GxSid,
 ) -> Result<Delta, AllocError>
     requires covers { Covers (view state.now.facts) index.now }
-    requires kept { AreKept tables.now (view state.now.facts) rules.old }
+    requires kept { AreKept tables.now (view state.now.facts) lists.old }
     ensures difference { IfOk result (λ delta. delta
         ≡ untold tables.now (view state.now.facts) (gx session.now)) }
     ensures names { OnOk result (Distinct (map rule_name_of
         (rules tables.now (view state.now.facts) (gx session.now)))) }
-    ensures kept { AreKept tables.now (view state.now.facts) rules.new }
+    ensures kept { AreKept tables.now (view state.now.facts) lists.new }
 {
-    rules.fill(tables, state, index, session)?;
-    let Some(list) = rules.get(session) else {
+    lists.fill(tables, state, index, session)?;
+    let Some(list) = lists.get(session) else {
         unreachable!()
     };
     let told = told_of(alloc, state, session)?;
@@ -56,23 +56,23 @@ pub(crate) fn push_by(
     tables: &Tables,
     state: &State,
     index: &Index,
-    rules: &mut Rules,
+    lists: &mut Rules,
     asked: &Asked<'_>,
     session: &GxSid,
 ) -> Result<Option<PushOut>, AllocError>
     requires covers { Covers (view state.now.facts) index.now }
-    requires kept { AreKept tables.now (view state.now.facts) rules.old }
+    requires kept { AreKept tables.now (view state.now.facts) lists.old }
     ensures push { IfOk result (λ push. option_map push_view push
         ≡ push_if_due tables.now asked.now.site (view state.now.facts)
         (option_copied asked.now.host) (gx session.now)) }
     ensures names { IfOk result (λ push. IfSome push (λ p. Distinct (map rule_name_of
         (rules tables.now (view state.now.facts) (gx p.session))))) }
-    ensures kept { AreKept tables.now (view state.now.facts) rules.new }
+    ensures kept { AreKept tables.now (view state.now.facts) lists.new }
 {
     let Some(known) = state.gx(session) else {
         return Ok(None);
     };
-    push_known(alloc, tables, state, index, rules, asked, session, known)
+    push_known(alloc, tables, state, index, lists, asked, session, known)
 }
 
 /// The push of the session of which this is known, if it is due.
@@ -81,24 +81,24 @@ fn push_known(
     tables: &Tables,
     state: &State,
     index: &Index,
-    rules: &mut Rules,
+    lists: &mut Rules,
     asked: &Asked<'_>,
     session: &GxSid,
     known: &GxRec,
 ) -> Result<Option<PushOut>, AllocError>
     requires covers { Covers (view state.now.facts) index.now }
-    requires kept { AreKept tables.now (view state.now.facts) rules.old }
+    requires kept { AreKept tables.now (view state.now.facts) lists.old }
     ensures push { IfOk result (λ push. option_map push_view push
         ≡ push_due tables.now (view state.now.facts) asked.now.site
         (option_copied asked.now.host) session.now known.now) }
     ensures names { IfOk result (λ push. IfSome push (λ p. Distinct (map rule_name_of
         (rules tables.now (view state.now.facts) (gx p.session))))) }
-    ensures kept { AreKept tables.now (view state.now.facts) rules.new }
+    ensures kept { AreKept tables.now (view state.now.facts) lists.new }
 {
     if !is_asked(asked, known) {
         return Ok(None);
     }
-    let delta = untold_by(alloc, tables, state, index, rules, session)?;
+    let delta = untold_by(alloc, tables, state, index, lists, session)?;
     if is_empty(&delta) {
         return Ok(None);
     }

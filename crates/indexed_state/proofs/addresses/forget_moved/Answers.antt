@@ -1,4 +1,3 @@
-use Rattle.std.proofs.Common.{sym, ◌∙◌}
 use Rattle.ranked.proofs.Plain.{clash}
 use Rattle.pcrf_model.specs.Sessions.{gx, af}
 use Rattle.indexed_state.proofs.Reading.{not_shown}

@@ -1,4 +1,3 @@
-use Rattle.ranked.proofs.Plain.{clash}
 use Rattle.session_index.proofs.Covering.{grows_itself}
 use Rattle.indexed_state.proofs.whole.make_whole.Goals as goal
 

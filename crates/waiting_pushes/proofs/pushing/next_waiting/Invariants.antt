@@ -7,7 +7,7 @@ use Rattle.waiting_pushes.proofs.pushing.next_waiting.Given as goal
 -- lists are kept as they were, not all wait, and all that are due do
 abbrev pub invariant-loop-id : goal.invariant-loop-id
 invariant-loop-id l = record {
-  kept : AreKept l.tables (view l.state.facts) l.rules;
+  kept : AreKept l.tables (view l.state.facts) l.lists;
   some : l.waiting.all ≡ false;
   due : DueWait l.tables l.site (view l.state.facts) l.waiting;
 }

@@ -1,6 +1,6 @@
 use Rattle.std.proofs.Common.{ℕ, List, sym, subst, ◌∙◌}
 use Rattle.kept_rules.specs.Kept.{AreStale}
-use Rattle.kept_rules.proofs.Stale.{StaleSoFar, stale_none, stale_more}
+use Rattle.kept_rules.proofs.Stale.{stale_none, stale_more}
 use Rattle.kept_rules.proofs.kept.Rules.touch_each.Goals as goal
 
 pub loop-session-init : goal.loop-session-init
