@@ -5,5 +5,5 @@
 mod pushing;
 mod telling;
 
-pub use pushing::next_push;
-pub use telling::untold;
+pub use pushing::{Asked, is_asked, is_empty, next_push, push_to};
+pub use telling::{told_of, untold};

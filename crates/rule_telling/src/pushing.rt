@@ -24,11 +24,11 @@ use std::collections::btree_map::Iter;
 
 /// Of which sessions a push is asked for.
 #[derive(Clone, Copy)]
-struct Asked<'a> {
+pub struct Asked<'a> {
     /// The site that is their home.
-    site: u8,
+    pub site: u8,
     /// The host of their gateway, any where none is given.
-    host: Option<&'a [u8]>,
+    pub host: Option<&'a [u8]>,
 }
 
 /// The push that is due at a site: of the live sessions of gateways whose home it is, whose host is the given one (any
@@ -102,14 +102,14 @@ fn push_due(
 }
 
 /// Nothing is to be removed or installed.
-fn is_empty(delta: &Delta) -> bool
+pub fn is_empty(delta: &Delta) -> bool
     ensures { result ≡ is_empty delta.now }
 {
     delta.removed().is_empty() && delta.installed().is_empty()
 }
 
 /// The push to the gateway of a live session.
-fn push_to(session: &GxSid, known: &GxRec, delta: FirstEntries) -> Result<PushOut, AllocError>
+pub fn push_to(session: &GxSid, known: &GxRec, delta: FirstEntries) -> Result<PushOut, AllocError>
     requires { gx_is_live known.now ≡ true }
     ensures { IfOk result (λ push. push_view push
         ≡ push_to (alone known.now) (gx session.now) delta) }
@@ -132,7 +132,7 @@ fn push_to(session: &GxSid, known: &GxRec, delta: FirstEntries) -> Result<PushOu
 }
 
 /// The session is live, and one of those that are asked for.
-fn is_asked(asked: &Asked<'_>, known: &GxRec) -> bool
+pub fn is_asked(asked: &Asked<'_>, known: &GxRec) -> bool
     ensures { result ≡ is_asked asked.now.site (option_copied asked.now.host) known.now }
 {
     known.live() && is_at_home(known, asked.site) && is_at_host(known, asked.host)

@@ -35,7 +35,7 @@ pub fn untold(
 }
 
 /// What the gateway of a session was told: nothing, where no fact of the session is known.
-fn told_of(alloc: Global, state: &State, session: &GxSid) -> Result<Told, AllocError>
+pub fn told_of(alloc: Global, state: &State, session: &GxSid) -> Result<Told, AllocError>
     ensures { IfOk result (λ entries. entries
         ≡ told (view state.now.facts) (gx session.now)) }
 {

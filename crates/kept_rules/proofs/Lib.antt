@@ -1,0 +1,3 @@
+pub mod Stale
+pub mod ByIndex
+pub mod Keeping

@@ -1,0 +1,2 @@
+pub mod DueAlone
+pub mod Passing

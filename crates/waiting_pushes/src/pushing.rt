@@ -1,0 +1,66 @@
+//! The push of the first session that is due, of those that wait.
+ghost use Rattle.std.specs.Prelude.{◌≡◌, Some, false, IfOk, IfSome, map, option_map};
+ghost use Rattle.ranked.specs.Sets.{Distinct};
+ghost use Rattle.pcrf_model.specs.Differences.{rule_name_of};
+ghost use Rattle.pcrf_model.specs.Pushing.{due};
+ghost use Rattle.pcrf_model.specs.Rules.{rules};
+ghost use Rattle.pcrf_model.specs.Sessions.{gx};
+ghost use Rattle.pcrf_model.specs.Views.{view};
+ghost use Rattle.reply_values.specs.Replies.{push_view};
+ghost use Rattle.kept_rules.specs.Kept.{AreKept};
+ghost use Rattle.rule_telling.specs.Pushed.{push_of};
+ghost use Rattle.session_index.specs.Index.{Covers};
+ghost use Rattle.waiting_sessions.specs.Waits.{DueWait};
+
+use crate::telling::push_by;
+use kept_rules::Rules;
+use op_tables::Tables;
+use pcrf_values::DiameterIdentity;
+use reply_values::PushOut;
+use rule_telling::Asked;
+use session_index::Index;
+use site_join::State;
+use std::alloc::{AllocError, Global};
+use waiting_sessions::Waiting;
+
+/// The push that is due at a site for a host, as `next_push` gives it, where not all wait and all that are due do. It looks at
+/// sessions that wait under the host alone; those that it looks at and that aren't due no longer wait. A refusal leaves what
+/// it found so far.
+pub fn next_waiting(
+    alloc: Global,
+    tables: &Tables,
+    state: &State,
+    index: &Index,
+    lists: &mut Rules,
+    waiting: &mut Waiting,
+    site: u8,
+    host: &DiameterIdentity,
+) -> Result<Option<PushOut>, AllocError>
+    requires covers { Covers (view state.now.facts) index.now }
+    requires kept { AreKept tables.now (view state.now.facts) lists.old }
+    requires some { waiting.old.all ≡ false }
+    requires due { DueWait tables.now site (view state.now.facts) waiting.old }
+    ensures push { IfOk result (λ push. option_map push_view push
+        ≡ option_map (push_of tables.now (view state.now.facts))
+        (due tables.now site (view state.now.facts) (Some host.now))) }
+    ensures names { IfOk result (λ push. IfSome push (λ p. Distinct (map rule_name_of
+        (rules tables.now (view state.now.facts) (gx p.session))))) }
+    ensures kept { AreKept tables.now (view state.now.facts) lists.new }
+    ensures due { DueWait tables.now site (view state.now.facts) waiting.new }
+{
+    let asked = Asked {
+        site,
+        host: Some(host.as_slice()),
+    };
+    while let Some(id) = waiting.take_first(host) {
+        let Ok(push) = push_by(alloc, tables, state, index, lists, &asked, &id) else {
+            waiting.add(host, &id);
+            return Err(AllocError);
+        };
+        if push.is_some() {
+            waiting.add(host, &id);
+            return Ok(push);
+        }
+    }
+    Ok(None)
+}

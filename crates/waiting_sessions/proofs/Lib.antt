@@ -1,0 +1,4 @@
+pub mod Waited
+pub mod Reading
+pub mod Listed
+pub mod FirstDue

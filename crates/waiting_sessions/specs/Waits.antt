@@ -1,0 +1,46 @@
+-- Who waits to be looked at for a push, where all may wait.
+use Rattle.std.specs.Prelude.{◌≡◌, ℕ, Bool, true, false, List, Option, Some}
+use Rattle.std.specs.declared.net.ipv4_addr.Ipv4Addr.{Ipv4Addr}
+use Rattle.ranked.specs.Orders.{text_cmp}
+use Rattle.ranked.specs.Sets.{In}
+use Rattle.pcrf_facts.specs.Places.{host}
+use Rattle.pcrf_model.specs.Sessions.{Gx, Session, is_gx}
+use Rattle.pcrf_model.specs.Tables.{Tables}
+use Rattle.pcrf_model.specs.Views.{View, text}
+use Rattle.pcrf_model.specs.Waiting.{Waiting, AllDueWait, Stay}
+use Rattle.session_lists.specs.Lists.{ids_at}
+use Rattle.session_index.specs.Index.{IndexValue, listed_at}
+
+-- all sessions wait, or those of the lists, each under the host of its gateway
+pub record WaitingValue : Type 0 where
+  pub all : Bool
+  pub lists : List (List ℕ × List (List ℕ))
+
+-- the lists, as the definitions have them
+abbrev pub waiting_of : WaitingValue → Waiting
+waiting_of w name = ids_at text_cmp w.lists name
+
+-- each session that is due waits
+pub record DueWait (t : Tables) (i : ℕ) (v : View) (w : WaitingValue) : Type 0 where
+  pub listed : w.all ≡ false → AllDueWait t i v (waiting_of w)
+
+-- all that wait stay, unless all wait afterwards
+pub record Keeps (before after : WaitingValue) : Type 0 where
+  pub some : after.all ≡ false → before.all ≡ false
+  pub stay : after.all ≡ false → Stay (waiting_of before) (waiting_of after)
+
+-- the session waits under the host
+pub record WaitsUnder (w : WaitingValue) (name id : List ℕ) : Type 0 where
+  pub there : w.all ≡ false → In id (waiting_of w name)
+
+-- the session waits under the host that it shows, if it shows one
+pub record WaitsIfDue (v : View) (w : WaitingValue) (s : Session) : Type 0 where
+  pub there : w.all ≡ false → (name : List ℕ) → text v s host ≡ Some name → In s.id (waiting_of w name)
+
+-- so does each session of a gateway
+pub record EachWaits (v : View) (w : WaitingValue) : Type 0 where
+  pub each : (s : Session) → is_gx s.kind ≡ true → WaitsIfDue v w s
+
+-- each gateway's session that is listed under the address waits, where it may be due
+pub record ListedWait (v : View) (index : IndexValue) (w : WaitingValue) (at : Option Ipv4Addr) : Type 0 where
+  pub each : (a : Ipv4Addr) (s : Session) → at ≡ Some a → s.kind ≡ Gx → In s.id (listed_at index Gx a) → WaitsIfDue v w s
