@@ -8,6 +8,7 @@ use gx_records::Told;
 use pcrf_values::{Delta, Rule, RuleName};
 use ranked::{Ranked, ascending_of};
 use std::alloc::{AllocError, Global};
+use std::cmp::Ordering;
 
 /// What a gateway that was told these rules has after this difference: without the removed names, and with the installed
 /// rules in the place of those of their names; of two that are installed under one name the later one.
@@ -60,5 +61,10 @@ fn add_rules(pairs: &mut Vec<(RuleName, Rule)>, rules: &[Rule]) -> Result<(), Al
 fn has_name(rules: &[Rule], name: &RuleName) -> bool
     ensures { result ≡ list_any (has_name name.now) rules.now }
 {
-    rules.iter().any(|rule| rule.name() == name)
+    for rule in rules {
+        if rule.name().cmp(name) == Ordering::Equal {
+            return true;
+        }
+    }
+    false
 }

@@ -144,7 +144,6 @@ pub fn told_nothing(rt: &(impl AllocGlobal + Abort), at: Tag, name: &str) -> GxF
 }
 
 /// The record that a state, whose clock is not above that one, has of a gateway's session, if a fact of it is known.
-#[tactic(auto, using(crate::proofs::Putting::record_up_to))]
 pub fn gateway_record(
     rt: &(impl AllocGlobal + Abort),
     state: &State,
@@ -161,7 +160,6 @@ pub fn gateway_record(
 }
 
 /// The record that it has of a call.
-#[tactic(auto, using(crate::proofs::Putting::record_up_to))]
 pub fn call_record(
     rt: &(impl AllocGlobal + Abort),
     state: &State,
@@ -179,7 +177,7 @@ pub fn call_record(
 
 /// Puts a record, or none, in the place of that of a gateway's session, sets the clock, which doesn't go back, and gives
 /// the record that stood.
-#[tactic(auto, using(crate::proofs::Putting::put_up_to, crate::proofs::Putting::record_up_to))]
+#[tactic(auto, using(crate::proofs::Putting::put_up_to))]
 pub fn put_gateway(
     rt: &(impl AllocGlobal + Abort),
     state: &mut State,
@@ -198,7 +196,7 @@ pub fn put_gateway(
 }
 
 /// Puts a record, or none, in the place of that of a call, as `put_gateway` does.
-#[tactic(auto, using(crate::proofs::Putting::put_up_to, crate::proofs::Putting::record_up_to))]
+#[tactic(auto, using(crate::proofs::Putting::put_up_to))]
 pub fn put_call(
     rt: &(impl AllocGlobal + Abort),
     state: &mut State,

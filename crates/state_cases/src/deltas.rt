@@ -1,6 +1,6 @@
 //! What a gateway is to be told, and what it has then: the rules told, those it is to have, and, behind them, the names
 //! to remove, the rules to install, and what it was told afterwards. A rule is a name, or a name and which part of it
-//! differs, as `a.3`.
+//! differs, as `a.3`; of two rules of one name the later one is what the gateway has.
 use crate::words::{number, text};
 use gx_records::Told;
 use pcrf_values::{
@@ -29,7 +29,9 @@ a | a.7 |  | a.7 | a.7
 a | a.8 |  | a.8 | a.8
 a | a.9 |  | a.9 | a.9
 a b.4 c | c.1 b.4 z | a | c.1 z | b.4 c.1 z
-a ab abc | abc | a ab |  | abc";
+a ab abc | abc | a ab |  | abc
+a | b.1 a b.3 |  | b.1 b.3 | a b.3
+b | b.1 a.2 b.4 a |  | b.1 a.2 b.4 a | a b.4";
 
 /// The filters of a rule.
 fn filters(rt: &(impl AllocGlobal + Abort), texts: &[&str]) -> Filters {

@@ -4,7 +4,7 @@ use Rattle.pcrf_model.specs.Differences.{as_told, last_of_names}
 use Rattle.rule_delta.proofs.application.add_rules.Given as goal
 
 abbrev pub invariant-loop-rule : goal.invariant-loop-rule
-invariant-loop-rule l = l.pairs.items ++ map as_told (last_of_names l.rest.now) ≡ l.fn.pairs.items ++ map as_told (last_of_names l.fn.rules)
+invariant-loop-rule l = l.pairs.items ++ map as_told (last_of_names l.rest) ≡ l.fn.pairs.items ++ map as_told (last_of_names l.fn.rules)
 
 abbrev pub decreases-loop-rule : goal.decreases-loop-rule
-decreases-loop-rule l = length l.rest.now
+decreases-loop-rule l = length l.rest
