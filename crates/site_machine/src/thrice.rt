@@ -1,5 +1,5 @@
 //! Events whose reply is told three times.
-ghost use Rattle.std.specs.Prelude.{◌≡◌, ◌≢◌, true, IfOk, IfErr, OnErr};
+ghost use Rattle.std.specs.Prelude.{◌≡◌, ◌≢◌, true, IfOk, OnOk, IfErr, OnErr};
 ghost use Rattle.pcrf_model.specs.Limits.{delta_limit};
 ghost use Rattle.pcrf_model.specs.Steps.{MayReply, Serve, Push};
 ghost use Rattle.site_machine.specs.Replies.{is_plain};
