@@ -38,7 +38,7 @@ returns-in_default-next_counter-clause-reply c =
     let q = ccr_view c.args.ccr.now in
     let full = ap (λ (b : Bool). cond b (Some unable_to_comply) None) (c.next_counter.ensures.full c.in_default-next_counter.is) in
     let refused = c.standing_refusal.ensures ∙ ap (λ (x : Option Refusal). or_else x (by_clock s.state.holding)) c.in_default.is ∙ full ∙ ap Some (sym c.base.ensures) in
-    c.refused.ensures.reply ∙ sym (ap (λ (o : Outcome). o.reply) (served_refused s q c.base.result refused))
+    c.refused-in_default-next_counter.ensures.reply ∙ sym (ap (λ (o : Outcome). o.reply) (served_refused s q c.base.result refused))
 
 pub returns-in_default-next_counter-clause-ok : goal.returns-in_default-next_counter-clause-ok
 returns-in_default-next_counter-clause-ok c =
