@@ -1,6 +1,6 @@
 pub mod Turns
 pub mod Putting
-pub mod Reading
+pub mod StreamReading
 pub mod Cutting
 pub mod Wholes
 pub mod Somes

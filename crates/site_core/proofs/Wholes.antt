@@ -13,7 +13,7 @@ use Rattle.site_core.specs.Cuts.{Cuts, cut_of}
 use Rattle.site_core.specs.Conversations.{Conversation, conversation, conversation_of, prepend, ended_by, after_all, answers, GoesOn, IsEnd}
 use Rattle.site_core.specs.Conversing.{Went, Stops, Conversed}
 use Rattle.site_core.proofs.Turns.{each-append, stream_of-two}
-use Rattle.site_core.proofs.Reading.{none_front}
+use Rattle.site_core.proofs.StreamReading.{none_front}
 use Rattle.site_core.proofs.Cutting.{cut_of_is, cut_of_only, cut_none, cut_some}
 
 -- the frames that were served, and then those of the rest

@@ -1,6 +1,6 @@
 use Rattle.std.proofs.Common.{rules, arith, ◌≡◌, ◌++◌, [], take, sym, length, ◌<◌}
 use Rattle.std.specs.Io.KnownBytes.{Consumes}
-use Rattle.site_core.proofs.Reading.{reads_nothing, reads_on, read_stops, read_no_memory, read_failed, read_closed, read_cut, none_front, gave_nothing}
+use Rattle.site_core.proofs.StreamReading.{reads_nothing, reads_on, read_stops, read_no_memory, read_failed, read_closed, read_cut, none_front, gave_nothing}
 use Rattle.site_core.proofs.conversing.answer_all.Goals as goal
 
 pub loop-turn-init : goal.loop-turn-init

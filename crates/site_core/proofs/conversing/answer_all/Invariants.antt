@@ -1,6 +1,6 @@
 use Rattle.std.proofs.Common.{◌≡◌, ◌≤◌, ◌+◌, ◌-◌, ◌^◌, min, None, Ok}
 use Rattle.dia_codec.specs.Stream.{front_of}
-use Rattle.site_core.proofs.Reading.{Reads}
+use Rattle.site_core.proofs.StreamReading.{Reads}
 use Rattle.site_core.proofs.conversing.answer_all.Given as goal
 
 abbrev pub invariant-loop-turn : goal.invariant-loop-turn
