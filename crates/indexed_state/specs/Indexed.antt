@@ -26,9 +26,9 @@ abbrev pub with_holding : IndexedValue → Holding → IndexedValue
 with_holding x h = record x { holding = h }
 
 -- an index that is whole covers what is held, each list of rules that isn't stale is that of its session, and each session that is due waits
-pub record Agree (t : Tables) (i : ℕ) (h : Holding) (is_whole : Bool) (index : IndexValue) (kept : RulesValue) (w : WaitingValue) : Type 0 where
+pub record Agree (t : Tables) (i : ℕ) (h : Holding) (is_whole : Bool) (index : IndexValue) (lists : RulesValue) (w : WaitingValue) : Type 0 where
   pub covers : is_whole ≡ true → Covers (view h.facts) index
-  pub kept : AreKept t (view h.facts) kept
+  pub kept : AreKept t (view h.facts) lists
   pub due : DueWait t i (view h.facts) w
 
 -- an address of the code, as what a place shows

@@ -6,7 +6,7 @@ ghost use Rattle.gx_profile.specs.Pushes.{push_view};
 ghost use Rattle.pcrf_model.specs.Bindings.{bind};
 ghost use Rattle.pcrf_model.specs.Differences.{rule_name_of};
 ghost use Rattle.pcrf_model.specs.Forms.{are_up_to};
-ghost use Rattle.pcrf_model.specs.Holdings.{SessionFact, facts_on, kept_of, replaced, union};
+ghost use Rattle.pcrf_model.specs.Holdings.{SessionFact, facts_on, kept_of, nothing_held, replaced, union};
 ghost use Rattle.pcrf_model.specs.Limits.{last_counter};
 ghost use Rattle.pcrf_model.specs.Operations.{with_operation};
 ghost use Rattle.pcrf_model.specs.Pushing.{due};
@@ -15,7 +15,7 @@ ghost use Rattle.pcrf_model.specs.Sessions.{gx, af};
 ghost use Rattle.pcrf_model.specs.Views.{view};
 ghost use Rattle.ranked.specs.Sets.{Distinct};
 ghost use Rattle.rule_telling.specs.Pushed.{push_of, untold};
-ghost use Rattle.site_join.specs.States.{nothing_held, record_facts};
+ghost use Rattle.site_join.specs.States.{record_facts};
 
 use crate::addresses::{address_of, forget_moved, touch_at, wait_own};
 use crate::whole::make_whole;
