@@ -4,7 +4,6 @@ that `letter_cases` runs.
     python3 oracle/letters.py stdin > crates/letter_cases/stdin
     python3 oracle/letters.py stdout > crates/letter_cases/stdout
 """
-import random
 import sys
 
 EDITION = 7
@@ -127,7 +126,28 @@ class Reader:
         if kind == 2 and number != 0:
             raise Bad()
         self.text(512)
-        facts = [self.fact(kind) for _ in range(self.number(4, 1))]
+        self.stand_together([self.fact(kind) for _ in range(self.number(4, 1))])
+
+    def tag(self, kind, position, clock):
+        """The tag behind a fact that has one."""
+        if position[0] in (2, 5, 6, 7):
+            self.number(4, 0, None if kind == 1 and position[0] == 2 else 0)
+            self.number(8, 1, clock)
+            self.number(1, 0, 15)
+
+    def group(self, clock):
+        """What a state holds of a session, which it returns."""
+        kind = self.number(1, 1, 2)
+        session = self.text(512)
+        facts = []
+        for _ in range(self.number(4, 1)):
+            facts.append(self.fact(kind))
+            self.tag(kind, facts[-1], clock)
+        self.stand_together(facts)
+        return kind, session
+
+    def stand_together(self, facts):
+        """The facts ascend, and none removes another."""
         if any(a >= b for a, b in zip(facts, facts[1:])):
             raise Bad()
         if facts[0][0] == 1 and len(facts) > 1:
@@ -149,6 +169,12 @@ class Reader:
                 raise Bad()
             for _ in range(count):
                 self.operation()
+        elif kind == 2:
+            clock = self.number(8, 0, LAST)
+            self.number(8, 0, LAST)
+            groups = [self.group(clock) for _ in range(self.number(4))]
+            if any(a >= b for a, b in zip(groups, groups[1:])):
+                raise Bad()
         elif kind == 3:
             self.number(1, 0, 15)
             self.number(2)
@@ -199,6 +225,25 @@ def letter(body, version=1, edition=EDITION, site=0, epoch=1):
 def log_range(operations, first=0, count=None):
     count = len(operations) if count is None else count
     return u(1, 1) + u(8, first) + u(4, count) + b"".join(operations)
+
+
+def snapshot(groups, clock=9, log=0, count=None):
+    count = len(groups) if count is None else count
+    return u(1, 2) + u(8, clock) + u(8, log) + u(4, count) + b"".join(groups)
+
+
+def tag(counter=1, site=0, number=0):
+    return u(4, number) + u(8, counter) + u(1, site)
+
+
+def group(facts, kind=2, session=b"af;1", count=None):
+    """Of facts and the tags behind them, an empty one where a fact has none."""
+    count = len(facts) if count is None else count
+    return u(1, kind) + text(session) + u(4, count) + b"".join(fact + own for fact, own in facts)
+
+
+def gateway(facts, session=b"gw;1;1", **more):
+    return group(facts, kind=1, session=session, **more)
 
 
 def acknowledgement(maker=0, epoch=1, cursor=1):
@@ -296,6 +341,82 @@ def call():
                       flow(1, 2, 2, 1), flow(1, 2, 3, 2), flow(1, 2, 4, 5000), flow(1, 2, 5, 5000)])
 
 
+def attached(own=None):
+    own = tag(number=3) if own is None else own
+    return gateway([(address(), own), (apn(), own), (subscribers([E164, IMSI]), own), (host(b"gw"), own), (realm(), own),
+                    (last(1), own), (told(b"op/old"), tag(2)), (told(b"op/sip", rule()), tag())])
+
+
+def called():
+    two = filters([b"permit in ip from any to any", b"permit out ip from any to any"])
+    return group([(address(), tag(4)), (host(), tag(9, 15)), (realm(), tag(9)), (last(0), tag()), (component_removed(9), b""),
+                  (flow_removed(1, 7), b""), (component(1, 1, 0), tag()), (component(1, 4, 80000), tag(3)),
+                  (flow(1, 1, 1, two), tag()), (flow(1, 2, 5, 5000), tag(8, 7))])
+
+
+def state(groups, **more):
+    return letter(snapshot(groups, **more))
+
+
+def whole_states():
+    """Whole states that are read: each form of fact with its tag, and each bound at its end."""
+    yield "a state of nothing", state([], clock=0)
+    yield "the last clock and length", state([], clock=LAST, log=LAST)
+    yield "a state of an ended session", state([gateway([(END, b"")])], clock=0)
+    yield "a state of a gateway's session", state([attached()], log=2)
+    yield "a state of a call", state([called()])
+    yield "a state of both", state([attached(), called()], log=1)
+    yield "sessions in order", state([gateway([(END, b"")], session=b"a"), gateway([(END, b"")], session=b"ab"),
+                                     gateway([(END, b"")], session=b"b"), group([(END, b"")], session=b"a")])
+    yield "a tag at the clock", state([group([(host(), tag(9))])])
+    yield "the greatest tag", state([gateway([(host(), tag(LAST, 15, 2 ** 32 - 1))])], clock=LAST)
+    yield "removals alone", state([group([(component_removed(1), b""), (flow_removed(2, 1), b"")])], clock=0)
+
+
+def broken_states():
+    """Whole states that are not read."""
+    yield "a clock of 2^63", state([], clock=2 ** 63)
+    yield "a log of 2^63", state([], log=2 ** 63)
+    yield "a count of groups above them", state([attached()], count=2)
+    yield "the greatest count of groups", state([attached()], count=2 ** 32 - 1)
+    yield "a count of groups below them", state([attached(), called()], count=1)
+    yield "groups out of order", state([called(), attached()])
+    yield "a group twice", state([attached(), attached()])
+    yield "a session before its beginning", state([group([(END, b"")], session=b"ab"), group([(END, b"")], session=b"a")])
+    yield "a tag above the clock", state([group([(host(), tag(10))])])
+    yield "a told tag above the clock", state([gateway([(told(b"a"), tag(10))])])
+    yield "a component's tag above the clock", state([group([(component(1, 1, 0), tag(10))])])
+    yield "a flow's tag above the clock", state([group([(flow(1, 1, 2, 0), tag(10))])])
+    yield "a tag of counter 0", state([group([(host(), tag(0))])])
+    yield "a tag of counter 2^63", state([group([(host(), tag(2 ** 63))])], clock=LAST)
+    yield "a tag of site 16", state([group([(host(), tag(1, 16))])])
+    yield "a numbered tag of a call", state([group([(host(), tag(number=1))])])
+    yield "a numbered tag of what was told", state([gateway([(told(b"a"), tag(number=1))])])
+    yield "a value without its tag", state([group([(host(), b"")])])
+    yield "an end with a tag", state([group([(END, tag())])])
+    yield "a removal with a tag", state([group([(component_removed(1), tag())])])
+    yield "a group of session kind 0", state([group([(END, b"")], kind=0)])
+    yield "a group of session kind 3", state([group([(END, b"")], kind=3)])
+    yield "a group of an empty session", state([group([(END, b"")], session=b"")])
+    yield "a group of a session of 513 bytes", state([group([(END, b"")], session=b"s" * 513)])
+    yield "a group of no fact", state([group([])])
+    yield "a count of held facts above them", state([group([(END, b"")], count=2)])
+    yield "the greatest count of held facts", state([group([(END, b"")], count=2 ** 32 - 1)])
+    yield "a count of held facts below them", state([group([(host(), tag()), (realm(), tag())], count=1)])
+    yield "held facts out of order", state([group([(realm(), tag()), (host(), tag())])])
+    yield "a held fact twice", state([group([(host(), tag()), (host(), tag())])])
+    yield "two values of a field", state([group([(host(b"a"), tag()), (host(b"b"), tag(2))])])
+    yield "a held end beside another fact", state([group([(END, b""), (host(), tag())])])
+    yield "a held component beneath its removal", state([group([(component_removed(1), b""), (component(1, 1, 0), tag())])])
+    yield "a held flow beneath its component's removal", state([group([(component_removed(1), b""), (flow(1, 2, 2, 0), tag())])])
+    yield "a held removal beneath another", state([group([(component_removed(1), b""), (flow_removed(1, 2), b"")])])
+    yield "a held flow beneath its removal", state([group([(flow_removed(1, 2), b""), (flow(1, 2, 2, 0), tag())])])
+    yield "what was told held of a call", state([group([(told(b"a"), tag())])])
+    yield "a removal held of a gateway's session", state([gateway([(component_removed(1), b"")])])
+    yield "a type of call held of a gateway's session", state([gateway([(last(0), tag())])])
+    yield "a byte behind a state", letter(snapshot([]) + b"\0")
+
+
 def whole():
     """Letters that are read: each form of fact, and each bound at its end."""
     yield "a range of the end of a session", letter(log_range([gx([END], number=5, counter=2)], first=1))
@@ -314,6 +435,7 @@ def whole():
     yield "an update", one(gx([last(2)], number=1))
     yield "the greatest of each of a rule", one(gx([told(b"a", rule(3, filters([b"f" * 255] * 2), 9, 15, 1, 1))]))
     yield "the least of each of a rule", one(gx([told(b"a", rule(0, None, 1, 1, 0, 0))]))
+    yield from whole_states()
 
 
 def broken():
@@ -411,16 +533,53 @@ def broken():
     for made in (rule(status=4), rule(qci=0), rule(qci=10), rule(priority=0), rule(priority=16), rule(capability=2),
                  rule(vulnerability=2), rule(found=filters([])), rule(found=filters([b"a"] * 3))):
         yield "a rule out of its ranges", one(gx([told(b"a", made)]))
+    yield from broken_states()
 
 
-def changed(count):
-    """Letters with one byte changed."""
-    draw = random.Random(34)
-    good = [frame for _, frame in whole() if len(frame) < 400]
+class Draws:
+    """Numbers of 31 bits: the upper half of a linear congruential generator of 64 bits, as the program has it."""
+
+    def __init__(self, seed):
+        self.state = seed
+
+    def below(self, bound):
+        self.state = (self.state * 6364136223846793005 + 1442695040888963407) % 2 ** 64
+        return (self.state >> 33) % bound
+
+    def bytes(self, count, bound):
+        return bytes(self.below(bound) for _ in range(count))
+
+
+def strings(draws, count):
+    """Bytes of three kinds: any; behind a good length, version and edition; and small ones behind these."""
     for _ in range(count):
-        frame = bytearray(draw.choice(good))
-        frame[draw.randrange(len(frame))] = draw.randrange(256)
-        yield bytes(frame)
+        kind, size = draws.below(3), draws.below(48)
+        if kind == 0:
+            yield draws.bytes(size, 256)
+        else:
+            yield framed(u(1, 1) + u(4, EDITION) + draws.bytes(size, 256 if kind == 1 else 4))
+
+
+def changes(draws, count, frame):
+    """The frame with one byte changed."""
+    for _ in range(count):
+        other, at = bytearray(frame), draws.below(len(frame))
+        other[at] = draws.below(256)
+        yield bytes(other)
+
+
+VERDICTS = ["read", "the letter's version is not 1", "the letter is of another edition of the operator tables",
+            "the bytes are no letter"]
+
+
+def tallied(frames):
+    """How many are read, and all verdicts in their order, mixed into one number."""
+    read, mixed = 0, 0
+    for frame in frames:
+        found = VERDICTS.index(verdict(frame))
+        read += found == 0
+        mixed = (mixed * 31 + found) % 2 ** 32
+    return "%d read, verdicts %d" % (read, mixed)
 
 
 def held():
@@ -438,6 +597,54 @@ def held():
            "clock 2 gx gw;1;1 3")
 
 
+def taken():
+    """Operations of each range, of which a state then takes all."""
+    yield []
+    yield [attach()]
+    yield [call(), attach()]
+    yield [attach(), call(), operation([END], counter=9)]
+    yield [operation([END], counter=9), call()]
+    yield [call(), operation([component_removed(1)], counter=2), operation([host(b"x"), component(1, 1, 4)], counter=3)]
+    yield [call(), operation([flow_removed(1, 2), flow(1, 1, 5, 7)], counter=2, site=3)]
+    yield [gx([last(1), told(b"b")]), gx([last(2), told(b"a"), told(b"b", rule())], counter=2, number=1),
+           gx([host(b"late")], counter=3)]
+    yield [gx([host(b"a"), last(2)], counter=5, number=4), gx([host(b"b"), last(1)], counter=6, number=3)]
+    yield [gx([last(1)], session=b"b"), gx([END], session=b"a", counter=4), operation([host()], session=b"b"),
+           operation([host(), realm()], session=b"a", counter=3, site=2)]
+
+
+def whole_of(operations, log):
+    """The whole state of who took these operations, by sets of facts: each the kind and name of a session, a position, a
+    tag and bytes."""
+    clock, facts = 0, set()
+    for made in operations:
+        reader = Reader(made)
+        counter, site, number = reader.number(8), reader.number(1), reader.number(4)
+        kind, session = reader.number(1), reader.text(512)
+        clock = max(clock, counter)
+        for _ in range(reader.number(4)):
+            start = reader.at
+            position = reader.fact(kind)
+            own = (number if position[0] == 2 else 0, counter, site) if position[0] in (2, 5, 6, 7) else None
+            facts.add((kind, session, position, own, made[start:reader.at]))
+    kept = [fact for fact in facts if not any(shades(other, fact) for other in facts)]
+    groups = {}
+    for kind, session, _, own, spelled in sorted(kept, key=lambda fact: fact[:3]):
+        groups.setdefault((kind, session), []).append((spelled, b"" if own is None else tag(own[1], own[2], own[0])))
+    return state([group(found, kind=kind, session=session) for (kind, session), found in groups.items()], clock=clock, log=log)
+
+
+def shades(other, fact):
+    """Whether the one overshadows the other, where no two values have equal tags."""
+    if other[:2] != fact[:2] or other == fact:
+        return False
+    above, below = other[2], fact[2]
+    if above == below:
+        return other[3] is not None and other[3] > fact[3]
+    return (above[0] == 1 or (above[0] == 3 and below[0] in (4, 5, 6) and below[1] == above[1])
+            or (above[0] == 4 and below[0] == 6 and below[1:3] == above[1:3]))
+
+
 def lines():
     """Each line with what is said of it."""
     for name, frame in whole():
@@ -452,9 +659,17 @@ def lines():
     for body, said in held():
         yield "held " + letter(body).hex(), said
     yield "held " + letter(acknowledgement()).hex(), "no operation"
+    yield "held " + state([attached(), called()], log=7).hex(), "clock 9 gx gw;1;1 8 af af;1 10 log 7"
+    yield "held " + state([], clock=3).hex(), "clock 3 log 0"
+    yield "# what is held, written as a whole state", "# what is held, written as a whole state"
+    for log, body in enumerate(taken()):
+        yield "whole %d %s" % (log, letter(log_range(body)).hex()), whole_of(body, log).hex()
+    yield "# random bytes", "# random bytes"
+    for seed in range(64):
+        yield "random %d 1000" % seed, tallied(strings(Draws(seed), 1000))
     yield "# letters with one byte changed", "# letters with one byte changed"
-    for frame in changed(400):
-        yield "letter " + frame.hex(), verdict(frame)
+    for seed, (_, frame) in enumerate(whole()):
+        yield "changes %d 1500 %s" % (seed, frame.hex()), tallied(changes(Draws(seed), 1500, frame))
 
 
 if __name__ == "__main__":

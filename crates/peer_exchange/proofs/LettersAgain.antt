@@ -14,17 +14,22 @@ use Rattle.pcrf_model.specs.Operations.{Operation}
 use Rattle.pcrf_model.specs.Forms.{is_within, is_unsigned, is_text, is_stamp, is_session, is_request_number, stand_together, fits, is_operation}
 use Rattle.pcrf_model.specs.Letters.{LetterBody, Range, Snapshot, Acknowledgement, LetterValue}
 use Rattle.pcrf_model.proofs.FormLaws.{within_most, le_passes, passes_le}
-use Rattle.fact_codec.specs.Spelling.{short_bytes, word_bytes, long_bytes, text_bytes, facts_bytes}
-use Rattle.fact_codec.specs.Reading.{byte}
+use Rattle.pcrf_model.specs.Holdings.{Holding}
+use Rattle.fact_codec.specs.Spelling.{short_bytes, word_bytes, long_bytes, text_bytes, facts_bytes, held_facts_bytes}
+use Rattle.fact_codec.specs.Reading.{many, byte}
 use Rattle.fact_codec.proofs.NumberLaws.{short_again, word_again, long_again}
 use Rattle.fact_codec.proofs.ValuesAgain.{many_again, text_again}
 use Rattle.fact_codec.proofs.FactsAgain.{is_made, gx_facts_again, af_facts_again}
-use Rattle.fact_codec.proofs.FactLengths.{facts_no_more}
+use Rattle.fact_codec.proofs.HeldAgain.{may_hold, held_gx_facts_again, held_af_facts_again}
+use Rattle.fact_codec.proofs.FactLengths.{facts_no_more, held_facts_no_more}
+use Rattle.site_join.specs.Groups.{Group, held_in, is_group, are_groups, grouped}
+use Rattle.site_join.proofs.HeldGroups.{groups_by_test}
+use Rattle.site_join.proofs.FormedGroups.{ungrouped_again}
 use Rattle.peer_exchange.specs.Limits.{longest_letter}
-use Rattle.peer_exchange.specs.Form.{is_site, is_epoch, is_placed, carries_operations, is_addressed, is_letter}
-use Rattle.peer_exchange.specs.Spelling.{session_bytes, group_bytes, operation_bytes, operations_bytes, body_bytes, letter_bytes, spelling}
-use Rattle.peer_exchange.specs.Reading.{group, operation, range, acknowledgement, body, content, letter_of}
-use Rattle.peer_exchange.proofs.Lengths.{operations_least}
+use Rattle.peer_exchange.specs.Form.{is_site, is_epoch, is_placed, is_formed, is_addressed, is_letter}
+use Rattle.peer_exchange.specs.Spelling.{session_bytes, group_bytes, operation_bytes, operations_bytes, held_group_bytes, groups_bytes, body_bytes, letter_bytes, spelling}
+use Rattle.peer_exchange.specs.Reading.{group, operation, range, held_group, snapshot, acknowledgement, body, content, letter_of}
+use Rattle.peer_exchange.proofs.Lengths.{operations_least, groups_least}
 
 -- ---- operations
 
@@ -99,11 +104,47 @@ each_countable (o ∷ os) h low =
     let first : is_countable o ≡ true = both _ _ (first_so (is_operation o) _ h) few in
     both _ _ first (each_countable os (second_so (is_operation o) _ h) (omega (arith, all)))
 
+-- ---- what a state holds
+
+-- of the form, with facts that can be counted
+abbrev pub is_counted_group : ℕ → Group → Bool
+is_counted_group clock g = is_group clock g && nat_lt (length g.1) (2 ^ 32)
+
+-- of a session of that kind
+held_by_kind : (clock : ℕ) (k : Kind) (id : List ℕ) (fs : List Fact) (rest : List ℕ) → is_text session_id_limit id ≡ true → length fs < 2 ^ 32 → list_all (may_hold k clock) fs ≡ true
+    → held_group (held_group_bytes (record { kind = k; id = id }, fs) ++ rest) ≡ Some ((record { kind = k; id = id }, fs), rest)
+unfolding held_group held_group_bytes byte
+held_by_kind clock Gx id fs rest named low held =
+    rw (append_assoc (text_bytes id) (held_facts_bytes fs) rest, text_again session_id_limit id (held_facts_bytes fs ++ rest) (omega arith) named, held_gx_facts_again clock fs rest low held) refl
+held_by_kind clock Af id fs rest named low held =
+    rw (append_assoc (text_bytes id) (held_facts_bytes fs) rest, text_again session_id_limit id (held_facts_bytes fs ++ rest) (omega arith) named, held_af_facts_again clock fs rest low held) refl
+
+-- of a session
+held_group_again : (clock : ℕ) (g : Group) (rest : List ℕ) → is_counted_group clock g ≡ true → held_group (held_group_bytes g ++ rest) ≡ Some (g, rest)
+held_group_again clock g rest h =
+    let formed : is_group clock g ≡ true = first_so (is_group clock g) _ h in
+    let two = first_so (is_session g.0 && stand_together g.1) _ formed in
+    held_by_kind clock g.0.kind g.0.id g.1 rest (first_so (is_session g.0) _ two) (ltb-true (length g.1) (2 ^ 32) (second_so (is_group clock g) _ h)) (second_so (is_session g.0 && stand_together g.1) _ formed)
+
+-- a group has no fewer bytes than facts
+held_within : (g : Group) → length g.1 ≤ length (held_group_bytes g)
+unfolding held_group_bytes
+held_within g = omega (arith, held_facts_no_more g.1, length-append (session_bytes g.0) (held_facts_bytes g.1))
+
+-- the groups of so few bytes can be counted
+each_counted : (clock : ℕ) (gs : List Group) → list_all (is_group clock) gs ≡ true → length (flat_map held_group_bytes gs) < 2 ^ 32 → list_all (is_counted_group clock) gs ≡ true
+each_counted clock [] h low = refl
+each_counted clock (g ∷ gs) h low =
+    let all = length-append (held_group_bytes g) (flat_map held_group_bytes gs) in
+    let few : nat_lt (length g.1) (2 ^ 32) ≡ true = (let lt : length g.1 < 2 ^ 32 = omega (arith, held_within g, all) in grind (arith, nat_tests, lt)) in
+    let first : is_counted_group clock g ≡ true = both _ _ (first_so (is_group clock g) _ h) few in
+    both _ _ first (each_counted clock gs (second_so (is_group clock g) _ h) (omega (arith, all)))
+
 -- ---- letters
 
 -- what a letter says
-body_again : (b : LetterBody) (rest : List ℕ) → carries_operations b ≡ true → is_placed b ≡ true → length (body_bytes b) ≤ longest_letter → body (body_bytes b ++ rest) ≡ Some (b, rest)
-unfolding body range acknowledgement byte
+body_again : (b : LetterBody) (rest : List ℕ) → is_formed b ≡ true → is_placed b ≡ true → length (body_bytes b) ≤ longest_letter → body (body_bytes b ++ rest) ≡ Some (b, rest)
+unfolding body range snapshot acknowledgement byte
 body_again (Range from os) rest formed placed fits =
     let last : from + length os ≤ last_counter = passes_le (from + length os) last_counter placed in
     let each = flat_map operation_bytes os in
@@ -115,7 +156,27 @@ body_again (Range from os) rest formed placed fits =
     let parts : (long_bytes from ++ operations_bytes os) ++ rest ≡ long_bytes from ++ (word_bytes (length os) ++ (each ++ rest)) =
     append_assoc (long_bytes from) (operations_bytes os) rest ∙ ap (λ (x : List ℕ). long_bytes from ++ x) (append_assoc (word_bytes (length os)) each rest) in
     rw (parts, long_again from (word_bytes (length os) ++ (each ++ rest)) (omega (arith, last)), word_again (length os) (each ++ rest) few, many_again operation operation_bytes is_countable operation_again os rest (each_countable os formed low)) refl
-body_again (Snapshot h n) rest formed placed fits = absurd cc
+body_again (Snapshot h n) rest formed placed fits =
+    let gs = grouped h.facts in
+    let form = groups_by_test h.clock gs formed in
+    let each = flat_map held_group_bytes gs in
+    let last : n ≤ last_counter = passes_le n last_counter placed in
+    let clock : h.clock ≤ last_counter = form.last in
+    let head = long_bytes h.clock ++ long_bytes n in
+    let bytes : length (head ++ groups_bytes gs) ≤ longest_letter = omega (arith, fits) in
+    let whole = length-append head (groups_bytes gs) in
+    let counted = length-append (word_bytes (length gs)) each in
+    let few : length gs < 2 ^ 32 = omega (arith, bytes, whole, groups_least gs) in
+    let low : length each < 2 ^ 32 = omega (arith, bytes, whole, counted) in
+    let after = word_bytes (length gs) ++ (each ++ rest) in
+    let parts : (head ++ groups_bytes gs) ++ rest ≡ long_bytes h.clock ++ (long_bytes n ++ after) =
+    append_assoc head (groups_bytes gs) rest
+    ∙ ap (λ (x : List ℕ). head ++ x) (append_assoc (word_bytes (length gs)) each rest)
+    ∙ append_assoc (long_bytes h.clock) (long_bytes n) after in
+    let read : many held_group (length gs) (each ++ rest) ≡ Some (gs, rest) = many_again held_group held_group_bytes (is_counted_group h.clock) (held_group_again h.clock) gs rest (each_counted h.clock gs (second_so _ _ formed) low) in
+    let same : held_in h.clock gs ≡ h = (let facts = ungrouped_again h.facts in λ i. record { facts = facts i; clock = h.clock }) in
+    rw (parts, long_again h.clock (long_bytes n ++ after) (omega (arith, clock)), long_again n after (omega (arith, last)), word_again (length gs) (each ++ rest) few, read, formed)
+    (ap (λ (k : Holding). Some (Snapshot k n, rest)) same)
 body_again (Acknowledgement m e c) rest formed placed fits =
     let two = first_so (is_site m && is_epoch e) _ placed in
     let epoch : e < 2 ^ 16 = ltb-true e (2 ^ 16) (second_so (is_site m) _ two) in
@@ -126,14 +187,14 @@ body_again (Acknowledgement m e c) rest formed placed fits =
 content_again : (l : LetterValue) → is_letter l ≡ true → content l.edition (l.site ∷ (short_bytes l.epoch ++ (body_bytes l.body ++ []))) ≡ Some (l, [])
 unfolding content byte letter_bytes
 content_again l h =
-    let two = first_so (is_addressed l && carries_operations l.body) _ h in
+    let two = first_so (is_addressed l && is_formed l.body) _ h in
     let addressed : is_addressed l ≡ true = first_so _ _ two in
-    let formed : carries_operations l.body ≡ true = second_so (is_addressed l) _ two in
+    let formed : is_formed l.body ≡ true = second_so (is_addressed l) _ two in
     let placed : is_placed l.body ≡ true = second_so (is_unsigned l.edition && is_site l.site && is_within 1 last_epoch l.epoch) _ addressed in
     let three = first_so (is_unsigned l.edition && is_site l.site && is_within 1 last_epoch l.epoch) _ addressed in
     let epoch : is_within 1 last_epoch l.epoch ≡ true = second_so (is_unsigned l.edition && is_site l.site) _ three in
     let low : l.epoch < 2 ^ 16 = omega (arith, within_most 1 last_epoch l.epoch epoch) in
-    let short_enough : length (letter_bytes l) ≤ longest_letter = passes_le _ longest_letter (second_so (is_addressed l && carries_operations l.body) _ h) in
+    let short_enough : length (letter_bytes l) ≤ longest_letter = passes_le _ longest_letter (second_so (is_addressed l && is_formed l.body) _ h) in
     let head = (1 ∷ [] ++ word_bytes l.edition ++ l.site ∷ []) ++ short_bytes l.epoch in
     let fits : length (body_bytes l.body) ≤ longest_letter = omega (arith, short_enough, length-append head (body_bytes l.body)) in
     rw (short_again l.epoch (body_bytes l.body ++ []) low, body_again l.body [] formed placed fits, addressed) refl
@@ -162,13 +223,13 @@ letter_parts l =
 -- the edition of a letter has 32 bits, and the letter is no longer than letters are
 pub edition_low : (l : LetterValue) → is_letter l ≡ true → l.edition < 2 ^ 32
 edition_low l h =
-    let addressed : is_addressed l ≡ true = first_so (is_addressed l) _ (first_so (is_addressed l && carries_operations l.body) _ h) in
+    let addressed : is_addressed l ≡ true = first_so (is_addressed l) _ (first_so (is_addressed l && is_formed l.body) _ h) in
     let three = first_so (is_unsigned l.edition && is_site l.site && is_within 1 last_epoch l.epoch) _ addressed in
     let two = first_so (is_unsigned l.edition && is_site l.site) _ three in
     ltb-true l.edition (2 ^ 32) (first_so _ _ two)
 
 pub letter_fits : (l : LetterValue) → is_letter l ≡ true → length (letter_bytes l) ≤ longest_letter
-letter_fits l h = passes_le _ longest_letter (second_so (is_addressed l && carries_operations l.body) _ h)
+letter_fits l h = passes_le _ longest_letter (second_so (is_addressed l && is_formed l.body) _ h)
 
 -- a letter
 pub letter_again : (l : LetterValue) → is_letter l ≡ true → letter_of l.edition (spelling l) ≡ Ok l

@@ -1,9 +1,10 @@
 -- Which letters have a spelling (this project's profile).
-use Rattle.std.specs.Prelude.{ℕ, ◌+◌, ◌^◌, Bool, true, false, ◌&&◌, nat_lt, nat_le, length, Option, Some, None, if◌then◌else◌}
+use Rattle.std.specs.Prelude.{◌≡◌, ℕ, ◌+◌, ◌^◌, Bool, true, false, ◌&&◌, nat_lt, nat_le, length, Option, Some, None, if◌then◌else◌}
 use Rattle.std.specs.List.{list_all}
 use Rattle.pcrf_model.specs.Limits.{last_counter, last_epoch, site_limit}
 use Rattle.pcrf_model.specs.Forms.{is_within, is_unsigned, is_operation}
 use Rattle.pcrf_model.specs.Letters.{LetterBody, Range, Snapshot, Acknowledgement, LetterValue}
+use Rattle.site_join.specs.Groups.{are_groups, grouped}
 use Rattle.peer_exchange.specs.Limits.{longest_letter}
 use Rattle.peer_exchange.specs.Spelling.{letter_bytes}
 
@@ -15,18 +16,18 @@ is_site n = nat_lt n site_limit
 abbrev pub is_epoch : ℕ → Bool
 is_epoch n = nat_lt n (2 ^ 16)
 
--- A range up to the last position that a log may have; the entry of a maker, in epoch 0 where nothing of it was taken. Snapshots are not
--- spelled yet.
+-- A range up to the last position that a log may have; a whole state with the length of a log; the entry of a maker, in epoch 0 where
+-- nothing of it was taken.
 abbrev pub is_placed : LetterBody → Bool
 is_placed (Range from os) = nat_le (from + length os) last_counter
-is_placed (Snapshot h n) = false
+is_placed (Snapshot h n) = nat_le n last_counter
 is_placed (Acknowledgement m e c) = is_site m && is_epoch e && nat_le c last_counter
 
--- the operations of a range have the form of those that sites make
-abbrev pub carries_operations : LetterBody → Bool
-carries_operations (Range from os) = list_all is_operation os
-carries_operations (Snapshot h n) = false
-carries_operations (Acknowledgement m e c) = true
+-- What is said has the form of what sites make and hold: each operation is one that a site may make; of each session stands what a state may hold.
+abbrev pub is_formed : LetterBody → Bool
+is_formed (Range from os) = list_all is_operation os
+is_formed (Snapshot h n) = are_groups h.clock (grouped h.facts)
+is_formed (Acknowledgement m e c) = true
 
 -- what stands on a letter is within its range
 abbrev pub is_addressed : LetterValue → Bool
@@ -36,6 +37,11 @@ is_addressed l = is_unsigned l.edition && is_site l.site && is_within 1 last_epo
 abbrev pub if_addressed : LetterValue → Option LetterValue
 if_addressed l = if is_addressed l then Some l else None
 
+-- what the type of letters keeps
+pub record IsKept (l : LetterValue) : Type 0 where
+  pub addressed : is_addressed l ≡ true
+  pub formed : is_formed l.body ≡ true
+
 -- a letter
 abbrev pub is_letter : LetterValue → Bool
-is_letter l = is_addressed l && carries_operations l.body && nat_le (length (letter_bytes l)) longest_letter
+is_letter l = is_addressed l && is_formed l.body && nat_le (length (letter_bytes l)) longest_letter

@@ -5,10 +5,11 @@ use Rattle.pcrf_values.specs.Limits.{session_id_limit}
 use Rattle.pcrf_facts.specs.Facts.{Fact}
 use Rattle.pcrf_model.specs.Sessions.{Session, gx, af}
 use Rattle.pcrf_model.specs.Operations.{Operation}
-use Rattle.pcrf_model.specs.Letters.{LetterBody, Range, Acknowledgement, LetterValue}
+use Rattle.pcrf_model.specs.Letters.{LetterBody, Range, Snapshot, Acknowledgement, LetterValue}
 use Rattle.fact_codec.specs.Reading.{Reader, ◌>>=◌, give, refuse, given, many, byte, short, word, long}
-use Rattle.fact_codec.specs.Said.{text, stamped, gx_fact, af_fact, facts}
+use Rattle.fact_codec.specs.Said.{text, stamped, gx_fact, af_fact, held_gx_fact, held_af_fact, facts}
 use Rattle.site_join.specs.Formed.{if_formed}
+use Rattle.site_join.specs.Groups.{Group, held_in, are_groups}
 use Rattle.peer_exchange.specs.declared.fault.LetterFault.{LetterFault}
 use Rattle.peer_exchange.specs.declared.fault.LetterFault.TheVariants.{BadVersion, BadEdition, BadShape, NoMemory}
 use Rattle.peer_exchange.specs.Limits.{longest_letter, letter_version}
@@ -50,6 +51,38 @@ range = do
   os ← many operation n
   give (Range from os)
 
+-- what a state holds of a session of each kind
+abbrev pub held_gx_group : Reader Group
+held_gx_group = do
+  id ← text session_id_limit
+  fs ← facts held_gx_fact
+  give (gx id, fs)
+
+abbrev pub held_af_group : Reader Group
+held_af_group = do
+  id ← text session_id_limit
+  fs ← facts held_af_fact
+  give (af id, fs)
+
+-- of the kind that stands before it
+unfoldable pub held_group : Reader Group
+held_group = do
+  kind ← byte
+  if kind == 1 then held_gx_group else if kind == 2 then held_af_group else refuse
+
+-- the state of these groups, where one may hold them under that clock
+abbrev pub if_held : ℕ → ℕ → List Group → Option LetterBody
+if_held clock n gs = if are_groups clock gs then Some (Snapshot (held_in clock gs) n) else None
+
+-- a whole state
+unfoldable pub snapshot : Reader LetterBody
+snapshot = do
+  clock ← long
+  n ← long
+  count ← word
+  gs ← many held_group count
+  given (if_held clock n gs)
+
 -- an acknowledgement
 unfoldable pub acknowledgement : Reader LetterBody
 acknowledgement = do
@@ -62,7 +95,7 @@ acknowledgement = do
 unfoldable pub body : Reader LetterBody
 body = do
   kind ← byte
-  if kind == 1 then range else if kind == 3 then acknowledgement else refuse
+  if kind == 1 then range else if kind == 2 then snapshot else if kind == 3 then acknowledgement else refuse
 
 -- what follows the edition, as far as it is within its ranges
 unfoldable pub content : ℕ → Reader LetterValue

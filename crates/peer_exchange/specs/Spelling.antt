@@ -6,7 +6,8 @@ use Rattle.pcrf_facts.specs.Facts.{Fact}
 use Rattle.pcrf_model.specs.Sessions.{Session, kind_number}
 use Rattle.pcrf_model.specs.Operations.{Operation}
 use Rattle.pcrf_model.specs.Letters.{LetterBody, Range, Snapshot, Acknowledgement, LetterValue}
-use Rattle.fact_codec.specs.Spelling.{short_bytes, word_bytes, long_bytes, text_bytes, facts_bytes}
+use Rattle.fact_codec.specs.Spelling.{short_bytes, word_bytes, long_bytes, text_bytes, facts_bytes, held_facts_bytes}
+use Rattle.site_join.specs.Groups.{Group, grouped}
 use Rattle.peer_exchange.specs.Limits.{letter_version}
 
 -- a session by its kind and its Session-Id
@@ -25,10 +26,22 @@ operation_bytes o = long_bytes o.counter ++ o.site ∷ [] ++ word_bytes o.number
 abbrev pub operations_bytes : List Operation → List ℕ
 operations_bytes os = word_bytes (length os) ++ flat_map operation_bytes os
 
--- what a letter says, by its kind; snapshots have no spelling yet
+-- what a state holds of a session
+unfoldable pub held_group_bytes : Group → List ℕ
+held_group_bytes g = session_bytes g.0 ++ held_facts_bytes g.1
+
+-- what a state holds session by session, and before it of how many
+abbrev pub groups_bytes : List Group → List ℕ
+groups_bytes gs = word_bytes (length gs) ++ flat_map held_group_bytes gs
+
+-- a whole state by its clock, the length of a log, and what it holds
+abbrev pub held_bytes : ℕ → ℕ → List Group → List ℕ
+held_bytes clock n gs = 2 ∷ [] ++ long_bytes clock ++ long_bytes n ++ groups_bytes gs
+
+-- what a letter says, by its kind
 abbrev pub body_bytes : LetterBody → List ℕ
 body_bytes (Range from os) = 1 ∷ [] ++ long_bytes from ++ operations_bytes os
-body_bytes (Snapshot h n) = []
+body_bytes (Snapshot h n) = held_bytes h.clock n (grouped h.facts)
 body_bytes (Acknowledgement m e c) = 3 ∷ m ∷ [] ++ short_bytes e ++ long_bytes c
 
 -- what stands before it

@@ -1,6 +1,6 @@
 //! What letters say.
 
-use site_join::Operation;
+use site_join::{Operation, State};
 
 /// Operations that the sender made itself in its present epoch, as they stand in its log.
 #[derive(Drop)]
@@ -8,6 +8,13 @@ pub struct Range {
     /// The position of the first, from 0.
     pub from: u64,
     pub operations: Vec<Operation>,
+}
+
+/// All that the sender holds, and how many operations it made itself in its present epoch.
+#[derive(Drop)]
+pub struct Snapshot {
+    pub state: State,
+    pub log_length: u64,
 }
 
 /// How far the sender took the operations that another site made.
@@ -21,9 +28,10 @@ pub struct Acknowledgement {
     pub cursor: u64,
 }
 
-/// What a letter says. Whole states are not spelled yet.
+/// What a letter says.
 #[derive(Drop)]
 pub enum Body {
     Range(Range),
+    Snapshot(Snapshot),
     Acknowledgement(Acknowledgement),
 }

@@ -1,11 +1,13 @@
 //! Letters between sites.
 ghost use Rattle.std.specs.Prelude.{◌≡◌, true};
+ghost use Rattle.std.specs.List.{list_all};
+ghost use Rattle.pcrf_model.specs.Forms.{is_operation};
 ghost use Rattle.pcrf_model.specs.Letters.{LetterValue};
-ghost use Rattle.peer_exchange.specs.Form.{is_site, is_placed, is_addressed, if_addressed};
+ghost use Rattle.peer_exchange.specs.Form.{is_site, is_placed, is_formed, is_addressed, if_addressed};
 ghost use Rattle.peer_exchange.specs.Values.{body_value, letter_value};
 
 use crate::body::{Acknowledgement, Body};
-use site_join::LAST_COUNTER;
+use site_join::{LAST_COUNTER, Operation};
 use std::marker::Model;
 
 /// How many sites there may be: this project's own limit.
@@ -22,16 +24,15 @@ pub struct Letter {
 }
 
 impl Model for Letter {
-    ghost use Rattle.std.specs.Prelude.{◌≡◌, true};
     ghost use Rattle.pcrf_model.specs.Letters.{LetterValue};
-    ghost use Rattle.peer_exchange.specs.Form.{is_addressed};
+    ghost use Rattle.peer_exchange.specs.Form.{IsKept};
     ghost use Rattle.peer_exchange.specs.Values.{letter_value};
 
     ghost Value = { LetterValue };
 
     ghost view = { λ l. letter_value l.edition l.site l.epoch l.body };
 
-    ghost invariant = { λ l. is_addressed (letter_value l.edition l.site l.epoch l.body) ≡ true };
+    ghost invariant = { λ l. IsKept (letter_value l.edition l.site l.epoch l.body) };
 }
 
 /// There may be a site of that number.
@@ -49,6 +50,7 @@ fn is_placed(body: &Body) -> bool
         Body::Range(range) => {
             range.from <= LAST_COUNTER && range.operations.len() as u64 <= LAST_COUNTER - range.from
         }
+        Body::Snapshot(snapshot) => snapshot.log_length <= LAST_COUNTER,
         Body::Acknowledgement(said) => {
             let Acknowledgement {
                 maker,
@@ -57,6 +59,28 @@ fn is_placed(body: &Body) -> bool
             } = *said;
             is_site(maker) && cursor <= LAST_COUNTER
         }
+    }
+}
+
+/// Does nothing that a caller sees: its contract tells a proof that sites may make the operations.
+fn note_operations(operations: &[Operation])
+    ensures { list_all is_operation operations.now ≡ true }
+{
+    let mut left = operations;
+    while let Some((first, rest)) = left.split_first() {
+        first.note_form();
+        left = rest;
+    }
+}
+
+/// Does nothing that a caller sees: its contract tells a proof that what is said has the form of what sites make and hold.
+fn note_formed(body: &Body)
+    ensures { is_formed (body_value body.now) ≡ true }
+{
+    match body {
+        Body::Range(range) => note_operations(range.operations.as_slice()),
+        Body::Snapshot(snapshot) => snapshot.state.note_groups(),
+        Body::Acknowledgement(_) => {}
     }
 }
 
@@ -69,12 +93,21 @@ impl Letter {
         if !is_site(site) || epoch == 0 || !is_placed(&body) {
             return None;
         }
+        note_formed(&body);
         Some(Letter {
             edition,
             site,
             epoch,
             body,
         })
+    }
+
+    /// Does nothing: its contract tells a proof that the letter is within its ranges, and what it says of the form.
+    pub fn note_kept(&self)
+        ensures addressed { is_addressed self.now ≡ true }
+        ensures formed { is_formed self.now.body ≡ true }
+    {
+        let _ = &self.epoch;
     }
 
     /// The edition of the sender's operator tables.

@@ -12,7 +12,7 @@ mod reading;
 mod writing;
 
 pub use assembling::LetterAssembler;
-pub use body::{Acknowledgement, Body, Range};
+pub use body::{Acknowledgement, Body, Range, Snapshot};
 pub use fault::{FrameFault, LetterFault};
 pub use letter::Letter;
 pub use reading::read_letter;

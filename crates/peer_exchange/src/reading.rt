@@ -1,26 +1,29 @@
 //! Letters read from bytes.
-ghost use Rattle.std.specs.Prelude.{◌≡◌, ◌++◌, ◌∷◌, ◌≤◌, [], true, length, IfOk, Some, None, Ok};
-ghost use Rattle.std.specs.List.{flat_map, list_all};
+ghost use Rattle.std.specs.Prelude.{◌≡◌, ◌++◌, ◌∷◌, ◌≤◌, [], true, length, map, IfOk, Some, None, Ok};
+ghost use Rattle.std.specs.List.{flat_map};
 ghost use Rattle.pcrf_model.specs.Sessions.{gx, af};
-ghost use Rattle.pcrf_model.specs.Forms.{is_operation};
 ghost use Rattle.pcrf_model.specs.Letters.{LetterValue};
 ghost use Rattle.fact_codec.specs.Reading.{many};
 ghost use Rattle.fact_codec.specs.Reading as parts;
+ghost use Rattle.site_join.specs.Groups.{group_of};
 ghost use Rattle.site_join.specs.States.{session_of, facts_in};
-ghost use Rattle.peer_exchange.specs.Form.{carries_operations, is_addressed, is_letter};
-ghost use Rattle.peer_exchange.specs.Reading.{Gives, gx_group, af_group, group, operation, range, acknowledgement, body, content, letter_of};
-ghost use Rattle.peer_exchange.specs.Spelling.{group_bytes, operation_bytes, body_bytes, letter_bytes, spelling};
+ghost use Rattle.peer_exchange.specs.Form.{is_addressed, is_formed, is_letter};
+ghost use Rattle.peer_exchange.specs.Reading.{Gives, gx_group, af_group, group, operation, range, held_gx_group, held_af_group, held_group, snapshot, acknowledgement, body, content, letter_of};
+ghost use Rattle.peer_exchange.specs.Spelling.{group_bytes, operation_bytes, held_group_bytes, body_bytes, letter_bytes, spelling};
 ghost use Rattle.peer_exchange.specs.Limits.{letter_version};
 ghost use Rattle.fact_codec.specs.Spelling.{word_bytes};
 ghost use Rattle.peer_exchange.specs.Values.{body_value};
 
-use crate::body::{Acknowledgement, Body, Range};
+use crate::body::{Acknowledgement, Body, Range, Snapshot};
 use crate::fault::LetterFault;
 use crate::letter::Letter;
-use fact_codec::{Unread, af_facts_at, byte_at, gx_facts_at, long_at, short_at, text_at, word_at};
+use fact_codec::{
+    Unread, af_facts_at, byte_at, gx_facts_at, held_af_facts_at, held_gx_facts_at, long_at,
+    short_at, text_at, word_at,
+};
 use lattice_core::Tag;
 use pcrf_values::{AfSid, GxSid};
-use site_join::{Operation, SessionFacts};
+use site_join::{Operation, SessionFacts, State, are_groups};
 use std::alloc::Global;
 
 /// The version of the format.
@@ -108,7 +111,6 @@ fn session_facts_at(
 fn operation_at(alloc: Global, bytes: &[u8]) -> Result<(Operation, &[u8]), Unread>
     ensures read { parts.Gives (λ x. (x.0, x.1.now)) result (operation bytes.now) }
     ensures spelled { IfOk result (λ x. bytes.now ≡ operation_bytes x.0 ++ x.1.now) }
-    ensures formed { IfOk result (λ x. is_operation x.0 ≡ true) }
 {
     let (counter, rest) = long_at(bytes)?;
     let (site, rest) = byte_at(rest)?;
@@ -131,7 +133,6 @@ fn list_of_operations(
     ensures spelled { IfOk result (λ x. bytes.now
         ≡ flat_map operation_bytes x.0.items ++ x.1.now) }
     ensures counted { IfOk result (λ x. length x.0.items ≡ count) }
-    ensures formed { IfOk result (λ x. list_all is_operation x.0.items ≡ true) }
 {
     let mut items = Vec::new(alloc);
     let mut rest = bytes;
@@ -148,12 +149,89 @@ fn list_of_operations(
 fn range_at(alloc: Global, bytes: &[u8]) -> Result<(Body, &[u8]), Unread>
     ensures read { parts.Gives (λ x. (body_value x.0, x.1.now)) result (range bytes.now) }
     ensures spelled { IfOk result (λ x. 1 ∷ bytes.now ≡ body_bytes (body_value x.0) ++ x.1.now) }
-    ensures formed { IfOk result (λ x. carries_operations (body_value x.0) ≡ true) }
 {
     let (from, rest) = long_at(bytes)?;
     let (count, rest) = word_at(rest)?;
     let (operations, rest) = list_of_operations(alloc, count, rest)?;
     Ok((Body::Range(Range { from, operations }), rest))
+}
+
+/// What a state holds of a gateway's session, behind the kind of the session.
+#[tactic(auto, using(crate::proofs::Added::added), unfolding(crate::specs::Spelling::held_group_bytes))]
+fn held_gx_group_at(alloc: Global, bytes: &[u8]) -> Result<(SessionFacts, &[u8]), Unread>
+    ensures read { parts.Gives (λ x. (group_of x.0, x.1.now)) result (held_gx_group bytes.now) }
+    ensures spelled { IfOk result (λ x. 1 ∷ bytes.now
+        ≡ held_group_bytes (group_of x.0) ++ x.1.now) }
+{
+    let (id, rest) = text_at(alloc, bytes)?;
+    let (facts, rest) = held_gx_facts_at(alloc, rest)?;
+    Ok((SessionFacts::Gx(GxSid::of(id), facts), rest))
+}
+
+/// What a state holds of an AF session, behind the kind of the session.
+#[tactic(auto, using(crate::proofs::Added::added), unfolding(crate::specs::Spelling::held_group_bytes))]
+fn held_af_group_at(alloc: Global, bytes: &[u8]) -> Result<(SessionFacts, &[u8]), Unread>
+    ensures read { parts.Gives (λ x. (group_of x.0, x.1.now)) result (held_af_group bytes.now) }
+    ensures spelled { IfOk result (λ x. 2 ∷ bytes.now
+        ≡ held_group_bytes (group_of x.0) ++ x.1.now) }
+{
+    let (id, rest) = text_at(alloc, bytes)?;
+    let (facts, rest) = held_af_facts_at(alloc, rest)?;
+    Ok((SessionFacts::Af(AfSid::of(id), facts), rest))
+}
+
+/// What a state holds of a session.
+#[tactic(auto, unfolding(crate::specs::Reading::held_group))]
+fn held_group_at(alloc: Global, bytes: &[u8]) -> Result<(SessionFacts, &[u8]), Unread>
+    ensures read { parts.Gives (λ x. (group_of x.0, x.1.now)) result (held_group bytes.now) }
+    ensures spelled { IfOk result (λ x. bytes.now ≡ held_group_bytes (group_of x.0) ++ x.1.now) }
+{
+    let (kind, rest) = byte_at(bytes)?;
+    match kind {
+        1 => held_gx_group_at(alloc, rest),
+        2 => held_af_group_at(alloc, rest),
+        _ => Err(Unread::BadShape),
+    }
+}
+
+/// What a state holds of so many sessions. Room is made for each as it is read.
+fn list_of_groups(
+    alloc: Global,
+    count: u32,
+    bytes: &[u8],
+) -> Result<(Vec<SessionFacts>, &[u8]), Unread>
+    ensures read { parts.Gives (λ x. (map group_of x.0.items, x.1.now)) result
+        (many held_group count bytes.now) }
+    ensures spelled { IfOk result (λ x. bytes.now
+        ≡ flat_map held_group_bytes (map group_of x.0.items) ++ x.1.now) }
+    ensures counted { IfOk result (λ x. length (map group_of x.0.items) ≡ count) }
+{
+    let mut items = Vec::new(alloc);
+    let mut rest = bytes;
+    for _ in 0..count {
+        let (item, after) = held_group_at(alloc, rest)?;
+        items.push(item)?;
+        rest = after;
+    }
+    Ok((items, rest))
+}
+
+/// A whole state, behind its kind: groups in their order, each fact with its tag, none with a greater counter than the
+/// clock.
+#[tactic(auto, using(crate::proofs::Added::added), unfolding(crate::specs::Reading::snapshot))]
+fn snapshot_at(alloc: Global, bytes: &[u8]) -> Result<(Body, &[u8]), Unread>
+    ensures read { parts.Gives (λ x. (body_value x.0, x.1.now)) result (snapshot bytes.now) }
+    ensures spelled { IfOk result (λ x. 2 ∷ bytes.now ≡ body_bytes (body_value x.0) ++ x.1.now) }
+{
+    let (clock, rest) = long_at(bytes)?;
+    let (log_length, rest) = long_at(rest)?;
+    let (count, rest) = word_at(rest)?;
+    let (groups, rest) = list_of_groups(alloc, count, rest)?;
+    if !are_groups(clock, groups.as_slice()) {
+        return Err(Unread::BadShape);
+    }
+    let state = State::of_groups(alloc, clock, groups)?;
+    Ok((Body::Snapshot(Snapshot { state, log_length }), rest))
 }
 
 /// An acknowledgement, behind its kind.
@@ -162,7 +240,6 @@ fn acknowledgement_at(bytes: &[u8]) -> Result<(Body, &[u8]), Unread>
     ensures read { parts.Gives (λ x. (body_value x.0, x.1.now)) result
         (acknowledgement bytes.now) }
     ensures spelled { IfOk result (λ x. 3 ∷ bytes.now ≡ body_bytes (body_value x.0) ++ x.1.now) }
-    ensures formed { IfOk result (λ x. carries_operations (body_value x.0) ≡ true) }
 {
     let (maker, rest) = byte_at(bytes)?;
     let (maker_epoch, rest) = short_at(rest)?;
@@ -180,11 +257,11 @@ fn acknowledgement_at(bytes: &[u8]) -> Result<(Body, &[u8]), Unread>
 fn body_at(alloc: Global, bytes: &[u8]) -> Result<(Body, &[u8]), Unread>
     ensures read { parts.Gives (λ x. (body_value x.0, x.1.now)) result (body bytes.now) }
     ensures spelled { IfOk result (λ x. bytes.now ≡ body_bytes (body_value x.0) ++ x.1.now) }
-    ensures formed { IfOk result (λ x. carries_operations (body_value x.0) ≡ true) }
 {
     let (kind, rest) = byte_at(bytes)?;
     match kind {
         1 => range_at(alloc, rest),
+        2 => snapshot_at(alloc, rest),
         3 => acknowledgement_at(rest),
         _ => Err(Unread::BadShape),
     }
@@ -197,8 +274,8 @@ fn content_at(alloc: Global, edition: u32, bytes: &[u8]) -> Result<(Letter, &[u8
     ensures spelled { IfOk result (λ x. letter_version ∷ [] ++ word_bytes edition ++ bytes.now
         ≡ letter_bytes x.0 ++ x.1.now) }
     ensures edition { IfOk result (λ x. x.0.edition ≡ edition) }
-    ensures formed { IfOk result (λ x. carries_operations x.0.body ≡ true) }
     ensures addressed { IfOk result (λ x. is_addressed x.0 ≡ true) }
+    ensures formed { IfOk result (λ x. is_formed x.0.body ≡ true) }
 {
     let (site, rest) = byte_at(bytes)?;
     let (epoch, rest) = short_at(rest)?;
@@ -206,6 +283,7 @@ fn content_at(alloc: Global, edition: u32, bytes: &[u8]) -> Result<(Letter, &[u8
     let Some(letter) = Letter::of(edition, site, epoch, said) else {
         return Err(Unread::BadShape);
     };
+    letter.note_kept();
     Ok((letter, rest))
 }
 

@@ -1,18 +1,23 @@
 //! Letters written as bytes.
-ghost use Rattle.std.specs.Prelude.{◌≡◌, ◌++◌, ◌∷◌, ◌≤◌, ◌<◌, ◌^◌, ◌⊎◌, [], length, drop, OnOk, IfOk, IfErr, IsErrOf};
+ghost use Rattle.std.specs.Prelude.{◌≡◌, ◌++◌, ◌∷◌, ◌≤◌, ◌<◌, ◌^◌, ◌⊎◌, [], length, map, drop, Ok, OnOk, IfOk, IfErr, IsErrOf};
 ghost use Rattle.std.specs.List.{flat_map};
+ghost use Rattle.site_join.specs.Groups.{group_of};
 ghost use Rattle.site_join.specs.States.{session_of, facts_in};
 ghost use Rattle.peer_exchange.specs.Limits.{length_bytes, longest_letter};
 ghost use Rattle.fact_codec.specs.Spelling.{word_bytes};
-ghost use Rattle.peer_exchange.specs.Spelling.{group_bytes, operation_bytes, operations_bytes, body_bytes, letter_bytes, spelling};
+ghost use Rattle.peer_exchange.specs.Spelling.{group_bytes, operation_bytes, operations_bytes, held_group_bytes, groups_bytes, held_bytes, body_bytes, letter_bytes, spelling};
+ghost use Rattle.peer_exchange.specs.Reading.{letter_of};
 ghost use Rattle.peer_exchange.specs.Values.{body_value};
 
 use crate::assembling::LENGTH_BYTES;
-use crate::body::{Acknowledgement, Body, Range};
+use crate::body::{Acknowledgement, Body, Range, Snapshot};
 use crate::fault::LetterFault;
 use crate::letter::Letter;
 use crate::reading::{MOST_BYTES, VERSION};
-use fact_codec::{Unwritten, put_af_facts, put_gx_facts, put_long, put_short, put_text, put_word};
+use fact_codec::{
+    Unwritten, put_af_facts, put_gx_facts, put_held_af_facts, put_held_gx_facts, put_long,
+    put_short, put_text, put_word,
+};
 use site_join::{Operation, SessionFacts};
 use std::alloc::{AllocError, Global};
 
@@ -84,6 +89,78 @@ fn put_range(out: &mut Vec<u8>, range: &Range) -> Result<(), Unwritten>
     put_operations(out, range.operations.as_slice())
 }
 
+/// Adds what a state holds of a session.
+#[tactic(auto, using(crate::proofs::Added::added), unfolding(crate::specs::Spelling::held_group_bytes))]
+fn put_group(out: &mut Vec<u8>, group: &SessionFacts) -> Result<(), Unwritten>
+    ensures written { OnOk result (out.new.items
+        ≡ out.old.items ++ held_group_bytes (group_of group.now)) }
+    ensures too_long { IsErrOf result Unwritten.TooLong
+        → 2 ^ 32 ≤ length (held_group_bytes (group_of group.now)) }
+{
+    match group {
+        SessionFacts::Gx(id, facts) => {
+            out.push(1)?;
+            put_text(out, id.as_slice())?;
+            put_held_gx_facts(out, facts.as_slice())
+        }
+        SessionFacts::Af(id, facts) => {
+            out.push(2)?;
+            put_text(out, id.as_slice())?;
+            put_held_af_facts(out, facts.as_slice())
+        }
+    }
+}
+
+/// Adds what a state holds session by session, and before it of how many.
+#[tactic(auto, using(crate::proofs::Added::added))]
+fn put_groups(out: &mut Vec<u8>, groups: &[SessionFacts]) -> Result<(), Unwritten>
+    ensures written { OnOk result (out.new.items
+        ≡ out.old.items ++ groups_bytes (map group_of groups.now)) }
+    ensures too_long { IsErrOf result Unwritten.TooLong
+        → 2 ^ 32 ≤ length (groups_bytes (map group_of groups.now)) }
+{
+    let count = groups.len();
+    if count > u32::MAX as usize {
+        return Err(Unwritten::TooLong);
+    }
+    put_word(out, count as u32)?;
+    for group in groups {
+        put_group(out, group)?;
+    }
+    Ok(())
+}
+
+/// Adds what a state holds under a clock, with the length of a log.
+#[tactic(auto, using(crate::proofs::Added::added))]
+fn put_held(
+    out: &mut Vec<u8>,
+    clock: u64,
+    log_length: u64,
+    groups: &[SessionFacts],
+) -> Result<(), Unwritten>
+    ensures written { OnOk result (out.new.items ≡ out.old.items
+        ++ held_bytes clock log_length (map group_of groups.now)) }
+    ensures too_long { IsErrOf result Unwritten.TooLong
+        → 2 ^ 32 ≤ length (held_bytes clock log_length (map group_of groups.now)) }
+{
+    out.push(2)?;
+    put_long(out, clock)?;
+    put_long(out, log_length)?;
+    put_groups(out, groups)
+}
+
+/// Adds a whole state.
+fn put_snapshot(out: &mut Vec<u8>, snapshot: &Snapshot) -> Result<(), Unwritten>
+    ensures written { OnOk result (out.new.items
+        ≡ out.old.items ++ body_bytes (body_value (Body.Snapshot snapshot.now))) }
+    ensures too_long { IsErrOf result Unwritten.TooLong
+        → 2 ^ 32 ≤ length (body_bytes (body_value (Body.Snapshot snapshot.now))) }
+{
+    let clock = snapshot.state.clock();
+    let groups = snapshot.state.groups(*out.allocator())?;
+    put_held(out, clock, snapshot.log_length, groups.as_slice())
+}
+
 /// Adds an acknowledgement.
 #[tactic(auto, using(crate::proofs::Added::added))]
 fn put_acknowledgement(out: &mut Vec<u8>, said: &Acknowledgement) -> Result<(), AllocError>
@@ -106,6 +183,7 @@ fn put_body(out: &mut Vec<u8>, body: &Body) -> Result<(), Unwritten>
 {
     match body {
         Body::Range(range) => put_range(out, range),
+        Body::Snapshot(snapshot) => put_snapshot(out, snapshot),
         Body::Acknowledgement(said) => Ok(put_acknowledgement(out, said)?),
     }
 }
@@ -138,11 +216,13 @@ fn set_length(frame: &mut Vec<u8>, count: u32)
 /// The one spelling of a letter, of at most 2^30 bytes behind its length.
 pub fn write_letter(alloc: Global, letter: &Letter) -> Result<Vec<u8>, LetterFault>
     ensures written { IfOk result (λ v. v.items ≡ spelling letter.now) }
+    ensures again { IfOk result (λ v. letter_of letter.now.edition v.items ≡ Ok letter.now) }
     ensures fits { OnOk result (length (letter_bytes letter.now) ≤ longest_letter) }
     ensures too_long { IsErrOf result LetterFault.TooLong
         → longest_letter < length (letter_bytes letter.now) }
     ensures fault { IfErr result (λ e. (e ≡ LetterFault.TooLong) ⊎ (e ≡ LetterFault.NoMemory)) }
 {
+    letter.note_kept();
     let mut frame = Vec::new(alloc);
     put_word(&mut frame, 0)?;
     put_letter(&mut frame, letter)?;

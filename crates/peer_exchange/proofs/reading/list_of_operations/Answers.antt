@@ -1,8 +1,5 @@
-use Rattle.std.proofs.Common.{◌≡◌, ◌++◌, ◌∷◌, [], length-append, refl, arith}
+use Rattle.std.proofs.Common.{◌≡◌, ◌++◌, ◌∷◌, [], length-append, arith}
 use Rattle.std.proofs.lemmas.Result.{err_from_is_err_and}
-use Rattle.std.proofs.lemmas.List.Folds.{list_all-append}
-use Rattle.ranked.proofs.Plain.{both}
-use Rattle.pcrf_model.specs.Forms.{is_operation}
 use Rattle.fact_codec.specs.Reading.{many}
 use Rattle.fact_codec.proofs.Loops.{goes_on, ends, is_done, spelled_on}
 use Rattle.peer_exchange.specs.Spelling.{operation_bytes}
@@ -23,7 +20,6 @@ loop-preserved c =
       spelled = rw e (spelled_on operation_bytes c.loop.items.items x c.args.bytes.now c.loop.rest.now c.in_ok-item.after.now c.loop.invariant.spelled c.in_ok-item.ensures.spelled);
       counted = rw (e, length-append, c.loop.invariant.counted) (omega arith);
       within = omega (arith, c.loop-test.true);
-      formed = rw (e, list_all-append is_operation c.loop.items.items (x ∷ [])) (both _ _ c.loop.invariant.formed (both _ _ c.in_ok-item.ensures.formed refl));
     }
 
 pub returns : goal.returns
@@ -31,5 +27,4 @@ returns c = record {
   read = is_done operation c.loop.items.items c.args.count c.loop.counter c.loop.rest.now (many operation c.args.count c.args.bytes.now) c.loop-test.false c.loop.invariant.read;
   spelled = c.loop.invariant.spelled;
   counted = omega (arith, c.loop.invariant.counted, c.loop.invariant.within, c.loop-test.false);
-  formed = c.loop.invariant.formed;
 }

@@ -1,6 +1,5 @@
-use Rattle.std.proofs.Common.{◌≡◌, ◌-◌, ◌≤◌, ◌++◌, length, true}
-use Rattle.std.specs.List.{flat_map, list_all}
-use Rattle.pcrf_model.specs.Forms.{is_operation}
+use Rattle.std.proofs.Common.{◌≡◌, ◌-◌, ◌≤◌, ◌++◌, length}
+use Rattle.std.specs.List.{flat_map}
 use Rattle.fact_codec.specs.Reading.{many}
 use Rattle.fact_codec.proofs.Loops.{with_front}
 use Rattle.peer_exchange.specs.Spelling.{operation_bytes}
@@ -13,5 +12,4 @@ invariant-loop l = record {
   spelled : l.bytes ≡ flat_map operation_bytes l.items.items ++ l.rest;
   counted : length l.items.items ≡ l.counter;
   within : l.counter ≤ l.count;
-  formed : list_all is_operation l.items.items ≡ true;
 }

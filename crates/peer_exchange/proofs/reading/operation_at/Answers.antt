@@ -1,4 +1,4 @@
-use Rattle.std.proofs.Common.{◌≡◌, ◌++◌, true, Some, subst, rules}
+use Rattle.std.proofs.Common.{◌≡◌, ◌++◌, Some, subst, rules}
 use Rattle.ranked.proofs.Plain.{came_from, some_same}
 use Rattle.pcrf_model.specs.Operations.{Operation}
 use Rattle.pcrf_model.specs.Forms.{is_operation}
@@ -6,13 +6,6 @@ use Rattle.site_join.specs.Formed.{operation_of, if_formed}
 use Rattle.peer_exchange.specs.Spelling.{operation_bytes}
 use Rattle.peer_exchange.proofs.Added.{added}
 use Rattle.peer_exchange.proofs.reading.operation_at.Goals as goal
-
-pub returns-clause-formed : goal.returns-clause-formed
-returns-clause-formed c =
-    let o : Operation = operation_of c.in_ok-counter.counter c.in_ok-site.site c.in_ok-number.number c.in_ok-facts.facts in
-    let made : if_formed o ≡ Some c.in-Some.operation = search rules in
-    let k = came_from (is_operation o) (Some o) c.in-Some.operation made in
-    subst (λ (x : Operation). is_operation x ≡ true) (some_same o c.in-Some.operation k.1) k.0
 
 pub returns-clause-spelled : goal.returns-clause-spelled
 unfolding operation_bytes

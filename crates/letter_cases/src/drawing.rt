@@ -1,0 +1,116 @@
+//! Random frames, and how many of them are read.
+use crate::verdicts::{Verdict, judged};
+use peer_exchange::LetterFault;
+use std::alloc::{AllocError, Global};
+use std::fmt::Write as _;
+
+/// Numbers of 31 bits: the upper half of a linear congruential generator of 64 bits.
+#[derive(Drop)]
+struct Draws {
+    state: u64,
+}
+
+impl Draws {
+    /// A number below the bound, which is not 0.
+    fn below(&mut self, bound: u64) -> u64 {
+        self.state =
+            self.state.wrapping_mul(6364136223846793005).wrapping_add(1442695040888963407);
+        (self.state >> 33).checked_rem(bound).unwrap_or(0)
+    }
+
+    /// Adds so many bytes below the bound.
+    fn put_bytes(&mut self, count: u64, bound: u64, out: &mut Vec<u8>) -> Result<(), AllocError> {
+        for _ in 0..count {
+            out.push(self.below(bound).to_le_bytes()[0])?;
+        }
+        Ok(())
+    }
+
+    /// Any bytes, bytes behind a good length, version and edition, or small ones behind these.
+    fn frame(&mut self, alloc: Global) -> Result<Vec<u8>, AllocError> {
+        let kind = self.below(3);
+        let size = self.below(48);
+        let mut frame = Vec::new(alloc);
+        if kind == 0 {
+            self.put_bytes(size, 256, &mut frame)?;
+        } else {
+            let length = size.to_be_bytes()[7].wrapping_add(5);
+            frame.extend_from_slice(&[0, 0, 0, length, 1, 0, 0, 0, 7])?;
+            self.put_bytes(size, if kind == 1 { 256 } else { 4 }, &mut frame)?;
+        }
+        Ok(frame)
+    }
+
+    /// The frame with one byte changed.
+    fn changed(&mut self, alloc: Global, frame: &[u8]) -> Result<Vec<u8>, AllocError> {
+        let mut other = Vec::from_slice(alloc, frame)?;
+        let at = self.below(frame.len() as u64);
+        let byte = self.below(256).to_le_bytes()[0];
+        if let Some(place) = other.get_mut(at as usize) {
+            *place = byte;
+        }
+        Ok(other)
+    }
+}
+
+/// How many frames are read, and all verdicts in their order, mixed into one number.
+#[derive(Drop)]
+struct Tally {
+    read: u32,
+    mixed: u32,
+}
+
+impl Tally {
+    /// Nothing is judged.
+    fn start() -> Tally {
+        Tally { read: 0, mixed: 0 }
+    }
+
+    /// Judges one more.
+    fn judge(&mut self, alloc: Global, frame: &[u8]) {
+        let number = match judged(alloc, frame) {
+            Verdict::Read => 0,
+            Verdict::Refused(LetterFault::BadVersion) => 1,
+            Verdict::Refused(LetterFault::BadEdition) => 2,
+            Verdict::Refused(LetterFault::BadShape) => 3,
+            _ => 4,
+        };
+        if number == 0 {
+            self.read = self.read.wrapping_add(1);
+        }
+        self.mixed = self.mixed.wrapping_mul(31).wrapping_add(number);
+    }
+
+    /// Puts what was found.
+    fn put(&self, out: &mut String) -> Result<(), AllocError> {
+        write!(out, "{} read, verdicts {}", self.read, self.mixed)
+    }
+}
+
+/// Puts what is said of so many random frames.
+pub fn put_random(alloc: Global, seed: u64, count: u32, out: &mut String) -> Result<(), AllocError> {
+    let mut draws = Draws { state: seed };
+    let mut tally = Tally::start();
+    for _ in 0..count {
+        let frame = draws.frame(alloc)?;
+        tally.judge(alloc, frame.as_slice());
+    }
+    tally.put(out)
+}
+
+/// Puts what is said of so many frames that are this one with a byte changed.
+pub fn put_changes(
+    alloc: Global,
+    seed: u64,
+    count: u32,
+    frame: &[u8],
+    out: &mut String,
+) -> Result<(), AllocError> {
+    let mut draws = Draws { state: seed };
+    let mut tally = Tally::start();
+    for _ in 0..count {
+        let other = draws.changed(alloc, frame)?;
+        tally.judge(alloc, other.as_slice());
+    }
+    tally.put(out)
+}
