@@ -13,8 +13,10 @@ struct Draws {
 impl Draws {
     /// A number below the bound, which is not 0.
     fn below(&mut self, bound: u64) -> u64 {
-        self.state =
-            self.state.wrapping_mul(6364136223846793005).wrapping_add(1442695040888963407);
+        self.state = self
+            .state
+            .wrapping_mul(6364136223846793005)
+            .wrapping_add(1442695040888963407);
         (self.state >> 33).checked_rem(bound).unwrap_or(0)
     }
 
@@ -88,7 +90,12 @@ impl Tally {
 }
 
 /// Puts what is said of so many random frames.
-pub fn put_random(alloc: Global, seed: u64, count: u32, out: &mut String) -> Result<(), AllocError> {
+pub fn put_random(
+    alloc: Global,
+    seed: u64,
+    count: u32,
+    out: &mut String,
+) -> Result<(), AllocError> {
     let mut draws = Draws { state: seed };
     let mut tally = Tally::start();
     for _ in 0..count {

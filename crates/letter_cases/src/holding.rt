@@ -68,7 +68,12 @@ fn put_carried(alloc: Global, snapshot: &Snapshot, out: &mut String) -> Result<(
 fn whole_of(alloc: Global, range: &Range, log_length: u64) -> Result<Option<Letter>, AllocError> {
     let mut state = State::start(alloc);
     take_all(&mut state, range.operations.as_slice())?;
-    Ok(Letter::of(EDITION, 0, 1, Body::Snapshot(Snapshot { state, log_length })))
+    Ok(Letter::of(
+        EDITION,
+        0,
+        1,
+        Body::Snapshot(Snapshot { state, log_length }),
+    ))
 }
 
 /// Puts the letter of the whole state of who took a letter's operations.

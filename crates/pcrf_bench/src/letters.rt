@@ -32,7 +32,12 @@ fn carried<T: Drop>(made: Result<T, LetterFault>) -> io::Result<T> {
 /// The letter of a state.
 fn letter_of(state: State, size: u32) -> io::Result<Letter> {
     let log_length = u64::from(size);
-    given(Letter::of(EDITION, 0, 1, Body::Snapshot(Snapshot { state, log_length })))
+    given(Letter::of(
+        EDITION,
+        0,
+        1,
+        Body::Snapshot(Snapshot { state, log_length }),
+    ))
 }
 
 /// Copies a state, and tells how long that takes.
@@ -45,11 +50,7 @@ fn copy(rt: &impl Clock, state: &State) -> io::Result<Duration> {
 }
 
 /// Writes a letter, and tells how long that takes.
-fn write(
-    rt: &impl Clock,
-    alloc: Global,
-    letter: &Letter,
-) -> io::Result<(Vec<u8>, Duration)> {
+fn write(rt: &impl Clock, alloc: Global, letter: &Letter) -> io::Result<(Vec<u8>, Duration)> {
     let start = Instant::now(rt)?;
     let frame = carried(write_letter(alloc, letter))?;
     let time = start.elapsed(rt)?;
@@ -98,7 +99,12 @@ pub fn measure(rt: &(impl AllocGlobal + Clock + Print), size: u32) -> io::Result
     let (bytes, times) = times_of(rt, size, rounds)?;
     let count = rounds.saturating_mul(size);
     println!(rt; "letters: {size} sessions, {bytes} bytes")?;
-    print_each(rt, "letters: copy of the state, a session", count, times.copy)?;
+    print_each(
+        rt,
+        "letters: copy of the state, a session",
+        count,
+        times.copy,
+    )?;
     print_each(rt, "letters: written, a session", count, times.write)?;
     print_each(rt, "letters: read, a session", count, times.read)
 }
