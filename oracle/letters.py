@@ -165,7 +165,7 @@ class Reader:
         if kind == 1:
             first = self.number(8)
             count = self.number(4)
-            if first + count > LAST:
+            if first + count > LAST or count > 100:
                 raise Bad()
             for _ in range(count):
                 self.operation()
@@ -425,6 +425,7 @@ def whole():
     yield "a gateway's session", one(attach())
     yield "a call", one(call())
     yield "several operations", letter(log_range([attach(), call(), operation([END], counter=LAST, site=15)], first=4))
+    yield "100 operations", letter(log_range([operation([END], counter=1 + i) for i in range(100)], first=LAST - 100))
     yield "the last site and epoch", letter(acknowledgement(15, 65535, LAST), site=15, epoch=65535)
     yield "the greatest request number", one(gx([END], number=2 ** 32 - 1))
     yield "a session of 512 bytes", one(operation([END], session=b"s" * 512))
@@ -462,6 +463,7 @@ def broken():
     yield "cursor 2^63", letter(acknowledgement(cursor=2 ** 63))
     yield "a range past the last position", letter(log_range([call()], first=LAST))
     yield "a range from 2^63", letter(log_range([], first=2 ** 63))
+    yield "101 operations", letter(log_range([operation([END], counter=1 + i) for i in range(101)]))
     yield "a count of operations above them", letter(log_range([call()], count=2))
     yield "the greatest count of operations", letter(log_range([call()], count=2 ** 32 - 1))
     yield "a count of operations below them", letter(log_range([call(), call()], count=1))

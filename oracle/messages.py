@@ -203,6 +203,13 @@ class Script:
     def merge(self, site, letter):
         self.say(f"merge {site} {letter}", "merged")
 
+    def tell(self, maker, peer):
+        """What a site made is told to a peer, which acknowledges it."""
+        self.merge(peer, self.letter(maker, peer))
+        self.say(f"ack {peer} {maker}", f"letter {self.letters}")
+        self.letters += 1
+        self.merge(maker, self.letters - 1)
+
     def restart(self, site):
         self.epochs[site] += 1
         self.say(f"restart {site}", f"restart {site} epoch {self.epochs[site]}")
@@ -319,15 +326,18 @@ def bindings(s):
 
 def sites(s):
     s.begin("a call at another site is bound wherever both are known, and pushed by the session's home")
+    s.attached(1, "gw;1;9", "10.0.0.9")
+    s.tell(1, 2)
     s.attached()
     k = s.letter(0, 1)
     s.merge(1, k)
     s.ask(1, aar("10.0.0.1", [VOICE]), aaa(1))
     n = s.letter(1, 2)
     s.merge(2, n)
-    s.show(2, "clock 2", "af af;1 unbound")
+    other = [live("gw;1;9", "10.0.0.9", 1), SIP_LINE, "told op/sip"]
+    s.show(2, "clock 2", *other, "af af;1 unbound")
     s.merge(2, k)
-    s.show(2, "clock 2", live(), SIP_LINE, *VOICE_LINES, "told op/sip", "af af;1 bound gw;1;1")
+    s.show(2, "clock 2", live(), SIP_LINE, *VOICE_LINES, "told op/sip", *other, "af af;1 bound gw;1;1")
     s.push(2)
     s.merge(0, n)
     s.push(0, VOICE_PUSH)

@@ -10,6 +10,7 @@ from typing import NamedTuple
 from plain_answers import SUCCESS, base_answer, cca, refusal, rx_answer
 from plain_facts import (REMOVED, Fact, Session, Tag, View, apn_row, binding, difference, media_row, read_tables, rules,
                          told)
+from plain_letters import acknowledged, written
 from plain_requests import (AAR, CCR, CER, DPR, GX, RELAY, RX, STR, Refused, cut_stream, first, first_session_id,
                             read_header, read_request, subscribers)
 
@@ -78,12 +79,12 @@ class Site:
 
     def __init__(self, tables, number, epoch=1):
         self.tables, self.number, self.epoch = tables, number, epoch
-        self.operations, self.log = [], []
+        self.operations, self.log, self.letters = [], [], []
 
     def copy(self):
         """A site that took and made the same."""
         site = Site(self.tables, self.number, self.epoch)
-        site.operations, site.log = list(self.operations), list(self.log)
+        site.operations, site.log, site.letters = list(self.operations), list(self.log), list(self.letters)
         return site
 
     def clock(self):
@@ -268,7 +269,7 @@ class World:
     def obey(self, line):
         """Does what a line behind `sites` says, and gives the lines that it prints."""
         word, *words = line.split(" ")
-        sites = [int(one) for one in words[:2 if word == "letter" else 1]]
+        sites = [int(one) for one in words[:2 if word in ("letter", "ack") else 1]]
         if any(site >= len(self.sites) for site in sites):
             return ["refused NoSuchSite"]
         return getattr(self, word)(*sites, *words[len(sites):])
@@ -289,16 +290,25 @@ class World:
         names = [("-" if rule is None else "+") + printed(name) for name, rule in entries]
         return [" ".join(["push", printed(session.id)] + names)]
 
-    def letter(self, maker, _peer):
-        """A site makes a letter of all that it made since it began."""
-        self.letters.append(list(self.sites[maker].log))
+    def post(self, letter):
+        """A letter that was made."""
+        self.letters.append(letter)
         return [f"letter {len(self.letters) - 1}"]
+
+    def letter(self, maker, peer):
+        """A site makes a letter for another."""
+        return self.post(written(self.sites[maker], peer))
+
+    def ack(self, taker, maker):
+        """A site tells another what it took of it."""
+        return self.post(acknowledged(self.sites[taker], maker))
 
     def merge(self, site, letter):
         """A site takes a letter."""
         if int(letter) >= len(self.letters):
             return ["refused NoSuchLetter"]
-        self.sites[site].take(self.letters[int(letter)])
+        self.sites[site].take(self.letters[int(letter)].operations)
+        self.sites[site].letters.append(self.letters[int(letter)])
         return ["merged"]
 
     def restart(self, site):

@@ -10,6 +10,7 @@ import sys
 
 from edge_messages import edges
 from plain_facts import read_tables
+from plain_letters import Acknowledged, Range, taken_of
 from plain_requests import cut_stream
 from plain_site import World
 from random_messages import ADDRESSES, AF_SESSIONS, GX_SESSIONS, Draw
@@ -35,6 +36,7 @@ LEAST = {
     "gx live": 20, "gx ended": 5, "gx partial": 3, "af bound": 10, "af unbound": 5, "af partial": 3, "af ended": 5,
     "rule": 30, "told": 30, "escaped": 5, "merge changes": 20, "merge changes nothing": 10, "own letter": 1,
     "restart": 8, "old letter after a restart": 4, "equal stamps": 3,
+    "ack": 20, "range": 10, "range of nothing": 2, "range past the cursor": 3, "late ack": 3,
     "refused NoSuchSite": 5, "refused NoSuchLetter": 3,
 }
 
@@ -100,9 +102,16 @@ class RandomScript:
             self.tally["push leaves more"] += removed + installed == 40
         self.tally["push none"] += words[0] == "none"
 
-    def letter(self, site=None):
-        """A site makes a letter."""
-        self.say(f"letter {site or self.site()} {self.site()}")
+    def letter(self, site=None, peer=None):
+        """A site makes a letter for another."""
+        if self.say(f"letter {site or self.site()} {peer or self.site()}") != ["refused NoSuchSite"]:
+            letter = self.world.letters[-1]
+            self.tally["range"] += isinstance(letter, Range)
+            self.tally["range of nothing"] += isinstance(letter, Range) and not letter.operations
+
+    def ack(self, site=None, maker=None):
+        """A site tells another what it took of it."""
+        self.tally["ack"] += self.say(f"ack {site or self.site()} {maker or self.site()}") != ["refused NoSuchSite"]
 
     def merge(self, site=None, letter=None):
         """A site takes a letter, mostly one of the last."""
@@ -111,8 +120,21 @@ class RandomScript:
         if letter is None:
             letter = str(self.draw.one(pool)) if pool and not self.draw.chance(8) else self.draw.one(NOWHERE)
         before = self.operations(site)
+        self.tally_late(site, int(letter))
         if self.say(f"merge {site} {letter}") == ["merged"]:
             self.tally_merge(int(site), int(letter), before)
+
+    def tally_late(self, site, number):
+        """Counts letters that come too late, or too soon."""
+        if int(site) >= self.count or number >= len(self.world.letters):
+            return
+        letter, taken = self.world.letters[number], self.world.sites[int(site)].letters
+        if isinstance(letter, Range):
+            epoch, count = taken_of(taken, letter.sender)
+            known = count if epoch == letter.epoch else 0
+            self.tally["range past the cursor"] += epoch <= letter.epoch and letter.first > known
+        if isinstance(letter, Acknowledged) and letter.maker == int(site):
+            self.tally["late ack"] += letter.maker_epoch != self.world.sites[int(site)].epoch
 
     def operations(self, site):
         """The operations that a site holds."""
@@ -122,8 +144,8 @@ class RandomScript:
         """Counts what a letter brought."""
         now = self.operations(site)
         self.tally["merge changes" if len(now) > len(before) else "merge changes nothing"] += 1
-        self.tally["own letter"] += any(operation.site == site for operation in self.world.letters[letter])
-        old = letter < self.began[site] and bool(self.world.letters[letter])
+        self.tally["own letter"] += any(operation.site == site for operation in self.world.letters[letter].operations)
+        old = letter < self.began[site] and bool(self.world.letters[letter].operations)
         self.tally["old letter after a restart"] += old and len(now) > len(before)
         stamps = {(operation.counter, operation.site) for operation in now}
         self.tally["equal stamps"] += len(now) > len(before) and len(stamps) < len(now)
@@ -165,10 +187,18 @@ class RandomScript:
             if self.prints[-1] == "none":
                 return
 
+    def newest(self):
+        """The letter that was made last."""
+        return str(len(self.world.letters) - 1)
+
     def exchange(self):
-        """A site tells another what it made."""
-        self.letter()
-        self.merge(letter=str(len(self.world.letters) - 1) if self.world.letters else None)
+        """A site tells another what it made, which is mostly acknowledged."""
+        one, two = self.site(), self.site()
+        self.letter(one, two)
+        self.merge(two, self.newest() if self.world.letters else None)
+        if self.draw.chance(60):
+            self.ack(two, one)
+            self.merge(one, self.newest() if self.world.letters else None)
 
     def second_life(self):
         """A site begins anew and counts the same operations again, otherwise, and then learns what it told."""
@@ -241,13 +271,32 @@ class RandomScript:
         one = str(self.draw.random.randrange(self.count))
         two, gateway = self.site(), self.draw.one(GX_SESSIONS)
         self.msg(self.draw.ccr(1, gateway, 3).octets(), one)
-        self.letter(one)
-        self.merge(two, str(len(self.world.letters) - 1))
+        self.letter(one, two)
+        self.merge(two, self.newest() if self.world.letters else None)
         self.msg(self.draw.ccr(2, gateway, self.draw.one([2, 2, 3, 4])).octets(), two)
-        self.letter(two)
-        self.merge(one, str(len(self.world.letters) - 1))
+        self.letter(two, one)
+        self.merge(one, self.newest() if self.world.letters else None)
         for site in (one, two):
             self.show(site)
+
+    def tell(self, site, peer):
+        """A site's letter for a peer is taken and acknowledged, and the acknowledgement taken."""
+        self.letter(site, peer)
+        self.merge(peer, self.newest())
+        self.ack(peer, site)
+        self.merge(site, self.newest())
+
+    def late_ack(self):
+        """A site begins anew before it learns what another took of it, and writes to the other."""
+        one = self.draw.random.randrange(self.count)
+        two = str((one + 1) % self.count)
+        self.letter(str(one), two)
+        self.merge(two, self.newest())
+        self.ack(two, str(one))
+        self.restart(str(one))
+        self.merge(str(one), self.newest())
+        self.letter(str(one), two)
+        self.merge(two, self.newest())
 
     def half_known(self):
         """A site begins anew and learns only how sessions were changed at another."""
@@ -255,13 +304,15 @@ class RandomScript:
         two, session = str((one + 1) % self.count), self.draw.one(AF_SESSIONS)
         gateway = self.attach(str(one), ADDRESSES[0])
         self.msg(self.draw.one_flow(session, ADDRESSES[0], 1, ()).octets(), str(one))
-        self.letter(str(one))
-        self.merge(two, str(len(self.world.letters) - 1))
+        self.letter(str(one), two)
+        self.merge(two, self.newest())
+        self.msg(self.draw.ccr(2, gateway).octets(), two)
+        self.tell(two, str(one))
         self.restart(str(one))
         self.msg(self.draw.ccr(2, gateway).octets(), two)
         self.msg(self.draw.one_flow(session, None, 2, ()).octets(), two)
-        self.letter(two)
-        self.merge(str(one), str(len(self.world.letters) - 1))
+        self.letter(two, str(one))
+        self.merge(str(one), self.newest())
         self.show(str(one))
         for request in (self.draw.str_(session), self.draw.ccr(2, gateway), self.draw.ccr(3, gateway)):
             self.msg(request.octets(), str(one))
@@ -287,9 +338,9 @@ class RandomScript:
 
     def step(self):
         """The next line, or lines."""
-        steps = {self.any_message: 370, self.aimed_message: 90, self.push: 70, self.pushes: 45, self.letter: 30,
-                 self.merge: 60, self.exchange: 60, self.restart: 4, self.show: 50, self.second_life: 12,
-                 self.many_flows: 4, self.changed_call: 20, self.half_known: 12, self.detach: 12, self.late_update: 6,
+        steps = {self.any_message: 370, self.aimed_message: 100, self.push: 70, self.pushes: 45, self.letter: 30,
+                 self.ack: 10, self.merge: 60, self.exchange: 60, self.restart: 4, self.show: 50, self.second_life: 16,
+                 self.many_flows: 4, self.changed_call: 20, self.half_known: 12, self.detach: 12, self.late_update: 6, self.late_ack: 12,
                  self.meeting: 8}
         if self.refusals:
             steps = {self.refused_message: 85, self.aimed_message: 10, self.push: 2, self.show: 3}
@@ -316,7 +367,7 @@ def main(tables_path, folder, expected):
     for seed in range(SCRIPTS):
         name = f"random_calls_{seed:02}.script"
         script = RandomScript(tables, seed, tally)
-        script.run(64 if script.refusals else 50 + 4 * seed)
+        script.run(64 if script.refusals else 70 + 6 * seed)
         with open(os.path.join(folder, name), "w", encoding="ascii") as file:
             file.write("\n".join(script.lines) + "\n")
         prints += [f"# {os.path.basename(tables_path)} {name}"] + script.prints

@@ -4,7 +4,8 @@ use Rattle.std.specs.List.{sum_by}
 use Rattle.std.proofs.lemmas.List.Sums.{sum_by-cons, sum_by-append}
 use Rattle.pcrf_values.specs.declared.default_quality.DefaultQuality.{DefaultQuality}
 use Rattle.pcrf_values.specs.declared.refusal.Refusal.{Refusal}
-use Rattle.pcrf_model.specs.Replies.{PushValue}
+use Rattle.pcrf_model.specs.Replies.{GxReplyValue, PushValue}
+use Rattle.pcrf_model.specs.Requests.{CcrValue}
 use Rattle.dia_codec.specs.declared.message.Header.{Header}
 use Rattle.dia_codec.specs.Fields.{AvpValue, MessageValue}
 use Rattle.dia_codec.specs.Limits.{longest_message}
@@ -23,8 +24,6 @@ use Rattle.gx_profile.specs.Openings.{opening_avps}
 use Rattle.gx_profile.specs.Pushes.{rar, authorize_only}
 use Rattle.gx_profile.specs.Qualities.{quality_avps}
 use Rattle.gx_profile.specs.Rules.{delta_avps}
-use Rattle.gx_profile.specs.declared.ccr.Ccr.{Ccr}
-use Rattle.reply_values.specs.declared.answer.GxReply.{GxReply}
 
 -- what a message begins with
 pub opening_within : (session : List ℕ) (i : Identity) → length session ≤ 512 → length i.host ≤ 255 → length i.realm ≤ 255 → sum_by padded_len (opening_avps session i) ≤ opening_room
@@ -45,7 +44,7 @@ quality_within (Some q) = omega arith
 -- ---- messages
 
 -- what stands behind the Origin-Realm of an answer
-abbrev told : Ccr → GxReply → List AvpValue
+abbrev told : CcrValue → GxReplyValue → List AvpValue
 told q reply =
     result_avp (reply_refusal reply)
     ∷ number_avp cc_request_type (request_kind_number q.kind)
@@ -53,7 +52,7 @@ told q reply =
     ∷ delta_avps (reply_delta reply)
     ++ quality_avps (reply_quality reply)
 
-told_within : (q : Ccr) (reply : GxReply) → sum_by padded_len (delta_avps (reply_delta reply)) ≤ delta_room → sum_by padded_len (told q reply) ≤ 54932
+told_within : (q : CcrValue) (reply : GxReplyValue) → sum_by padded_len (delta_avps (reply_delta reply)) ≤ delta_room → sum_by padded_len (told q reply) ≤ 54932
 told_within q reply delta =
     let rules = delta_avps (reply_delta reply) in
     let quality = quality_avps (reply_quality reply) in
@@ -70,7 +69,7 @@ told_within q reply delta =
     rw (one, two, three, both) (omega arith)
 
 -- an answer fits a message
-pub cca_fits : (i : Identity) (h : Header) (q : Ccr) (reply : GxReply) (m : MessageValue) → m ≡ cca i h q reply → sum_by padded_len (opening_avps q.session i) ≤ opening_room
+pub cca_fits : (i : Identity) (h : Header) (q : CcrValue) (reply : GxReplyValue) (m : MessageValue) → m ≡ cca i h q reply → sum_by padded_len (opening_avps q.session i) ≤ opening_room
     → sum_by padded_len (delta_avps (reply_delta reply)) ≤ delta_room → written_len m ≤ longest_message
 unfolding cca
 cca_fits i h q reply m is opening delta =

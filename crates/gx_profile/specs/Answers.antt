@@ -1,6 +1,8 @@
 -- Answers to credit control requests as they are written (TS 29.212, 5.6.3).
 use Rattle.std.specs.Prelude.{◌∷◌, ◌++◌}
 use Rattle.pcrf_values.specs.Numbers.{request_kind_number}
+use Rattle.pcrf_model.specs.Replies.{GxReplyValue}
+use Rattle.pcrf_model.specs.Requests.{CcrValue}
 use Rattle.dia_codec.specs.declared.message.Header.{Header}
 use Rattle.dia_codec.specs.Fields.{MessageValue}
 use Rattle.dia_base.specs.declared.identity.Identity.{Identity}
@@ -9,13 +11,11 @@ use Rattle.dia_base.specs.Answers.{number_avp, answer_header, result_avp}
 use Rattle.gx_profile.specs.Openings.{opening_avps}
 use Rattle.gx_profile.specs.Qualities.{quality_avps}
 use Rattle.gx_profile.specs.Rules.{delta_avps}
-use Rattle.gx_profile.specs.declared.ccr.Ccr.{Ccr}
 use Rattle.reply_values.specs.Replies.{reply_refusal, reply_delta, reply_quality}
-use Rattle.reply_values.specs.declared.answer.GxReply.{GxReply}
 
 -- Session-Id, Auth-Application-Id for Gx, Origin-Host, Origin-Realm, the result, CC-Request-Type, CC-Request-Number, the rules that are removed
 -- and installed, and the default quality of service
-unfoldable pub cca : Identity → Header → Ccr → GxReply → MessageValue
+unfoldable pub cca : Identity → Header → CcrValue → GxReplyValue → MessageValue
 cca i h q reply = record {
   header = answer_header h (reply_refusal reply);
   avps =

@@ -6,8 +6,9 @@ ghost use Rattle.dia_codec.specs.Spelling.{message_view};
 ghost use Rattle.dia_codec.specs.Written.{padded_len, written_len};
 ghost use Rattle.gx_profile.specs.Answers.{cca};
 ghost use Rattle.gx_profile.specs.Lengths.{delta_room};
+ghost use Rattle.gx_profile.specs.Requests.{ccr_view};
 ghost use Rattle.gx_profile.specs.Rules.{delta_avps};
-ghost use Rattle.reply_values.specs.Replies.{reply_refusal, reply_delta, reply_quality};
+ghost use Rattle.reply_values.specs.Replies.{gx_reply_view, reply_delta};
 
 use crate::ccr::Ccr;
 use crate::opening::put_opening;
@@ -22,9 +23,10 @@ use std::alloc::{AllocError, Global};
 /// Writes what a reply removes and installs.
 #[tactic(auto, unfolding(crate::specs::Rules::delta_avps))]
 fn put_reply_delta(alloc: Global, out: &mut AvpWriter, reply: &GxReply) -> Result<(), AllocError>
-    ensures added { OnOk result (out.new ≡ out.old ++ delta_avps (reply_delta reply.now)) }
+    ensures added { OnOk result
+        (out.new ≡ out.old ++ delta_avps (reply_delta (gx_reply_view reply.now))) }
     ensures within { OnOk result
-        (sum_by padded_len (delta_avps (reply_delta reply.now)) ≤ delta_room) }
+        (sum_by padded_len (delta_avps (reply_delta (gx_reply_view reply.now))) ≤ delta_room) }
 {
     match reply {
         GxReply::Granted(delta, _) => put_delta(alloc, out, delta),
@@ -42,7 +44,7 @@ pub fn write_cca(
     reply: &GxReply,
 ) -> Result<Message, AllocError>
     ensures message { IfOk result (λ message. message_view message ≡
-        cca identity.now header.now ccr.now reply.now) }
+        cca identity.now header.now (ccr_view ccr.now) (gx_reply_view reply.now)) }
     ensures fits { IfOk result (λ message. written_len (message_view message) ≤ longest_message) }
 {
     let refusal = reply.refusal();

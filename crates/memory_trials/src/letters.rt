@@ -52,7 +52,7 @@ const SECOND: Said<'static> = Said {
 const FLOWS: [(u32, &[u8]); 2] = [(1, b"permit in 17"), (2, b"permit out 17")];
 
 /// What a site has to show that took so many operations of the letter, and no other.
-fn shown_after(taken: usize) -> u64 {
+pub fn shown_after(taken: usize) -> u64 {
     match taken {
         0 => shown(0, &[]),
         1 => shown(7, &[(b"gw;1;2", b"a")]),
@@ -75,7 +75,7 @@ impl Fingerprint for TakeLetter {
 }
 
 /// The updates of two sessions.
-fn put_updates(alloc: Global, letter: &mut Vec<Operation>) -> Result<(), AllocError> {
+pub fn put_updates(alloc: Global, letter: &mut Vec<Operation>) -> Result<(), AllocError> {
     letter.push(update(alloc, b"gw;1;2", 7, b"a")?)?;
     letter.push(update(alloc, b"gw;1;1", 8, b"b")?)?;
     letter.push(update(alloc, b"gw;1;2", 9, b"c")?)?;
@@ -83,7 +83,7 @@ fn put_updates(alloc: Global, letter: &mut Vec<Operation>) -> Result<(), AllocEr
 }
 
 /// A call, and more of the same call.
-fn put_calls(alloc: Global, letter: &mut Vec<Operation>) -> Result<(), AllocError> {
+pub fn put_calls(alloc: Global, letter: &mut Vec<Operation>) -> Result<(), AllocError> {
     letter.push(call(alloc, 10, FIRST)?)?;
     letter.push(call(alloc, 11, SECOND)?)?;
     Ok(())

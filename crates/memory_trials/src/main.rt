@@ -5,6 +5,7 @@
 //! call. So where the allocation of a fixed place is refused, that number decides which one of the calls' own this is.
 #![tactic(auto)]
 
+mod carrying;
 mod fingerprint;
 mod joins;
 mod letters;
@@ -18,6 +19,7 @@ mod telling;
 mod trial;
 mod values;
 
+use carrying::{Carried, CarryLetter};
 use joins::{Form, Joining};
 use lattice_core::{JoinMap, JoinTree, Reg, Tombed};
 use letters::TakeLetter;
@@ -125,6 +127,9 @@ fn try_all(alloc: Global) -> Tally {
     tally.count(outcome_of::<ListTold>(alloc, ()), "list", "told rules");
     tally.count(outcome_of::<TakeLetter>(alloc, ()), "take", "letter");
     tally.count(outcome_of::<MergeStates>(alloc, ()), "merge", "states");
+    for case in Carried::ALL {
+        tally.count(outcome_of::<CarryLetter>(alloc, case), "carry", case.name());
+    }
     tally
 }
 

@@ -3,12 +3,14 @@ ghost use Rattle.std.specs.Prelude.{◌≡◌, IfOk};
 ghost use Rattle.pcrf_model.specs.OperatorValues.{binding_id, bindings_of};
 ghost use Rattle.pcrf_model.specs.Sessions.{af};
 ghost use Rattle.pcrf_model.specs.Views.{view};
+ghost use Rattle.session_index.specs.Index.{Covers};
 ghost use Rattle.operator_view.specs.ByRecord.{bindings_among};
 
 use af_records::AfRec;
 use bind_index::bind;
 use pcrf_values::{AfSid, GxSid};
 use ranked::Ranked;
+use session_index::Index;
 use site_join::State;
 use std::alloc::{AllocError, Global};
 use std::collections::btree_map::Iter;
@@ -46,6 +48,51 @@ pub(crate) fn binding_of(state: &State, session: &AfSid) -> Result<Option<GxSid>
     ensures { IfOk result (λ id. id ≡ binding_id (view state.now.facts) (af session.now)) }
 {
     match bind(state, session) {
+        Some(bound) => Ok(Some(bound.try_copy()?)),
+        None => Ok(None),
+    }
+}
+
+/// As `bindings` gives them, by an index that covers the state. Its time grows with the number of application functions'
+/// sessions, for each with that of gateways' sessions that are listed under its address.
+pub fn bindings_by(
+    alloc: Global,
+    state: &State,
+    index: &Index,
+) -> Result<Vec<(AfSid, Option<GxSid>)>, AllocError>
+    requires { Covers (view state.now.facts) index.now }
+    ensures { IfOk result (λ found. found.items ≡ bindings_of (view state.now.facts)) }
+{
+    bindings_found(alloc, state, index, state.all_af())
+}
+
+/// Those of the live ones among these sessions, by an index.
+fn bindings_found(
+    alloc: Global,
+    state: &State,
+    index: &Index,
+    sessions: Iter<'_, AfSid, AfRec>,
+) -> Result<Vec<(AfSid, Option<GxSid>)>, AllocError>
+    requires { Covers (view state.now.facts) index.now }
+    ensures { IfOk result (λ found. found.items
+        ≡ bindings_among (view state.now.facts) sessions.entry) }
+{
+    let mut found = Vec::new(alloc);
+    for (session, known) in sessions {
+        if known.live() {
+            let binding = binding_by(state, index, session)?;
+            found.push((session.try_copy()?, binding))?;
+        }
+    }
+    Ok(found)
+}
+
+/// The Session-Id of the gateway's session to which one is bound, by an index.
+fn binding_by(state: &State, index: &Index, session: &AfSid) -> Result<Option<GxSid>, AllocError>
+    requires { Covers (view state.now.facts) index.now }
+    ensures { IfOk result (λ id. id ≡ binding_id (view state.now.facts) (af session.now)) }
+{
+    match index.bind(state, session) {
         Some(bound) => Ok(Some(bound.try_copy()?)),
         None => Ok(None),
     }

@@ -7,6 +7,6 @@ mod gateways;
 mod seen;
 mod whole;
 
-pub use binding::bindings;
+pub use binding::{bindings, bindings_by};
 pub use seen::{AfField, AfSeen, GxClient, GxSeen, GxUser, OperatorValue, SessionSeen};
 pub use whole::value;

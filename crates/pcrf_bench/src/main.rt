@@ -5,6 +5,7 @@
 
 mod calls;
 mod gateway;
+mod letters;
 mod map;
 mod records;
 mod report;
@@ -24,6 +25,7 @@ use std::time::Clock;
 /// Makes the measure of a name at a size.
 fn measure(rt: &(impl AllocGlobal + Clock + Print), name: &str, size: u32) -> io::Result<()> {
     match name {
+        "letters" => letters::measure(rt, size),
         "map" => map::measure(rt, size),
         "records" => records::measure(rt, size),
         "records_kept" => records::keep(rt, size),

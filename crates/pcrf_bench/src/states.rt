@@ -180,7 +180,7 @@ pub fn measure(rt: &(impl AllocGlobal + Clock + Print), size: u32) -> io::Result
 }
 
 /// Takes an initial request on each session.
-fn take_each(alloc: Global, state: &mut State, size: u32) -> io::Result<()> {
+pub fn take_each(alloc: Global, state: &mut State, size: u32) -> io::Result<()> {
     for turn in 0..size {
         let operation = operation(alloc, Kind::Initial, size, turn)?;
         let taken = state.take(&operation);

@@ -52,6 +52,7 @@ impl Console {
             Line::Push(i) => self.happen(WorldEvent::Push(*i, None), out),
             Line::Letter(i, j) => self.happen(WorldEvent::Letter(*i, *j), out),
             Line::Merge(j, k) => self.happen(WorldEvent::Merge(*j, *k), out),
+            Line::Ack(j, i) => self.happen(WorldEvent::Ack(*j, *i), out),
             Line::Restart(i) => self.restart(*i, out),
             Line::Show(i) => self.show(*i, out),
         }

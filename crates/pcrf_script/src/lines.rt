@@ -24,6 +24,8 @@ pub(crate) enum Line {
     Letter(Named, Named),
     /// A site takes a letter.
     Merge(Named, Named),
+    /// A site tells a peer what it took of it.
+    Ack(Named, Named),
     /// A site starts again, empty.
     Restart(Named),
     /// A site shows what it holds.
@@ -84,6 +86,7 @@ pub(crate) fn read_line(alloc: Global, line: &[u8]) -> Result<Line, LineFault> {
         (Some("push"), Some(i), None) => Ok(Line::Push(number(i)?)),
         (Some("letter"), Some(i), Some(j)) => Ok(Line::Letter(number(i)?, number(j)?)),
         (Some("merge"), Some(j), Some(k)) => Ok(Line::Merge(number(j)?, number(k)?)),
+        (Some("ack"), Some(j), Some(i)) => Ok(Line::Ack(number(j)?, number(i)?)),
         (Some("restart"), Some(i), None) => Ok(Line::Restart(number(i)?)),
         (Some("show"), Some(i), None) => Ok(Line::Show(number(i)?)),
         _ => Err(LineFault::Bad),

@@ -120,8 +120,7 @@ fn put_served(
     request: &Request,
     out: &mut String,
 ) -> Result<(), LineFault>
-    requires command { header.now.command < command_bound }
-    requires site { i < length world.old.seen.sites }
+    requires { header.now.command < command_bound }
 {
     let outcome = world.serve(i, request);
     let put = put_answer_of(alloc, world, i, header, request, &outcome, out);
@@ -139,14 +138,13 @@ fn put_answer_of(
     outcome: &Result<WorldOutcome, WorldFault>,
     out: &mut String,
 ) -> Result<(), LineFault>
-    requires command { header.now.command < command_bound }
-    requires site { i < length world.now.seen.sites }
+    requires { header.now.command < command_bound }
 {
     let Ok(WorldOutcome::Replied(reply)) = outcome else {
         return Ok(put_outcome(out, outcome)?);
     };
     let Some(site) = world.site(i) else {
-        unreachable!()
+        return Ok(out.push_str("refused NoSuchSite\n")?);
     };
     Ok(put_reply(alloc, site, header, request, reply, out)?)
 }

@@ -1,19 +1,18 @@
 -- What is seen of a world after each event is what the definitions say by what was seen before.
-use Rattle.std.proofs.Common.{◌≡◌, ℕ, true, false, List, [], ◌∷◌, ◌++◌, map, take, slice_get, slice_set, Option, Some, None, Ok, Err, option_map, refl, sym, ap, ◌∙◌}
-use Rattle.std.proofs.lemmas.Option.{slice_get-map}
-use Rattle.pcrf_model.specs.Holdings.{Holding, union, kept_of}
-use Rattle.pcrf_model.specs.Operations.{Operation, holding_of}
+use Rattle.std.proofs.Common.{◌≡◌, ℕ, true, false, List, [], ◌∷◌, ◌++◌, slice_get, slice_set, Option, Some, None, Ok, Err, refl, sym, ap, ◌∙◌}
+use Rattle.pcrf_model.specs.Operations.{Operation}
 use Rattle.pcrf_model.specs.Requests.{RequestValue}
-use Rattle.pcrf_model.specs.Replies.{PushValue, ReplyValue, Pushed, Outcome}
+use Rattle.pcrf_model.specs.Replies.{PushValue, ReplyValue, Pushed}
 use Rattle.pcrf_model.specs.Pushing.{lacks_counter}
 use Rattle.pcrf_model.specs.Tables.{Tables}
-use Rattle.pcrf_model.specs.Letters.{LetterBody, Range, LetterValue}
-use Rattle.pcrf_model.specs.Worlds.{WorldEvent, WorldAnswer, ServeAt, PushAt, Letter, Merge, Restart, Replied, PushedOut, Lettered, Merged, Restarted, ClockFull, NoMemory, Gives, SiteView, WorldView, first_taken}
-use Rattle.pcrf_model.specs.Seen.{view_made, view_served, view_pushed, view_merged, view_in_part, view_again, view_letter, brought, see_change, see_change_by, see_letter, seen_after}
-use Rattle.site_machine.specs.Sites.{with_made, with_taken, served, pushed}
+use Rattle.pcrf_model.specs.Letters.{LetterBody, LetterValue}
+use Rattle.pcrf_model.specs.Cursors.{ask, ack_letter, ack_of}
+use Rattle.pcrf_model.specs.Worlds.{ServeAt, PushAt, Letter, Merge, Ack, Restart, Replied, PushedOut, Lettered, Merged, Restarted, ClockFull, NoMemory, Gives, SiteView, WorldView, ByCursors, asked_body}
+use Rattle.pcrf_model.specs.Seen.{view_made, view_served, view_pushed, view_merged, view_in_part, view_again, view_letter, view_ack, see_change, see_change_by, seen_after}
+use Rattle.site_machine.specs.Sites.{with_made, served, pushed}
 use Rattle.pcrf_world.specs.Members.{seen_of, with_site, started_again}
 use Rattle.pcrf_world.specs.Values.{setting}
-use Rattle.pcrf_world.specs.Letters.{letter_of_log}
+use Rattle.peer_cursors.specs.Writing.{letter_made}
 use Rattle.pcrf_world.specs.declared.site.Member.{Member}
 use Rattle.pcrf_world.proofs.Members.{world_of, seen_at, seen_set}
 
@@ -75,26 +74,28 @@ module _ (g : Tables) (ms : List Member) (ls : List LetterValue) (i : ℕ) (m : 
     pushed_at name p = changes (λ (x : SiteView). view_made (view_pushed (setting g) name x).added x) (with_site m (with_made m.site (pushed m.site name).added))
         (seen_made m (pushed m.site name).added ∙ ap (λ (t : Tables). view_made (view_pushed (setting t) name (seen_of m)).added (seen_of m)) is)
 
-    -- it wrote its log
-    pub lettered_at : (j k : ℕ) → world_of ms (ls ++ letter_of_log m.site.tables.edition (seen_of m) ∷ []) ≡ seen_after (setting g) (world_of ms ls) (Letter i j) (Ok (Lettered k))
-    lettered_at j k =
-        let letters : ls ++ letter_of_log m.site.tables.edition (seen_of m) ∷ [] ≡ ls ++ view_letter (setting g) j (seen_of m) ∷ [] = ap (λ (t : Tables). ls ++ letter_of_log t.edition (seen_of m) ∷ []) is in
+    -- it wrote to a peer
+    pub lettered_at : m.cursors.site ≡ m.site.number → (j k : ℕ) → world_of ms (ls ++ letter_made m.cursors m.site j ∷ []) ≡ seen_after (setting g) (world_of ms ls) (Letter i j) (Ok (Lettered k))
+    lettered_at own j k =
+        let body : LetterBody = asked_body (seen_of m) (ask m.cursors j) in
+        let letter : letter_made m.cursors m.site j ≡ view_letter (setting g) j (seen_of m) = λ n. record { edition = (ap (λ (t : Tables). t.edition) is) n; site = own n; epoch = m.cursors.epoch; body = body } in
+        rw (seen_at ms i m at) (ap (λ (l : LetterValue). world_of ms (ls ++ l ∷ [])) letter)
+
+    -- it told a maker what it took of it
+    pub acknowledged_at : (maker k : ℕ) → world_of ms (ls ++ ack_letter m.site.tables.edition (ack_of m.cursors maker) ∷ []) ≡ seen_after (setting g) (world_of ms ls) (Ack i maker) (Ok (Lettered k))
+    acknowledged_at maker k =
+        let letters : ls ++ ack_letter m.site.tables.edition (ack_of m.cursors maker) ∷ [] ≡ ls ++ view_ack (setting g) maker (seen_of m) ∷ [] = ap (λ (t : Tables). ls ++ ack_letter t.edition (ack_of m.cursors maker) ∷ []) is in
         rw (seen_at ms i m at) (ap (world_of ms) letters)
 
-  module _ (k : ℕ) (l : LetterValue) (os : List Operation) (there : slice_get ls k ≡ Some l) (body : l.body ≡ Range 0 os) where
-    -- it took operations of a letter
-    taken_at : (f : LetterValue → SiteView → SiteView) (some : List Operation) → seen_of (with_site m (with_taken m.site some)) ≡ f l (seen_of m)
-        → world_of (slice_set ms i (with_site m (with_taken m.site some))) ls ≡ see_change_by (world_of ms ls) i k f
-    taken_at f some same = changes (f l) (with_site m (with_taken m.site some)) same ∙ sym (see_change_by_at (world_of ms ls) i k f l there)
+  module _ (k : ℕ) (l : LetterValue) (there : slice_get ls k ≡ Some l) (n : Member) where
+    -- it took something of a letter
+    taken_at : (f : LetterValue → SiteView → SiteView) → seen_of n ≡ f l (seen_of m) → world_of (slice_set ms i n) ls ≡ see_change_by (world_of ms ls) i k f
+    taken_at f same = changes (f l) n same ∙ sym (see_change_by_at (world_of ms ls) i k f l there)
 
-    -- all of them
-    pub merged_at : world_of (slice_set ms i (with_site m (with_taken m.site os))) ls ≡ seen_after (setting g) (world_of ms ls) (Merge i k) (Ok Merged)
-    merged_at = taken_at (view_merged (setting g).writes) os
-        (let held = ap (λ (b : LetterBody). kept_of (union m.site.state.holding (brought b))) (sym body) in
-        λ j. record (seen_of m) { state = record { holding = held j; log = m.site.state.log } })
+    -- all of it
+    pub merged_at : seen_of n ≡ view_merged ByCursors l (seen_of m) → world_of (slice_set ms i n) ls ≡ seen_after (setting g) (world_of ms ls) (Merge i k) (Ok Merged)
+    merged_at = taken_at (view_merged ByCursors)
 
-    -- the first of them
-    pub merged_in_part_at : (n : ℕ) → world_of (slice_set ms i (with_site m (with_taken m.site (take n os)))) ls ≡ seen_after (setting g) (world_of ms ls) (Merge i k) (Err (NoMemory n))
-    merged_in_part_at n = taken_at (view_in_part n) (take n os)
-        (let held = ap (λ (b : LetterBody). kept_of (union m.site.state.holding (holding_of (first_taken n b)))) (sym body) in
-        λ j. record (seen_of m) { state = record { holding = held j; log = m.site.state.log } })
+    -- the first operations of it
+    pub merged_in_part_at : (count : ℕ) → seen_of n ≡ view_in_part count l (seen_of m) → world_of (slice_set ms i n) ls ≡ seen_after (setting g) (world_of ms ls) (Merge i k) (Err (NoMemory count))
+    merged_in_part_at count = taken_at (view_in_part count)

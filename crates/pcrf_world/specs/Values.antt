@@ -4,7 +4,7 @@ use Rattle.std.proofs.Common.{option_map}
 use Rattle.pcrf_model.specs.Limits.{delta_limit}
 use Rattle.pcrf_model.specs.Tables.{Tables}
 use Rattle.pcrf_model.specs.Worlds as model
-use Rattle.pcrf_model.specs.Worlds.{WorldView, Setting, WholeLogs, WorldAnswer}
+use Rattle.pcrf_model.specs.Worlds.{WorldView, Setting, by_cursors, WorldAnswer}
 use Rattle.reply_values.specs.Replies.{push_view}
 use Rattle.site_machine.specs.Values.{request_value, reply_value}
 use Rattle.pcrf_world.specs.declared.world.WorldEvent.{WorldEvent}
@@ -19,9 +19,9 @@ pub record WorldValue : Type 0 where
   pub tables : Tables
   pub seen : WorldView
 
--- by these tables, with as many entries of a difference told as a message carries, and with letters of whole logs
+-- by these tables, with as many entries of a difference told as a message carries, and with letters that go by cursors
 abbrev pub setting : Tables → Setting
-setting t = record { tables = t; most = delta_limit; writes = WholeLogs }
+setting t = by_cursors t delta_limit
 
 -- an event
 abbrev pub event_value : WorldEvent → model.WorldEvent
@@ -29,6 +29,7 @@ event_value (event.Serve i q) = model.ServeAt i (request_value q)
 event_value (event.Push i name) = model.PushAt i name
 event_value (event.Letter i j) = model.Letter i j
 event_value (event.Merge j k) = model.Merge j k
+event_value (event.Ack j i) = model.Ack j i
 event_value (event.Restart i) = model.Restart i
 
 -- what an event gave

@@ -2,7 +2,6 @@
 #![tactic(auto)]
 
 mod identity;
-mod letter;
 mod site;
 mod world;
 

@@ -1,17 +1,19 @@
 //! A world of sites, which serve requests, push, make letters and take them.
 ghost use Rattle.std.specs.Prelude.{◌≡◌, ◌<◌, ◌≤◌, slice_get, IfOk, option_map};
 ghost use Rattle.std.specs.Option.{option_copied};
-ghost use Rattle.pcrf_model.specs.Worlds.{start, world_view, after_all, GivesAll, HoldAlike};
+ghost use Rattle.pcrf_model.specs.CursorLaws.{LeavesNoGap, MakersAreTaken, PeersTook};
+ghost use Rattle.pcrf_model.specs.Worlds.{SiteView, start, world_view, after_all, GivesAll, HoldAlike};
 ghost use Rattle.pcrf_model.specs.Limits.{site_limit};
 ghost use Rattle.pcrf_world.specs.Happening.{HappensIn};
 ghost use Rattle.pcrf_world.specs.Members.{site_seen};
 ghost use Rattle.pcrf_world.specs.Values.{event_value, answer_value, events_value, answers_value, setting};
 
-use crate::letter::Letter;
 use crate::site::Member;
-use gx_profile::{GxReply, PushOut};
 use op_tables::Tables;
 use pcrf_values::{DefaultQuality, DiameterIdentity};
+use peer_cursors::Cursors;
+use peer_exchange::Letter;
+use reply_values::{GxReply, PushOut};
 use site_machine::{Reply, Request, Site, StepFault};
 use std::alloc::{AllocError, Global};
 use std::marker::Model;
@@ -24,10 +26,13 @@ pub enum WorldEvent {
     Serve(usize, Request),
     /// A site pushes what a gateway of this host, of any where none is given, was not told.
     Push(usize, Option<DiameterIdentity>),
-    /// The first site makes a letter for the second: the operations that it made itself.
+    /// The first site makes a letter for the second: all that it holds, or, where it knows what the second took of it, the
+    /// operations that it made itself since.
     Letter(usize, usize),
     /// A site takes a letter.
     Merge(usize, usize),
+    /// The first site makes a letter that tells the second what it took of it.
+    Ack(usize, usize),
     /// A site starts again, empty.
     Restart(usize),
 }
@@ -58,7 +63,7 @@ pub enum WorldFault {
     EpochFull,
     #[error("the site's clock is at its end")]
     ClockFull,
-    /// Memory ran out; of the letter's operations so many stand taken.
+    /// Memory ran out; of the operations of a range so many stand taken, of a whole state none.
     #[error("no memory, with {taken} operations of the letter taken")]
     NoMemory {
         /// How many operations stand taken.
@@ -77,7 +82,7 @@ pub struct World {
 
 impl Model for World {
     ghost use Rattle.std.specs.Prelude.{map};
-    ghost use Rattle.pcrf_world.specs.Members.{AreMembers, seen_of};
+    ghost use Rattle.pcrf_world.specs.Members.{AreSites, seen_of};
     ghost use Rattle.pcrf_world.specs.Values.{WorldValue};
 
     ghost Value = { WorldValue };
@@ -87,7 +92,7 @@ impl Model for World {
       seen = record { sites = map seen_of w.sites.items; letters = w.letters.items };
     } };
 
-    ghost invariant = { λ w. AreMembers w.tables w.sites.items };
+    ghost invariant = { λ w. AreSites w.tables w.sites.items };
 }
 
 impl World {
@@ -122,6 +127,24 @@ impl World {
         }
     }
 
+    /// What the site of a number took of each maker, and what each peer said that it took of the site.
+    pub fn cursors(&self, i: usize) -> Option<&Cursors>
+        ensures { option_copied result
+            ≡ option_map (λ (s : SiteView). s.cursors) (slice_get self.now.seen.sites i) }
+    {
+        match self.sites.get(i) {
+            Some(member) => Some(&member.cursors),
+            None => None,
+        }
+    }
+
+    /// The letter of a number.
+    pub fn letter(&self, k: usize) -> Option<&Letter>
+        ensures { option_copied result ≡ slice_get self.now.seen.letters k }
+    {
+        self.letters.get(k)
+    }
+
     /// The operator tables of all sites.
     pub fn tables(&self) -> &Tables
         ensures { result.now ≡ self.now.tables }
@@ -138,6 +161,7 @@ impl World {
             WorldEvent::Push(i, host) => self.push_at(*i, host),
             WorldEvent::Letter(i, j) => self.make_letter(*i, *j),
             WorldEvent::Merge(j, k) => self.take_letter(*j, *k),
+            WorldEvent::Ack(j, i) => self.acknowledge(*j, *i),
             WorldEvent::Restart(i) => self.restart(*i),
         }
     }
@@ -188,7 +212,7 @@ impl World {
             return Err(WorldFault::NoSuchSite);
         }
         let k = self.letters.len();
-        let Ok(letter) = Letter::of_log(&self.sites[i]) else {
+        let Ok(letter) = self.sites[i].write(j as u8) else {
             return Err(WorldFault::NoMemory { taken: 0 });
         };
         match self.letters.push(letter) {
@@ -210,9 +234,25 @@ impl World {
         }
         let letter = &self.letters[k];
         let member = &mut self.sites[j];
-        match member.site.take_all(letter.operations()) {
+        match member.take(letter) {
             Ok(()) => Ok(WorldOutcome::Merged),
-            Err((taken, _)) => Err(WorldFault::NoMemory { taken }),
+            Err(taken) => Err(WorldFault::NoMemory { taken }),
+        }
+    }
+
+    /// Has the first site tell the second what it took of it.
+    fn acknowledge(&mut self, j: usize, i: usize) -> Result<WorldOutcome, WorldFault>
+        ensures { HappensIn self.old self.new
+            (event_value (WorldEvent.Ack j i)) (answer_value result) }
+    {
+        if j >= self.sites.len() || i >= self.sites.len() {
+            return Err(WorldFault::NoSuchSite);
+        }
+        let k = self.letters.len();
+        let letter = self.sites[j].acknowledge(i as u8);
+        match self.letters.push(letter) {
+            Ok(()) => Ok(WorldOutcome::Lettered(k)),
+            Err(_) => Err(WorldFault::NoMemory { taken: 0 }),
         }
     }
 
@@ -250,6 +290,15 @@ impl World {
         ensures holds { IfOk result (λ r. r.0.seen ≡ world_view (after_all (setting tables)
             (start n) (events_value events.now) (answers_value r.1.items))) }
         ensures tables { IfOk result (λ r. r.0.tables ≡ tables) }
+        // What a site counts as taken of a maker it took.
+        ensures taken { IfOk result (λ r. MakersAreTaken (after_all (setting tables)
+            (start n) (events_value events.now) (answers_value r.1.items))) }
+        // What it counts as known to a peer that peer took, and counts so itself.
+        ensures known { IfOk result (λ r. PeersTook (after_all (setting tables)
+            (start n) (events_value events.now) (answers_value r.1.items))) }
+        // A range that it then writes leaves no gap, whatever comes before the peer takes it.
+        ensures gapless { IfOk result (λ r. LeavesNoGap (setting tables) (after_all (setting tables)
+            (start n) (events_value events.now) (answers_value r.1.items))) }
         // Any two sites that took the same operations hold the same.
         ensures same { IfOk result (λ r. HoldAlike tables (after_all (setting tables)
             (start n) (events_value events.now) (answers_value r.1.items)) r.0.seen) }

@@ -8,7 +8,7 @@ use Rattle.std.proofs.lemmas.List.{append-nil}
 use Rattle.ranked.proofs.Plain.{both}
 use Rattle.pcrf_values.specs.Limits.{session_id_limit}
 use Rattle.pcrf_facts.specs.Facts.{Fact}
-use Rattle.pcrf_model.specs.Limits.{last_counter, last_epoch}
+use Rattle.pcrf_model.specs.Limits.{last_counter, last_epoch, range_limit}
 use Rattle.pcrf_model.specs.Sessions.{Kind, Gx, Af}
 use Rattle.pcrf_model.specs.Operations.{Operation}
 use Rattle.pcrf_model.specs.Forms.{is_within, is_unsigned, is_text, is_stamp, is_session, is_request_number, stand_together, fits, is_operation}
@@ -146,7 +146,7 @@ each_counted clock (g ∷ gs) h low =
 body_again : (b : LetterBody) (rest : List ℕ) → is_formed b ≡ true → is_placed b ≡ true → length (body_bytes b) ≤ longest_letter → body (body_bytes b ++ rest) ≡ Some (b, rest)
 unfolding body range snapshot acknowledgement byte
 body_again (Range from os) rest formed placed fits =
-    let last : from + length os ≤ last_counter = passes_le (from + length os) last_counter placed in
+    let last : from + length os ≤ last_counter = passes_le (from + length os) last_counter (second_so (nat_le (length os) range_limit) _ placed) in
     let each = flat_map operation_bytes os in
     let bytes : length (long_bytes from ++ operations_bytes os) ≤ longest_letter = omega (arith, fits) in
     let whole = length-append (long_bytes from) (operations_bytes os) in

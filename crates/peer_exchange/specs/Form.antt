@@ -1,7 +1,7 @@
 -- Which letters have a spelling (this project's profile).
 use Rattle.std.specs.Prelude.{◌≡◌, ℕ, ◌+◌, ◌^◌, Bool, true, false, ◌&&◌, nat_lt, nat_le, length, Option, Some, None, if◌then◌else◌}
 use Rattle.std.specs.List.{list_all}
-use Rattle.pcrf_model.specs.Limits.{last_counter, last_epoch, site_limit}
+use Rattle.pcrf_model.specs.Limits.{last_counter, last_epoch, range_limit, site_limit}
 use Rattle.pcrf_model.specs.Forms.{is_within, is_unsigned, is_operation}
 use Rattle.pcrf_model.specs.Letters.{LetterBody, Range, Snapshot, Acknowledgement, LetterValue}
 use Rattle.site_join.specs.Groups.{are_groups, grouped}
@@ -16,10 +16,10 @@ is_site n = nat_lt n site_limit
 abbrev pub is_epoch : ℕ → Bool
 is_epoch n = nat_lt n (2 ^ 16)
 
--- A range up to the last position that a log may have; a whole state with the length of a log; the entry of a maker, in epoch 0 where
--- nothing of it was taken.
+-- A range of as many operations as are answered at once, up to the last position that a log may have; a whole state with the length of a log;
+-- the entry of a maker, in epoch 0 where nothing of it was taken.
 abbrev pub is_placed : LetterBody → Bool
-is_placed (Range from os) = nat_le (from + length os) last_counter
+is_placed (Range from os) = nat_le (length os) range_limit && nat_le (from + length os) last_counter
 is_placed (Snapshot h n) = nat_le n last_counter
 is_placed (Acknowledgement m e c) = is_site m && is_epoch e && nat_le c last_counter
 

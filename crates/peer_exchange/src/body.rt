@@ -2,7 +2,7 @@
 
 use site_join::{Operation, State};
 
-/// Operations that the sender made itself in its present epoch, as they stand in its log.
+/// Operations that the sender made itself in its present epoch, as they stand in its log. A letter has at most 100.
 #[derive(Drop)]
 pub struct Range {
     /// The position of the first, from 0.

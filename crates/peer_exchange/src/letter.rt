@@ -13,6 +13,9 @@ use std::marker::Model;
 /// How many sites there may be: this project's own limit.
 const SITE_LIMIT: u8 = 16;
 
+/// How many operations a range has at most: this project's own limit.
+const RANGE_LIMIT: usize = 100;
+
 /// What one site tells another: the edition of its operator tables, its number, its epoch, and what it says. Contracts see
 /// it as a `LetterValue`.
 #[derive(Drop)]
@@ -48,7 +51,9 @@ fn is_placed(body: &Body) -> bool
 {
     match body {
         Body::Range(range) => {
-            range.from <= LAST_COUNTER && range.operations.len() as u64 <= LAST_COUNTER - range.from
+            range.operations.len() <= RANGE_LIMIT
+                && range.from <= LAST_COUNTER
+                && range.operations.len() as u64 <= LAST_COUNTER - range.from
         }
         Body::Snapshot(snapshot) => snapshot.log_length <= LAST_COUNTER,
         Body::Acknowledgement(said) => {
@@ -85,8 +90,8 @@ fn note_formed(body: &Body)
 }
 
 impl Letter {
-    /// The letter of these parts; `None` where there is no such site, where the epoch is 0, or where a position or a cursor
-    /// is past the last that a log may have.
+    /// The letter of these parts; `None` where there is no such site, where the epoch is 0, where a range has more than 100
+    /// operations, or where a position or a cursor is past the last that a log may have.
     pub fn of(edition: u32, site: u8, epoch: u16, body: Body) -> Option<Letter>
         ensures { result ≡ if_addressed (letter_value edition site epoch body) }
     {

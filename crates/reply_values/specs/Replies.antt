@@ -3,28 +3,33 @@ use Rattle.std.specs.Prelude.{Option, Some, None}
 use Rattle.pcrf_values.specs.RuleValues.{DeltaValue}
 use Rattle.pcrf_values.specs.declared.default_quality.DefaultQuality.{DefaultQuality}
 use Rattle.pcrf_values.specs.declared.refusal.Refusal.{Refusal}
-use Rattle.pcrf_model.specs.Replies.{PushValue}
+use Rattle.pcrf_model.specs.Replies.{GxReplyValue, Granted, Rejected, PushValue}
 use Rattle.pcrf_model.specs.Serving.{empty_delta}
 use Rattle.reply_values.specs.declared.answer.GxReply.{GxReply}
-use Rattle.reply_values.specs.declared.answer.GxReply.TheVariants.{Granted, Refused}
+use Rattle.reply_values.specs.declared.answer.GxReply.TheVariants as gx_reply
 use Rattle.reply_values.specs.declared.push.PushOut.{PushOut}
 
 -- ---- an answer to a credit control request
 
+-- the answer, as the definitions have it
+abbrev pub gx_reply_view : GxReply → GxReplyValue
+gx_reply_view (gx_reply.Granted delta quality) = Granted delta quality
+gx_reply_view (gx_reply.Refused refusal) = Rejected refusal
+
 -- the refusal that the reply is, if it is one
-abbrev pub reply_refusal : GxReply → Option Refusal
+abbrev pub reply_refusal : GxReplyValue → Option Refusal
 reply_refusal (Granted delta quality) = None
-reply_refusal (Refused refusal) = Some refusal
+reply_refusal (Rejected refusal) = Some refusal
 
 -- the default quality of service that it tells, if it does
-abbrev pub reply_quality : GxReply → Option DefaultQuality
+abbrev pub reply_quality : GxReplyValue → Option DefaultQuality
 reply_quality (Granted delta quality) = quality
-reply_quality (Refused refusal) = None
+reply_quality (Rejected refusal) = None
 
 -- what it removes and installs: a refusal nothing
-abbrev pub reply_delta : GxReply → DeltaValue
+abbrev pub reply_delta : GxReplyValue → DeltaValue
 reply_delta (Granted delta quality) = delta
-reply_delta (Refused refusal) = empty_delta
+reply_delta (Rejected refusal) = empty_delta
 
 -- ---- a push
 

@@ -1,6 +1,6 @@
 //! What a site answers to a credit control request.
 ghost use Rattle.std.specs.Prelude.{◌≡◌, ◌↔◌, IfOk, IsTrue};
-ghost use Rattle.reply_values.specs.Replies.{reply_refusal, reply_quality};
+ghost use Rattle.reply_values.specs.Replies.{gx_reply_view, reply_refusal, reply_quality};
 
 use crate::entries::FirstEntries;
 use exact_values::Exact;
@@ -20,7 +20,7 @@ pub enum GxReply {
 impl GxReply {
     /// The refusal that the reply is, if it is one.
     pub fn refusal(&self) -> Option<Refusal>
-        ensures { result ≡ reply_refusal self.now }
+        ensures { result ≡ reply_refusal (gx_reply_view self.now) }
     {
         match self {
             GxReply::Granted(_, _) => None,
@@ -30,7 +30,7 @@ impl GxReply {
 
     /// The default quality of service that the reply tells, if it does.
     pub fn quality(&self) -> Option<DefaultQuality>
-        ensures { result ≡ reply_quality self.now }
+        ensures { result ≡ reply_quality (gx_reply_view self.now) }
     {
         match self {
             GxReply::Granted(_, quality) => *quality,

@@ -5,6 +5,7 @@ ghost use Rattle.pcrf_model.specs.Limits.{site_limit};
 use crate::drawn_tables::tables;
 use crate::events::{Event, Request as Sent, Script};
 use crate::generator::{Plan, script};
+use crate::letters::Count;
 use crate::messages::request_bytes;
 use crate::model;
 use dia_codec::HEADER_BYTES;
@@ -15,13 +16,15 @@ use pcrf_values::{
     RetentionPriority,
 };
 use pcrf_world::{World, WorldEvent, WorldFault, WorldOutcome};
+use peer_cursors::{Cursor, Cursors};
+use peer_exchange::{Letter, LetterFault, read_letter, write_letter};
 use site_core::{Asked, Reply, Request, Site, read_request};
 use site_join::State;
 use std::alloc::{AllocError, AllocGlobal, Global};
 use std::process::Abort;
 use test_messages::{Quality, Rule};
 
-type Answer = Result<WorldOutcome, WorldFault>;
+pub type Answer = Result<WorldOutcome, WorldFault>;
 
 /// The request as a site is asked to serve it.
 fn request(rt: &(impl Abort + AllocGlobal), sent: &Sent) -> Request {
@@ -47,6 +50,7 @@ fn world_event(rt: &(impl Abort + AllocGlobal), event: &Event) -> Option<WorldEv
         Event::Send(i, sent) => Some(WorldEvent::Serve(*i, request(rt, sent))),
         Event::Letter(i, j) => Some(WorldEvent::Letter(*i, *j)),
         Event::Merge(j, k) => Some(WorldEvent::Merge(*j, *k)),
+        Event::Ack(j, i) => Some(WorldEvent::Ack(*j, *i)),
         Event::Restart(i) => Some(WorldEvent::Restart(*i)),
         Event::Push(i) => {
             let host = host(rt.alloc(), *i).expect(rt, "memory");
@@ -234,6 +238,7 @@ fn answer(world: &mut model::World, event: &Event) -> Result<Option<Wanted>, All
         Event::Send(i, sent) => world.serve(*i, sent)?.map(Wanted::Replied),
         Event::Letter(i, j) => world.letter(*i, *j)?.map(Wanted::Lettered),
         Event::Merge(j, k) => world.merge(*j, *k)?.map(|_| Wanted::Merged),
+        Event::Ack(j, i) => world.acknowledge(*j, *i)?.map(Wanted::Lettered),
         Event::Restart(i) => world.restart(*i).map(Wanted::Restarted),
         Event::Push(i) => world.push(*i)?.map(Wanted::Pushed),
         Event::Show(_) => return Ok(None),
@@ -311,7 +316,7 @@ fn site_count(sites: usize) -> u8
 }
 
 /// Runs the world of a script: it, and its answers.
-fn run_world(rt: &(impl Abort + AllocGlobal), script: &Script) -> (World, Vec<Answer>) {
+pub fn run_world(rt: &(impl Abort + AllocGlobal), script: &Script) -> (World, Vec<Answer>) {
     let sites = site_count(script.sites);
     let events = world_events(rt, script);
     let ran = World::run(rt.alloc(), tables(rt), sites, events.as_slice());
@@ -325,6 +330,65 @@ fn compare_answers(rt: &impl Abort, seed: u64, answers: &[Answer], wanted: &[Wan
     for (i, (answer, wanted)) in answers.iter().zip(wanted).enumerate() {
         assert!(rt; is_answer(answer, wanted), "seed {seed}, event {i}");
     }
+}
+
+/// Whether an entry is of that epoch, with so many operations.
+fn is_entry(entry: Cursor, wanted: Count) -> bool {
+    u64::from(entry.epoch()) == wanted.0 && entry.taken() == wanted.1 as u64
+}
+
+/// Whether an entry is that, or there is none just where there is to be none.
+fn is_entry_if_any(entry: Option<Cursor>, wanted: Option<Count>) -> bool {
+    match (entry, wanted) {
+        (Some(entry), Some(wanted)) => is_entry(entry, wanted),
+        (None, None) => true,
+        _ => false,
+    }
+}
+
+/// Whether a site counts of each site as taken, and as known to it, what the model counts.
+fn counts(cursors: &Cursors, model: &model::World, i: usize) -> bool {
+    let mut same = true;
+    for other in 0..16u8 {
+        let place = usize::from(other);
+        same = same
+            && is_entry(cursors.maker(other), model.taken_of(i, place))
+            && is_entry_if_any(cursors.peer(other), model.said_by(i, place));
+    }
+    same
+}
+
+/// Compares the cursors of the sites of a world with what the model has of them.
+fn compare_cursors(rt: &impl Abort, seed: u64, world: &World, model: &model::World) {
+    for i in 0..model.sites.len() {
+        let cursors = world.cursors(i).expect(rt, "a site");
+        assert!(rt;
+            counts(cursors, model, i),
+            "seed {seed}, cursors of site {i}"
+        );
+    }
+}
+
+/// The bytes of a letter, and of the letter that these bytes are read as.
+fn written_twice(alloc: Global, letter: &Letter) -> Result<(Vec<u8>, Vec<u8>), LetterFault> {
+    let once = write_letter(alloc, letter)?;
+    let read = read_letter(alloc, once.as_slice(), letter.edition())?;
+    let twice = write_letter(alloc, &read);
+    drop(read);
+    Ok((once, twice?))
+}
+
+/// Compares each letter of a world with what its bytes are read as.
+fn compare_letters(rt: &(impl Abort + AllocGlobal), seed: u64, world: &World, count: usize) {
+    for k in 0..count {
+        let letter = world.letter(k).expect(rt, "a letter");
+        let (once, twice) = written_twice(rt.alloc(), letter).expect(rt, "bytes");
+        assert!(rt;
+            once.as_slice() == twice.as_slice(),
+            "seed {seed}, letter {k}"
+        );
+    }
+    assert!(rt; world.letter(count).is_none(), "seed {seed}");
 }
 
 /// Compares what the sites of a world hold with what the model has of them.
@@ -347,6 +411,8 @@ fn compare_run(
     let (world, answers) = run_world(rt, script);
     compare_answers(rt, seed, answers.as_slice(), wanted);
     compare_sites(rt, seed, &world, model);
+    compare_cursors(rt, seed, &world, model);
+    compare_letters(rt, seed, &world, model.letter_count());
     drop(answers);
     drop(world);
 }
@@ -371,10 +437,24 @@ fn run_one(rt: &(impl Abort + AllocGlobal), seed: u64, plan: Plan) {
 fn runs_of_worlds_give_what_the_model_gives(rt: HostRuntime) {
     let plan = Plan {
         sites: [1, 2, 3, 16],
+        events: [20, 41],
         exchanges: true,
         restarts: true,
     };
-    for seed in 3001..3101 {
+    for seed in 3001..3041 {
+        run_one(&rt, seed, plan);
+    }
+}
+
+#[test]
+fn long_runs_with_late_letters_give_what_the_model_gives(rt: HostRuntime) {
+    let plan = Plan {
+        sites: [2, 3, 4, 5],
+        events: [300, 1],
+        exchanges: false,
+        restarts: true,
+    };
+    for seed in 4001..4011 {
         run_one(&rt, seed, plan);
     }
 }

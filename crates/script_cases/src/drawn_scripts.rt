@@ -88,9 +88,9 @@ fn assert_least(rt: &impl Abort, counts: &Counts, rows: &[(u64, u64, &str)]) {
 }
 
 /// Asks that much has happened in a hundred scripts. They draw 2,000 events or more, and much less is asked for than is
-/// to be expected of 2,000: of 54 events ten are whole requests, two are requests that lack a part, ten are updates, one is
-/// a termination, nine make a letter, 13 take one, six have a site push, two show a site, and one has it start again. One of
-/// 32 sites that are named is not there, and one of 16 letters. One of eight names of access points has no row in the
+/// to be expected of 2,000: of 66 events ten are whole requests, two are requests that lack a part, ten are updates, one is
+/// a termination, nine make a letter, six an acknowledgement, 19 take one, six of which are the newest at the site for which
+/// it is, six have a site push, two show a site, and one has it start again. One of 32 sites that are named is not there, and one of 16 letters. One of eight names of access points has no row in the
 /// tables, and one has more rules than an answer tells, so that its session's home has something to push. Each site is shown
 /// at the end. That the number or the site of a tag decides what shows has to happen, however rarely, and so has an
 /// ended session, an update whose access point has no row and one that leaves the session at another access point: where
@@ -109,6 +109,7 @@ fn assert_busy(rt: &impl Abort, counts: &Counts) {
         (counts.pushed, 5, "pushed"),
         (counts.not_due, 100, "not_due"),
         (counts.letters, 200, "letters"),
+        (counts.acknowledgements, 100, "acknowledgements"),
         (counts.news, 50, "news"),
         (counts.repeats, 50, "repeats"),
         (counts.no_site, 20, "no_site"),
@@ -126,6 +127,7 @@ fn assert_busy(rt: &impl Abort, counts: &Counts) {
 fn few_sites_print_what_the_model_gives(rt: HostRuntime) {
     let plan = Plan {
         sites: [1, 2, 3, 4],
+        events: [40, 41],
         exchanges: false,
         restarts: true,
     };
@@ -136,6 +138,7 @@ fn few_sites_print_what_the_model_gives(rt: HostRuntime) {
         (counts.update_without_row, 10, "update_without_row"),
         (counts.pushed, 20, "pushed"),
         (counts.restarts, 20, "restarts"),
+        (counts.ranges, 10, "ranges"),
     ];
     assert_least(&rt, &counts, &rows);
 }
@@ -144,6 +147,7 @@ fn few_sites_print_what_the_model_gives(rt: HostRuntime) {
 fn sixteen_sites_print_what_the_model_gives(rt: HostRuntime) {
     let plan = Plan {
         sites: [16, 16, 16, 16],
+        events: [20, 41],
         exchanges: false,
         restarts: true,
     };
@@ -156,6 +160,7 @@ fn sixteen_sites_print_what_the_model_gives(rt: HostRuntime) {
 fn sites_that_took_all_letters_show_the_same(rt: HostRuntime) {
     let plan = Plan {
         sites: [2, 3, 5, 16],
+        events: [20, 41],
         exchanges: true,
         restarts: false,
     };

@@ -46,6 +46,8 @@ pub enum Event {
     Letter(usize, usize),
     /// A site takes a letter.
     Merge(usize, usize),
+    /// A site tells another what it took of it.
+    Ack(usize, usize),
     /// A site starts again.
     Restart(usize),
     /// A site pushes what is due.
@@ -84,6 +86,7 @@ fn put_line(alloc: Global, text: &mut String, event: &Event) -> Result<(), Alloc
         }
         Event::Letter(i, j) => writeln!(text, "letter {i} {j}"),
         Event::Merge(j, k) => writeln!(text, "merge {j} {k}"),
+        Event::Ack(j, i) => writeln!(text, "ack {j} {i}"),
         Event::Restart(i) => writeln!(text, "restart {i}"),
         Event::Push(i) => writeln!(text, "push {i}"),
         Event::Show(i) => writeln!(text, "show {i}"),

@@ -41,8 +41,12 @@ pub struct Counts {
     pub pushed: u64,
     /// Pushes where nothing was due.
     pub not_due: u64,
-    /// Letters made.
+    /// Letters made that carry operations.
     pub letters: u64,
+    /// Such letters that carry only what a peer did not say that it took.
+    pub ranges: u64,
+    /// Acknowledgements made.
+    pub acknowledgements: u64,
     /// Letters taken that brought an operation that was new there.
     pub news: u64,
     /// Letters taken that brought nothing new.
@@ -86,7 +90,16 @@ fn put_event(
 ) -> Result<(), AllocError> {
     match event {
         Event::Send(i, request) => put_answer(alloc, text, world, *i, request, counts),
-        Event::Letter(i, j) => put_letter(text, world.letter(*i, *j)?, counts),
+        Event::Letter(i, j) => {
+            let made = world.letter(*i, *j)?;
+            count_letter(world, &made, counts);
+            put_letter(text, made, counts)
+        }
+        Event::Ack(j, i) => {
+            let made = world.acknowledge(*j, *i)?;
+            count_made(&made, &mut counts.acknowledgements);
+            put_letter(text, made, counts)
+        }
         Event::Merge(j, k) => put_merge(text, world.merge(*j, *k)?, counts),
         Event::Restart(i) => put_restart(text, *i, world.restart(*i), counts),
         Event::Push(i) => put_pushed(text, world.push(*i)?, counts),
@@ -97,6 +110,23 @@ fn put_event(
     }
 }
 
+/// Counts a letter that was made.
+fn count_made(made: &Result<usize, Missing>, number: &mut u64) {
+    if made.is_ok() {
+        count(number);
+    }
+}
+
+/// Counts a letter that carries operations.
+fn count_letter(world: &World, made: &Result<usize, Missing>, counts: &mut Counts) {
+    count_made(made, &mut counts.letters);
+    if let Ok(k) = made
+        && world.is_range(*k)
+    {
+        count(&mut counts.ranges);
+    }
+}
+
 /// Writes the number of a letter that was made, if it was.
 fn put_letter(
     text: &mut String,
@@ -104,10 +134,7 @@ fn put_letter(
     counts: &mut Counts,
 ) -> Result<(), AllocError> {
     match made {
-        Ok(k) => {
-            count(&mut counts.letters);
-            writeln!(text, "letter {k}")
-        }
+        Ok(k) => writeln!(text, "letter {k}"),
         Err(missing) => put_refused(text, missing, counts),
     }
 }

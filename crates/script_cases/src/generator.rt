@@ -30,9 +30,12 @@ const ADDRESSES: [[u8; 4]; 4] = [[10, 0, 0, 1], [10, 0, 0, 2], [9, 255, 0, 1], [
 pub struct Plan {
     /// It has one of these numbers of sites.
     pub sites: [usize; 4],
+    /// So many events happen at least, and fewer than so many more.
+    pub events: [usize; 2],
     /// At the end each site takes a letter of each site, pushes, and takes a letter of each site again.
     pub exchanges: bool,
-    /// Sites may start again. What a site made before that is in no letter that it makes later.
+    /// Sites may start again. What a site made before that is in no letter that it makes later, but for whole states of sites
+    /// that took it.
     pub restarts: bool,
 }
 
@@ -131,6 +134,8 @@ fn restart(i: usize, restarts: bool) -> Event {
 struct Before {
     /// How many letters were made.
     letters: usize,
+    /// The site for which the newest was.
+    peer: usize,
     /// The site that was sent the newest request.
     asked: usize,
 }
@@ -141,8 +146,9 @@ impl Before {
         let mut after = self;
         match event {
             Event::Send(i, _) => after.asked = *i,
-            Event::Letter(i, j) if *i < sites && *j < sites => {
+            Event::Letter(i, j) | Event::Ack(i, j) if *i < sites && *j < sites => {
                 after.letters = self.letters.saturating_add(1);
+                after.peer = *j;
             }
             _ => {}
         }
@@ -155,7 +161,7 @@ fn event(draws: &mut Draws, sites: usize, before: Before, restarts: bool) -> Eve
     requires { 0 < sites }
 {
     let i = site(draws, sites);
-    match draws.below(54) {
+    match draws.below(66) {
         0..=9 => Event::Send(i, whole_request(draws)),
         10..=11 => Event::Send(i, lacking_request(draws)),
         12..=21 => Event::Send(i, update(draws)),
@@ -164,25 +170,30 @@ fn event(draws: &mut Draws, sites: usize, before: Before, restarts: bool) -> Eve
         24..=32 => Event::Letter(i, site(draws, sites)),
         33..=45 => Event::Merge(i, letter(draws, before.letters)),
         46..=51 => Event::Push(pushing_site(draws, sites, before.asked)),
+        52..=57 => Event::Ack(i, site(draws, sites)),
+        58..=63 => Event::Merge(before.peer, before.letters.saturating_sub(1)),
         _ => Event::Show(i),
     }
 }
 
-/// Draws what happens, 20 to 60 events: how many letters they make.
+/// Draws what happens: how many letters that makes.
 fn put_events(
     draws: &mut Draws,
     sites: usize,
-    restarts: bool,
+    plan: Plan,
     events: &mut Vec<Event>,
 ) -> Result<usize, AllocError>
     requires { 0 < sites }
 {
     let mut before = Before {
         letters: 0,
+        peer: 0,
         asked: 0,
     };
-    for _ in 0..20 + draws.below(41) {
-        let event = event(draws, sites, before, restarts);
+    let [least, more] = plan.events;
+    let count = least.saturating_add(draws.below(more.max(1)));
+    for _ in 0..count {
+        let event = event(draws, sites, before, plan.restarts);
         before = before.after(&event, sites);
         events.push(event)?;
     }
@@ -203,19 +214,22 @@ fn put_merges(
     Ok(())
 }
 
-/// Each site makes a letter.
+/// Each site makes a letter for each site, those for the first one first.
 fn put_letters(sites: usize, events: &mut Vec<Event>) -> Result<(), AllocError> {
-    for i in 0..sites {
-        events.push(Event::Letter(i, 0))?;
+    for j in 0..sites {
+        for i in 0..sites {
+            events.push(Event::Letter(i, j))?;
+        }
     }
     Ok(())
 }
 
-/// Each site makes a letter, and each site takes these letters, the first of which has this number.
+/// Each site makes a letter for each site, and each site takes those for it, the first of which has this number.
 fn put_exchange(sites: usize, first: usize, events: &mut Vec<Event>) -> Result<(), AllocError> {
     put_letters(sites, events)?;
     for j in 0..sites {
-        put_merges(j, sites, first, events)?;
+        let own = first.saturating_add(sites.saturating_mul(j));
+        put_merges(j, sites, own, events)?;
     }
     Ok(())
 }
@@ -226,7 +240,11 @@ fn put_end(sites: usize, letters: usize, events: &mut Vec<Event>) -> Result<(), 
     for i in 0..sites {
         events.push(Event::Push(i))?;
     }
-    put_exchange(sites, letters.saturating_add(sites), events)
+    put_exchange(
+        sites,
+        letters.saturating_add(sites.saturating_mul(sites)),
+        events,
+    )
 }
 
 /// The script of a seed.
@@ -234,7 +252,7 @@ pub fn script(alloc: Global, seed: u64, plan: Plan) -> Result<Script, AllocError
     let mut draws = Draws::start(seed);
     let sites = plan.sites[draws.below(4)].max(1);
     let mut events = Vec::new(alloc);
-    let letters = put_events(&mut draws, sites, plan.restarts, &mut events)?;
+    let letters = put_events(&mut draws, sites, plan, &mut events)?;
     if plan.exchanges {
         put_end(sites, letters, &mut events)?;
     }

@@ -4,6 +4,8 @@
 #![tactic(auto)]
 
 #[cfg(test)]
+mod cursor_lines;
+#[cfg(test)]
 mod drawn_runs;
 #[cfg(test)]
 mod drawn_scripts;
@@ -17,6 +19,8 @@ mod events;
 mod expected;
 #[cfg(test)]
 mod generator;
+#[cfg(test)]
+mod letters;
 #[cfg(test)]
 mod long_letters;
 #[cfg(test)]

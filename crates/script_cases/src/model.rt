@@ -1,6 +1,7 @@
 //! The definitions, over plain lists: which operations a site took, and what follows from them.
 use crate::drawn_tables::{default_of, has_row, rules_of};
 use crate::events::{Kind, Request};
+use crate::letters::{Count, Letter, Said, said_by, taken_of};
 use std::alloc::{AllocError, Global};
 use test_messages::{Quality, Rule};
 
@@ -69,11 +70,13 @@ pub enum Reply {
     Unknown,
 }
 
-/// The operations that a site took, each once, and those that it made, in order, and how often it began.
+/// The operations that a site took, each once, those that it made, in order, and the letters that it took, in order, all since
+/// it last began; and how often it began.
 #[derive(Drop)]
 pub struct Site {
     pub taken: Vec<Operation>,
     pub log: Vec<Operation>,
+    pub merged: Vec<usize>,
     pub epoch: u64,
 }
 
@@ -126,6 +129,7 @@ impl Site {
         Site {
             taken: Vec::new(alloc),
             log: Vec::new(alloc),
+            merged: Vec::new(alloc),
             epoch: 1,
         }
     }
@@ -451,12 +455,12 @@ impl Site {
     }
 }
 
-/// Sites, and the letters that they made, each with the operations that it carries.
+/// Sites, and the letters that they made.
 #[derive(Drop)]
 pub struct World {
     alloc: Global,
     pub sites: Vec<Site>,
-    letters: Vec<Vec<Operation>>,
+    letters: Vec<Letter>,
 }
 
 /// Why an event gave nothing.
@@ -511,21 +515,77 @@ impl World {
         };
         site.taken = Vec::new(self.alloc);
         site.log = Vec::new(self.alloc);
+        site.merged = Vec::new(self.alloc);
         site.epoch = site.epoch.saturating_add(1);
         Ok(site.epoch)
     }
 
-    /// A site makes a letter for another, which carries its own operations: the letter's number.
+    /// How much of a maker a site took.
+    pub fn taken_of(&self, site: usize, maker: usize) -> Count {
+        let Some(site) = self.sites.get(site) else {
+            return (0, 0);
+        };
+        taken_of(self.letters.as_slice(), site.merged.as_slice(), maker)
+    }
+
+    /// How much of a site a peer said that it took, if it said so.
+    pub fn said_by(&self, site: usize, peer: usize) -> Option<Count> {
+        let maker = self.sites.get(site)?;
+        let merged = maker.merged.as_slice();
+        said_by(self.letters.as_slice(), merged, peer, site, maker.epoch)
+    }
+
+    /// How many letters were made.
+    pub fn letter_count(&self) -> usize {
+        self.letters.len()
+    }
+
+    /// Whether the letter of that number is a range of operations.
+    pub fn is_range(&self, k: usize) -> bool {
+        self.letters
+            .get(k)
+            .is_some_and(|letter| matches!(&letter.said, Said::Range(..)))
+    }
+
+    /// A site makes a letter for another, which carries what the other did not say that it took: the letter's number.
     pub fn letter(&mut self, i: usize, j: usize) -> Result<Result<usize, Missing>, AllocError> {
+        let known = self.said_by(i, j);
         let (Some(maker), Some(_)) = (self.sites.get(i), self.sites.get(j)) else {
             return Ok(Err(Missing::Site));
         };
-        let mut operations = Vec::new(self.alloc);
-        for operation in &maker.log {
-            operations.push(operation.clone()?)?;
-        }
+        let (taken, log) = (maker.taken.as_slice(), maker.log.as_slice());
+        let said = Said::to_peer(self.alloc, known, taken, log)?;
+        let epoch = maker.epoch;
+        self.post(i, epoch, said)
+    }
+
+    /// A site tells another how much it took of it: the letter's number.
+    pub fn acknowledge(
+        &mut self,
+        j: usize,
+        i: usize,
+    ) -> Result<Result<usize, Missing>, AllocError> {
+        let (epoch, count) = self.taken_of(j, i);
+        let (Some(taker), Some(_)) = (self.sites.get(j), self.sites.get(i)) else {
+            return Ok(Err(Missing::Site));
+        };
+        let begun = taker.epoch;
+        self.post(j, begun, Said::Acknowledged(i, epoch, count))
+    }
+
+    /// Keeps a letter: its number.
+    fn post(
+        &mut self,
+        sender: usize,
+        epoch: u64,
+        said: Said,
+    ) -> Result<Result<usize, Missing>, AllocError> {
         let k = self.letters.len();
-        self.letters.push(operations)?;
+        self.letters.push(Letter {
+            sender,
+            epoch,
+            said,
+        })?;
         Ok(Ok(k))
     }
 
@@ -538,12 +598,13 @@ impl World {
             return Ok(Err(Missing::Letter));
         };
         let mut new = 0usize;
-        for operation in letter {
+        for operation in letter.said.operations() {
             if !site.has(operation) {
                 new = new.saturating_add(1);
                 site.take(operation)?;
             }
         }
+        site.merged.push(k)?;
         Ok(Ok(new))
     }
 }

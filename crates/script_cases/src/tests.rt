@@ -27,7 +27,7 @@ fn ends(rt: &(impl AllocGlobal + Abort), script: &str, wanted: ScriptEnd, printe
 
 #[test]
 fn a_bad_line_stops_the_script(rt: HostRuntime) {
-    let cases: [(&str, u64, &str); 30] = [
+    let cases: [(&str, u64, &str); 33] = [
         ("show 0\n", 1, ""),
         ("bogus\nsites 1\n", 1, ""),
         ("sites 0\n", 1, ""),
@@ -61,7 +61,10 @@ fn a_bad_line_stops_the_script(rt: HostRuntime) {
         ("sites 1\nrestart\n", 2, "sites 1\n"),
         ("sites 1\nrestart 0 0\n", 2, "sites 1\n"),
         ("restart 0\n", 1, ""),
-        ("sites 1\nack 0 0", 2, "sites 1\n"),
+        ("ack 0 0\n", 1, ""),
+        ("sites 1\nack 0", 2, "sites 1\n"),
+        ("sites 1\nack 0 00", 2, "sites 1\n"),
+        ("sites 1\nack 0 0 0", 2, "sites 1\n"),
     ];
     for (script, line, printed) in cases {
         ends(&rt, script, ScriptEnd::BadLine(line), printed);

@@ -41,6 +41,17 @@ impl Index {
         self.list_calls(state.all_af())
     }
 
+    /// Lists a gateway's session under the address and each subscriber that a record of it shows. A refusal leaves what was
+    /// listed so far.
+    pub fn cover_gateway(&mut self, id: &GxSid, known: &GxRec) -> Result<(), AllocError>
+        ensures grows { Grows self.old self.new }
+        ensures address { OnOk result (ListsAddress self.new (gx id.now) known.now) }
+        ensures subscribers { OnOk result (ListsSubscribers self.new id.now known.now) }
+    {
+        self.list_gateway_address(id, known)?;
+        self.list_gateway_subscribers(id, known)
+    }
+
     /// Lists a gateway's session by these facts.
     fn list_gateway(&mut self, id: &GxSid, facts: &[GxFact]) -> Result<(), AllocError>
         ensures grows { Grows self.old self.new }

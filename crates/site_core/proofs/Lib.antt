@@ -4,5 +4,6 @@ pub mod StreamReading
 pub mod Cutting
 pub mod Wholes
 pub mod Somes
+pub mod ServedAnswers
 pub mod Values
 pub mod AnswersLaws

@@ -1,6 +1,9 @@
--- The bytes of answers.
+-- The bytes of answers (TS 29.212, 5.6.3; TS 29.214, 5.6; RFC 6733, 5.3 to 5.5 and 7.2).
 use Rattle.std.specs.Prelude.{ℕ, Bool, is_some, if◌then◌else◌, List, [], nat_lt, Option, Some, None}
+use Rattle.pcrf_values.specs.Results.{base_result}
 use Rattle.pcrf_values.specs.declared.refusal.Refusal.{Refusal}
+use Rattle.pcrf_model.specs.Replies.{GxReplyValue, Rejected, ReplyValue, OnGx, Done, Refused, OnBase}
+use Rattle.pcrf_model.specs.Requests.{RequestValue, Ccr, Aar, Str, Base}
 use Rattle.dia_codec.specs.declared.message.Header.{Header}
 use Rattle.dia_codec.specs.Fields.{MessageValue}
 use Rattle.dia_codec.specs.Limits.{longest_message}
@@ -8,54 +11,65 @@ use Rattle.dia_codec.specs.Written.{written, written_len}
 use Rattle.dia_base.specs.declared.identity.Identity.{Identity}
 use Rattle.dia_base.specs.Answers.{refusal_answer}
 use Rattle.gx_profile.specs.Answers.{cca}
-use Rattle.reply_values.specs.declared.answer.GxReply.{GxReply}
 use Rattle.rx_profile.specs.Answers.{aaa, sta}
 use Rattle.base_profile.specs.Answers.{base_answer}
-use Rattle.base_profile.specs.Requests.{base_view}
-use Rattle.site_machine.specs.declared.request.Request.{Request}
-use Rattle.site_machine.specs.declared.request.Request.TheVariants as request
-use Rattle.site_machine.specs.declared.event.Reply.{Reply}
-use Rattle.site_machine.specs.declared.event.Reply.TheVariants.{Gx, Done, Refused, Base}
 
 -- the bytes of an answer; none where it is longer than any message
 abbrev pub answer_bytes : MessageValue → List ℕ
 answer_bytes m = if nat_lt longest_message (written_len m) then [] else written m
 
--- what an application function's request came to, if that is what is replied
-abbrev pub rx_result : Reply → Option (Option Refusal)
-rx_result Done = Some None
-rx_result (Refused r) = Some (Some r)
-rx_result reply = None
+-- the answer to a request that could not be read, with its Session-Id where one is known
+abbrev pub refusal_bytes : Identity → Header → Option (List ℕ) → Refusal → List ℕ
+refusal_bytes i h session refusal = answer_bytes (refusal_answer i h refusal session)
+
+-- ---- replies by their kind
+
+-- to a gateway
+abbrev pub to_gateway : ReplyValue → Option GxReplyValue
+to_gateway (OnGx reply) = Some reply
+to_gateway reply = None
+
+-- to an application function: the refusal, if it is one
+abbrev pub to_function : ReplyValue → Option (Option Refusal)
+to_function Done = Some None
+to_function (Refused refusal) = Some (Some refusal)
+to_function reply = None
+
+-- to a peer: the Result-Code
+abbrev pub to_peer : ReplyValue → Option ℕ
+to_peer (OnBase code) = Some code
+to_peer reply = None
+
+-- the reply is of the request's kind
+abbrev pub is_of_kind : RequestValue → ReplyValue → Bool
+is_of_kind (Ccr q) reply = is_some (to_gateway reply)
+is_of_kind (Aar q) reply = is_some (to_function reply)
+is_of_kind (Str q) reply = is_some (to_function reply)
+is_of_kind (Base q) reply = is_some (to_peer reply)
+
+-- ---- the answer to a request that was served
 
 -- the bytes of an answer by what a request came to; none where nothing is known of it
 abbrev pub bytes_by : {A : Type 0} → (A → MessageValue) → Option A → List ℕ
 bytes_by answer None = []
 bytes_by answer (Some x) = answer_bytes (answer x)
 
--- what a gateway's request came to
-abbrev pub gx_result : Reply → Option GxReply
-gx_result (Gx reply) = Some reply
-gx_result reply = None
+-- by the reply; none where it is of another kind
+abbrev pub answer_to : Identity → Header → RequestValue → ReplyValue → List ℕ
+answer_to i h (Ccr q) reply = bytes_by (cca i h q) (to_gateway reply)
+answer_to i h (Aar q) reply = bytes_by (aaa i h q.session) (to_function reply)
+answer_to i h (Str q) reply = bytes_by (sta i h q.session) (to_function reply)
+answer_to i h (Base q) reply = bytes_by (λ (code : ℕ). base_answer i h q) (to_peer reply)
 
--- the reply is to a request of the base protocol
-abbrev pub base_result : Reply → Option ℕ
-base_result (Base code) = Some code
-base_result reply = None
+-- ---- the answer to a request for which there is no room
 
--- the answer to a request that was served; none where the reply is of another kind
-abbrev pub reply_bytes : Identity → Header → Request → Reply → List ℕ
-reply_bytes i h (request.Ccr q) reply = bytes_by (cca i h q) (gx_result reply)
-reply_bytes i h (request.Aar q) reply = bytes_by (aaa i h q.session) (rx_result reply)
-reply_bytes i h (request.Str q) reply = bytes_by (sta i h q.session) (rx_result reply)
-reply_bytes i h (request.Base q) reply = bytes_by (λ (code : ℕ). base_answer i h (base_view q)) (base_result reply)
+-- DIAMETER_TOO_BUSY (RFC 6733, 7.1.3)
+abbrev pub too_busy : Refusal
+too_busy = base_result 3004
 
--- the answer to a request that could not be read, with its Session-Id where one is known
-abbrev pub refusal_bytes : Identity → Header → Option (List ℕ) → Refusal → List ℕ
-refusal_bytes i h session refusal = answer_bytes (refusal_answer i h refusal session)
-
--- the reply is of the request's kind
-abbrev pub is_of_kind : Request → Reply → Bool
-is_of_kind (request.Ccr q) reply = is_some (gx_result reply)
-is_of_kind (request.Aar q) reply = is_some (rx_result reply)
-is_of_kind (request.Str q) reply = is_some (rx_result reply)
-is_of_kind (request.Base q) reply = is_some (base_result reply)
+-- a request of Gx or Rx is refused by an answer of its own
+abbrev pub busy_answer : Identity → Header → RequestValue → List ℕ
+busy_answer i h (Ccr q) = answer_to i h (Ccr q) (OnGx (Rejected too_busy))
+busy_answer i h (Aar q) = answer_to i h (Aar q) (Refused too_busy)
+busy_answer i h (Str q) = answer_to i h (Str q) (Refused too_busy)
+busy_answer i h (Base q) = refusal_bytes i h None too_busy

@@ -1,12 +1,13 @@
--- What a site answers to a frame, and makes of it.
-use Rattle.std.specs.Prelude.{ℕ, Bool, true, false, ◌&&◌, ◌==◌, List, []}
+-- What is answered to a frame, by whoever serves requests, and by a site, which then is another.
+use Rattle.std.specs.Prelude.{◌≡◌, ℕ, Bool, true, false, ◌&&◌, ◌==◌, List, [], ◌⊎◌}
 use Rattle.pcrf_values.specs.Results.{success}
 use Rattle.pcrf_model.specs.Replies.{ReplyValue, OnBase}
 use Rattle.pcrf_model.specs.Requests.{BaseKind, CapabilitiesExchange, DeviceWatchdog, DisconnectPeer, RequestValue, Base}
-use Rattle.site_core.specs.Answering.{refusal_bytes}
+use Rattle.dia_codec.specs.declared.message.Header.{Header}
+use Rattle.dia_base.specs.declared.identity.Identity.{Identity}
+use Rattle.site_core.specs.Answering.{answer_to, busy_answer, refusal_bytes}
 use Rattle.site_core.specs.Asking.{AskedValue, ToServe, ToRefuse, Nothing, meaning_of_frame}
 use Rattle.site_machine.specs.Sites.{SiteValue, served, with_made}
-use Rattle.site_core.specs.Replies.{answer_to}
 
 -- ---- the end of the connection
 
@@ -30,7 +31,36 @@ succeeds reply = false
 abbrev pub disconnects : RequestValue → ReplyValue → Bool
 disconnects request reply = asks_to_disconnect request && succeeds reply
 
--- ---- by what is asked
+-- ---- by whoever serves requests under these names: these may be its replies, and so it stands where it has no room for a request
+
+-- A request gets a reply that it may get; or, where there is no room for it, it is refused as one that comes while its peer is busy, and changes nothing.
+abbrev pub IsServed : {A : Type 0} → (A → Identity) → (A → RequestValue → ReplyValue → A → Type 0) → (A → Type 0) → A → Header → RequestValue → List ℕ → Bool → A → Type 0
+IsServed names may full old header request bytes last new =
+    ((reply : ReplyValue) × may old request reply new × (bytes ≡ answer_to (names new) header request reply) × (last ≡ disconnects request reply))
+    ⊎ (full old × (new ≡ old) × (bytes ≡ busy_answer (names old) header request) × (last ≡ false))
+
+-- What is asked is done, and answered by these bytes, none where nothing is asked; the stream ends with it or goes on. Nothing but a request that is
+-- served changes anything.
+abbrev pub Answers : {A : Type 0} → (A → Identity) → (A → RequestValue → ReplyValue → A → Type 0) → (A → Type 0) → A → AskedValue → List ℕ → Bool → A → Type 0
+Answers names may full old (ToServe header request) bytes last new = IsServed names may full old header request bytes last new
+Answers names may full old (ToRefuse header session refusal) bytes last new =
+    (new ≡ old) × (bytes ≡ refusal_bytes (names old) header session refusal) × (last ≡ false)
+Answers names may full old Nothing bytes last new = (new ≡ old) × (bytes ≡ []) × (last ≡ false)
+
+-- There is no answer: nothing was done, or a request was served.
+abbrev pub Unanswered : {A : Type 0} → (A → RequestValue → ReplyValue → A → Type 0) → A → AskedValue → A → Type 0
+Unanswered may old (ToServe header request) new = (new ≡ old) ⊎ ((reply : ReplyValue) × may old request reply new)
+Unanswered may old asked new = new ≡ old
+
+-- ---- by a site
+
+-- it has room for each request
+abbrev pub NeverFull : {A : Type 0} → A → Type 0
+NeverFull s = ⊥
+
+-- the one reply that it gives, and the site after it
+abbrev pub SiteReplies : SiteValue → RequestValue → ReplyValue → SiteValue → Type 0
+SiteReplies s request reply new = (reply ≡ (served s request).reply) × (new ≡ with_made s (served s request).added)
 
 -- the bytes of the answer, none where nothing is asked
 abbrev pub answer_by : SiteValue → AskedValue → List ℕ

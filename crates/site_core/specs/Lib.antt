@@ -1,6 +1,5 @@
 pub mod Limits
 pub mod Cuts
-pub mod Replies
 pub mod Frames
 pub mod Conversations
 pub mod Conversing

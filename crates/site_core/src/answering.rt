@@ -1,24 +1,23 @@
-//! What a site answers to one frame.
-ghost use Rattle.std.specs.Prelude.{◌≡◌, ◌<◌, ◌⊎◌, [], false, IfOk, OnOk, OnErr};
+//! What is answered to one frame, by whoever serves requests.
+ghost use Rattle.std.specs.Prelude.{◌≡◌, ◌<◌, false, IfOk, OnErr};
 ghost use Rattle.std.specs.Option.{option_copied};
 ghost use Rattle.dia_codec.specs.Limits.{command_bound};
 ghost use Rattle.dia_codec.specs.Spelling.{IsFrame};
 ghost use Rattle.base_profile.specs.Requests.{kind_view};
-ghost use Rattle.site_core.specs.Answering.{refusal_bytes};
-ghost use Rattle.site_core.specs.Asking.{HeaderFits, asked_value};
-ghost use Rattle.site_machine.specs.Sites.{served, with_made};
+ghost use Rattle.site_core.specs.Answering.{answer_to, busy_answer, refusal_bytes};
+ghost use Rattle.site_core.specs.Asking.{HeaderFits, ToServe, asked_value, meaning_of_frame};
+ghost use Rattle.site_core.specs.Frames.{Answers, IsServed, Unanswered, asks_to_disconnect, disconnects, is_disconnect, succeeds};
 ghost use Rattle.site_machine.specs.Values.{reply_value, request_value};
-ghost use Rattle.site_core.specs.Frames.{after, after_by, answer_by, answer_of, asks_to_disconnect, disconnects, ends, ends_by, is_disconnect, succeeds};
-ghost use Rattle.site_core.specs.Replies.{answer_to};
 
 use crate::reading::{Asked, read_request};
-use crate::writing::{write_refusal, write_reply};
+use crate::serving::{Serve, ServeFault};
+use crate::writing::{write_busy, write_refusal, write_reply};
 use base_profile::BaseKind;
 use dia_base::Identity;
 use dia_base::codes::results::SUCCESS;
 use dia_codec::Header;
 use pcrf_values::{Refusal, SessionId};
-use site_machine::{Reply, Request, Site};
+use site_machine::{Reply, Request};
 use std::alloc::{AllocError, Global};
 
 /// What a frame is answered.
@@ -60,30 +59,63 @@ fn succeeds(reply: &Reply) -> bool
     }
 }
 
-/// Serves a request. Where memory runs out, it may have been served without an answer.
-fn answer_request(
+/// The answer to a request that was served.
+fn answer_served(
     alloc: Global,
-    site: &mut Site,
+    identity: &Identity,
+    header: &Header,
+    request: &Request,
+    reply: &Reply,
+) -> Result<Answer, AllocError>
+    requires { header.now.command < command_bound }
+    ensures bytes { IfOk result (λ answer. answer.bytes.items ≡ answer_to identity.now
+        header.now (request_value request.now) (reply_value reply.now)) }
+    ensures ends { IfOk result (λ answer. answer.last
+        ≡ disconnects (request_value request.now) (reply_value reply.now)) }
+{
+    let bytes = write_reply(alloc, identity, header, request, reply)?;
+    Ok(Answer {
+        bytes,
+        last: asks_to_disconnect(request) && succeeds(reply),
+    })
+}
+
+/// The answer to a request for which there is no room.
+fn answer_busy(
+    alloc: Global,
+    identity: &Identity,
     header: &Header,
     request: &Request,
 ) -> Result<Answer, AllocError>
     requires { header.now.command < command_bound }
-    ensures answer { IfOk result (λ answer. answer.bytes.items
-        ≡ answer_to site.old.identity header.now (request_value request.now)
-        (served site.old (request_value request.now)).reply) }
-    ensures ends { IfOk result (λ answer. answer.last ≡ disconnects (request_value request.now)
-        (served site.old (request_value request.now)).reply) }
-    ensures after { OnOk result (site.new
-        ≡ with_made site.old (served site.old (request_value request.now)).added) }
-    ensures refused { OnErr result ((site.new ≡ site.old) ⊎ (site.new
-        ≡ with_made site.old (served site.old (request_value request.now)).added)) }
+    ensures bytes { IfOk result (λ answer. answer.bytes.items
+        ≡ busy_answer identity.now header.now (request_value request.now)) }
+    ensures ends { IfOk result (λ answer. answer.last ≡ false) }
 {
-    let reply = site.serve(request)?;
-    let bytes = write_reply(alloc, site.identity(), header, request, &reply)?;
-    Ok(Answer {
-        bytes,
-        last: asks_to_disconnect(request) && succeeds(&reply),
-    })
+    let bytes = write_busy(alloc, identity, header, request)?;
+    Ok(Answer { bytes, last: false })
+}
+
+/// Has a request served. Where memory runs out, it may have been served without an answer.
+fn answer_request<S: Serve>(
+    alloc: Global,
+    server: &mut S,
+    header: &Header,
+    request: Request,
+) -> Result<Answer, AllocError>
+    requires { header.now.command < command_bound }
+    ensures answered { IfOk result (λ answer. IsServed S.names S.may_reply S.is_full
+        server.old header.now (request_value request)
+        answer.bytes.items answer.last server.new) }
+    ensures unanswered { OnErr result (Unanswered S.may_reply server.old
+        (ToServe header.now (request_value request)) server.new) }
+{
+    let (request, served) = server.serve(request);
+    match served {
+        Ok(reply) => answer_served(alloc, server.identity(), header, &request, &reply),
+        Err(ServeFault::Full) => answer_busy(alloc, server.identity(), header, &request),
+        Err(ServeFault::NoMemory) => Err(AllocError),
+    }
 }
 
 /// Refuses a request that could not be read, or isn't served.
@@ -104,20 +136,17 @@ fn answer_refused(
 }
 
 /// Does what a frame asks for. Where memory runs out, a request may have been served without an answer.
-fn answer_asked(alloc: Global, site: &mut Site, asked: &Asked) -> Result<Answer, AllocError>
-    requires { HeaderFits asked.now }
-    ensures answer { IfOk result (λ answer.
-        answer.bytes.items ≡ answer_by site.old (asked_value asked.now)) }
-    ensures ends { IfOk result (λ answer.
-        answer.last ≡ ends_by site.old (asked_value asked.now)) }
-    ensures after { OnOk result (site.new ≡ after_by site.old (asked_value asked.now)) }
-    ensures refused { OnErr result ((site.new ≡ site.old)
-        ⊎ (site.new ≡ after_by site.old (asked_value asked.now))) }
+fn answer_asked<S: Serve>(alloc: Global, server: &mut S, asked: Asked) -> Result<Answer, AllocError>
+    requires { HeaderFits asked }
+    ensures answered { IfOk result (λ answer. Answers S.names S.may_reply S.is_full
+        server.old (asked_value asked) answer.bytes.items answer.last server.new) }
+    ensures unanswered { OnErr result
+        (Unanswered S.may_reply server.old (asked_value asked) server.new) }
 {
     match asked {
-        Asked::Request(header, request) => answer_request(alloc, site, header, request),
+        Asked::Request(header, request) => answer_request(alloc, server, &header, request),
         Asked::Refused(header, session, refusal) => {
-            answer_refused(alloc, site.identity(), header, session.as_ref(), *refusal)
+            answer_refused(alloc, server.identity(), &header, session.as_ref(), refusal)
         }
         Asked::Silent => Ok(Answer {
             bytes: Vec::new(alloc),
@@ -126,16 +155,19 @@ fn answer_asked(alloc: Global, site: &mut Site, asked: &Asked) -> Result<Answer,
     }
 }
 
-/// Serves a frame. Where memory runs out, it may have been served without an answer.
-#[tactic(auto, unfolding(crate::specs::Frames::answer_of, crate::specs::Frames::ends, crate::specs::Frames::after))]
-pub fn answer_frame(alloc: Global, site: &mut Site, frame: &[u8]) -> Result<Answer, AllocError>
+/// Has a frame answered: a request is served, or refused by its first fault, and what isn't one is passed over. Where memory
+/// runs out, a request may have been served without an answer.
+pub fn answer_frame<S: Serve>(
+    alloc: Global,
+    server: &mut S,
+    frame: &[u8],
+) -> Result<Answer, AllocError>
     requires { IsFrame frame.now }
-    ensures answer { IfOk result (λ answer. answer.bytes.items ≡ answer_of site.old frame.now) }
-    ensures ends { IfOk result (λ answer. answer.last ≡ ends site.old frame.now) }
-    ensures after { OnOk result (site.new ≡ after site.old frame.now) }
-    ensures refused { OnErr result ((site.new ≡ site.old)
-        ⊎ (site.new ≡ after site.old frame.now)) }
+    ensures answered { IfOk result (λ answer. Answers S.names S.may_reply S.is_full
+        server.old (meaning_of_frame frame.now) answer.bytes.items answer.last server.new) }
+    ensures unanswered { OnErr result
+        (Unanswered S.may_reply server.old (meaning_of_frame frame.now) server.new) }
 {
     let asked = read_request(alloc, frame)?;
-    answer_asked(alloc, site, &asked)
+    answer_asked(alloc, server, asked)
 }

@@ -11,11 +11,14 @@ mod conversing;
 mod ended;
 mod law;
 mod reading;
+mod serving;
 mod writing;
 
+pub use answering::{Answer, answer_frame};
 pub use conversing::converse;
 pub use ended::Ended;
 pub use law::one_conversation;
 pub use reading::{Asked, read_request};
+pub use serving::{Serve, ServeFault};
 pub use site_machine::{Event, Reply, Request, Site, StepFault};
 pub use writing::{write_refusal, write_reply};

@@ -9,12 +9,14 @@ ghost use Rattle.gx_profile.specs.Answers.{cca};
 ghost use Rattle.rx_profile.specs.Answers.{aaa, sta};
 ghost use Rattle.base_profile.specs.Answers.{base_answer};
 ghost use Rattle.base_profile.specs.Requests.{base_view};
-ghost use Rattle.site_core.specs.Answering.{answer_bytes, base_result, bytes_by, gx_result, is_of_kind, refusal_bytes, reply_bytes, rx_result};
+ghost use Rattle.gx_profile.specs.Requests.{ccr_view};
+ghost use Rattle.site_core.specs.Answering.{answer_bytes, answer_to, busy_answer, bytes_by, is_of_kind, refusal_bytes, to_function, to_gateway, to_peer};
+ghost use Rattle.site_machine.specs.Values.{reply_value, request_value};
 
 use base_profile::{BaseRequest, base_answer};
 use dia_base::{Identity, refusal_answer};
 use dia_codec::{Header, Message, WriteFault, write_message};
-use gx_profile::{Ccr, write_cca};
+use gx_profile::{Ccr, GxReply, write_cca};
 use pcrf_values::{AfSid, Refusal, SessionId};
 use rx_profile::{write_aaa, write_sta};
 use site_machine::{Reply, Request};
@@ -46,8 +48,10 @@ fn write_gx(
 ) -> Result<Vec<u8>, AllocError>
     requires { header.now.command < command_bound }
     ensures bytes { IfOk result (λ bytes. bytes.items
-        ≡ bytes_by (cca identity.now header.now ccr.now) (gx_result reply.now)) }
-    ensures some { IfOk result (λ bytes. is_some (gx_result reply.now) ≡ true → bytes.items ≢ []) }
+        ≡ bytes_by (cca identity.now header.now (ccr_view ccr.now))
+        (to_gateway (reply_value reply.now))) }
+    ensures some { IfOk result (λ bytes.
+        is_some (to_gateway (reply_value reply.now)) ≡ true → bytes.items ≢ []) }
 {
     let Reply::Gx(reply) = reply else {
         return Ok(Vec::new(alloc));
@@ -57,8 +61,8 @@ fn write_gx(
 }
 
 /// What an application function's request came to, if that is what is replied.
-fn rx_result(reply: &Reply) -> Option<Option<Refusal>>
-    ensures { result ≡ rx_result reply.now }
+fn to_function(reply: &Reply) -> Option<Option<Refusal>>
+    ensures { result ≡ to_function (reply_value reply.now) }
 {
     match reply {
         Reply::Done => Some(None),
@@ -78,10 +82,11 @@ fn write_aa(
 ) -> Result<Vec<u8>, AllocError>
     requires { header.now.command < command_bound }
     ensures bytes { IfOk result (λ bytes. bytes.items
-        ≡ bytes_by (aaa identity.now header.now session.now) (rx_result reply.now)) }
-    ensures some { IfOk result (λ bytes. is_some (rx_result reply.now) ≡ true → bytes.items ≢ []) }
+        ≡ bytes_by (aaa identity.now header.now session.now) (to_function (reply_value reply.now))) }
+    ensures some { IfOk result (λ bytes.
+        is_some (to_function (reply_value reply.now)) ≡ true → bytes.items ≢ []) }
 {
-    let Some(refusal) = rx_result(reply) else {
+    let Some(refusal) = to_function(reply) else {
         return Ok(Vec::new(alloc));
     };
     let answer = write_aaa(alloc, identity, header, session, refusal)?;
@@ -99,10 +104,11 @@ fn write_termination(
 ) -> Result<Vec<u8>, AllocError>
     requires { header.now.command < command_bound }
     ensures bytes { IfOk result (λ bytes. bytes.items
-        ≡ bytes_by (sta identity.now header.now session.now) (rx_result reply.now)) }
-    ensures some { IfOk result (λ bytes. is_some (rx_result reply.now) ≡ true → bytes.items ≢ []) }
+        ≡ bytes_by (sta identity.now header.now session.now) (to_function (reply_value reply.now))) }
+    ensures some { IfOk result (λ bytes.
+        is_some (to_function (reply_value reply.now)) ≡ true → bytes.items ≢ []) }
 {
-    let Some(refusal) = rx_result(reply) else {
+    let Some(refusal) = to_function(reply) else {
         return Ok(Vec::new(alloc));
     };
     let answer = write_sta(alloc, identity, header, session, refusal)?;
@@ -120,9 +126,10 @@ fn write_base(
 ) -> Result<Vec<u8>, AllocError>
     requires { header.now.command < command_bound }
     ensures bytes { IfOk result (λ bytes. bytes.items ≡ bytes_by
-        (λ _. base_answer identity.now header.now (base_view request.now)) (base_result reply.now)) }
+        (λ _. base_answer identity.now header.now (base_view request.now))
+        (to_peer (reply_value reply.now))) }
     ensures some { IfOk result (λ bytes.
-        is_some (base_result reply.now) ≡ true → bytes.items ≢ []) }
+        is_some (to_peer (reply_value reply.now)) ≡ true → bytes.items ≢ []) }
 {
     let Reply::Base(_) = reply else {
         return Ok(Vec::new(alloc));
@@ -142,15 +149,43 @@ pub fn write_reply(
 ) -> Result<Vec<u8>, AllocError>
     requires { header.now.command < command_bound }
     ensures bytes { IfOk result (λ bytes.
-        bytes.items ≡ reply_bytes identity.now header.now request.now reply.now) }
-    ensures some { IfOk result (λ bytes.
-        is_of_kind request.now reply.now ≡ true → bytes.items ≢ []) }
+        bytes.items ≡ answer_to identity.now header.now
+        (request_value request.now) (reply_value reply.now)) }
+    ensures some { IfOk result (λ bytes. is_of_kind
+        (request_value request.now) (reply_value reply.now) ≡ true → bytes.items ≢ []) }
 {
     match request {
         Request::Ccr(ccr) => write_gx(alloc, identity, header, ccr, reply),
         Request::Aar(aar) => write_aa(alloc, identity, header, &aar.session, reply),
         Request::Str(call) => write_termination(alloc, identity, header, &call.session, reply),
         Request::Base(request) => write_base(alloc, identity, header, request, reply),
+    }
+}
+
+/// DIAMETER_TOO_BUSY (RFC 6733, 7.1.3).
+const TOO_BUSY: u32 = 3004;
+
+/// The bytes of the answer to a request for which there is no room.
+pub(crate) fn write_busy(
+    alloc: Global,
+    identity: &Identity,
+    header: &Header,
+    request: &Request,
+) -> Result<Vec<u8>, AllocError>
+    requires { header.now.command < command_bound }
+    ensures { IfOk result (λ bytes.
+        bytes.items ≡ busy_answer identity.now header.now (request_value request.now)) }
+{
+    let busy = Refusal::base(TOO_BUSY);
+    match request {
+        Request::Ccr(_) => {
+            let reply = Reply::Gx(GxReply::Refused(busy));
+            write_reply(alloc, identity, header, request, &reply)
+        }
+        Request::Aar(_) | Request::Str(_) => {
+            write_reply(alloc, identity, header, request, &Reply::Refused(busy))
+        }
+        Request::Base(_) => write_refusal(alloc, identity, header, None, busy),
     }
 }
 

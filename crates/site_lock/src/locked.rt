@@ -6,18 +6,47 @@ ghost use Rattle.site_book.specs.Gains.{HoldsAll};
 ghost use Rattle.site_book.specs.Limits.{most_entries, most_seats};
 ghost use Rattle.site_book.specs.Settling.{FirstFault, Settles, receipts_below};
 ghost use Rattle.site_lock.specs.Calls.{GainsReceipt};
+ghost use Rattle.site_lock.specs.Locked.{beside};
 
+use dia_base::Identity;
+use ranked::Ranked;
 use site_book::{Seat, Settled, SiteBook, Unsettled};
 use site_machine::{Event, Reply, Site, StepFault};
 use std::alloc::{AllocError, Global};
+use std::marker::Model;
 use std::sync::ledger::{Blank, Ledger};
 use std::sync::{Mutex, Wait};
 
 /// A book that threads share, under the one lock of its site. What a thread is told by a call is what the book's own call told:
-/// the seat has a receipt of it, and only that call gives receipts.
+/// the seat has a receipt of it, and only that call gives receipts. Beside the lock stands what never changes of the site.
 #[derive(Drop)]
 pub struct LockedSite<L: Ledger> {
     book: Mutex<SiteBook<L>>,
+    identity: Identity,
+    edition: u32,
+    number: u8,
+}
+
+impl<L: Ledger> Model for LockedSite<L> {
+    ghost use Rattle.site_lock.specs.Locked.{LockedValue};
+
+    ghost Value = { LockedValue };
+
+    ghost view = { λ l. record { identity = l.identity; edition = l.edition; number = l.number } };
+}
+
+/// A copy of a site's names.
+fn names_of(site: &Site) -> Result<Identity, AllocError>
+    ensures { IfOk result (λ names. names ≡ site.now.identity) }
+{
+    let names = site.identity();
+    let host = names.host.try_copy()?;
+    let realm = names.realm.try_copy()?;
+    Ok(Identity {
+        host,
+        realm,
+        address: names.address,
+    })
 }
 
 impl<L: Ledger> LockedSite<L> {
@@ -34,19 +63,63 @@ impl<L: Ledger> LockedSite<L> {
         requires one_each { blank.parts ≡ seats }
         requires seats { (1 ≤ seats) × (seats ≤ most_seats) }
         requires limit { limit ≤ most_entries }
+        ensures beside { IfOk result (λ r. r.0 ≡ beside site) }
         ensures seats { IfOk result (λ r. r.1.items ≡ new_seats seats) }
         ensures blank { IfErr result (λ r. r.1 ≡ blank) }
         ensures site { IfErr result (λ r. r.2 ≡ site) }
     {
+        let Ok(identity) = names_of(&site) else {
+            return Err((AllocError, blank, site));
+        };
+        let edition = site.tables().edition();
+        let number = site.number();
         let (book, chairs) = SiteBook::start(alloc, blank, site, seats, limit)?;
-        Ok((LockedSite::over(book), chairs))
+        let locked = LockedSite {
+            book: Mutex::new(book),
+            identity,
+            edition,
+            number,
+        };
+        Ok((locked, chairs))
     }
 
-    /// A book under a lock.
-    pub fn over(book: SiteBook<L>) -> LockedSite<L> {
-        LockedSite {
+    /// A book under a lock; it comes back where memory is refused.
+    pub fn over(book: SiteBook<L>) -> Result<LockedSite<L>, (AllocError, SiteBook<L>)>
+        ensures beside { IfOk result (λ locked. locked ≡ beside book.site) }
+        ensures back { IfErr result (λ e. e.1 ≡ book) }
+    {
+        let Ok(identity) = names_of(book.site()) else {
+            return Err((AllocError, book));
+        };
+        let edition = book.site().tables().edition();
+        let number = book.site().number();
+        Ok(LockedSite {
             book: Mutex::new(book),
-        }
+            identity,
+            edition,
+            number,
+        })
+    }
+
+    /// The names that the site answers under. It waits for nobody.
+    pub fn identity(&self) -> &Identity
+        ensures { result.now ≡ self.now.identity }
+    {
+        &self.identity
+    }
+
+    /// The edition of the site's operator tables. It waits for nobody.
+    pub fn edition(&self) -> u32
+        ensures { result ≡ self.now.edition }
+    {
+        self.edition
+    }
+
+    /// The site's number. It waits for nobody.
+    pub fn number(&self) -> u8
+        ensures { result ≡ self.now.number }
+    {
+        self.number
     }
 
     /// Makes an event happen, as a call of a seat, once the lock is free. The seat gains the receipt of this event with the
@@ -74,7 +147,7 @@ impl<L: Ledger> LockedSite<L> {
         ensures fault { IfErr result (λ u. FirstFault u.book seats.items u.fault) }
         ensures seats_back { IfErr result (λ u. u.seats.items ≡ seats.items) }
     {
-        let LockedSite { book } = self;
+        let LockedSite { book, .. } = self;
         book.into_inner().settle(seats)
     }
 }

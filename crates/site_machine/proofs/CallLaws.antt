@@ -42,11 +42,11 @@ use Rattle.site_machine.specs.Sites.{SiteValue, aar_served, str_served}
 -- ---- the facts of one session among others
 
 -- those of two lists
-facts_on-append : (xs ys : List SessionFact) (s : Session) → facts_on (xs ++ ys) s ≡ facts_on xs s ++ facts_on ys s
+pub facts_on-append : (xs ys : List SessionFact) (s : Session) → facts_on (xs ++ ys) s ≡ facts_on xs s ++ facts_on ys s
 facts_on-append xs ys s = filter_map-append (on_session s) xs ys
 
 -- of a session's own
-own_under : (s : Session) (fs : List Fact) → facts_on (under s fs) s ≡ fs
+pub own_under : (s : Session) (fs : List Fact) → facts_on (under s fs) s ≡ fs
 own_under s [] = refl
 own_under s (f ∷ fs) = rw (eq_itself session_ranked s) (ap (λ (l : List Fact). f ∷ l) (own_under s fs))
 
@@ -56,7 +56,7 @@ other_under id a [] = refl
 other_under id a (f ∷ fs) = other_under id a fs
 
 -- a record joined with the kept facts of a request has what is kept of them all
-held-append : (ks fs : List Fact) → joined ks (held fs) ≡ held (ks ++ fs)
+pub held-append : (ks fs : List Fact) → joined ks (held fs) ≡ held (ks ++ fs)
 held-append ks fs = joined_comm ks (held fs) ∙ joined-held fs ks ∙ joined_comm fs ks
 
 -- so with a request's facts the session asks for a binding by that record

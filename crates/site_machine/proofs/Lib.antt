@@ -1,6 +1,7 @@
 pub mod CallLaws
 pub mod Formed
 pub mod Left
+pub mod PlacedRecord
 pub mod Pushes
 pub mod Replies
 pub mod Restoring

@@ -20,14 +20,18 @@ opens Initial = true
 opens Update = true
 opens Termination = false
 
--- the operation that it makes at a site, under a counter
+-- the facts that it makes at a site, under a counter
+abbrev pub fields_of : ℕ → ℕ → CcrValue → RequestKind → List Fact
+fields_of site counter q k = made_facts q k (record { number = q.number; counter = counter; site = site })
+
+-- the operation of these
 abbrev pub operation_made : ℕ → ℕ → CcrValue → RequestKind → Operation
 operation_made site counter q k = record {
   counter = counter;
   site = site;
   number = q.number;
   session = gx q.session;
-  facts = made_facts q k (record { number = q.number; counter = counter; site = site });
+  facts = fields_of site counter q k;
 }
 
 -- ---- what a gateway is told
@@ -59,8 +63,7 @@ operation_told site counter q k d = record {
   site = site;
   number = q.number;
   session = gx q.session;
-  facts = made_facts q k (record { number = q.number; counter = counter; site = site })
-      ++ ascending fact_cmp (told_facts (record { number = 0; counter = counter; site = site }) d);
+  facts = fields_of site counter q k ++ ascending fact_cmp (told_facts (record { number = 0; counter = counter; site = site }) d);
 }
 
 -- the operation of a push of a session at a site, under a counter

@@ -6,16 +6,15 @@ use Rattle.pcrf_model.specs.Views.{View}
 use Rattle.pcrf_model.specs.Tables.{Tables}
 use Rattle.pcrf_model.specs.Rules.{quality_of}
 use Rattle.pcrf_model.specs.Serving.{delta_of}
-use Rattle.pcrf_model.specs.Replies.{ReplyValue, OnGx, Granted, Rejected}
+use Rattle.pcrf_model.specs.Replies.{ReplyValue, OnGx, Granted}
 use Rattle.reply_values.specs.declared.answer.GxReply.{GxReply}
-use Rattle.reply_values.specs.declared.answer.GxReply.TheVariants as gx_reply
+use Rattle.reply_values.specs.Replies.{gx_reply_view}
 use Rattle.site_machine.specs.declared.event.Reply.{Reply}
 use Rattle.site_machine.specs.declared.event.Reply.TheVariants as reply
 
 -- a reply to a gateway
 abbrev pub gx_reply_value : GxReply → ReplyValue
-gx_reply_value (gx_reply.Granted delta quality) = OnGx (Granted delta quality)
-gx_reply_value (gx_reply.Refused r) = OnGx (Rejected r)
+gx_reply_value r = OnGx (gx_reply_view r)
 
 -- the reply to an accepted initial request or update, by what is read with its fields
 abbrev pub told_reply : Tables → View → Session → ReplyValue

@@ -25,7 +25,6 @@ ghost use Rattle.site_machine.specs.Values.{reply_value};
 use crate::event::Reply;
 use crate::site::Site;
 use af_records::{AfFact, AfRec};
-use bind_index::bind_by;
 use dia_base::codes::results::{
     MISSING_AVP, SERVICE_NOT_AUTHORIZED, SESSION_NOT_AVAILABLE, UNABLE_TO_COMPLY,
     UNKNOWN_SESSION_ID,
@@ -77,7 +76,7 @@ impl Site {
             (aar_view aar.now)))) }
     {
         self.note_number();
-        let call = call_of(self.alloc, aar, self.state.clock() + 1, self.number)?;
+        let call = call_of(self.alloc, aar, self.held.clock() + 1, self.number)?;
         if self.binds_to_none(&aar.session, &call)? {
             return Ok(None);
         }
@@ -90,14 +89,14 @@ impl Site {
             self.now.state.holding (aar_view aar.now) ≡ or_else result
             (late_refusal self.now.number self.now.state.holding (aar_view aar.now)) }
     {
-        let known = self.state.af(&aar.session);
+        let known = self.held.af(&aar.session);
         if has_ended(known) {
             return Some(Refusal::base(UNKNOWN_SESSION_ID));
         }
         if lacks_address(known, aar) {
             return Some(Refusal::base(MISSING_AVP));
         }
-        if lack_class(&self.tables, aar.components.as_slice()) {
+        if lack_class(self.held.tables(), aar.components.as_slice()) {
             return Some(Refusal::experimental(SERVICE_NOT_AUTHORIZED));
         }
         None
@@ -110,7 +109,7 @@ impl Site {
             ++ under (af session.now) facts)) (af session.now))) }
     {
         let joined = self.with_call(session, call)?;
-        Ok(bind_by(&self.state, &joined).is_none())
+        Ok(self.held.bind_by(&joined).is_none())
     }
 
     /// The record of a session with what a request describes.
@@ -119,7 +118,7 @@ impl Site {
             ≡ joined (facts_on self.now.state.holding.facts (af session.now)) call.now) }
     {
         call.note_valid();
-        match self.state.af(session) {
+        match self.held.af(session) {
             Some(known) => known.joined_copy(call),
             None => call.try_copy(),
         }
@@ -134,7 +133,7 @@ impl Site {
             ≡ with_made self.old (str_served self.old (str_view call.now)).added) }
         ensures err { OnErr result (self.new ≡ self.old) }
     {
-        if !is_live(self.state.af(&call.session)) {
+        if !is_live(self.held.af(&call.session)) {
             return Ok(Reply::Refused(Refusal::base(UNKNOWN_SESSION_ID)));
         }
         let Some(counter) = self.next_counter() else {

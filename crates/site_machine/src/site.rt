@@ -3,11 +3,11 @@ ghost use Rattle.std.specs.Prelude.{◌≡◌, ◌≢◌, ◌<◌, ◌≤◌, �
 ghost use Rattle.std.specs.Option.{option_copied};
 ghost use Rattle.ranked.specs.Sets.{Distinct};
 ghost use Rattle.pcrf_values.specs.Results.{authorization_rejected, unable_to_comply};
-ghost use Rattle.pcrf_facts.specs.Held.{is_ended};
+ghost use Rattle.pcrf_facts.specs.Held.{is_ended, joined};
 ghost use Rattle.pcrf_facts.specs.Live.{gx_is_live};
 ghost use Rattle.pcrf_model.specs.Limits.{delta_limit, last_counter, site_limit};
 ghost use Rattle.pcrf_model.specs.Holdings.{facts_on, kept_of, replaced};
-ghost use Rattle.pcrf_model.specs.Pushing.{lacks_counter};
+ghost use Rattle.pcrf_model.specs.Pushing.{due, lacks_counter};
 ghost use Rattle.pcrf_model.specs.Replies.{OnGx, Granted, Pushed};
 ghost use Rattle.pcrf_model.specs.Serving.{delta_of, empty_delta, provisioned, serve_base};
 ghost use Rattle.pcrf_model.specs.Sessions.{gx};
@@ -22,6 +22,8 @@ ghost use Rattle.pcrf_model.specs.ToldTags.{ToldUpTo};
 ghost use Rattle.pcrf_model.specs.Forms.{are_up_to, is_holding, is_operation};
 ghost use Rattle.pcrf_facts.specs.FlowWords.{or_else};
 ghost use Rattle.reply_values.specs.Replies.{push_view};
+ghost use Rattle.rule_telling.specs.Pushed.{push_of, untold};
+ghost use Rattle.gx_records.specs.GxFacts.{fact_of};
 ghost use Rattle.gx_profile.specs.Requests.{ccr_view};
 ghost use Rattle.base_profile.specs.Requests.{base_view};
 ghost use Rattle.site_join.specs.States.{record_facts};
@@ -39,17 +41,16 @@ use dia_base::codes::results::{
     AUTHORIZATION_REJECTED, INITIAL_PARAMETERS, SUCCESS, UNABLE_TO_COMPLY, UNKNOWN_SESSION_ID,
 };
 use gx_profile::Ccr;
-use gx_records::GxRec;
+use gx_records::{GxFact, GxRec};
+use indexed_state::IndexedState;
 use lattice_core::Join;
 use op_tables::Tables;
-use operator_view::{OperatorValue, bindings, value};
-use pcc_rules::derive;
+use operator_view::{OperatorValue, value};
 use pcrf_model::ranges::note_text;
-use pcrf_values::{AfSid, Apn, DefaultQuality, GxSid, Refusal, RequestKind, Rule};
+use pcrf_values::{AfSid, Apn, DefaultQuality, Delta, GxSid, Refusal, RequestKind, Rule};
 use ranked::{Ranked, Tag};
 use reply_values::{FirstEntries, GxReply, PushOut};
 use request_facts::{facts_made, note_ccr};
-use rule_telling::{next_push, untold};
 use site_join::{LAST_COUNTER, Operation, SessionFacts, State};
 use std::alloc::{AllocError, Global};
 use std::marker::Model;
@@ -62,10 +63,9 @@ const RANGE_LIMIT: usize = 100;
 #[derive(Drop)]
 pub struct Site {
     pub(crate) alloc: Global,
-    pub(crate) tables: Tables,
     identity: Identity,
     pub(crate) number: u8,
-    pub(crate) state: State,
+    pub(crate) held: IndexedState,
     log: Vec<Operation>,
 }
 
@@ -77,17 +77,18 @@ impl Model for Site {
     ghost Value = { SiteValue };
 
     ghost view = { λ s. record {
-      tables = s.tables;
+      tables = s.held.tables;
       identity = s.identity;
       number = s.number;
-      state = record { holding = s.state; log = s.log.items };
+      state = record { holding = s.held.holding; log = s.log.items };
     } };
 
-    ghost invariant = { λ s. (s.number < site_limit) × (length s.log.items ≤ s.state.clock) };
+    ghost invariant = { λ s. (s.number < site_limit)
+        × (length s.log.items ≤ s.held.holding.clock) };
 }
 
 impl Site {
-    ghost use Rattle.site_machine.specs.Facts.{opens, operation_made, operation_pushed, operation_told};
+    ghost use Rattle.site_machine.specs.Facts.{fields_of, opens, operation_made, operation_pushed, operation_told};
     ghost use Rattle.site_machine.specs.Left.{ProvisionLeaves, PushLeaves, ReplyLeaves, RequestLeaves};
     ghost use Rattle.site_machine.specs.Replies.{told_reply};
     ghost use Rattle.site_machine.specs.Sites.{new_site, ccr_served, emptied, pushed, served, with_made, with_one, with_record, with_state, with_taken};
@@ -99,10 +100,9 @@ impl Site {
     {
         Site {
             alloc,
-            tables,
             identity,
             number,
-            state: State::start(alloc),
+            held: IndexedState::start(alloc, tables),
             log: Vec::new(alloc),
         }
     }
@@ -119,7 +119,7 @@ impl Site {
     pub fn tables(&self) -> &Tables
         ensures { result.now ≡ self.now.tables }
     {
-        &self.tables
+        self.held.tables()
     }
 
     /// The names that the site answers under.
@@ -133,7 +133,7 @@ impl Site {
     pub fn sessions(&self) -> &State
         ensures { result.now ≡ self.now.state.holding }
     {
-        &self.state
+        self.held.state()
     }
 
     /// Each live session of an application function with the gateway's session to which it is bound, if it is bound, in the
@@ -142,7 +142,7 @@ impl Site {
         ensures { IfOk result (λ found.
             found.items ≡ bindings_of (view self.now.state.holding.facts)) }
     {
-        bindings(self.alloc, &self.state)
+        self.held.bindings()
     }
 
     /// The PCC rules of a gateway's session, by precedence and name; none where it isn't live (TS 23.203, 6.3.1).
@@ -151,7 +151,7 @@ impl Site {
             ≡ rules self.now.tables (view self.now.state.holding.facts) (gx session.now)) }
         ensures apart { IfOk result (λ made. Distinct (map rule_name_of made.items)) }
     {
-        derive(self.alloc, &self.tables, &self.state, session)
+        self.held.rules_of(session)
     }
 
     /// All that an operator sees of the site.
@@ -159,7 +159,7 @@ impl Site {
         ensures { IfOk result (λ value.
             value_view value ≡ operator_value self.now.tables self.now.state.holding) }
     {
-        value(self.alloc, &self.tables, &self.state)
+        value(self.alloc, self.held.tables(), self.held.state())
     }
 
     /// The operations that the site made itself from a position on, the first 100 if there are more, and how many it made in
@@ -193,7 +193,7 @@ impl Site {
         ensures length { IfOk result (λ r. r.1 ≡ length self.now.state.log) }
     {
         self.note_kept();
-        let copy = self.state.try_copy()?;
+        let copy = self.held.state().try_copy()?;
         Ok((copy, self.log.len() as u64))
     }
 
@@ -202,8 +202,7 @@ impl Site {
         ensures ok { OnOk result (self.new ≡ with_state self.old state.now) }
         ensures err { OnErr result (self.new ≡ self.old) }
     {
-        self.state = self.state.merged_copy(state)?;
-        Ok(())
+        self.held.take_state(state)
     }
 
     /// Serves a request. Where it grants an initial request or an update, the gateway lacks then just what the first 40 entries
@@ -299,26 +298,27 @@ impl Site {
         self.note_kept();
         self.note_told();
         self.note_form();
-        let before = self.copy_of(&ccr.session)?;
-        let clock = self.state.clock();
-        self.set_fields(ccr, counter)?;
-        match self.tell(ccr, counter, thrice) {
+        let clock = self.held.clock();
+        let facts = facts_made(self.alloc, ccr, self.tag(ccr.number, counter))?;
+        let stood = self.set_fields(ccr, counter, facts.as_slice())?;
+        match self.tell(ccr, counter, facts, thrice) {
             Ok(told) => Ok(told),
             Err(refused) => {
-                self.put_back(&ccr.session, before, clock);
+                self.put_back(&ccr.session, stood, clock);
                 Err(refused)
             }
         }
     }
 
-    /// A copy of the record of a session, if a fact of it is known.
-    fn copy_of(&self, session: &GxSid) -> Result<Option<GxRec>, AllocError>
-        ensures { IfOk result (λ copy. record_facts copy
-            ≡ facts_on self.now.state.holding.facts (gx session.now)) }
+    /// The record of a session with what a request sets.
+    fn with_fields(&self, session: &GxSid, made: GxRec) -> Result<GxRec, AllocError>
+        ensures { IfOk result (λ both. both
+            ≡ joined (facts_on self.now.state.holding.facts (gx session.now)) made) }
     {
-        match self.state.gx(session) {
-            Some(known) => Ok(Some(known.try_copy()?)),
-            None => Ok(None),
+        made.note_valid();
+        match self.held.gx(session) {
+            Some(known) => known.joined_copy(&made),
+            None => Ok(made),
         }
     }
 
@@ -331,31 +331,49 @@ impl Site {
             (gx session.now) (record_facts before) clock).facts ≡ true }
         ensures { self.new ≡ with_record self.old (gx session.now) (record_facts before) clock }
     {
-        self.state.put_gx(session, before, clock).unwrap();
+        self.held.put_gx(session, before, clock).unwrap();
     }
 
-    /// Sets the fields of an accepted request, or changes nothing.
-    fn set_fields(&mut self, ccr: &Ccr, counter: u64) -> Result<(), AllocError>
+    /// Sets the fields of an accepted request, which are these facts, and hands back the record that stood; or changes nothing.
+    fn set_fields(
+        &mut self,
+        ccr: &Ccr,
+        counter: u64,
+        facts: &[GxFact],
+    ) -> Result<Option<GxRec>, AllocError>
         requires within { counter ≤ last_counter }
-        requires first { 1 ≤ counter }
+        requires next { counter ≡ self.old.state.holding.clock + 1 }
+        requires fields { map fact_of facts.now
+            ≡ fields_of self.old.number counter (ccr_view ccr.now) ccr.now.kind }
         ensures ok { OnOk result (self.new ≡ with_one self.old
             (operation_made self.old.number counter (ccr_view ccr.now) ccr.now.kind)) }
+        ensures stood { IfOk result (λ stood. record_facts stood
+            ≡ facts_on self.old.state.holding.facts (gx ccr.now.session)) }
         ensures err { OnErr result (self.new ≡ self.old) }
     {
-        let operation = self.fields_made(ccr, counter)?;
-        self.state.take(&operation)
+        note_ccr(ccr);
+        self.note_number();
+        self.note_kept();
+        self.note_form();
+        let made = GxRec::of_facts(self.alloc, facts)?;
+        let record = self.with_fields(&ccr.session, made)?;
+        self.held.put_gx(&ccr.session, Some(record), counter)
     }
 
-    /// Tells the gateway what it lacks of the rules that its session has now, or changes nothing.
+    /// Tells the gateway, whose request made these facts, what it lacks of the rules that its session has now, or changes
+    /// nothing.
     fn tell(
         &mut self,
         ccr: &Ccr,
         counter: u64,
+        facts: Vec<GxFact>,
         thrice: bool,
     ) -> Result<(GxReply, Option<(GxReply, GxReply)>), AllocError>
         requires within { counter ≤ last_counter }
         requires later { length self.old.state.log < counter }
         requires opens { opens ccr.now.kind ≡ true }
+        requires fields { map fact_of facts.items
+            ≡ fields_of self.old.number counter (ccr_view ccr.now) ccr.now.kind }
         ensures reply { IfOk result (λ told. gx_reply_value told.0
             ≡ told_reply self.old.tables (view self.old.state.holding.facts) (gx ccr.now.session)) }
         ensures ok { OnOk result (self.new ≡ with_made self.old (Some (operation_told
@@ -368,19 +386,30 @@ impl Site {
         ensures err { OnErr result (self.new ≡ self.old) }
     {
         let quality = self.quality_of(&ccr.session);
-        let missing = untold(self.alloc, &self.tables, &self.state, &ccr.session)?;
+        let missing = self.untold(&ccr.session)?;
         let delta = FirstEntries::of(missing);
         note_entries(&delta);
         note_ccr(ccr);
         self.note_number();
-        let operation = self.all_made(ccr, counter, &delta)?;
+        let operation = self.all_made(ccr, counter, facts, &delta)?;
         let reply = GxReply::Granted(delta, quality);
         let spare = spare_replies(&reply, thrice)?;
         self.add(operation)?;
         Ok((reply, spare))
     }
 
-    /// The operation of the fields that an accepted request sets, or of the end that it makes.
+    /// What the gateway of a session is still to be told.
+    fn untold(&mut self, session: &GxSid) -> Result<Delta, AllocError>
+        ensures difference { IfOk result (λ delta. delta ≡ untold
+            self.new.tables (view self.new.state.holding.facts) (gx session.now)) }
+        ensures names { OnOk result (Distinct (map rule_name_of
+            (rules self.new.tables (view self.new.state.holding.facts) (gx session.now)))) }
+        ensures same { self.new ≡ self.old }
+    {
+        self.held.untold(session)
+    }
+
+    /// The operation of the end that an accepted request makes, or of the fields that it sets.
     fn fields_made(&self, ccr: &Ccr, counter: u64) -> Result<Operation, AllocError>
         requires within { counter ≤ last_counter }
         requires first { 1 ≤ counter }
@@ -395,19 +424,22 @@ impl Site {
         Ok(Operation::stamped(counter, self.number, ccr.number, facts))
     }
 
-    /// The operation of those fields, and of what the gateway is told.
+    /// The operation of the fields that an accepted request sets, which are these facts, and of what the gateway is told.
     fn all_made(
         &self,
         ccr: &Ccr,
         counter: u64,
+        facts: Vec<GxFact>,
         delta: &FirstEntries,
     ) -> Result<Operation, AllocError>
-        requires { is_operation (operation_told self.now.number counter (ccr_view ccr.now)
+        requires fields { map fact_of facts.items
+            ≡ fields_of self.now.number counter (ccr_view ccr.now) ccr.now.kind }
+        requires form { is_operation (operation_told self.now.number counter (ccr_view ccr.now)
             ccr.now.kind delta.now) ≡ true }
         ensures { IfOk result (λ operation. operation ≡ operation_told
             self.now.number counter (ccr_view ccr.now) ccr.now.kind delta.now) }
     {
-        let mut facts = facts_made(self.alloc, ccr, self.tag(ccr.number, counter))?;
+        let mut facts = facts;
         put_told(self.alloc, &mut facts, self.tag(0, counter), delta)?;
         let facts = SessionFacts::Gx(ccr.session.try_copy()?, facts);
         Ok(Operation::stamped(counter, self.number, ccr.number, facts))
@@ -429,8 +461,8 @@ impl Site {
         ensures { result
             ≡ quality_of self.now.tables (view self.now.state.holding.facts) (gx session.now) }
     {
-        let (_, apn) = self.state.gx(session)?.apn()?;
-        self.tables.apn(apn)?.default_quality()
+        let (_, apn) = self.held.gx(session)?.apn()?;
+        self.held.tables().apn(apn)?.default_quality()
     }
 
     /// The refusal by what is known of the session, given by the request and stands in the tables; the end of the clock
@@ -440,13 +472,13 @@ impl Site {
             ≡ or_else result
             (cond (is_clock_full self.now.state.holding) (Some unable_to_comply) None) }
     {
-        let known = self.state.gx(&ccr.session);
+        let known = self.held.gx(&ccr.session);
         match ccr.kind {
             RequestKind::Initial if has_ended(known) => Some(Refusal::base(UNKNOWN_SESSION_ID)),
             RequestKind::Initial if lacks(ccr) => Some(Refusal::experimental(INITIAL_PARAMETERS)),
-            RequestKind::Initial => row_refusal(&self.tables, &ccr.apn),
+            RequestKind::Initial => row_refusal(self.held.tables(), &ccr.apn),
             RequestKind::Update if !is_live(known) => Some(Refusal::base(UNKNOWN_SESSION_ID)),
-            RequestKind::Update => row_refusal(&self.tables, &ccr.apn),
+            RequestKind::Update => row_refusal(self.held.tables(), &ccr.apn),
             RequestKind::Termination if !is_live(known) => Some(Refusal::base(UNKNOWN_SESSION_ID)),
             RequestKind::Termination => None,
         }
@@ -460,7 +492,7 @@ impl Site {
         ensures open { IfSome result (λ _. is_clock_full self.now.state.holding ≡ false) }
         ensures full { result ≡ None → is_clock_full self.now.state.holding ≡ true }
     {
-        let clock = self.state.clock();
+        let clock = self.held.clock();
         if clock >= LAST_COUNTER {
             return None;
         }
@@ -474,7 +506,7 @@ impl Site {
         ensures err { OnErr result (self.new ≡ self.old) }
     {
         self.log.try_reserve(1)?;
-        self.state.take(&operation)?;
+        self.held.take(&operation)?;
         self.log.push(operation).unwrap();
         Ok(())
     }
@@ -525,14 +557,13 @@ impl Site {
         ensures memory { IfErr result (λ fault. fault ≢ StepFault.HistoryFull) }
         ensures err { OnErr result (self.new ≡ self.old) }
     {
-        self.note_told();
-        let found = next_push(self.alloc, &self.tables, &self.state, self.number, host);
-        let Ok(found) = found else {
+        let Ok(found) = self.next_push(host) else {
             return Err(StepFault::NoMemory);
         };
         let Some(push) = found else {
             return Ok(None);
         };
+        self.note_told();
         let Some(counter) = self.next_counter() else {
             return Err(StepFault::ClockFull);
         };
@@ -546,6 +577,19 @@ impl Site {
             return Err(StepFault::NoMemory);
         }
         Ok(Some((push, spare)))
+    }
+
+    /// The push that is due for a host, any where none is given.
+    fn next_push(&mut self, host: Option<&[u8]>) -> Result<Option<PushOut>, AllocError>
+        ensures push { IfOk result (λ push. option_map push_view push
+            ≡ option_map (push_of self.new.tables (view self.new.state.holding.facts))
+            (due self.new.tables self.new.number (view self.new.state.holding.facts)
+            (option_copied host.entry))) }
+        ensures names { IfOk result (λ push. IfSome push (λ p. Distinct (map rule_name_of
+            (rules self.new.tables (view self.new.state.holding.facts) (gx p.session))))) }
+        ensures same { self.new ≡ self.old }
+    {
+        self.held.next_push(self.number, host)
     }
 
     /// Adds the operation of a push, or changes nothing.
@@ -582,11 +626,11 @@ impl Site {
     pub(crate) fn note_kept(&self)
         ensures { kept_of self.now.state.holding ≡ self.now.state.holding }
     {
-        self.state.note_kept();
+        self.held.note_kept();
     }
 
     /// Does nothing: its contract tells a proof that each operation of the site's own raised the clock.
-    pub(crate) fn note_log(&self)
+    pub fn note_log(&self)
         ensures { length self.now.state.log ≤ self.now.state.holding.clock }
     {
         let _ = &self.log;
@@ -603,14 +647,14 @@ impl Site {
     pub fn note_form(&self)
         ensures { is_holding self.now.state.holding ≡ true }
     {
-        self.state.note_form();
+        self.held.note_form();
     }
 
     /// Does nothing: its contract tells a proof that what gateways were told has tags up to the clock.
     fn note_told(&self)
         ensures { ToldUpTo self.now.state.holding.clock self.now.state.holding.facts }
     {
-        self.state.note_told();
+        self.held.note_told();
     }
 
     /// Takes one operation, or changes nothing.
@@ -618,14 +662,14 @@ impl Site {
         ensures ok { OnOk result (self.new ≡ with_one self.old operation.now) }
         ensures err { OnErr result (self.new ≡ self.old) }
     {
-        self.state.take(operation)
+        self.held.take(operation)
     }
 
     /// Forgets all that it took and made.
     pub fn clear(&mut self)
         ensures { self.new ≡ emptied self.old }
     {
-        self.state = State::start(self.alloc);
+        self.held.clear();
         self.log = Vec::new(self.alloc);
     }
 }

@@ -1,4 +1,4 @@
-use Rattle.std.proofs.Common.{rules, ◌≡◌, ◌<◌, ℕ, ◌++◌, [], ◌∷◌, List, Some, Ok, length, refl, slice_get, ap, sym, ◌∙◌}
+use Rattle.std.proofs.Common.{rules, ◌≡◌, ◌<◌, ℕ, ◌++◌, [], ◌∷◌, Some, Ok, length, refl, slice_get, ap, sym, ◌∙◌}
 use Rattle.std.proofs.lemmas.Option.{slice_get_read, slice_get_within}
 use Rattle.pcrf_model.specs.Letters.{LetterValue}
 use Rattle.pcrf_model.specs.Worlds.{Letter, Lettered}
@@ -6,8 +6,6 @@ use Rattle.pcrf_model.specs.Seen.{seen_after}
 use Rattle.site_machine.specs.Sites.{SiteValue}
 use Rattle.pcrf_world.specs.Members.{seen_of}
 use Rattle.pcrf_world.specs.Values.{WorldValue, setting}
-use Rattle.pcrf_world.specs.Happening.{HappensIn}
-use Rattle.pcrf_world.specs.Letters.{letter_of_log}
 use Rattle.pcrf_world.proofs.Events.{lettered_at}
 use Rattle.pcrf_world.proofs.Members.{members_at, seen_at, stands_within, world_of}
 use Rattle.pcrf_world.proofs.world.World.make_letter.Goals as goal
@@ -19,7 +17,7 @@ returns c =
     let ls = c.self.inside.letters.items in
     let m = c.index.result.now in
     let at : slice_get ms c.args.i ≡ Some m = slice_get_read ms (length ms) c.args.i m refl (search rules) c.index.ensures in
-    let is = members_at c.self.inside.tables ms c.args.i m c.self.invariant at in
+    let is = members_at c.self.inside.tables ms c.args.i m c.self.invariant.members at in
     let low : c.args.j < length ms = search rules in
     let peer = stands_within ms c.args.j low in
     let there = ap (λ (x : WorldValue). slice_get x.seen.sites c.args.i) (sym c.self.view_is) ∙ seen_at ms c.args.i m at in
@@ -32,7 +30,7 @@ returns c =
           rw b.result-is (record {
             answer = rw (there, there_peer) (ap (λ (n : ℕ). Ok (Lettered n)) count);
             seen = ap (world_of ms) letters
-                ∙ lettered_at c.self.inside.tables ms ls c.args.i m at (ap (λ (x : SiteValue). x.tables) is) c.args.j c.len-k.result
+                ∙ lettered_at c.self.inside.tables ms ls c.args.i m at (ap (λ (x : SiteValue). x.tables) is.site) is.cursors c.args.j c.len-k.result
                 ∙ ap (λ (x : WorldValue). seen_after (setting x.tables) x.seen (Letter c.args.i c.args.j) (Ok (Lettered c.len-k.result))) c.self.view_is;
             tables = search rules;
             sites = search rules;

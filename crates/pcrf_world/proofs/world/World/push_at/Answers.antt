@@ -1,18 +1,17 @@
-use Rattle.std.proofs.Common.{rules, ◌≡◌, List, Option, Some, Ok, Err, true, false, length, refl, slice_get, slice_set, ap, sym, ◌∙◌, option_map, subst}
+use Rattle.std.proofs.Common.{rules, ◌≡◌, List, Some, Ok, Err, true, false, length, refl, slice_get, slice_set, ap, sym, ◌∙◌, option_map, subst}
 use Rattle.std.proofs.lemmas.Option.{slice_get_read, slice_get_within}
 use Rattle.std.specs.Option.{option_copied}
 use Rattle.pcrf_model.specs.Pushing.{lacks_counter}
-use Rattle.pcrf_model.specs.Replies.{Pushed, Outcome}
-use Rattle.pcrf_model.specs.Worlds.{PushAt, PushedOut, ClockFull, NoMemory, Gives}
+use Rattle.pcrf_model.specs.Replies.{Pushed}
+use Rattle.pcrf_model.specs.Worlds.{PushAt, PushedOut, ClockFull, Gives}
 use Rattle.pcrf_model.specs.Seen.{seen_after}
 use Rattle.reply_values.specs.Replies.{push_view}
 use Rattle.site_machine.specs.Sites.{SiteValue, pushed, with_made}
 use Rattle.pcrf_world.specs.Members.{IsMember, seen_of, with_site}
 use Rattle.pcrf_world.specs.Values.{WorldValue, setting}
-use Rattle.pcrf_world.specs.Happening.{HappensIn}
 use Rattle.pcrf_world.specs.declared.site.Member.{Member}
 use Rattle.pcrf_world.proofs.Events.{pushed_at, pushed_gives, full_gives}
-use Rattle.pcrf_world.proofs.Members.{as_many, made_member, members_at, members_set, seen_at, set_back, world_of}
+use Rattle.pcrf_world.proofs.Members.{as_many, made_member, members_at, sites_set, seen_at, set_back, world_of}
 use Rattle.pcrf_world.proofs.world.World.push_at.Goals as goal
 use Rattle.pcrf_world.proofs.world.World.push_at.Goals.{in-Ok, in-Err-ClockFull, in-Err-NoMemory}
 
@@ -22,18 +21,18 @@ invariant_of-self c =
     let m = c.index_mut-member.result.now in
     let name = option_copied c.map-name.result in
     let at : slice_get ms c.args.i ≡ Some m = slice_get_read ms (length ms) c.args.i m refl (search rules) c.index_mut-member.ensures.value in
-    let is = members_at c.self.inside.tables ms c.args.i m c.self.invariant at in
+    let is = members_at c.self.inside.tables ms c.args.i m c.self.invariant.members at in
     elim c.match-push.branch [
       | in-Ok b ↦ (
           let made : c.push.new.self ≡ with_made m.site (pushed m.site name).added = search rules in
-          members_set c.self.inside.tables ms c.args.i (with_site m c.push.new.self) c.self.invariant
+          sites_set c.self.inside.tables ms c.args.i (with_site m c.push.new.self) c.self.invariant
           (subst (λ (x : SiteValue). IsMember c.self.inside.tables (with_site m x)) (sym made) (made_member c.self.inside.tables m is (pushed m.site name).added)))
       | in-Err-ClockFull b ↦ (
           let same : c.push.new.self ≡ m.site = search rules in
-          members_set c.self.inside.tables ms c.args.i (with_site m c.push.new.self) c.self.invariant (subst (λ (x : SiteValue). IsMember c.self.inside.tables (with_site m x)) (sym same) is))
+          sites_set c.self.inside.tables ms c.args.i (with_site m c.push.new.self) c.self.invariant (subst (λ (x : SiteValue). IsMember c.self.inside.tables (with_site m x)) (sym same) is))
       | in-Err-NoMemory b ↦ (
           let same : c.push.new.self ≡ m.site = search rules in
-          members_set c.self.inside.tables ms c.args.i (with_site m c.push.new.self) c.self.invariant (subst (λ (x : SiteValue). IsMember c.self.inside.tables (with_site m x)) (sym same) is))
+          sites_set c.self.inside.tables ms c.args.i (with_site m c.push.new.self) c.self.invariant (subst (λ (x : SiteValue). IsMember c.self.inside.tables (with_site m x)) (sym same) is))
     ]
 
 pub returns : goal.returns
@@ -44,7 +43,7 @@ returns c =
     let name = option_copied c.map-name.result in
     let named : name ≡ c.args.host.now = search rules in
     let at : slice_get ms c.args.i ≡ Some m = slice_get_read ms (length ms) c.args.i m refl (search rules) c.index_mut-member.ensures.value in
-    let is = ap (λ (x : SiteValue). x.tables) (members_at c.self.inside.tables ms c.args.i m c.self.invariant at) in
+    let is = ap (λ (x : SiteValue). x.tables) (members_at c.self.inside.tables ms c.args.i m c.self.invariant.members at).site in
     let there = ap (λ (x : WorldValue). slice_get x.seen.sites c.args.i) (sym c.self.view_is) ∙ seen_at ms c.args.i m at in
     let before = ap (λ (x : WorldValue). x.seen) c.self.view_is in
     elim c.match-push.branch [

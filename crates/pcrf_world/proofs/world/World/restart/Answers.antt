@@ -4,10 +4,9 @@ use Rattle.pcrf_world.specs.Members.{IsMember, seen_of, started_again}
 use Rattle.pcrf_model.specs.Worlds.{Restart, Restarted}
 use Rattle.pcrf_model.specs.Seen.{seen_after}
 use Rattle.pcrf_world.specs.Values.{WorldValue, setting}
-use Rattle.pcrf_world.specs.Happening.{HappensIn}
 use Rattle.pcrf_world.specs.declared.site.Member.{Member}
 use Rattle.pcrf_world.proofs.Events.{restarted_at}
-use Rattle.pcrf_world.proofs.Members.{as_many, again_member, members_at, members_set, seen_at, set_back, world_of}
+use Rattle.pcrf_world.proofs.Members.{as_many, again_member, members_at, sites_set, seen_at, set_back, world_of}
 use Rattle.pcrf_world.proofs.world.World.restart.Goals as goal
 
 pub invariant_of-self-2 : goal.invariant_of-self-2
@@ -16,9 +15,9 @@ invariant_of-self-2 c =
     let ms = c.self.inside.sites.items in
     let m = c.index_mut-member.result.now in
     let at : slice_get ms c.args.i ≡ Some m = slice_get_read ms (length ms) c.args.i m refl (search rules) c.index_mut-member.ensures.value in
-    let is = members_at t ms c.args.i m c.self.invariant at in
+    let is = members_at t ms c.args.i m c.self.invariant.members at in
     let again : c.restart.new.self ≡ started_again m = search rules in
-    members_set t ms c.args.i c.restart.new.self c.self.invariant (subst (IsMember t) (sym again) (again_member t m is))
+    sites_set t ms c.args.i c.restart.new.self c.self.invariant (subst (IsMember t) (sym again) (again_member t m is))
 
 pub returns : goal.returns
 returns c =

@@ -1,9 +1,12 @@
 use Rattle.std.proofs.Common.{rules, ◌≡◌, ◌+◌, ◌++◌, [], ◌∷◌, take, ◌∙◌, ap, sym, subst}
 use Rattle.std.proofs.lemmas.List.{take_all, take_more, map-append}
 use Rattle.pcrf_model.specs.Tables.{Tables}
-use Rattle.pcrf_model.specs.Worlds.{WorldTook, WorldView, start, world_view, after, after_all, Gives, HoldAlike}
+use Rattle.pcrf_model.specs.Worlds.{WorldTook, WorldView, start, world_view, after_all, Gives, HoldAlike}
 use Rattle.pcrf_model.specs.Seen.{seen_after}
 use Rattle.pcrf_world.specs.Values.{setting, event_value, answer_value, events_value, answers_value}
+use Rattle.pcrf_model.specs.Limits.{delta_limit}
+use Rattle.pcrf_model.proofs.CursorGaps.{ranges_leave_no_gap}
+use Rattle.pcrf_model.proofs.CursorRuns.{entries_are_taken, peers_said}
 use Rattle.pcrf_model.proofs.CursorSnapshots.{snapshots_hold}
 use Rattle.pcrf_model.proofs.HoldingAlike.{hold_alike}
 use Rattle.pcrf_model.proofs.SeenLaws.{seen_is_taken}
@@ -49,3 +52,12 @@ pub returns-clause-same : goal.returns-clause-same
 returns-clause-same c =
     let took : WorldTook = after_all (setting c.args.tables) (start c.args.n) (events_value c.args.events.now) (answers_value c.loop-event.answers.items) in
     subst (λ (v : WorldView). HoldAlike c.args.tables took v) (sym (returns-clause-holds c)) (hold_alike c.args.tables took)
+
+pub returns-clause-taken : goal.returns-clause-taken
+returns-clause-taken c = entries_are_taken c.args.tables delta_limit c.args.n (events_value c.args.events.now) (answers_value c.loop-event.answers.items)
+
+pub returns-clause-known : goal.returns-clause-known
+returns-clause-known c = peers_said c.args.tables delta_limit c.args.n (events_value c.args.events.now) (answers_value c.loop-event.answers.items)
+
+pub returns-clause-gapless : goal.returns-clause-gapless
+returns-clause-gapless c = ranges_leave_no_gap c.args.tables delta_limit c.args.n (events_value c.args.events.now) (answers_value c.loop-event.answers.items)

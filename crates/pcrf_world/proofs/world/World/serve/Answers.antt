@@ -1,15 +1,13 @@
-use Rattle.std.proofs.Common.{rules, ◌≡◌, Option, Some, Ok, length, refl, slice_get, slice_set, ap, sym, ◌∙◌, subst}
+use Rattle.std.proofs.Common.{rules, ◌≡◌, Some, Ok, length, refl, slice_get, slice_set, ap, sym, ◌∙◌, subst}
 use Rattle.std.proofs.lemmas.Option.{slice_get_read}
-use Rattle.pcrf_model.specs.Tables.{Tables}
-use Rattle.pcrf_model.specs.Worlds.{ServeAt, Replied, Gives, WorldView}
+use Rattle.pcrf_model.specs.Worlds.{ServeAt, Replied, Gives}
 use Rattle.pcrf_model.specs.Seen.{seen_after}
 use Rattle.site_machine.specs.Sites.{SiteValue, served, with_made}
 use Rattle.site_machine.specs.Values.{request_value, reply_value}
 use Rattle.pcrf_world.specs.Members.{IsMember, with_site}
 use Rattle.pcrf_world.specs.Values.{WorldValue, setting}
-use Rattle.pcrf_world.specs.Happening.{HappensIn}
 use Rattle.pcrf_world.proofs.Events.{served_at, served_gives}
-use Rattle.pcrf_world.proofs.Members.{as_many, made_member, members_at, members_set, world_of}
+use Rattle.pcrf_world.proofs.Members.{as_many, made_member, members_at, sites_set, world_of}
 use Rattle.pcrf_world.proofs.world.World.serve.Goals as goal
 
 pub invariant_of-self-2 : goal.invariant_of-self-2
@@ -18,9 +16,9 @@ invariant_of-self-2 c =
     let m = c.index_mut-member.result.now in
     let q = request_value c.args.request.now in
     let at : slice_get ms c.args.i ≡ Some m = slice_get_read ms (length ms) c.args.i m refl (search rules) c.index_mut-member.ensures.value in
-    let is = members_at c.self.inside.tables ms c.args.i m c.self.invariant at in
+    let is = members_at c.self.inside.tables ms c.args.i m c.self.invariant.members at in
     let made : c.serve.new.self ≡ with_made m.site (served m.site q).added = search rules in
-    members_set c.self.inside.tables ms c.args.i (with_site m c.serve.new.self) c.self.invariant
+    sites_set c.self.inside.tables ms c.args.i (with_site m c.serve.new.self) c.self.invariant
     (subst (λ (x : SiteValue). IsMember c.self.inside.tables (with_site m x)) (sym made) (made_member c.self.inside.tables m is (served m.site q).added))
 
 pub returns : goal.returns
@@ -31,7 +29,7 @@ returns c =
     let q = request_value c.args.request.now in
     let r = reply_value c.in-Ok.reply in
     let at : slice_get ms c.args.i ≡ Some m = slice_get_read ms (length ms) c.args.i m refl (search rules) c.index_mut-member.ensures.value in
-    let is = ap (λ (x : SiteValue). x.tables) (members_at c.self.inside.tables ms c.args.i m c.self.invariant at) in
+    let is = ap (λ (x : SiteValue). x.tables) (members_at c.self.inside.tables ms c.args.i m c.self.invariant.members at).site in
     let so : r ≡ (served m.site q).reply = search rules in
     let made : c.serve.new.self ≡ with_made m.site (served m.site q).added = search rules in
     record {

@@ -12,7 +12,7 @@ returns-in-Some c =
     let m = c.in-Some.member.now in
     let read = c.deref.result.now in
     let at : slice_get ms c.args.i ≡ Some m = subst (λ (xs : List Member). slice_get xs c.args.i ≡ Some m) c.deref.ensures.value (slice_get_read read (length read) c.args.i m refl (search rules) (search rules)) in
-    site_at c.self.inside.tables ms c.args.i m c.self.invariant at
+    site_at c.self.inside.tables ms c.args.i m c.self.invariant.members at
     ∙ ap (λ (x : WorldValue). option_map (site_seen x.tables) (slice_get x.seen.sites c.args.i)) c.self.view_is
 
 pub returns-in-None : goal.returns-in-None

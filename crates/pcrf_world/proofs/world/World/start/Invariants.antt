@@ -1,4 +1,4 @@
-use Rattle.std.proofs.Common.{◌≡◌, map}
+use Rattle.std.proofs.Common.{◌≡◌, map, vec_len}
 use Rattle.pcrf_model.specs.Worlds.{fresh_sites, site_view}
 use Rattle.pcrf_world.specs.Members.{AreMembers, seen_of}
 use Rattle.pcrf_world.proofs.world.World.start.Given as goal
@@ -8,4 +8,5 @@ abbrev pub invariant-loop-number : goal.invariant-loop-number
 invariant-loop-number l = record {
   seen : map seen_of l.sites.items ≡ map site_view (fresh_sites l.number);
   members : AreMembers l.fn.tables l.sites.items;
+  count : vec_len l.sites ≡ l.number;
 }

@@ -37,7 +37,7 @@ returns-then-lack_class c =
     let ended = sym (c.has_ended.ensures ∙ ap is_ended own) ∙ c.if-has_ended.false in
     let known = sym (c.lacks_address.ensures ∙ ap (λ (fs : List Fact). not (af_is_live fs) && is_none q.address) own) ∙ c.if-lacks_address.false in
     let components = ap (list_any (has_no_class s.tables)) c.as_slice.ensures.components in
-    let unclassed = sym (c.lack_class.ensures ∙ ap (λ (x : SiteValue). list_any (has_no_class x.tables) c.as_slice.result.now) c.self.view_is ∙ components) ∙ c.if-lack_class.true in
+    let unclassed = sym (c.lack_class.ensures ∙ ap (λ (t : Tables). list_any (has_no_class t) c.as_slice.result.now) c.tables.ensures ∙ ap (λ (x : SiteValue). list_any (has_no_class x.tables) c.as_slice.result.now) c.self.view_is ∙ components) ∙ c.if-lack_class.true in
     call_unclassed s.tables s.number s.state.holding q ended known unclassed ∙ ap Some (sym c.experimental.ensures)
 
 pub returns : goal.returns
@@ -48,5 +48,5 @@ returns c =
     let ended = sym (c.has_ended.ensures ∙ ap is_ended own) ∙ c.if-has_ended.false in
     let known = sym (c.lacks_address.ensures ∙ ap (λ (fs : List Fact). not (af_is_live fs) && is_none q.address) own) ∙ c.if-lacks_address.false in
     let components = ap (list_any (has_no_class s.tables)) c.as_slice.ensures.components in
-    let classed = sym (c.lack_class.ensures ∙ ap (λ (x : SiteValue). list_any (has_no_class x.tables) c.as_slice.result.now) c.self.view_is ∙ components) ∙ c.if-lack_class.false in
+    let classed = sym (c.lack_class.ensures ∙ ap (λ (t : Tables). list_any (has_no_class t) c.as_slice.result.now) c.tables.ensures ∙ ap (λ (x : SiteValue). list_any (has_no_class x.tables) c.as_slice.result.now) c.self.view_is ∙ components) ∙ c.if-lack_class.false in
     call_open s.tables s.number s.state.holding q ended known classed

@@ -34,7 +34,7 @@ put_back-requires-clause-known c = λ none.
     let s = c.args.self.now in
     let q = ccr_view c.args.ccr.now in
     let o = operation_made s.number c.args.counter q q.kind in
-    let after = c.in-Err.ensures.err ∙ c.in_ok-set_fields.ensures.ok in
+    let after = c.in-Err.ensures.err ∙ c.in_ok-stood.ensures.ok in
     known_after s.state.holding o _ (host_is_made q q.kind (record { number = q.number; counter = c.args.counter; site = s.number }) c.requires.opens)
     (sym (ap (λ (x : SiteValue). facts_on x.state.holding.facts (gx q.session)) after) ∙ none)
 
@@ -44,11 +44,11 @@ put_back-requires-clause-back c =
     let h = s.state.holding in
     let q = ccr_view c.args.ccr.now in
     let o = operation_made s.number c.args.counter q q.kind in
-    let after = c.in-Err.ensures.err ∙ c.in_ok-set_fields.ensures.ok in
+    let after = c.in-Err.ensures.err ∙ c.in_ok-stood.ensures.ok in
     let clock = c.clock-clock.ensures.clock ∙ ap (λ (x : SiteValue). x.state.holding.clock) c.self.view_is in
     let is =
-    ap (λ (x : SiteValue). with_record x (gx q.session) (record_facts c.in_ok-before.before) c.clock-clock.result) after
-    ∙ ap (λ (fs : List Fact). with_record (with_one s o) (gx q.session) fs c.clock-clock.result) c.in_ok-before.ensures
+    ap (λ (x : SiteValue). with_record x (gx q.session) (record_facts c.in_ok-stood.stood) c.clock-clock.result) after
+    ∙ ap (λ (fs : List Fact). with_record (with_one s o) (gx q.session) fs c.clock-clock.result) c.in_ok-stood.ensures.stood
     ∙ ap (λ (n : ℕ). with_record (with_one s o) (gx q.session) (facts_on h.facts (gx q.session)) n) clock in
     subst (λ (x : SiteValue). are_up_to x.state.holding.clock x.state.holding.facts ≡ true) (sym is) (put_back_up_to h o c.note_kept.ensures c.note_form.ensures)
 
@@ -59,7 +59,7 @@ returns-in-Ok-clause-reply c =
     let q = ccr_view c.args.ccr.now in
     let t = s.tables in
     c.in-Ok.ensures.reply
-    ∙ ap (λ (x : SiteValue). told_reply x.tables (view x.state.holding.facts) (gx q.session)) c.in_ok-set_fields.ensures.ok
+    ∙ ap (λ (x : SiteValue). told_reply x.tables (view x.state.holding.facts) (gx q.session)) c.in_ok-stood.ensures.ok
     ∙ ap (λ (n : ℕ). told_reply t (view (kept_of (with_operation h (operation_made s.number n q q.kind))).facts) (gx q.session)) c.requires.next
     ∙ sym (ap (λ (o : Outcome). o.reply) (provisioned_is t s.number h q q.kind c.requires.opens))
 
@@ -75,7 +75,7 @@ returns-in-Ok-clause-ok c =
     let told : ℕ → Operation = λ n. operation_told s.number n q q.kind (delta (one n)) in
     let twice = once_more h (made c.args.counter) (told c.args.counter) refl refl (λ (f : Fact) i. In-left f (made c.args.counter).facts _ i) in
     c.in-Ok.ensures.ok
-    ∙ ap (λ (x : SiteValue). with_made x (Some (operation_told x.number c.args.counter q q.kind (delta x)))) c.in_ok-set_fields.ensures.ok
+    ∙ ap (λ (x : SiteValue). with_made x (Some (operation_told x.number c.args.counter q q.kind (delta x)))) c.in_ok-stood.ensures.ok
     ∙ (λ i. record s { state = record { holding = twice i; log = s.state.log ++ told c.args.counter ∷ [] } })
     ∙ ap (λ (n : ℕ). with_made s (Some (told n))) c.requires.next
     ∙ sym (ap (λ (o : Outcome). with_made s o.added) (provisioned_is t s.number h q q.kind c.requires.opens))
@@ -87,7 +87,7 @@ returns-in-Ok-clause-left c =
     let q = ccr_view c.args.ccr.now in
     let apart : SiteValue → Type 0 = λ x. Distinct (map rule_name_of (rules x.tables (view x.state.holding.facts) (gx q.session))) in
     let one : ℕ → SiteValue = λ n. with_one s (operation_made s.number n q q.kind) in
-    let names = subst apart (ap one c.requires.next) (subst apart c.in_ok-set_fields.ensures.ok c.in-Ok.ensures.names) in
+    let names = subst apart (ap one c.requires.next) (subst apart c.in_ok-stood.ensures.ok c.in-Ok.ensures.names) in
     provisioned_leaves s c.note_told.ensures q c.requires.alive
     (subst (λ (v : View). Distinct (map rule_name_of (rules s.tables v (gx q.session)))) (shown_fields s.number h q q.kind c.requires.opens) names)
     _ (returns-in-Ok-clause-ok c)
@@ -97,11 +97,11 @@ returns-in-Err-clause-err c =
     let s = c.args.self.now in
     let h = s.state.holding in
     let q = ccr_view c.args.ccr.now in
-    let after = c.in-Err.ensures.err ∙ c.in_ok-set_fields.ensures.ok in
+    let after = c.in-Err.ensures.err ∙ c.in_ok-stood.ensures.ok in
     let clock = c.clock-clock.ensures.clock ∙ ap (λ (x : SiteValue). x.state.holding.clock) c.self.view_is in
     let back = restored h (operation_made s.number c.args.counter q q.kind) c.note_kept.ensures in
     c.put_back.ensures
-    ∙ ap (λ (x : SiteValue). with_record x (gx q.session) (record_facts c.in_ok-before.before) c.clock-clock.result) after
-    ∙ ap (λ (fs : List Fact). with_record (with_one s (operation_made s.number c.args.counter q q.kind)) (gx q.session) fs c.clock-clock.result) c.in_ok-before.ensures
+    ∙ ap (λ (x : SiteValue). with_record x (gx q.session) (record_facts c.in_ok-stood.stood) c.clock-clock.result) after
+    ∙ ap (λ (fs : List Fact). with_record (with_one s (operation_made s.number c.args.counter q q.kind)) (gx q.session) fs c.clock-clock.result) c.in_ok-stood.ensures.stood
     ∙ ap (λ (n : ℕ). with_record (with_one s (operation_made s.number c.args.counter q q.kind)) (gx q.session) (facts_on h.facts (gx q.session)) n) clock
     ∙ (λ i. record s { state = record { holding = back i; log = s.state.log } })

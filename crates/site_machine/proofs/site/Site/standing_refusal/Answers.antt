@@ -2,6 +2,7 @@ use Rattle.std.proofs.Common.{◌≡◌, false, true, cond, List, Option, Some, 
 use Rattle.pcrf_values.specs.declared.refusal.Refusal.{Refusal}
 use Rattle.pcrf_model.specs.Sessions.{gx}
 use Rattle.pcrf_model.specs.Holdings.{facts_on}
+use Rattle.pcrf_model.specs.Tables.{Tables}
 use Rattle.pcrf_facts.specs.FlowWords.{or_else}
 use Rattle.site_machine.specs.Sites.{SiteValue}
 use Rattle.pcrf_facts.specs.Held.{is_ended}
@@ -26,6 +27,7 @@ returns-in-Initial-3 c =
     let ended = sym (c.has_ended.ensures ∙ ap is_ended (c.gx-known.ensures ∙ ap (λ (s : SiteValue). facts_on s.state.holding.facts (gx c.args.ccr.now.session)) c.self.view_is)) ∙ c.if-has_ended.false in
     initial_whole c.args.self.now.tables h (ccr_view c.args.ccr.now) c.in-Initial-3.is ended (sym c.lacks.ensures ∙ c.if-lacks.false)
     ∙ ap (λ (x : SiteValue). or_else (by_row x.tables c.args.ccr.now.apn) (by_clock h)) (sym c.self.view_is)
+    ∙ ap (λ (t : Tables). or_else (by_row t c.args.ccr.now.apn) (by_clock h)) (sym c.tables.ensures)
     ∙ ap (λ (x : Option Refusal). or_else x (by_clock h)) (sym c.row_refusal.ensures)
 
 pub returns-in-Update : goal.returns-in-Update
@@ -39,6 +41,7 @@ returns-in-Update-2 c =
     let known = sym (c.is_live.ensures ∙ ap gx_is_live (c.gx-known.ensures ∙ ap (λ (s : SiteValue). facts_on s.state.holding.facts (gx c.args.ccr.now.session)) c.self.view_is)) ∙ c.if-not-is_live.false in
     update_known c.args.self.now.tables h (ccr_view c.args.ccr.now) c.in-Update-2.is known
     ∙ ap (λ (x : SiteValue). or_else (by_row x.tables c.args.ccr.now.apn) (by_clock h)) (sym c.self.view_is)
+    ∙ ap (λ (t : Tables). or_else (by_row t c.args.ccr.now.apn) (by_clock h)) (sym c.tables-in-Update-2.ensures)
     ∙ ap (λ (x : Option Refusal). or_else x (by_clock h)) (sym c.row_refusal-in-Update-2.ensures)
 
 pub returns-in-Termination : goal.returns-in-Termination

@@ -1,0 +1,61 @@
+use Rattle.std.proofs.Common.{◌≡◌, true, sym, subst}
+use Rattle.pcrf_model.specs.Holdings.{Holding}
+use Rattle.pcrf_model.specs.Sessions.{Session, is_gx}
+use Rattle.pcrf_model.specs.Views.{view}
+use Rattle.waiting_sessions.specs.Waits.{WaitsIfDue}
+use Rattle.waiting_sessions.proofs.Waited.{keeps_through, waits_on, listed_on}
+use Rattle.indexed_state.specs.Indexed.{Agree, IsAddressOf}
+use Rattle.indexed_state.proofs.Agreeing.{Followed, agree_index, agree_grown, agree_followed, operation_differs, operation_covered}
+use Rattle.indexed_state.proofs.indexed.IndexedState.take.Goals as goal
+
+pub invariant_of-self : goal.invariant_of-self
+invariant_of-self c =
+    agree_index c.self.inside.tables c.self.inside.site c.self.inside.state c.self.inside.is_whole c.make_whole.new.is_whole c.self.inside.index c.make_whole.new.index _ _
+    (c.make_whole.ensures.covers c.self.invariant.covers) c.self.invariant
+
+pub invariant_of-self-in_err-cover : goal.invariant_of-self-in_err-cover
+invariant_of-self-in_err-cover c =
+    agree_grown c.self.inside.tables c.self.inside.site c.self.inside.state c.make_whole.new.is_whole c.make_whole.new.index c.cover.new.self _ _ c.cover.ensures.grows
+    (agree_index c.self.inside.tables c.self.inside.site c.self.inside.state c.self.inside.is_whole c.make_whole.new.is_whole c.self.inside.index c.make_whole.new.index _ _
+    (c.make_whole.ensures.covers c.self.invariant.covers) c.self.invariant)
+
+pub invariant_of-self-in_err-take : goal.invariant_of-self-in_err-take
+invariant_of-self-in_err-take c =
+    subst (λ (h : Holding). Agree c.self.inside.tables c.self.inside.site h c.make_whole.new.is_whole c.cover.new.self c.self.inside.rules c.self.inside.waiting) (sym c.in_err-take.ensures.err)
+    (agree_grown c.self.inside.tables c.self.inside.site c.self.inside.state c.make_whole.new.is_whole c.make_whole.new.index c.cover.new.self _ _ c.cover.ensures.grows
+    (agree_index c.self.inside.tables c.self.inside.site c.self.inside.state c.self.inside.is_whole c.make_whole.new.is_whole c.self.inside.index c.make_whole.new.index _ _
+    (c.make_whole.ensures.covers c.self.invariant.covers) c.self.invariant))
+
+pub invariant_of-self-2 : goal.invariant_of-self-2
+invariant_of-self-2 c =
+    let h = c.self.inside.state in
+    let k = c.take.new.self in
+    let o = c.args.operation.now in
+    let w = c.wait_at-2.new.waiting in
+    let session = c.facts-facts.ensures.session in
+    let last = c.wait_at-2.ensures.keeps in
+    let later = keeps_through c.wait_own.new.waiting c.wait_at.new.waiting w c.wait_at.ensures.keeps last in
+    let is_at : IsAddressOf (view k.facts) o.session c.address_of-after.result =
+    subst (λ (s : Session). IsAddressOf (view k.facts) s c.address_of-after.result) session c.address_of-after.ensures in
+    let own = subst (λ (s : Session). is_gx s.kind ≡ true → WaitsIfDue (view k.facts) c.wait_own.new.waiting s) session c.wait_own.ensures.waits in
+    let covers = c.make_whole.ensures.covers c.self.invariant.covers c.in_ok-make_whole.ensures.whole in
+    let z : Followed c.self.inside.tables c.self.inside.site h k o.session c.make_whole.new.index c.cover.new.self c.self.inside.rules c.touch_at.new.rules c.touch_at-2.new.rules c.self.inside.waiting w c.address_of-before.result c.address_of-after.result
+    = record {
+      differs = operation_differs h k o c.make_whole.new.index c.cover.new.self c.in_ok-take.ensures.ok c.note_kept.ensures;
+      covers = covers;
+      covered = operation_covered h k o c.make_whole.new.index c.cover.new.self c.in_ok-take.ensures.ok covers c.cover.ensures.grows c.in_ok-cover.ensures.lists;
+      kept = c.self.invariant.kept;
+      due = c.self.invariant.due;
+      grows = c.cover.ensures.grows;
+      was_at = subst (λ (s : Session). IsAddressOf (view h.facts) s c.address_of-before.result) session c.address_of-before.ensures;
+      is_at = is_at;
+      touched_before = c.touch_at.ensures;
+      touched_after = c.touch_at-2.ensures;
+      keeps = keeps_through c.self.inside.waiting c.wait_own.new.waiting w c.wait_own.ensures.keeps later;
+      own = λ g. waits_on (view k.facts) c.wait_own.new.waiting w o.session later (own g);
+      near_before = listed_on (view k.facts) c.cover.new.self c.wait_at.new.waiting w c.address_of-before.result last c.wait_at.ensures.waits;
+      near_after = c.wait_at-2.ensures.waits;
+    } in
+    agree_followed c.self.inside.tables c.self.inside.site h k o.session c.make_whole.new.index c.cover.new.self c.self.inside.rules c.touch_at.new.rules c.touch_at-2.new.rules c.self.inside.waiting w
+    c.address_of-before.result c.address_of-after.result z c.make_whole.new.is_whole c.forget_moved.new.index
+    (c.forget_moved.ensures (view k.facts) (subst (λ (s : Session). IsAddressOf (view k.facts) s c.address_of-after.result) (sym session) is_at))

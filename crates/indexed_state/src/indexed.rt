@@ -1,0 +1,327 @@
+//! A state with its index.
+ghost use Rattle.std.specs.Prelude.{◌≡◌, ℕ, List, [], ◌<◌, ◌≤◌, Some, true, IfOk, IfSome, IsSome, OnOk, OnErr, map, option_map};
+ghost use Rattle.std.specs.Option.{option_copied};
+ghost use Rattle.bind_index.specs.Asking.{HasRecord};
+ghost use Rattle.reply_values.specs.Replies.{push_view};
+ghost use Rattle.pcrf_model.specs.Bindings.{bind};
+ghost use Rattle.pcrf_model.specs.Differences.{rule_name_of};
+ghost use Rattle.pcrf_model.specs.Forms.{are_up_to};
+ghost use Rattle.pcrf_model.specs.Holdings.{SessionFact, facts_on, kept_of, nothing_held, replaced, union};
+ghost use Rattle.pcrf_model.specs.Limits.{last_counter};
+ghost use Rattle.pcrf_model.specs.OperatorValues.{bindings_of};
+ghost use Rattle.pcrf_model.specs.Operations.{with_operation};
+ghost use Rattle.pcrf_model.specs.Pushing.{due};
+ghost use Rattle.pcrf_model.specs.Rules.{rules};
+ghost use Rattle.pcrf_model.specs.Sessions.{gx, af};
+ghost use Rattle.pcrf_model.specs.Tables.{Tables as TablesValue};
+ghost use Rattle.pcrf_model.specs.Views.{View, view};
+ghost use Rattle.ranked.specs.Sets.{Distinct};
+ghost use Rattle.rule_telling.specs.Pushed.{push_of, untold};
+ghost use Rattle.site_join.specs.States.{record_facts};
+ghost use Rattle.waiting_sessions.specs.Waits.{DueWait};
+
+use crate::addresses::{address_of, forget_moved, gateway_address, touch_at, wait_own};
+use crate::following::follow;
+use crate::whole::make_whole;
+use af_records::AfRec;
+use bind_index::{bind, bind_by};
+use gx_records::GxRec;
+use kept_rules::{Rules, derive_by};
+use op_tables::Tables;
+use operator_view::{bindings, bindings_by};
+use pcc_rules::derive;
+use pcrf_values::{AfSid, Delta, DiameterIdentity, GxSid, Rule};
+use reply_values::PushOut;
+use rule_telling::next_push;
+use session_index::Index;
+use site_join::{Operation, State};
+use std::alloc::{AllocError, Global};
+use std::marker::Model;
+use waiting_pushes::{next_waiting, untold_by};
+use waiting_sessions::{Waiting, gather, wait_at};
+
+/// What a site holds, with the operator tables, by which it is told what rules are. Beside it, unseen, an index of the sessions
+/// that are held, lists of rules that are kept until they may have changed, and the sessions that wait to be looked at for a
+/// push.
+#[derive(Drop)]
+pub struct IndexedState {
+    alloc: Global,
+    tables: Tables,
+    pub(crate) state: State,
+    index: Index,
+    /// The index covers the state.
+    is_whole: bool,
+    rules: Rules,
+    waiting: Waiting,
+    /// The number of the site at which those that wait may be due.
+    site: u8,
+}
+
+impl Model for IndexedState {
+    ghost use Rattle.indexed_state.specs.Indexed.{Agree, IndexedValue};
+
+    ghost Value = { IndexedValue };
+
+    ghost view = { λ s. record {
+      tables = s.tables;
+      holding = s.state;
+    } };
+
+    ghost invariant = { λ s. Agree s.tables s.site s.state s.is_whole
+        s.index s.rules s.waiting };
+}
+
+impl IndexedState {
+    ghost use Rattle.indexed_state.specs.Indexed.{with_holding};
+
+    /// Nothing is held.
+    pub fn start(alloc: Global, tables: Tables) -> IndexedState
+        ensures tables { result.tables ≡ tables }
+        ensures holding { result.holding ≡ nothing_held }
+    {
+        IndexedState {
+            alloc,
+            tables,
+            state: State::start(alloc),
+            index: Index::start(alloc),
+            is_whole: true,
+            rules: Rules::start(alloc),
+            waiting: Waiting::start(alloc),
+            site: 0,
+        }
+    }
+
+    /// The operator tables.
+    pub fn tables(&self) -> &Tables
+        ensures { result.now ≡ self.now.tables }
+    {
+        &self.tables
+    }
+
+    /// What is held.
+    pub fn state(&self) -> &State
+        ensures { result.now ≡ self.now.holding }
+    {
+        &self.state
+    }
+
+    /// Forgets all that is held.
+    pub fn clear(&mut self)
+        ensures { self.new ≡ with_holding self.old nothing_held }
+    {
+        self.state = State::start(self.alloc);
+        self.index = Index::start(self.alloc);
+        self.is_whole = true;
+        self.rules.touch_all();
+        self.waiting = Waiting::start(self.alloc);
+    }
+
+    /// Takes an operation, wherever it was made, once or again; a refusal changes nothing. Its time grows with the number of
+    /// gateways' sessions that are listed under the addresses that the operation's session shows before and after.
+    pub fn take(&mut self, operation: &Operation) -> Result<(), AllocError>
+        ensures ok { OnOk result (self.new ≡ with_holding self.old
+            (kept_of (with_operation self.old.holding operation.now))) }
+        ensures err { OnErr result (self.new ≡ self.old) }
+    {
+        make_whole(&self.state, &mut self.index, &mut self.is_whole)?;
+        self.index.cover(operation)?;
+        let facts = operation.facts();
+        let before = address_of(&self.state, facts);
+        self.state.note_kept();
+        self.state.take(operation)?;
+        let after = address_of(&self.state, facts);
+        touch_at(&mut self.rules, &self.index, before);
+        touch_at(&mut self.rules, &self.index, after);
+        wait_own(&self.state, &mut self.waiting, facts);
+        wait_at(&self.state, &self.index, &mut self.waiting, before);
+        wait_at(&self.state, &self.index, &mut self.waiting, after);
+        forget_moved(&mut self.index, facts, before, after);
+        Ok(())
+    }
+
+    /// Takes all that another state holds; a refusal changes nothing.
+    pub fn take_state(&mut self, state: &State) -> Result<(), AllocError>
+        ensures ok { OnOk result (self.new ≡ with_holding self.old
+            (kept_of (union self.old.holding state.now))) }
+        ensures err { OnErr result (self.new ≡ self.old) }
+    {
+        make_whole(&self.state, &mut self.index, &mut self.is_whole)?;
+        self.index.cover_state(state)?;
+        self.state = self.state.merged_copy(state)?;
+        self.rules = Rules::start(self.alloc);
+        self.waiting = Waiting::start(self.alloc);
+        Ok(())
+    }
+
+    /// Puts a record, or none, in the place of that of a gateway's session, as the state's own `put_gx` does, in the time that
+    /// taking an operation on the session takes.
+    pub fn put_gx(
+        &mut self,
+        id: &GxSid,
+        given: Option<GxRec>,
+        clock: u64,
+    ) -> Result<Option<GxRec>, AllocError>
+        requires within { clock ≤ last_counter }
+        requires counted { are_up_to clock
+            (replaced self.old.holding (gx id.now) (record_facts given) clock).facts ≡ true }
+        ensures stood { IfOk result (λ stood.
+            record_facts stood ≡ facts_on self.old.holding.facts (gx id.now)) }
+        ensures placed { OnOk result (self.new ≡ with_holding self.old
+            (replaced self.old.holding (gx id.now) (record_facts given) clock)) }
+        ensures unchanged { OnErr result (self.new ≡ self.old) }
+        ensures refused_record { OnErr result (IsSome given) }
+        ensures refused_new { OnErr result (facts_on self.old.holding.facts (gx id.now) ≡ []) }
+    {
+        let before = gateway_address(&self.state, id);
+        let stood = self.state.put_gx(id, given, clock)?;
+        follow(
+            self.alloc,
+            &self.state,
+            &mut self.index,
+            &mut self.is_whole,
+            &mut self.rules,
+            &mut self.waiting,
+            id,
+            before,
+        );
+        Ok(stood)
+    }
+
+    /// The gateway's session to which an application function's session is bound, `None` where it is bound to none (TS 29.213,
+    /// 5.2). Its time grows with the number of gateways' sessions that are listed under its address.
+    pub fn bind(&self, session: &AfSid) -> Option<&GxSid>
+        ensures { option_map gx (option_copied result)
+            ≡ bind (view self.now.holding.facts) (af session.now) }
+    {
+        if self.is_whole {
+            return self.index.bind(&self.state, session);
+        }
+        bind(&self.state, session)
+    }
+
+    /// The gateway's session to which an application function's session would be bound, were this its record.
+    pub fn bind_by(&self, asking: &AfRec) -> Option<&GxSid>
+        ensures { (facts : List SessionFact) (a : List ℕ)
+            → HasRecord self.now.holding.facts asking.now facts a
+            → option_map gx (option_copied result) ≡ bind (view facts) (af a) }
+    {
+        if self.is_whole {
+            return self.index.bind_by(&self.state, asking);
+        }
+        bind_by(&self.state, asking)
+    }
+
+    /// The PCC rules of a gateway's session, by precedence and then by name, and no two of one name (TS 23.203, 6.3.1).
+    pub fn rules_of(&self, session: &GxSid) -> Result<Vec<Rule>, AllocError>
+        ensures rules { IfOk result (λ made. made.items
+            ≡ rules self.now.tables (view self.now.holding.facts) (gx session.now)) }
+        ensures apart { IfOk result (λ made. Distinct (map rule_name_of made.items)) }
+    {
+        if self.is_whole {
+            return derive_by(self.alloc, &self.tables, &self.state, &self.index, session);
+        }
+        derive(self.alloc, &self.tables, &self.state, session)
+    }
+
+    /// The live sessions of application functions in the order of their Session-Ids, each with the Session-Id of the gateway's
+    /// session to which it is bound, or none (TS 29.213, 5.2).
+    pub fn bindings(&self) -> Result<Vec<(AfSid, Option<GxSid>)>, AllocError>
+        ensures { IfOk result (λ found.
+            found.items ≡ bindings_of (view self.now.holding.facts)) }
+    {
+        if self.is_whole {
+            return bindings_by(self.alloc, &self.state, &self.index);
+        }
+        bindings(self.alloc, &self.state)
+    }
+
+    /// What the gateway of a session is still to be told (TS 29.212, 4.5.2).
+    pub fn untold(&mut self, session: &GxSid) -> Result<Delta, AllocError>
+        ensures difference { IfOk result (λ delta. delta
+            ≡ untold self.old.tables (view self.old.holding.facts) (gx session.now)) }
+        ensures names { OnOk result (Distinct (map rule_name_of
+            (rules self.old.tables (view self.old.holding.facts) (gx session.now)))) }
+        ensures same { self.new ≡ self.old }
+    {
+        make_whole(&self.state, &mut self.index, &mut self.is_whole)?;
+        untold_by(
+            self.alloc,
+            &self.tables,
+            &self.state,
+            &self.index,
+            &mut self.rules,
+            session,
+        )
+    }
+
+    /// The push that is due at a site for a host, any where none is given; `None` where no session is due (TS 29.212, 4.5.2).
+    /// For a host it looks at sessions alone that wait under it.
+    pub fn next_push(
+        &mut self,
+        site: u8,
+        host: Option<&[u8]>,
+    ) -> Result<Option<PushOut>, AllocError>
+        ensures push { IfOk result (λ push. option_map push_view push
+            ≡ option_map (push_of self.old.tables (view self.old.holding.facts))
+            (due self.old.tables site (view self.old.holding.facts) (option_copied host.entry))) }
+        ensures names { IfOk result (λ push. IfSome push (λ p. Distinct (map rule_name_of
+            (rules self.old.tables (view self.old.holding.facts) (gx p.session))))) }
+        ensures same { self.new ≡ self.old }
+    {
+        if let Some(name) = name_of(self.alloc, host)? {
+            return self.push_waiting(site, &name);
+        }
+        next_push(self.alloc, &self.tables, &self.state, site, host)
+    }
+
+    /// The push that is due at a site for this host.
+    fn push_waiting(
+        &mut self,
+        site: u8,
+        host: &DiameterIdentity,
+    ) -> Result<Option<PushOut>, AllocError>
+        ensures push { IfOk result (λ push. option_map push_view push
+            ≡ option_map (push_of self.old.tables (view self.old.holding.facts))
+            (due self.old.tables site (view self.old.holding.facts) (Some host.now))) }
+        ensures names { IfOk result (λ push. IfSome push (λ p. Distinct (map rule_name_of
+            (rules self.old.tables (view self.old.holding.facts) (gx p.session))))) }
+        ensures same { self.new ≡ self.old }
+    {
+        make_whole(&self.state, &mut self.index, &mut self.is_whole)?;
+        wait_for(self.alloc, &mut self.waiting, &mut self.site, site);
+        gather(self.alloc, &self.state, &mut self.waiting)?;
+        next_waiting(
+            self.alloc,
+            &self.tables,
+            &self.state,
+            &self.index,
+            &mut self.rules,
+            &mut self.waiting,
+            self.site,
+            host,
+        )
+    }
+}
+
+/// Has those wait that may be due at a site: all, where those that wait may be due at another.
+fn wait_for(alloc: Global, waiting: &mut Waiting, of: &mut u8, site: u8)
+    ensures of { of.new ≡ site }
+    ensures due { (t : TablesValue) (v : View) → DueWait t of.old v waiting.old
+        → DueWait t site v waiting.new }
+{
+    if *of == site {
+        return;
+    }
+    *of = site;
+    *waiting = Waiting::start(alloc);
+}
+
+/// The host that is given, as a name under which sessions wait: none where none is given, or no name has these bytes.
+fn name_of(alloc: Global, host: Option<&[u8]>) -> Result<Option<DiameterIdentity>, AllocError>
+    ensures { IfOk result (λ name. IfSome name (λ n. option_copied host.entry ≡ Some n)) }
+{
+    let Some(bytes) = host else {
+        return Ok(None);
+    };
+    Ok(DiameterIdentity::of(Vec::from_slice(alloc, bytes)?))
+}

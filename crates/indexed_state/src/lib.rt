@@ -1,0 +1,11 @@
+//! What a site holds, with an index of its sessions, lists of rules that are kept, and the sessions that wait for a push: so
+//! that sessions are bound, rules derived and pushes found without a pass over all sessions.
+#![tactic(auto)]
+
+mod addresses;
+mod following;
+mod held;
+mod indexed;
+mod whole;
+
+pub use indexed::IndexedState;
