@@ -1,4 +1,4 @@
-use Rattle.std.proofs.Common.{rules, length}
+use Rattle.std.proofs.Common.{rules}
 use Rattle.dia_codec.specs.Spelling.{IsFrame}
 use Rattle.pcrf_script.proofs.FramesOf.{frame_at}
 use Rattle.pcrf_script.proofs.messages.put_messages.Goals as goal
