@@ -1,9 +1,13 @@
 //! Scripts in which sites write to each other and acknowledge: each answer by its Result-Code, and each other line as it stands.
+use crate::carried::{count_carried, taken_as_bytes};
+use crate::drawn_runs::run_world;
 use crate::drawn_scripts::run;
 use crate::events::{Event, Kind, Request, Script};
 use crate::operator_tables::TABLES;
 use op_tables::read_tables;
 use pcrf_script::ScriptEnd;
+use pcrf_world::World;
+use peer_exchange::Letter;
 use std::alloc::{AllocError, AllocGlobal, Global};
 use std::fmt::Write as _;
 use std::process::Abort;
@@ -267,19 +271,70 @@ fn prints(rt: &(impl AllocGlobal + Abort), events: &[Event], wanted: &str) {
     let printed = String::from_utf8(out).ok().expect(rt, "text");
     let shown = shortened(rt.alloc(), printed.as_str()).expect(rt, "memory");
     assert_eq!(rt; shown.as_str(), wanted);
+    drop(script);
+}
+
+/// The world of three sites at which these happen.
+fn world_of(rt: &(impl AllocGlobal + Abort), events: &[Event]) -> World {
+    let script = Script {
+        sites: 3,
+        events: Vec::from_slice(rt.alloc(), events).expect(rt, "memory"),
+    };
+    let (world, answers) = run_world(rt, &script);
+    drop(answers);
+    world
+}
+
+/// How many letters the sites write, each of which is the same by its bytes.
+fn letters_of(rt: &(impl AllocGlobal + Abort), events: &[Event]) -> usize {
+    let world = world_of(rt, events);
+    let count = count_carried(rt, 0, &world);
+    drop(world);
+    count
 }
 
 #[test]
 fn sites_serve_what_they_took_of_each_other(rt: HostRuntime) {
-    let cases: [(&[Event], &str); 6] = [
-        (&ENDED, ENDED_LINES),
-        (&TAKEN_OVER, TAKEN_OVER_LINES),
-        (&TWO_LIVES, TWO_LIVES_LINES),
-        (&UNSEEN, UNSEEN_LINES),
-        (&ACKNOWLEDGED, ACKNOWLEDGED_LINES),
-        (&ASTRAY, ASTRAY_LINES),
+    let cases: [(&[Event], &str, usize); 6] = [
+        (&ENDED, ENDED_LINES, 2),
+        (&TAKEN_OVER, TAKEN_OVER_LINES, 1),
+        (&TWO_LIVES, TWO_LIVES_LINES, 2),
+        (&UNSEEN, UNSEEN_LINES, 1),
+        (&ACKNOWLEDGED, ACKNOWLEDGED_LINES, 4),
+        (&ASTRAY, ASTRAY_LINES, 1),
     ];
-    for (events, wanted) in cases {
+    for (events, wanted, letters) in cases {
         prints(&rt, events, wanted);
+        assert_eq!(rt; letters_of(&rt, events), letters);
     }
+}
+
+/// Whether a state that took letters as bytes is what a site of the world holds.
+fn are_held(
+    rt: &(impl AllocGlobal + Abort),
+    world: &World,
+    site: usize,
+    letters: &[&Letter],
+) -> bool {
+    let state = taken_as_bytes(rt, letters);
+    let site = world.site(site).expect(rt, "a site");
+    let same = state.equal(site.sessions());
+    drop(state);
+    same
+}
+
+/// Whether the letters of both lives leave the same as bytes, in either order and twice each.
+fn are_lives_held(rt: &(impl AllocGlobal + Abort), world: &World) -> bool {
+    let first = world.letter(0).expect(rt, "a letter");
+    let second = world.letter(1).expect(rt, "a letter");
+    are_held(rt, world, 1, &[second, second, first, first])
+        && are_held(rt, world, 2, &[first, first, second, second])
+}
+
+#[test]
+fn letters_of_two_lives_may_come_in_any_order(rt: HostRuntime) {
+    let world = world_of(&rt, &TWO_LIVES);
+    let same = are_lives_held(&rt, &world);
+    drop(world);
+    assert!(rt; same);
 }
