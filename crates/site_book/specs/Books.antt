@@ -1,5 +1,5 @@
 -- A book: a site with its opening and its history; seats with receipts.
-use Rattle.std.specs.Prelude.{◌≡◌, ℕ, zero, suc, ◌+◌, leb, Bool, List, [], ◌∷◌, ◌++◌, map, length}
+use Rattle.std.specs.Prelude.{◌≡◌, ℕ, zero, suc, ◌+◌, leb, Bool, not, ◌&&◌, List, [], ◌∷◌, ◌++◌, map, length}
 use Rattle.pcrf_model.specs.Limits.{delta_limit}
 use Rattle.pcrf_model.specs.Replies.{ReplyValue}
 use Rattle.pcrf_model.specs.Steps.{SiteState, SiteEvent, MayReply, Replays}
@@ -41,6 +41,10 @@ called e = (e.event, e.reply)
 -- no entry can be added
 abbrev pub is_full : BookValue → Bool
 is_full b = leb b.limit (length b.history)
+
+-- the site made no more operations itself than so many, and an entry can be added
+abbrev pub is_short : BookValue → ℕ → Bool
+is_short b past = not (is_full b) && leb (length b.site.state.log) past
 
 abbrev pub entry_of : ℕ → SiteEvent → ReplyValue → EntryValue
 entry_of seat event reply = record { seat = seat; event = event; reply = reply }

@@ -1,7 +1,7 @@
 //! The book: a site with its history, and the room for what settling it gives.
 ghost use Rattle.std.specs.Prelude.{◌≡◌, ◌≤◌, ◌<◌, length, true, Err, vec_len, vec_capacity, [], IfOk, IfErr, OnErr};
 ghost use Rattle.site_machine.specs.Values.{event_value, reply_value, event_lacks_counter};
-ghost use Rattle.site_book.specs.Books.{SiteMayReply, new_book, new_seats, with_entry, with_receipt, is_full, IsHistoryOf};
+ghost use Rattle.site_book.specs.Books.{SiteMayReply, new_book, new_seats, with_entry, with_receipt, is_full, is_short, IsHistoryOf};
 ghost use Rattle.site_book.specs.Limits.{most_entries, most_seats};
 
 use crate::entry::Receipt;
@@ -92,6 +92,14 @@ impl<L: Ledger> SiteBook<L> {
         ensures replays { IsHistoryOf self.now }
     {
         self.pages.site()
+    }
+
+    /// Whether the site made no more operations itself than so many, and an entry can be added: who waits for more of them has
+    /// to wait.
+    pub fn is_short(&self, past: u64) -> bool
+        ensures { result ≡ is_short self.now past }
+    {
+        self.entries() < self.limit() && self.site().logged() <= past
     }
 
     /// Makes an event happen, as a call of a seat. The entry comes last, and the seat gains its receipt. A fault changes

@@ -5,7 +5,7 @@ ghost use Rattle.site_book.specs.Books.{IsHistoryOf, new_seats};
 ghost use Rattle.site_book.specs.Gains.{HoldsAll};
 ghost use Rattle.site_book.specs.Limits.{most_entries, most_seats};
 ghost use Rattle.site_book.specs.Settling.{FirstFault, Settles, receipts_below};
-ghost use Rattle.site_lock.specs.Calls.{GainsReceipt};
+ghost use Rattle.site_lock.specs.Calls.{GainsReceipt, TellsPast};
 ghost use Rattle.site_lock.specs.Locked.{beside};
 
 use dia_base::Identity;
@@ -15,13 +15,15 @@ use site_machine::{Event, Reply, Site, StepFault};
 use std::alloc::{AllocError, Global};
 use std::marker::Model;
 use std::sync::ledger::{Blank, Ledger};
-use std::sync::{Mutex, Wait};
+use std::sync::{Condvar, Mutex, Wait};
 
 /// A book that threads share, under the one lock of its site. What a thread is told by a call is what the book's own call told:
-/// the seat has a receipt of it, and only that call gives receipts. Beside the lock stands what never changes of the site.
+/// the seat has a receipt of it, and only that call gives receipts. Each call wakes those that wait for the site to grow. Beside
+/// the lock stands what never changes of the site.
 #[derive(Drop)]
 pub struct LockedSite<L: Ledger> {
     book: Mutex<SiteBook<L>>,
+    grown: Condvar,
     identity: Identity,
     edition: u32,
     number: u8,
@@ -76,6 +78,7 @@ impl<L: Ledger> LockedSite<L> {
         let (book, chairs) = SiteBook::start(alloc, blank, site, seats, limit)?;
         let locked = LockedSite {
             book: Mutex::new(book),
+            grown: Condvar::new(),
             identity,
             edition,
             number,
@@ -95,6 +98,7 @@ impl<L: Ledger> LockedSite<L> {
         let number = book.site().number();
         Ok(LockedSite {
             book: Mutex::new(book),
+            grown: Condvar::new(),
             identity,
             edition,
             number,
@@ -135,7 +139,31 @@ impl<L: Ledger> LockedSite<L> {
         ensures err { OnErr result (seat.new ≡ seat.old) }
     {
         let mut book = self.book.lock(rt);
-        book.step(seat, event)
+        let reply = book.step(seat, event);
+        self.grown.notify_all();
+        reply
+    }
+
+    /// The same, once the site has made more operations itself than so many, or its history is full.
+    #[tactic(auto, using(crate::proofs::Telling::told_grown))]
+    pub fn call_grown<R: Wait>(
+        &self,
+        rt: &R,
+        seat: &mut Seat<L>,
+        event: &Event,
+        past: u64,
+    ) -> Result<Reply, StepFault>
+        ensures receipt { IfOk result (λ reply. GainsReceipt
+            seat.old (event_value event.now) (reply_value reply) seat.new) }
+        ensures past { IfOk result (λ reply. TellsPast past (reply_value reply)) }
+        ensures err { OnErr result (seat.new ≡ seat.old) }
+    {
+        let mut book = self
+            .grown
+            .wait_while(rt, self.book.lock(rt), |book| book.is_short(past));
+        let answer = book.step(seat, event);
+        self.grown.notify_all();
+        answer
     }
 
     /// Settles the book, or tells the first fault that stands and gives the book and the seats back. It waits for nobody.
