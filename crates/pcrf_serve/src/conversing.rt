@@ -27,7 +27,8 @@ fn answer<T: Wait, L: Ledger>(
     requires { IsFrame frame.now }
     ensures { HasEarlier at.old.seat at.new.seat }
 {
-    answer_frame(alloc, at, frame)
+    let answer = answer_frame(alloc, at, frame)?;
+    Ok(answer)
 }
 
 /// Pushes to every gateway that can be reached what the last message may have led to.
