@@ -84,6 +84,7 @@ fn next_letter<T: Wait, L: Ledger>(
 }
 
 /// Reads an acknowledgement, and counts it.
+#[tactic(auto, using(crate::proofs::Following::acked_makers))]
 fn acknowledged<S: Read + Write>(
     cursors: &mut Cursors,
     letters: &mut Letters<S>,
@@ -99,6 +100,7 @@ fn acknowledged<S: Read + Write>(
 }
 
 /// Sends one letter, and reads its acknowledgement.
+#[tactic(auto, using(crate::proofs::Following::exchanged_earlier, crate::proofs::Following::exchanged_same))]
 fn send_letter<T: Wait, L: Ledger, S: Read + Write>(
     rt: &T,
     site: &LockedSite<L>,

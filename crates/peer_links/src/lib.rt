@@ -4,6 +4,7 @@
 
 mod dialing;
 mod exchange;
+mod heading;
 mod letters;
 mod link;
 mod listening;

@@ -1,14 +1,16 @@
 //! The side that takes letters, and acknowledges them.
-ghost use Rattle.std.specs.Prelude.{◌≡◌, true, IfSome, OnOk, OnErr};
+ghost use Rattle.std.specs.Prelude.{◌≡◌, true, OnOk, OnErr};
 ghost use Rattle.site_machine.specs.Values.{event_value, reply_value};
 ghost use Rattle.link_ends.specs.Earlier.{HasEarlier};
 ghost use Rattle.peer_links.specs.Exchanging.{Exchanged, GainsWhole, IsWhole};
+ghost use Rattle.peer_links.specs.Headings.{IsOpened};
 
+use crate::heading::Heading;
 use crate::letters::Letters;
 use crate::link::Link;
 use link_ends::{Gate, LinkEnd, Pushes};
 use peer_cursors::{Ack, Cursors};
-use peer_exchange::{Body, Letter, Range, Snapshot};
+use peer_exchange::Letter;
 use site_book::Seat;
 use site_lock::LockedSite;
 use site_machine::{Event, Reply};
@@ -16,57 +18,6 @@ use std::alloc::Global;
 use std::io::{Read, Write};
 use std::sync::Wait;
 use std::sync::ledger::Ledger;
-
-/// What stands on a letter beside the operations or the state that it brings: `at` is the position of the first operation, or
-/// the length of the log that goes with the state.
-#[derive(Clone, Copy)]
-struct Heading {
-    edition: u32,
-    site: u8,
-    epoch: u16,
-    at: u64,
-}
-
-/// A letter opened: its heading, and the event that takes in what it brings. None of an acknowledgement, which brings nothing.
-fn opened(letter: Letter) -> Option<(Heading, Event)> {
-    let (edition, site, epoch) = (letter.edition(), letter.site(), letter.epoch());
-    let (at, event) = match letter.into_body() {
-        Body::Range(Range { from, operations }) => (from, Event::Ops(operations)),
-        Body::Snapshot(Snapshot { state, log_length }) => (log_length, Event::Whole(state)),
-        Body::Acknowledgement(_) => return None,
-    };
-    let heading = Heading {
-        edition,
-        site,
-        epoch,
-        at,
-    };
-    Some((heading, event))
-}
-
-/// The letter of a heading and an event, closed again. None where no letter brings that.
-fn closed(heading: Heading, event: Event) -> Option<Letter>
-    ensures { IfSome result (λ letter. letter.body ≡ body_of heading.at (event_value event)) }
-{
-    let Heading {
-        edition,
-        site,
-        epoch,
-        at,
-    } = heading;
-    let body = match event {
-        Event::Ops(operations) => Body::Range(Range {
-            from: at,
-            operations,
-        }),
-        Event::Whole(state) => Body::Snapshot(Snapshot {
-            state,
-            log_length: at,
-        }),
-        Event::Serve(_) | Event::Push(_) | Event::AskOwn(_) | Event::AskWhole => return None,
-    };
-    Letter::of(edition, site, epoch, body)
-}
 
 /// Whether the reply says that all of the event was taken.
 fn is_whole(event: &Event, reply: &Reply) -> bool
@@ -100,6 +51,7 @@ fn take_whole<T: Wait, L: Ledger>(
 }
 
 /// Takes what a letter brings, counts the letter once it is taken whole, and tells what its sender is to be told.
+#[tactic(auto, using(crate::proofs::Following::exchanged_took, crate::proofs::Following::exchanged_earlier))]
 fn take_brought<T: Wait, L: Ledger>(
     rt: &T,
     site: &LockedSite<L>,
@@ -108,16 +60,16 @@ fn take_brought<T: Wait, L: Ledger>(
     heading: Heading,
     event: Event,
 ) -> Result<Ack, LinkEnd>
+    requires { IsOpened heading (event_value event) }
     ensures { Exchanged seat.old seat.new cursors.old.makers cursors.new.makers }
 {
     take_whole(rt, site, seat, &event)?;
-    let Some(letter) = closed(heading, event) else {
-        return Err(LinkEnd::NoMemory);
-    };
+    let letter = heading.close(event);
     Ok(cursors.took(&letter))
 }
 
 /// Takes a letter, and tells what its sender is to be told; nothing after an acknowledgement, which is counted.
+#[tactic(auto, using(crate::proofs::Following::exchanged_same, crate::proofs::Following::acked_makers))]
 fn take<T: Wait, L: Ledger>(
     rt: &T,
     site: &LockedSite<L>,
@@ -131,7 +83,7 @@ fn take<T: Wait, L: Ledger>(
         cursors.acked(&ack);
         return Ok(None);
     }
-    let Some((heading, event)) = opened(letter) else {
+    let Some((heading, event)) = Heading::open(letter) else {
         return Ok(None);
     };
     let ack = take_brought(rt, site, seat, cursors, heading, event)?;
