@@ -41,6 +41,10 @@ exchanged_then s t u first second third a b = (
   follows_then first a.0 second b.0 third a.2 b.2,
 )
 
+-- an exchange, and then calls that change no entry
+pub exchanged_called : (s t u : SeatValue) (makers after : List Cursor) → Exchanged s t makers after → HasEarlier t u → Exchanged s u makers after
+exchanged_called s t u makers after a h = exchanged_then s t u makers after after a (exchanged_earlier t u after after h refl)
+
 -- an acknowledgement changes no maker's entry
 pub acked_makers : (c : CursorsValue) (a : AckValue) → (acked c a).makers ≡ c.makers
 acked_makers c a = of_test (a.maker == c.site && a.maker_epoch == c.epoch) _

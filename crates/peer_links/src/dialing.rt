@@ -132,7 +132,9 @@ pub(crate) fn send_letters<T: Wait, L: Ledger, P, G: Gate, S: Read + Write>(
     for message in 0..turns {
         link.enter(connection, message)?;
         let ack = send_letter(rt, link.site, seat, cursors, letters, first)?;
-        first = Some(first.unwrap_or(ack));
+        if first.is_none() {
+            first = Some(ack);
+        }
         link.leave(connection, message)?;
     }
     Ok(())

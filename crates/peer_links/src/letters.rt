@@ -1,5 +1,6 @@
 //! Letters on a stream.
 use link_ends::LinkEnd;
+use peer_cursors::Ack;
 use peer_exchange::{Letter, LetterAssembler, read_letter, write_letter};
 use std::alloc::Global;
 use std::io::{Read, Write};
@@ -75,5 +76,11 @@ impl<S: Read + Write> Letters<S> {
             return Err(LinkEnd::WriteFailed);
         }
         Ok(())
+    }
+
+    /// Writes an acknowledgement.
+    pub(crate) fn acknowledge(&mut self, ack: &Ack) -> Result<(), LinkEnd> {
+        let letter = ack.letter(self.edition);
+        self.write(&letter)
     }
 }

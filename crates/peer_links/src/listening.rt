@@ -108,7 +108,7 @@ fn take_letter<T: Wait, L: Ledger, P: Pushes, G: Gate, S: Read + Write>(
         return link.leave(seat.number(), message);
     };
     link.gateways.push_all(rt, alloc, link.site, seat)?;
-    letters.write(&ack.letter(letters.edition()))?;
+    letters.acknowledge(&ack)?;
     link.leave(seat.number(), message)
 }
 
