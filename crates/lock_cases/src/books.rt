@@ -83,7 +83,7 @@ fn set_up<L: Ledger, R: Wait + Abort>(
 }
 
 /// A site under a lock, whose history has room for so many entries, and its seats.
-fn opened<L: Ledger>(
+pub fn opened<L: Ledger>(
     rt: &impl Abort,
     alloc: Global,
     blank: Blank,

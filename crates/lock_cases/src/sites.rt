@@ -11,7 +11,7 @@ use std::fmt::Write as _;
 use std::net::Ipv4Addr;
 use std::process::Abort;
 
-/// Operator tables with one access point, before its rules.
+/// Operator tables with a class of audio and one access point, before its rules.
 const HEAD: &str = r#"
 edition = 3
 rtcp_bps = 5000
@@ -23,6 +23,15 @@ vulnerability = 0
 max_ul = 32000
 max_dl = 32000
 precedence = 50
+[[media]]
+type = 0
+qci = 1
+priority = 2
+capability = 0
+vulnerability = 1
+max_ul = 64000
+max_dl = 64000
+precedence = 100
 [[apn]]
 name = "ims"
 "#;
@@ -50,7 +59,7 @@ fn tables_text(alloc: Global, rules: u32) -> Result<String, AllocError> {
 }
 
 /// They are read.
-fn tables(rt: &impl Abort, alloc: Global, rules: u32) -> Tables {
+pub fn tables(rt: &impl Abort, alloc: Global, rules: u32) -> Tables {
     let text = tables_text(alloc, rules).expect(rt, "memory");
     read_tables(alloc, text.as_str()).expect(rt, "tables")
 }

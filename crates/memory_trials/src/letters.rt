@@ -89,30 +89,30 @@ pub fn put_calls(alloc: Global, letter: &mut Vec<Operation>) -> Result<(), Alloc
     Ok(())
 }
 
-/// The operator tables; any fault counts as want of memory.
-fn tables(alloc: Global) -> Result<Tables, AllocError> {
-    match read_tables(alloc, TABLES) {
+/// The operator tables of a text; any fault counts as want of memory.
+fn tables(alloc: Global, text: &str) -> Result<Tables, AllocError> {
+    match read_tables(alloc, text) {
         Ok(tables) => Ok(tables),
         Err(_) => Err(AllocError),
     }
 }
 
 /// A host or a realm.
-fn name(alloc: Global, text: &[u8]) -> Result<DiameterIdentity, AllocError> {
+pub fn name(alloc: Global, text: &[u8]) -> Result<DiameterIdentity, AllocError> {
     match BoundedText::read(alloc, text)? {
         Some(name) => Ok(name),
         None => Err(AllocError),
     }
 }
 
-/// A site that took nothing.
-fn new_site(alloc: Global) -> Result<Site, AllocError> {
+/// A site with the operator tables of a text, which took nothing.
+pub fn site_of(alloc: Global, text: &str) -> Result<Site, AllocError> {
     let names = Identity {
         host: name(alloc, b"s")?,
         realm: name(alloc, b"r")?,
         address: Ipv4Addr::LOCALHOST,
     };
-    Ok(Site::start(alloc, tables(alloc)?, names, 0))
+    Ok(Site::start(alloc, tables(alloc, text)?, names, 0))
 }
 
 impl Call for TakeLetter {
@@ -122,7 +122,7 @@ impl Call for TakeLetter {
         let mut letter = Vec::new(alloc);
         put_updates(alloc, &mut letter)?;
         put_calls(alloc, &mut letter)?;
-        let site = new_site(alloc)?;
+        let site = site_of(alloc, TABLES)?;
         let taken = 0;
         Ok(TakeLetter {
             site,

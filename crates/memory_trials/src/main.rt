@@ -5,6 +5,8 @@
 //! call. So where the allocation of a fixed place is refused, that number decides which one of the calls' own this is.
 #![tactic(auto)]
 
+mod bookings;
+mod books;
 mod carrying;
 mod fingerprint;
 mod joins;
@@ -19,6 +21,7 @@ mod telling;
 mod trial;
 mod values;
 
+use books::try_books;
 use carrying::{Carried, CarryLetter};
 use joins::{Form, Joining};
 use lattice_core::{JoinMap, JoinTree, Reg, Tombed};
@@ -130,6 +133,7 @@ fn try_all(alloc: Global) -> Tally {
     for case in Carried::ALL {
         tally.count(outcome_of::<CarryLetter>(alloc, case), "carry", case.name());
     }
+    try_books(alloc, &mut tally);
     tally
 }
 

@@ -6,6 +6,7 @@ use pcrf_values::{AfSid, DiameterIdentity, FilterText, Filters, GxSid, SessionId
 use ranked::Tag;
 use site_join::{Operation, SessionFacts, State};
 use std::alloc::{AllocError, Global};
+use std::net::Ipv4Addr;
 
 /// The Session-Id of each call.
 const CALL: &[u8] = b"af;1;1";
@@ -51,22 +52,46 @@ fn filters(alloc: Global, filter: &[u8]) -> Result<Filters, AllocError> {
     Filters::of(filters).ok_or(AllocError)
 }
 
-/// The facts of what a call says.
-fn call_facts(alloc: Global, at: Tag, said: Said<'_>) -> Result<Vec<AfFact>, AllocError> {
+/// Puts the facts of what a call says.
+fn put_said(
+    alloc: Global,
+    facts: &mut Vec<AfFact>,
+    at: Tag,
+    said: Said<'_>,
+) -> Result<(), AllocError> {
     let filters = FlowValue::Descriptions(filters(alloc, said.filter)?);
     let media = ComponentValue::MediaType(said.media);
-    let mut facts = Vec::new(alloc);
     facts.push(AfFact::Component(1, at, media))?;
     facts.push(AfFact::Flow(1, said.flow, at, filters))?;
-    Ok(facts)
+    Ok(())
+}
+
+/// An operation of the call.
+fn operation_of(alloc: Global, counter: u8, facts: Vec<AfFact>) -> Result<Operation, AllocError> {
+    let id = AfSid::of(SessionId::read(alloc, CALL)?.ok_or(AllocError)?);
+    let facts = SessionFacts::Af(id, facts);
+    Operation::of(u64::from(counter), 2, 0, facts).ok_or(AllocError)
 }
 
 /// A call.
 pub fn call(alloc: Global, counter: u8, said: Said<'_>) -> Result<Operation, AllocError> {
-    let facts = call_facts(alloc, tag(counter), said)?;
-    let id = AfSid::of(SessionId::read(alloc, CALL)?.ok_or(AllocError)?);
-    let facts = SessionFacts::Af(id, facts);
-    Operation::of(u64::from(counter), 2, 0, facts).ok_or(AllocError)
+    let mut facts = Vec::new(alloc);
+    put_said(alloc, &mut facts, tag(counter), said)?;
+    operation_of(alloc, counter, facts)
+}
+
+/// A call from an address.
+pub fn call_from(
+    alloc: Global,
+    counter: u8,
+    said: Said<'_>,
+    address: Ipv4Addr,
+) -> Result<Operation, AllocError> {
+    let mut facts = Vec::new(alloc);
+    let address = SessionValue::Address(address);
+    facts.push(AfFact::Session(tag(counter), address))?;
+    put_said(alloc, &mut facts, tag(counter), said)?;
+    operation_of(alloc, counter, facts)
 }
 
 /// What the fingerprint of a state has to be that shows these hosts, each of a session, and no call.

@@ -1,4 +1,6 @@
 //! Scripts in which sites write to each other and acknowledge: each answer by its Result-Code, and each other line as it stands.
+use crate::carried::count_carried;
+use crate::drawn_runs::run_world;
 use crate::drawn_scripts::run;
 use crate::events::{Event, Kind, Request, Script};
 use crate::operator_tables::TABLES;
@@ -267,19 +269,34 @@ fn prints(rt: &(impl AllocGlobal + Abort), events: &[Event], wanted: &str) {
     let printed = String::from_utf8(out).ok().expect(rt, "text");
     let shown = shortened(rt.alloc(), printed.as_str()).expect(rt, "memory");
     assert_eq!(rt; shown.as_str(), wanted);
+    drop(script);
+}
+
+/// How many letters the sites of a script write, each of which is the same by its bytes.
+fn letters_of(rt: &(impl AllocGlobal + Abort), events: &[Event]) -> usize {
+    let script = Script {
+        sites: 3,
+        events: Vec::from_slice(rt.alloc(), events).expect(rt, "memory"),
+    };
+    let (world, answers) = run_world(rt, &script);
+    drop(answers);
+    let count = count_carried(rt, 0, &world);
+    drop(world);
+    count
 }
 
 #[test]
 fn sites_serve_what_they_took_of_each_other(rt: HostRuntime) {
-    let cases: [(&[Event], &str); 6] = [
-        (&ENDED, ENDED_LINES),
-        (&TAKEN_OVER, TAKEN_OVER_LINES),
-        (&TWO_LIVES, TWO_LIVES_LINES),
-        (&UNSEEN, UNSEEN_LINES),
-        (&ACKNOWLEDGED, ACKNOWLEDGED_LINES),
-        (&ASTRAY, ASTRAY_LINES),
+    let cases: [(&[Event], &str, usize); 6] = [
+        (&ENDED, ENDED_LINES, 2),
+        (&TAKEN_OVER, TAKEN_OVER_LINES, 1),
+        (&TWO_LIVES, TWO_LIVES_LINES, 2),
+        (&UNSEEN, UNSEEN_LINES, 1),
+        (&ACKNOWLEDGED, ACKNOWLEDGED_LINES, 4),
+        (&ASTRAY, ASTRAY_LINES, 1),
     ];
-    for (events, wanted) in cases {
+    for (events, wanted, letters) in cases {
         prints(&rt, events, wanted);
+        assert_eq!(rt; letters_of(&rt, events), letters);
     }
 }

@@ -2,6 +2,7 @@
 ghost use Rattle.std.specs.Prelude.{◌<◌, ◌≤◌};
 ghost use Rattle.pcrf_model.specs.Limits.{site_limit};
 
+use crate::carried::count_carried;
 use crate::drawn_tables::tables;
 use crate::events::{Event, Request as Sent, Script};
 use crate::generator::{Plan, script};
@@ -17,7 +18,6 @@ use pcrf_values::{
 };
 use pcrf_world::{World, WorldEvent, WorldFault, WorldOutcome};
 use peer_cursors::{Cursor, Cursors};
-use peer_exchange::{Letter, LetterFault, read_letter, write_letter};
 use site_core::{Asked, Reply, Request, Site, read_request};
 use site_join::State;
 use std::alloc::{AllocError, AllocGlobal, Global};
@@ -369,26 +369,9 @@ fn compare_cursors(rt: &impl Abort, seed: u64, world: &World, model: &model::Wor
     }
 }
 
-/// The bytes of a letter, and of the letter that these bytes are read as.
-fn written_twice(alloc: Global, letter: &Letter) -> Result<(Vec<u8>, Vec<u8>), LetterFault> {
-    let once = write_letter(alloc, letter)?;
-    let read = read_letter(alloc, once.as_slice(), letter.edition())?;
-    let twice = write_letter(alloc, &read);
-    drop(read);
-    Ok((once, twice?))
-}
-
-/// Compares each letter of a world with what its bytes are read as.
+/// Asks that the world has so many letters, each of which is the same by its bytes.
 fn compare_letters(rt: &(impl Abort + AllocGlobal), seed: u64, world: &World, count: usize) {
-    for k in 0..count {
-        let letter = world.letter(k).expect(rt, "a letter");
-        let (once, twice) = written_twice(rt.alloc(), letter).expect(rt, "bytes");
-        assert!(rt;
-            once.as_slice() == twice.as_slice(),
-            "seed {seed}, letter {k}"
-        );
-    }
-    assert!(rt; world.letter(count).is_none(), "seed {seed}");
+    assert_eq!(rt; count_carried(rt, seed, world), count, "seed {seed}");
 }
 
 /// Compares what the sites of a world hold with what the model has of them.

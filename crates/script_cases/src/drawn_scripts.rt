@@ -1,4 +1,6 @@
 //! Each script is run, and its whole output compared with the model's.
+use crate::carried::count_carried;
+use crate::drawn_runs::run_world;
 use crate::drawn_tables::tables;
 use crate::events::Script;
 use crate::expected::{Counts, expected};
@@ -8,6 +10,30 @@ use op_tables::Tables;
 use pcrf_script::{ScriptEnd, run_script};
 use std::alloc::{AllocGlobal, Global};
 use std::process::Abort;
+
+/// Scripts of one to four sites.
+const FEW_SITES: Plan = Plan {
+    sites: [1, 2, 3, 4],
+    events: [40, 41],
+    exchanges: false,
+    restarts: true,
+};
+
+/// Scripts of as many sites as there may be.
+const SIXTEEN_SITES: Plan = Plan {
+    sites: [16, 16, 16, 16],
+    events: [20, 41],
+    exchanges: false,
+    restarts: true,
+};
+
+/// Scripts at whose end each site takes a letter of each.
+const ALL_LETTERS: Plan = Plan {
+    sites: [2, 3, 5, 16],
+    events: [20, 41],
+    exchanges: true,
+    restarts: false,
+};
 
 /// How a script ends, and what it has printed by then.
 pub fn run(alloc: Global, tables: Tables, script: &[u8]) -> (ScriptEnd, Vec<u8>) {
@@ -125,13 +151,7 @@ fn assert_busy(rt: &impl Abort, counts: &Counts) {
 
 #[test]
 fn few_sites_print_what_the_model_gives(rt: HostRuntime) {
-    let plan = Plan {
-        sites: [1, 2, 3, 4],
-        events: [40, 41],
-        exchanges: false,
-        restarts: true,
-    };
-    let counts = run_hundred(&rt, 1, plan);
+    let counts = run_hundred(&rt, 1, FEW_SITES);
     assert_busy(&rt, &counts);
     let rows = [
         (counts.late, 20, "late"),
@@ -145,26 +165,35 @@ fn few_sites_print_what_the_model_gives(rt: HostRuntime) {
 
 #[test]
 fn sixteen_sites_print_what_the_model_gives(rt: HostRuntime) {
-    let plan = Plan {
-        sites: [16, 16, 16, 16],
-        events: [20, 41],
-        exchanges: false,
-        restarts: true,
-    };
-    let counts = run_hundred(&rt, 1001, plan);
+    let counts = run_hundred(&rt, 1001, SIXTEEN_SITES);
     assert_busy(&rt, &counts);
     assert!(rt; counts.restarts >= 20, "{counts:?}");
 }
 
 #[test]
 fn sites_that_took_all_letters_show_the_same(rt: HostRuntime) {
-    let plan = Plan {
-        sites: [2, 3, 5, 16],
-        events: [20, 41],
-        exchanges: true,
-        restarts: false,
-    };
-    let counts = run_hundred(&rt, 2001, plan);
+    let counts = run_hundred(&rt, 2001, ALL_LETTERS);
     assert_busy(&rt, &counts);
     assert!(rt; counts.pushed >= 50, "{counts:?}");
+}
+
+/// How many letters the sites of a seed's script write, each of which is the same by its bytes.
+fn letters_of(rt: &(impl Abort + AllocGlobal), seed: u64, plan: Plan) -> usize {
+    let script = script(rt.alloc(), seed, plan).expect(rt, "memory");
+    let (world, answers) = run_world(rt, &script);
+    drop(answers);
+    let count = count_carried(rt, seed, &world);
+    drop(world);
+    count
+}
+
+#[test]
+fn letters_of_scripts_are_the_same_by_their_bytes(rt: HostRuntime) {
+    for (first, plan) in [(1, FEW_SITES), (1001, SIXTEEN_SITES), (2001, ALL_LETTERS)] {
+        let mut count = 0usize;
+        for seed in first..first + 100 {
+            count = count.saturating_add(letters_of(&rt, seed, plan));
+        }
+        assert!(rt; count >= 200, "from script {first} on");
+    }
 }

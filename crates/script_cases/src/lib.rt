@@ -4,6 +4,8 @@
 #![tactic(auto)]
 
 #[cfg(test)]
+mod carried;
+#[cfg(test)]
 mod cursor_lines;
 #[cfg(test)]
 mod drawn_runs;

@@ -49,7 +49,7 @@ name = \"net\"
 ";
 
 /// What a voice call shows: it asks for 80000 down, and the class of audio gives 64000 at most.
-const VOICE_CALL: &str = "clock 2
+pub const VOICE_CALL: &str = "clock 2
 gx gw;1;1 live 10.0.0.1 ims home 0
 rule 40 op/sip 2 5 32000 32000
 rule 100 af/af;1/1/1 2 1 41000 64000
@@ -118,7 +118,8 @@ fn take_without_binding(rt: &(impl AllocGlobal + Abort), state: &mut State, at: 
     end_application(rt, state, at, "af;5");
 }
 
-fn check(rt: &(impl AllocGlobal + Abort), state: &State, wanted: &str) {
+/// Compares what a state shows by the tables.
+pub fn shows(rt: &(impl AllocGlobal + Abort), state: &State, wanted: &str) {
     let tables = read_tables(rt.alloc(), TABLES).expect(rt, "tables");
     let mut out = String::new(rt.alloc());
     show_state(rt.alloc(), &mut out, &tables, state).expect(rt, "memory");
@@ -129,7 +130,7 @@ fn check(rt: &(impl AllocGlobal + Abort), state: &State, wanted: &str) {
 #[test]
 fn a_voice_call_shows_its_rules_and_its_binding(rt: HostRuntime) {
     let state = voice_call(&rt);
-    check(&rt, &state, VOICE_CALL);
+    shows(&rt, &state, VOICE_CALL);
     drop(state);
 }
 
@@ -141,6 +142,6 @@ fn each_kind_of_session_has_its_lines(rt: HostRuntime) {
     take_odd_names(&rt, &mut state, stamp(4, 3), stamp(5, 0));
     take_gateways_not_live(&rt, &mut state, stamp(6, 0));
     take_without_binding(&rt, &mut state, stamp(10, 0));
-    check(&rt, &state, EACH_KIND);
+    shows(&rt, &state, EACH_KIND);
     drop(state);
 }

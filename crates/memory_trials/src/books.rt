@@ -1,0 +1,274 @@
+//! The calls of a book: opening it, steps of each kind, putting it under a lock, and settling. They are made one after the other
+//! on one book, so that a step that is refused and made again is seen in all that come after it.
+ghost use Rattle.std.specs.Prelude.{◌≡◌};
+
+use crate::bookings::{GRANTED, PUSHED, Step, new_site};
+use crate::fingerprint::{EMPTY, Fingerprint, mixed};
+use crate::tally::Tally;
+use crate::trial::Outcome;
+use gx_profile::GxReply;
+use site_book::{Seat, SiteBook};
+use site_lock::LockedSite;
+use site_machine::{Event, Reply, Site};
+use std::alloc::{AllocError, Global};
+use std::marker::Brand;
+use std::sync::ledger::{Blank, Ledger};
+
+/// How many entries the history has room for.
+const LIMIT: usize = 5;
+
+/// The fingerprint of what a site holds, and of how many operations it made.
+fn print_of_site(site: &Site) -> u64 {
+    mixed(site.sessions().fingerprint(), site.logged())
+}
+
+/// The fingerprint of what is replied.
+fn print_of_reply(reply: &Reply) -> u64 {
+    match reply {
+        Reply::Gx(GxReply::Granted(delta, _)) => mixed(GRANTED, delta.installed().len() as u64),
+        Reply::Pushed(Some(push)) => mixed(PUSHED, push.delta.installed().len() as u64),
+        Reply::Done => EMPTY,
+        Reply::Own(operations, length) => mixed(operations.len() as u64, *length),
+        Reply::Copy(state, length) => mixed(state.fingerprint(), *length),
+        _ => 0,
+    }
+}
+
+/// The fingerprint of a book and of its seat: the site, how many entries there are, and where the seat's are.
+fn print_of<L: Ledger>(book: &SiteBook<L>, seat: &Seat<L>) -> u64 {
+    let mut places = EMPTY;
+    for receipt in seat.receipts() {
+        places = mixed(places, receipt.place() as u64);
+    }
+    let entries = book.entries() as u64;
+    mixed(print_of_site(book.site()), mixed(entries, places))
+}
+
+/// Whether the last receipt of a seat is of this event and reply.
+fn has_receipt<L: Ledger>(seat: &Seat<L>, event: &Event, reply: &Reply) -> bool {
+    match seat.receipts().last() {
+        Some(receipt) => receipt.event().equal(event) && receipt.reply().equal(reply),
+        None => false,
+    }
+}
+
+/// Makes a step: the fingerprint of the reply and of the site then, or none where it is refused.
+fn stepped<L: Ledger>(book: &mut SiteBook<L>, seat: &mut Seat<L>, event: &Event) -> Option<u64> {
+    let reply = book.step(seat, event);
+    let print = match &reply {
+        Ok(reply) if has_receipt(seat, event, reply) => {
+            Some(mixed(print_of_reply(reply), print_of_site(book.site())))
+        }
+        Ok(_) => Some(0),
+        Err(_) => None,
+    };
+    drop(reply);
+    print
+}
+
+/// The outcome of a step that has to give what is wanted.
+fn step_outcome<L: Ledger>(
+    book: &mut SiteBook<L>,
+    seat: &mut Seat<L>,
+    event: &Event,
+    wanted: u64,
+) -> Outcome {
+    let before = print_of(book, seat);
+    match stepped(book, seat, event) {
+        Some(given) if given == wanted => return Outcome::AtOnce,
+        Some(_) => return Outcome::Wrong,
+        None => {}
+    }
+    if print_of(book, seat) == before && stepped(book, seat, event) == Some(wanted) {
+        Outcome::Again
+    } else {
+        Outcome::Wrong
+    }
+}
+
+/// The event of a step, and whether its making was refused once.
+fn event_of(alloc: Global, step: Step) -> Result<(Event, Outcome), AllocError> {
+    match step.event(alloc) {
+        Ok(event) => Ok((event, Outcome::AtOnce)),
+        Err(_) => Ok((step.event(alloc)?, Outcome::Again)),
+    }
+}
+
+/// Makes a step.
+fn try_step<L: Ledger>(
+    alloc: Global,
+    book: &mut SiteBook<L>,
+    seat: &mut Seat<L>,
+    step: Step,
+    tally: &mut Tally,
+) {
+    let Ok((event, making)) = event_of(alloc, step) else {
+        return tally.count(Outcome::Wrong, "make", step.name());
+    };
+    tally.count(making, "make", step.name());
+    let outcome = step_outcome(book, seat, &event, step.wanted());
+    drop(event);
+    tally.count(outcome, "step of a book", step.name());
+}
+
+/// Makes all steps.
+fn try_steps<L: Ledger>(
+    alloc: Global,
+    book: &mut SiteBook<L>,
+    seats: &mut Vec<Seat<L>>,
+    tally: &mut Tally,
+) {
+    let Some(seat) = seats.first_mut() else {
+        return tally.count(Outcome::Wrong, "seat", "book");
+    };
+    for step in Step::ALL {
+        try_step(alloc, book, seat, step, tally);
+    }
+}
+
+/// A site, whose making may be refused once.
+fn site_for(alloc: Global, tally: &mut Tally) -> Option<Site> {
+    if let Ok(site) = new_site(alloc) {
+        return Some(site);
+    }
+    tally.count(Outcome::Again, "make", "site");
+    new_site(alloc).ok()
+}
+
+/// A book of one seat over a site, opened where it may be refused once: then the site comes back as it was.
+fn opened<L: Ledger>(
+    alloc: Global,
+    blank: Blank,
+    site: Site,
+    tally: &mut Tally,
+) -> Option<(SiteBook<L>, Vec<Seat<L>>)>
+    requires name { blank.name ≡ L.name }
+    requires parts { blank.parts ≡ L.parts }
+    requires one { blank.parts ≡ 1 }
+{
+    let before = print_of_site(&site);
+    let (blank, site) = match SiteBook::<L>::start(alloc, blank, site, 1, LIMIT) {
+        Ok(opened) => return Some(opened),
+        Err((_, blank, site)) => (blank, site),
+    };
+    if print_of_site(&site) != before {
+        return None;
+    }
+    tally.count(Outcome::Again, "open", "book");
+    SiteBook::<L>::start(alloc, blank, site, 1, LIMIT).ok()
+}
+
+/// A locked site of one seat, opened where it may be refused once: then the site comes back as it was.
+fn opened_locked<L: Ledger>(
+    alloc: Global,
+    blank: Blank,
+    site: Site,
+    tally: &mut Tally,
+) -> Option<(LockedSite<L>, Vec<Seat<L>>)>
+    requires name { blank.name ≡ L.name }
+    requires parts { blank.parts ≡ L.parts }
+    requires one { blank.parts ≡ 1 }
+{
+    let before = print_of_site(&site);
+    let (blank, site) = match LockedSite::<L>::start(alloc, blank, site, 1, LIMIT) {
+        Ok(opened) => return Some(opened),
+        Err((_, blank, site)) => (blank, site),
+    };
+    if print_of_site(&site) != before {
+        return None;
+    }
+    tally.count(Outcome::Again, "open", "locked site");
+    LockedSite::<L>::start(alloc, blank, site, 1, LIMIT).ok()
+}
+
+/// A book under a lock, which may be refused once: then the book comes back as it was.
+fn locked<L: Ledger>(book: SiteBook<L>, tally: &mut Tally) -> Option<LockedSite<L>> {
+    let before = print_of_site(book.site());
+    let book = match LockedSite::over(book) {
+        Ok(site) => return Some(site),
+        Err((_, book)) => book,
+    };
+    if print_of_site(book.site()) != before {
+        return None;
+    }
+    tally.count(Outcome::Again, "lock", "book");
+    LockedSite::over(book).ok()
+}
+
+/// Settles a locked site, which takes no memory: how many entries there are, and the fingerprint of the site.
+fn settled<L: Ledger>(site: LockedSite<L>, seats: Vec<Seat<L>>) -> Option<(usize, u64)> {
+    match site.settle(seats) {
+        Ok(settled) => {
+            let pages = settled.pages();
+            let found = (pages.entries(), print_of_site(pages.site()));
+            drop(settled);
+            Some(found)
+        }
+        Err(unsettled) => {
+            drop(unsettled);
+            None
+        }
+    }
+}
+
+/// Counts what settles with so many entries, at a site of this fingerprint, and nothing else.
+fn count_settled(
+    tally: &mut Tally,
+    found: Option<(usize, u64)>,
+    wanted: (usize, u64),
+    on: &'static str,
+) {
+    let outcome = if found == Some(wanted) {
+        Outcome::AtOnce
+    } else {
+        Outcome::Wrong
+    };
+    tally.count(outcome, "settle", on);
+}
+
+/// Opens a book, makes all steps, puts it under a lock, and settles it.
+fn try_book<L: Ledger>(alloc: Global, blank: Blank, tally: &mut Tally)
+    requires name { blank.name ≡ L.name }
+    requires parts { blank.parts ≡ L.parts }
+    requires one { blank.parts ≡ 1 }
+{
+    let Some(site) = site_for(alloc, tally) else {
+        return tally.count(Outcome::Wrong, "make", "site");
+    };
+    let Some((mut book, mut seats)) = opened::<L>(alloc, blank, site, tally) else {
+        return tally.count(Outcome::Wrong, "open", "book");
+    };
+    try_steps(alloc, &mut book, &mut seats, tally);
+    try_settling(book, seats, tally);
+}
+
+/// Puts a book of all steps under a lock, and settles it.
+fn try_settling<L: Ledger>(book: SiteBook<L>, seats: Vec<Seat<L>>, tally: &mut Tally) {
+    let Some(site) = locked(book, tally) else {
+        return tally.count(Outcome::Wrong, "lock", "book");
+    };
+    let found = settled(site, seats);
+    count_settled(tally, found, (LIMIT, Step::AskOwn.site()), "book");
+}
+
+/// Opens a locked site, and settles it without a call.
+fn try_locked_site<L: Ledger>(alloc: Global, blank: Blank, tally: &mut Tally)
+    requires name { blank.name ≡ L.name }
+    requires parts { blank.parts ≡ L.parts }
+    requires one { blank.parts ≡ 1 }
+{
+    let Some(site) = site_for(alloc, tally) else {
+        return tally.count(Outcome::Wrong, "make", "site");
+    };
+    let print = print_of_site(&site);
+    let Some((site, seats)) = opened_locked::<L>(alloc, blank, site, tally) else {
+        return tally.count(Outcome::Wrong, "open", "locked site");
+    };
+    count_settled(tally, settled(site, seats), (0, print), "locked site");
+}
+
+/// Makes all calls of a book and of a locked site.
+pub fn try_books(alloc: Global, tally: &mut Tally) {
+    try_book::<Brand>(alloc, Blank::new(1), tally);
+    try_locked_site::<Brand>(alloc, Blank::new(1), tally);
+}
