@@ -1,1 +1,1 @@
-pub mod FrameLengths
+pub mod FramesOf

@@ -72,10 +72,12 @@ impl Console {
 
     /// Gives a site the bytes of a stream.
     fn give(&mut self, i: usize, bytes: &[u8], out: &mut String) -> Result<(), LineFault> {
-        let Some(world) = &mut self.world else {
+        let Some(world) = self.world.take() else {
             return Err(LineFault::Bad);
         };
-        put_stream(self.alloc, world, i, bytes, out)
+        let (world, put) = put_stream(self.alloc, world, i, bytes, out);
+        self.world = Some(world);
+        put
     }
 
     /// Has a push, or a letter made or taken.

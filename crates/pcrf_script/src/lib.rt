@@ -1,6 +1,7 @@
 //! Scripts of a world: what a line asks for, and what it prints.
 #![tactic(auto)]
 
+mod addressed;
 mod console;
 mod lines;
 mod messages;

@@ -1,34 +1,63 @@
-//! A message that a script gives to a site, and the site's answer.
-ghost use Rattle.std.specs.Prelude.{◌≡◌, ◌≤◌, ◌<◌, length, IfOk};
-ghost use Rattle.dia_codec.specs.Limits.{command_bound, header_bytes};
+//! A stream of messages that a script gives to a site, and the site's answers.
 ghost use Rattle.dia_codec.specs.Spelling.{IsFrame};
-ghost use Rattle.site_core.specs.Asking.{HeaderFits};
 
-use crate::printing::{put_answer, put_outcome};
-use dia_codec::{FrameFault, Header, StreamEnd, frames_of};
-use pcrf_values::{Refusal, SessionId};
-use pcrf_world::{World, WorldFault, WorldOutcome};
+use crate::addressed::{AddressedSite, Unaddressed};
+use crate::printing::put_answer;
+use dia_codec::{FrameFault, StreamEnd, frames_of};
+use pcrf_world::World;
 use script_lines::LineFault;
-use site_core::{Asked, Reply, Request, Site, read_request, write_refusal, write_reply};
+use site_core::answer_frame;
 use std::alloc::{AllocError, Global};
 
-/// Gives a site the bytes of a stream: prints a line for each message, and one for what is left of the stream. An
-/// unknown site is told once, whatever the bytes.
+/// Gives a site of a world the bytes of a stream: prints a line for each message, and one for what is left of the stream. An
+/// unknown site is told once, whatever the bytes. The world comes back.
 pub(crate) fn put_stream(
     alloc: Global,
-    world: &mut World,
+    world: World,
     i: usize,
     bytes: &[u8],
     out: &mut String,
-) -> Result<(), LineFault> {
-    if world.site(i).is_none() {
-        return Ok(out.push_str("refused NoSuchSite\n")?);
+) -> (World, Result<(), LineFault>) {
+    match AddressedSite::of(world, i) {
+        Ok(mut site) => {
+            let put = put_messages(alloc, &mut site, bytes, out);
+            (site.into_world(), put)
+        }
+        Err(Unaddressed::NoSuchSite(world)) => (world, put_no_site(out)),
+        Err(Unaddressed::NoMemory(world)) => (world, Err(LineFault::NoMemory)),
     }
+}
+
+/// Prints that there is no such site.
+fn put_no_site(out: &mut String) -> Result<(), LineFault> {
+    Ok(out.push_str("refused NoSuchSite\n")?)
+}
+
+/// Prints the answers to the messages of a stream, and what is left of it.
+fn put_messages(
+    alloc: Global,
+    site: &mut AddressedSite,
+    bytes: &[u8],
+    out: &mut String,
+) -> Result<(), LineFault> {
     let stream = frames_of(alloc, &[bytes])?;
     for frame in &stream.frames {
-        put_message(alloc, world, i, frame.as_slice(), out)?;
+        put_message(alloc, site, frame.as_slice(), out)?;
     }
     Ok(put_end(stream.end, out)?)
+}
+
+/// Gives a message to a site, and prints its answer.
+fn put_message(
+    alloc: Global,
+    site: &mut AddressedSite,
+    frame: &[u8],
+    out: &mut String,
+) -> Result<(), AllocError>
+    requires { IsFrame frame.now }
+{
+    let answer = answer_frame(alloc, site, frame)?;
+    put_answer(out, answer.bytes.as_slice())
 }
 
 /// Prints what is left of a stream, if anything.
@@ -41,110 +70,4 @@ fn put_end(end: StreamEnd, out: &mut String) -> Result<(), AllocError> {
         StreamEnd::Bad(FrameFault::TooLong) => out.push_str("frame TooLong\n"),
         StreamEnd::Bad(FrameFault::NoMemory) => Err(AllocError),
     }
-}
-
-/// Gives a message to a site, and prints its answer.
-fn put_message(
-    alloc: Global,
-    world: &mut World,
-    i: usize,
-    frame: &[u8],
-    out: &mut String,
-) -> Result<(), LineFault>
-    requires { header_bytes ≤ length frame.now }
-{
-    let asked = read_request(alloc, frame)?;
-    let put = put_asked(alloc, world, i, &asked, out);
-    drop(asked);
-    put
-}
-
-/// Has a site do what a message asks for, and prints its answer.
-fn put_asked(
-    alloc: Global,
-    world: &mut World,
-    i: usize,
-    asked: &Asked,
-    out: &mut String,
-) -> Result<(), LineFault>
-    requires { HeaderFits asked.now }
-{
-    let Some(site) = world.site(i) else {
-        return Ok(out.push_str("refused NoSuchSite\n")?);
-    };
-    match asked {
-        Asked::Silent => Ok(out.push_str("no answer\n")?),
-        Asked::Refused(header, session, refusal) => {
-            Ok(put_refusal(alloc, site, header, session.as_ref(), *refusal, out)?)
-        }
-        Asked::Request(header, request) => put_served(alloc, world, i, header, request, out),
-    }
-}
-
-/// Prints the answer to a request that could not be read.
-fn put_refusal(
-    alloc: Global,
-    site: &Site,
-    header: &Header,
-    session: Option<&SessionId>,
-    refusal: Refusal,
-    out: &mut String,
-) -> Result<(), AllocError>
-    requires { header.now.command < command_bound }
-{
-    let bytes = write_refusal(alloc, site.identity(), header, session, refusal)?;
-    put_answer(out, bytes.as_slice())
-}
-
-/// Prints the answer to a request that was served.
-fn put_reply(
-    alloc: Global,
-    site: &Site,
-    header: &Header,
-    request: &Request,
-    reply: &Reply,
-    out: &mut String,
-) -> Result<(), AllocError>
-    requires { header.now.command < command_bound }
-{
-    let bytes = write_reply(alloc, site.identity(), header, request, reply)?;
-    put_answer(out, bytes.as_slice())
-}
-
-/// Has a site serve a request, and prints its answer.
-fn put_served(
-    alloc: Global,
-    world: &mut World,
-    i: usize,
-    header: &Header,
-    request: &Request,
-    out: &mut String,
-) -> Result<(), LineFault>
-    requires { header.now.command < command_bound }
-{
-    let outcome = world.serve(i, request);
-    let put = put_answer_of(alloc, world, i, header, request, &outcome, out);
-    drop(outcome);
-    put
-}
-
-/// Prints the answer by what serving a request gave.
-fn put_answer_of(
-    alloc: Global,
-    world: &World,
-    i: usize,
-    header: &Header,
-    request: &Request,
-    outcome: &Result<WorldOutcome, WorldFault>,
-    out: &mut String,
-) -> Result<(), LineFault>
-    requires { header.now.command < command_bound }
-{
-    let Ok(WorldOutcome::Replied(reply)) = outcome else {
-        return Ok(put_outcome(out, outcome)?);
-    };
-    let Some(site) = world.site(i) else {
-        return Ok(out.push_str("refused NoSuchSite\n")?);
-    };
-    Ok(put_reply(alloc, site, header, request, reply, out)?)
 }

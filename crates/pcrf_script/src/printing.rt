@@ -59,8 +59,11 @@ fn put_installed(out: &mut String, rules: &[Rule]) -> Result<(), AllocError> {
     out.push_str("\n")
 }
 
-/// The bytes of an answer.
+/// The bytes of an answer, or that there is none.
 pub(crate) fn put_answer(out: &mut String, bytes: &[u8]) -> Result<(), AllocError> {
+    if bytes.is_empty() {
+        return out.push_str("no answer\n");
+    }
     out.push_str("answer ")?;
     for byte in bytes {
         write!(out, "{byte:02x}")?;
