@@ -113,13 +113,14 @@ fn call_letter(rt: &(impl Abort + AllocGlobal)) -> Letter {
 /// A letter as its bytes are read.
 fn read_again(rt: &(impl Abort + AllocGlobal), letter: &Letter) -> Letter {
     let bytes = write_letter(rt.alloc(), letter).expect(rt, "bytes");
-    read_letter(rt.alloc(), bytes.as_slice(), EDITION).expect(rt, "a letter")
+    let read = read_letter(rt.alloc(), bytes.as_slice(), letter.edition());
+    read.expect(rt, "a letter")
 }
 
-/// The state that took two letters, each as its bytes are read.
-fn after_both(rt: &(impl Abort + AllocGlobal), first: &Letter, second: &Letter) -> State {
+/// The state that took letters, each as its bytes are read.
+pub fn taken_as_bytes(rt: &(impl Abort + AllocGlobal), letters: &[&Letter]) -> State {
     let mut state = State::start(rt.alloc());
-    for letter in [first, second] {
+    for letter in letters {
         let read = read_again(rt, letter);
         state = with_letter(state, &read).expect(rt, "memory");
         drop(read);
@@ -129,7 +130,7 @@ fn after_both(rt: &(impl Abort + AllocGlobal), first: &Letter, second: &Letter) 
 
 /// What a site shows that took two letters as bytes, one after the other.
 fn shows_after(rt: &(impl Abort + AllocGlobal), first: &Letter, second: &Letter) {
-    let state = after_both(rt, first, second);
+    let state = taken_as_bytes(rt, &[first, second]);
     shows(rt, &state, VOICE_CALL);
     drop(state);
 }

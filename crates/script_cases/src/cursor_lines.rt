@@ -1,11 +1,13 @@
 //! Scripts in which sites write to each other and acknowledge: each answer by its Result-Code, and each other line as it stands.
-use crate::carried::count_carried;
+use crate::carried::{count_carried, taken_as_bytes};
 use crate::drawn_runs::run_world;
 use crate::drawn_scripts::run;
 use crate::events::{Event, Kind, Request, Script};
 use crate::operator_tables::TABLES;
 use op_tables::read_tables;
 use pcrf_script::ScriptEnd;
+use pcrf_world::World;
+use peer_exchange::Letter;
 use std::alloc::{AllocError, AllocGlobal, Global};
 use std::fmt::Write as _;
 use std::process::Abort;
@@ -272,14 +274,20 @@ fn prints(rt: &(impl AllocGlobal + Abort), events: &[Event], wanted: &str) {
     drop(script);
 }
 
-/// How many letters the sites of a script write, each of which is the same by its bytes.
-fn letters_of(rt: &(impl AllocGlobal + Abort), events: &[Event]) -> usize {
+/// The world of three sites at which these happen.
+fn world_of(rt: &(impl AllocGlobal + Abort), events: &[Event]) -> World {
     let script = Script {
         sites: 3,
         events: Vec::from_slice(rt.alloc(), events).expect(rt, "memory"),
     };
     let (world, answers) = run_world(rt, &script);
     drop(answers);
+    world
+}
+
+/// How many letters the sites write, each of which is the same by its bytes.
+fn letters_of(rt: &(impl AllocGlobal + Abort), events: &[Event]) -> usize {
+    let world = world_of(rt, events);
     let count = count_carried(rt, 0, &world);
     drop(world);
     count
@@ -299,4 +307,34 @@ fn sites_serve_what_they_took_of_each_other(rt: HostRuntime) {
         prints(&rt, events, wanted);
         assert_eq!(rt; letters_of(&rt, events), letters);
     }
+}
+
+/// Whether a state that took letters as bytes is what a site of the world holds.
+fn are_held(
+    rt: &(impl AllocGlobal + Abort),
+    world: &World,
+    site: usize,
+    letters: &[&Letter],
+) -> bool {
+    let state = taken_as_bytes(rt, letters);
+    let site = world.site(site).expect(rt, "a site");
+    let same = state.equal(site.sessions());
+    drop(state);
+    same
+}
+
+/// Whether the letters of both lives leave the same as bytes, in either order and twice each.
+fn are_lives_held(rt: &(impl AllocGlobal + Abort), world: &World) -> bool {
+    let first = world.letter(0).expect(rt, "a letter");
+    let second = world.letter(1).expect(rt, "a letter");
+    are_held(rt, world, 1, &[second, second, first, first])
+        && are_held(rt, world, 2, &[first, first, second, second])
+}
+
+#[test]
+fn letters_of_two_lives_may_come_in_any_order(rt: HostRuntime) {
+    let world = world_of(&rt, &TWO_LIVES);
+    let same = are_lives_held(&rt, &world);
+    drop(world);
+    assert!(rt; same);
 }
