@@ -124,9 +124,9 @@ fn assert_least(rt: &impl Abort, counts: &Counts, rows: &[(u64, u64, &str)]) {
 fn assert_busy(rt: &impl Abort, counts: &Counts) {
     let rows = [
         (counts.granted, 500, "granted"),
-        (counts.told, 300, "told"),
+        (counts.told, 200, "told"),
         (counts.installs, 100, "installs"),
-        (counts.removals, 10, "removals"),
+        (counts.removals, 3, "removals"),
         (counts.late, 1, "late"),
         (counts.initial_without_row, 20, "initial_without_row"),
         (counts.update_without_row, 1, "update_without_row"),
@@ -154,6 +154,8 @@ fn few_sites_print_what_the_model_gives(rt: HostRuntime) {
     let counts = run_hundred(&rt, 1, FEW_SITES);
     assert_busy(&rt, &counts);
     let rows = [
+        (counts.told, 300, "told"),
+        (counts.removals, 10, "removals"),
         (counts.late, 20, "late"),
         (counts.update_without_row, 10, "update_without_row"),
         (counts.pushed, 20, "pushed"),
