@@ -25,7 +25,7 @@ const CALLS: u32 = 10_000;
 const ALL_CALLS: usize = 80_000;
 
 /// How many operations the site makes of them at least: each request that is accepted is one.
-const LEAST_MADE: u64 = 40_000;
+const LEAST_MADE: u64 = 20_000;
 
 /// How many rules each session has.
 const RULES: u32 = 2;
