@@ -36,7 +36,7 @@ name = \"ims\"
 ";
 
 /// The session of the gateway, and its host.
-const SESSION: (&[u8], &[u8]) = (b"gw;1;1", b"gw");
+pub const SESSION: (&[u8], &[u8]) = (b"gw;1;1", b"gw");
 
 /// The address of the session, and of the call.
 const ADDRESS: Ipv4Addr = Ipv4Addr::LOCALHOST;
@@ -140,10 +140,12 @@ impl Step {
     }
 }
 
-/// A kind of difference: of an answer, and of a push.
+/// A kind of reply: a difference of an answer, one of a push, and how many operations were taken.
 pub const GRANTED: u64 = 1;
 
 pub const PUSHED: u64 = 2;
+
+pub const TAKEN: u64 = 3;
 
 /// The gateway that sends a request.
 fn origin(alloc: Global) -> Result<Origin, AllocError> {

@@ -2,7 +2,8 @@
 //! on one book, so that a step that is refused and made again is seen in all that come after it.
 ghost use Rattle.std.specs.Prelude.{◌≡◌};
 
-use crate::bookings::{GRANTED, PUSHED, Step, new_site};
+use crate::bookings::{GRANTED, PUSHED, Step, TAKEN, new_site};
+use crate::calls::try_calls;
 use crate::fingerprint::{EMPTY, Fingerprint, mixed};
 use crate::tally::Tally;
 use crate::trial::Outcome;
@@ -12,7 +13,9 @@ use site_lock::LockedSite;
 use site_machine::{Event, Reply, Site};
 use std::alloc::{AllocError, Global};
 use std::marker::Brand;
+use std::sync::Wait;
 use std::sync::ledger::{Blank, Ledger};
+use std::thread::Threads;
 
 /// How many entries the history has room for.
 const LIMIT: usize = 5;
@@ -23,10 +26,11 @@ fn print_of_site(site: &Site) -> u64 {
 }
 
 /// The fingerprint of what is replied.
-fn print_of_reply(reply: &Reply) -> u64 {
+pub fn print_of_reply(reply: &Reply) -> u64 {
     match reply {
         Reply::Gx(GxReply::Granted(delta, _)) => mixed(GRANTED, delta.installed().len() as u64),
         Reply::Pushed(Some(push)) => mixed(PUSHED, push.delta.installed().len() as u64),
+        Reply::Taken(count) => mixed(TAKEN, *count as u64),
         Reply::Done => EMPTY,
         Reply::Own(operations, length) => mixed(operations.len() as u64, *length),
         Reply::Copy(state, length) => mixed(state.fingerprint(), *length),
@@ -45,7 +49,7 @@ fn print_of<L: Ledger>(book: &SiteBook<L>, seat: &Seat<L>) -> u64 {
 }
 
 /// Whether the last receipt of a seat is of this event and reply.
-fn has_receipt<L: Ledger>(seat: &Seat<L>, event: &Event, reply: &Reply) -> bool {
+pub fn has_receipt<L: Ledger>(seat: &Seat<L>, event: &Event, reply: &Reply) -> bool {
     match seat.receipts().last() {
         Some(receipt) => receipt.event().equal(event) && receipt.reply().equal(reply),
         None => false,
@@ -127,7 +131,7 @@ fn try_steps<L: Ledger>(
 }
 
 /// A site, whose making may be refused once.
-fn site_for(alloc: Global, tally: &mut Tally) -> Option<Site> {
+pub fn site_for(alloc: Global, tally: &mut Tally) -> Option<Site> {
     if let Ok(site) = new_site(alloc) {
         return Some(site);
     }
@@ -159,7 +163,7 @@ fn opened<L: Ledger>(
 }
 
 /// A locked site of one seat, opened where it may be refused once: then the site comes back as it was.
-fn opened_locked<L: Ledger>(
+pub fn opened_locked<L: Ledger>(
     alloc: Global,
     blank: Blank,
     site: Site,
@@ -196,7 +200,7 @@ fn locked<L: Ledger>(book: SiteBook<L>, tally: &mut Tally) -> Option<LockedSite<
 }
 
 /// Settles a locked site, which takes no memory: how many entries there are, and the fingerprint of the site.
-fn settled<L: Ledger>(site: LockedSite<L>, seats: Vec<Seat<L>>) -> Option<(usize, u64)> {
+pub fn settled<L: Ledger>(site: LockedSite<L>, seats: Vec<Seat<L>>) -> Option<(usize, u64)> {
     match site.settle(seats) {
         Ok(settled) => {
             let pages = settled.pages();
@@ -212,7 +216,7 @@ fn settled<L: Ledger>(site: LockedSite<L>, seats: Vec<Seat<L>>) -> Option<(usize
 }
 
 /// Counts what settles with so many entries, at a site of this fingerprint, and nothing else.
-fn count_settled(
+pub fn count_settled(
     tally: &mut Tally,
     found: Option<(usize, u64)>,
     wanted: (usize, u64),
@@ -251,24 +255,8 @@ fn try_settling<L: Ledger>(book: SiteBook<L>, seats: Vec<Seat<L>>, tally: &mut T
     count_settled(tally, found, (LIMIT, Step::AskOwn.site()), "book");
 }
 
-/// Opens a locked site, and settles it without a call.
-fn try_locked_site<L: Ledger>(alloc: Global, blank: Blank, tally: &mut Tally)
-    requires name { blank.name ≡ L.name }
-    requires parts { blank.parts ≡ L.parts }
-    requires one { blank.parts ≡ 1 }
-{
-    let Some(site) = site_for(alloc, tally) else {
-        return tally.count(Outcome::Wrong, "make", "site");
-    };
-    let print = print_of_site(&site);
-    let Some((site, seats)) = opened_locked::<L>(alloc, blank, site, tally) else {
-        return tally.count(Outcome::Wrong, "open", "locked site");
-    };
-    count_settled(tally, settled(site, seats), (0, print), "locked site");
-}
-
 /// Makes all calls of a book and of a locked site.
-pub fn try_books(alloc: Global, tally: &mut Tally) {
+pub fn try_books<R: Threads + Wait + Sync>(rt: &R, alloc: Global, tally: &mut Tally) {
     try_book::<Brand>(alloc, Blank::new(1), tally);
-    try_locked_site::<Brand>(alloc, Blank::new(1), tally);
+    try_calls::<R, Brand>(rt, alloc, Blank::new(1), tally);
 }

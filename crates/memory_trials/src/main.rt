@@ -7,6 +7,7 @@
 
 mod bookings;
 mod books;
+mod calls;
 mod carrying;
 mod fingerprint;
 mod joins;
@@ -36,6 +37,8 @@ use std::alloc::Global;
 use std::io::Read;
 use std::process::ExitCode;
 use std::str;
+use std::sync::Wait;
+use std::thread::Threads;
 use tally::Tally;
 use telling::ListTold;
 use trial::{Call, outcome_of};
@@ -122,7 +125,7 @@ fn try_copies(alloc: Global, tally: &mut Tally) {
     try_copy::<Delta>(alloc, tally);
 }
 
-fn try_all(alloc: Global) -> Tally {
+fn try_all<R: Threads + Wait + Sync>(rt: &R, alloc: Global) -> Tally {
     let mut tally = Tally::start();
     try_records::<Reg<Text>>(alloc, &mut tally);
     try_makings(alloc, &mut tally);
@@ -133,7 +136,7 @@ fn try_all(alloc: Global) -> Tally {
     for case in Carried::ALL {
         tally.count(outcome_of::<CarryLetter>(alloc, case), "carry", case.name());
     }
-    try_books(alloc, &mut tally);
+    try_books(rt, alloc, &mut tally);
     tally
 }
 
@@ -142,7 +145,7 @@ fn main(rt: HostRuntime) -> ExitCode {
         return ExitCode::FAILURE;
     };
     spend(rt.alloc(), spent);
-    match try_all(rt.alloc()).print(&rt) {
+    match try_all(&rt, rt.alloc()).print(&rt) {
         Ok(()) => ExitCode::SUCCESS,
         Err(_) => ExitCode::FAILURE,
     }

@@ -3,6 +3,7 @@
 //! Without an argument it does nothing and prints nothing. Each measure has a module, named as on the command line.
 #![tactic(auto)]
 
+mod book;
 mod calls;
 mod gateway;
 mod letters;
@@ -20,11 +21,21 @@ mod tables;
 use std::alloc::AllocGlobal;
 use std::env;
 use std::io::{self, Print};
+use std::sync::Wait;
+use std::thread::Threads;
 use std::time::Clock;
 
 /// Makes the measure of a name at a size.
-fn measure(rt: &(impl AllocGlobal + Clock + Print), name: &str, size: u32) -> io::Result<()> {
+fn measure<R: AllocGlobal + Clock + Print + Threads + Wait + Sync>(
+    rt: &R,
+    name: &str,
+    size: u32,
+) -> io::Result<()> {
     match name {
+        "book" => book::measure(rt, size),
+        "book_bare_kept" => book::keep_updates(rt, size, false),
+        "book_pushes_kept" => book::keep_pushes(rt, size),
+        "book_updates_kept" => book::keep_updates(rt, size, true),
         "letters" => letters::measure(rt, size),
         "map" => map::measure(rt, size),
         "records" => records::measure(rt, size),
@@ -41,7 +52,11 @@ fn measure(rt: &(impl AllocGlobal + Clock + Print), name: &str, size: u32) -> io
 }
 
 /// Makes the measure of a name at a size, as they are written.
-fn measure_at(rt: &(impl AllocGlobal + Clock + Print), name: &str, size: &str) -> io::Result<()> {
+fn measure_at<R: AllocGlobal + Clock + Print + Threads + Wait + Sync>(
+    rt: &R,
+    name: &str,
+    size: &str,
+) -> io::Result<()> {
     match size.parse() {
         Ok(size) => measure(rt, name, size),
         Err(_) => Err(io::Error::other("a size is no number")),

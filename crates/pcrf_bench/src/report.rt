@@ -39,3 +39,9 @@ pub fn only<T: Drop>(alloc: Global, item: T) -> Result<Vec<T>, AllocError> {
     list.push(item)?;
     Ok(list)
 }
+
+/// Prints how many of so many operations were made in a second.
+pub fn print_rate(rt: &impl Print, what: &str, size: u32, time: Duration) -> io::Result<()> {
+    let rate = u128::from(size) * 1_000_000_000 / time.as_nanos().max(1);
+    println!(rt; "{what}: {size}: {rate} a second")
+}

@@ -222,7 +222,7 @@ fn initials(alloc: Global, first: u32, count: u32) -> io::Result<Vec<Request>> {
 }
 
 /// Updates of so many of the first sessions, in a mixed order, by steps of a prime.
-fn updates(alloc: Global, sessions: u32, count: u32) -> io::Result<Vec<Request>> {
+pub fn updates(alloc: Global, sessions: u32, count: u32) -> io::Result<Vec<Request>> {
     let mut requests = Vec::new(alloc);
     for turn in 0..count {
         let place = u64::from(turn) * 15_485_863 % u64::from(sessions.max(1));
@@ -339,6 +339,11 @@ struct Load {
 pub fn new_site(alloc: Global) -> io::Result<Site> {
     let identity = identity(alloc)?;
     Ok(Site::start(alloc, tables(alloc)?, identity, 0))
+}
+
+/// A site takes so many sessions, whose gateways were told all.
+pub fn take_sessions(alloc: Global, site: &mut Site, sessions: u32) -> io::Result<()> {
+    take_each(alloc, site, Made::Session, sessions)
 }
 
 /// A site takes the sessions and the calls.
