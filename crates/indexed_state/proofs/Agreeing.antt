@@ -68,8 +68,8 @@ covers_nothing index = record {
 -- ---- one session that changed
 
 -- the holdings before and after, the session, the index before what it shows was listed and after, the lists of rules at first and as they went stale at
--- either address, who waited and who waits, and the addresses of the session before and after
-module _ (t : Tables) (i : ℕ) (h k : Holding) (d : Session) (old new : IndexValue) (first second third : RulesValue) (u w : WaitingValue) (before after : Option Ipv4Addr) where
+-- both addresses, who waited and who waits, and the addresses of the session before and after
+module _ (t : Tables) (i : ℕ) (h k : Holding) (d : Session) (old new : IndexValue) (first third : RulesValue) (u w : WaitingValue) (before after : Option Ipv4Addr) where
   -- what the code did
   pub record Followed : Type 0 where
     pub differs : DifferInOne h.facts k.facts d
@@ -80,10 +80,10 @@ module _ (t : Tables) (i : ℕ) (h k : Holding) (d : Session) (old new : IndexVa
     pub grows : Grows old new
     pub was_at : IsAddressOf (view h.facts) d before
     pub is_at : IsAddressOf (view k.facts) d after
-    pub touched_before : TouchesAt first second new before
-    pub touched_after : TouchesAt second third new after
+    pub touched_before : TouchesAt first third new before
+    pub touched_after : TouchesAt first third new after
     pub keeps : Keeps u w
-    pub own : is_gx d.kind ≡ true → WaitsIfDue (view k.facts) w d
+    pub own : after ≡ None → is_gx d.kind ≡ true → WaitsIfDue (view k.facts) w d
     pub near_before : ListedWait (view k.facts) new w before
     pub near_after : ListedWait (view k.facts) new w after
 
@@ -104,7 +104,7 @@ module _ (t : Tables) (i : ℕ) (h k : Holding) (d : Session) (old new : IndexVa
         by : (x : Value) → HasAddress (view h.facts) (view k.facts) d x → HasAddress (view h.facts) (view k.facts) (gx id) x → ⊥
         by x (inl f) y =
             let m = mapped address_value before x (z.was_at ∙ f) in
-            none_some rs (sym (z.touched_before.gone m.0 m.1 id (listed (gx id) m.0 (by_value (gx id) x m.0 m.2 y))) ∙ z.touched_after.same id rs e)
+            none_some rs (sym (z.touched_before.gone m.0 m.1 id (listed (gx id) m.0 (by_value (gx id) x m.0 m.2 y))) ∙ e)
         by x (inr f) y =
             let m = mapped address_value after x (z.is_at ∙ f) in
             none_some rs (sym (z.touched_after.gone m.0 m.1 id (listed (gx id) m.0 (by_value (gx id) x m.0 m.2 y))) ∙ e)
@@ -112,8 +112,8 @@ module _ (t : Tables) (i : ℕ) (h k : Holding) (d : Session) (old new : IndexVa
     -- so its list is still its own
     pub lists_kept : AreKept t (view k.facts) third
     lists_kept = record {
-      each = λ id rs e. z.kept.each id rs (z.touched_before.same id rs (z.touched_after.same id rs e)) ∙ others_keep t h.facts k.facts d (gx id) z.differs (apart id rs e);
-      apart = λ id rs e. z.kept.apart id rs (z.touched_before.same id rs (z.touched_after.same id rs e));
+      each = λ id rs e. z.kept.each id rs (z.touched_before.same id rs e) ∙ others_keep t h.facts k.facts d (gx id) z.differs (apart id rs e);
+      apart = λ id rs e. z.kept.apart id rs (z.touched_before.same id rs e);
     }
 
     -- a session at an address waits, where the address is one that the operation's session has
@@ -129,11 +129,22 @@ module _ (t : Tables) (i : ℕ) (h k : Holding) (d : Session) (old new : IndexVa
         by s x (inl f) y g = let m = mapped address_value before x (z.was_at ∙ f) in at_address s m.0 before z.near_before m.1 (by_value s x m.0 m.2 y) g
         by s x (inr f) y g = let m = mapped address_value after x (z.is_at ∙ f) in at_address s m.0 after z.near_after m.1 (by_value s x m.0 m.2 y) g
 
+    -- and so does the session itself, which is listed under the address that it shows
+    own_waits : is_gx d.kind ≡ true → WaitsIfDue (view k.facts) w d
+    own_waits g = by after refl
+      where
+        by : (o : Option Ipv4Addr) → after ≡ o → WaitsIfDue (view k.facts) w d
+        by None e = z.own e g
+        by (Some a) e =
+            let kind = of_kind d.kind g in
+            z.near_after.each a d e kind (subst (λ (m : Kind). In d.id (listed_at new m a)) kind
+            (z.covered.addresses d a (sym z.is_at ∙ ap (option_map address_value) e)))
+
     -- and all that are due wait
     pub due_wait : DueWait t i (view k.facts) w
     due_wait = record {
       listed = λ all. neighbours_enough t i h.facts k.facts d (waiting_of u) (waiting_of w) z.differs
-          (z.due.listed (z.keeps.some all)) (z.keeps.stay all) (may_wait i (view k.facts) w d all z.own) (near all);
+          (z.due.listed (z.keeps.some all)) (z.keeps.stay all) (may_wait i (view k.facts) w d all own_waits) (near all);
     }
 
     -- so the parts agree, also with an index that covers without what the session no longer shows

@@ -4,6 +4,7 @@ use Rattle.std.specs.Net.Addr.{ipv4_octets}
 use Rattle.std.specs.declared.net.ipv4_addr.Ipv4Addr.{Ipv4Addr}
 use Rattle.ranked.specs.Sets.{In}
 use Rattle.ranked.proofs.Plain.{none_some, some_same}
+use Rattle.pcrf_values.specs.RuleValues.{RuleValue}
 use Rattle.pcrf_facts.specs.Facts.{Fact}
 use Rattle.pcrf_facts.specs.Held.{shown}
 use Rattle.pcrf_facts.specs.Places.{address}
@@ -13,7 +14,7 @@ use Rattle.pcrf_model.specs.Sessions.{Session, Gx}
 use Rattle.pcrf_model.specs.Views.{View, view, value}
 use Rattle.session_index.specs.Forgetting.{ShowsAddress}
 use Rattle.session_index.specs.Index.{IndexValue, listed_at}
-use Rattle.kept_rules.specs.Kept.{RulesValue, AreStale}
+use Rattle.kept_rules.specs.Kept.{RulesValue, kept_at, AreStale}
 use Rattle.indexed_state.specs.Indexed.{address_value, IsAddressOf, TouchesAt}
 
 -- what a record shows as its address is what the view has
@@ -52,3 +53,22 @@ touched before after index a h = record {
   gone = λ b e id m. h.gone id (subst (λ (x : Ipv4Addr). In id (listed_at index Gx x)) (sym (some_same a b e)) m);
   same = λ id rs e. sym (h.others id (λ m. none_some rs (sym (h.gone id m) ∙ e))) ∙ e;
 }
+
+-- lists that were stale at one address stay so
+pub touched_then : (x y z : RulesValue) (index : IndexValue) (a b : Option Ipv4Addr) → TouchesAt x y index a → TouchesAt y z index b → TouchesAt x z index a
+touched_then x y z index a b g h = record { gone = λ at e id m. by id at e m (kept_at z id) refl; same = λ id rs e. g.same id rs (h.same id rs e) }
+  where
+    by : (id : List ℕ) (at : Ipv4Addr) → a ≡ Some at → In id (listed_at index Gx at) → (o : Option (List RuleValue)) → kept_at z id ≡ o → kept_at z id ≡ None
+    by id at e m None f = f
+    by id at e m (Some rs) f = none_some rs (sym (g.gone at e id m) ∙ h.same id rs f)
+
+-- and so are those at the next
+pub touched_since : (x y z : RulesValue) (index : IndexValue) (a b : Option Ipv4Addr) → TouchesAt x y index a → TouchesAt y z index b → TouchesAt x z index b
+touched_since x y z index a b g h = record { gone = h.gone; same = λ id rs e. g.same id rs (h.same id rs e) }
+
+-- addresses with the same octets are the same, where they are given
+pub octets_same : (a b : Option Ipv4Addr) → option_map ipv4_octets a ≡ option_map ipv4_octets b → a ≡ b
+octets_same None None e = refl
+octets_same None (Some b) e = none_some _ e
+octets_same (Some a) None e = none_some _ (sym e)
+octets_same (Some a) (Some b) e = let octets : ipv4_octets a ≡ ipv4_octets b = some_same _ _ e in ap Some (λ j. record { octets = octets j })

@@ -1,25 +1,27 @@
 //! What follows a change of one gateway's session.
 ghost use Rattle.std.specs.Prelude.{◌≡◌, ℕ, List, None, true, false};
+ghost use Rattle.std.specs.Option.{option_copied};
 ghost use Rattle.kept_rules.specs.Kept.{kept_at};
-ghost use Rattle.pcrf_model.specs.Holdings.{Holding, SessionFact};
+ghost use Rattle.pcrf_model.specs.Holdings.{Holding, SessionFact, facts_on};
 ghost use Rattle.pcrf_model.specs.Laws.{DifferInOne};
 ghost use Rattle.pcrf_model.specs.Sessions.{gx};
 ghost use Rattle.pcrf_model.specs.Tables.{Tables};
 ghost use Rattle.pcrf_model.specs.Views.{view};
 ghost use Rattle.session_index.specs.Index.{Covers, Grows};
-ghost use Rattle.indexed_state.specs.Indexed.{Agree, IsAddressOf};
+ghost use Rattle.site_join.specs.States.{record_facts};
+ghost use Rattle.indexed_state.specs.Indexed.{Agree};
 
-use crate::addresses::{forget_gateway, gateway_address, touch_at};
+use crate::addresses::{address_in, forget_gateway, touch_both, wait_both, wait_gateway};
+use gx_records::GxRec;
 use kept_rules::Rules;
 use pcrf_values::GxSid;
 use session_index::Index;
 use site_join::State;
 use std::alloc::Global;
-use std::net::Ipv4Addr;
-use waiting_sessions::{Waiting, wait_at, wait_one};
+use waiting_sessions::Waiting;
 
-/// Has an index, lists of rules and those that wait agree with a state in which one gateway's session, which had this address,
-/// has another record than before. Where memory is refused the index isn't whole, no list is kept and all wait.
+/// Has an index, lists of rules and those that wait agree with a state in which one gateway's session, of which this record
+/// stood, has another than before. Where memory is refused the index isn't whole, no list is kept and all wait.
 pub(crate) fn follow(
     alloc: Global,
     state: &State,
@@ -28,10 +30,10 @@ pub(crate) fn follow(
     rules: &mut Rules,
     waiting: &mut Waiting,
     id: &GxSid,
-    before: Option<Ipv4Addr>,
+    stood: &Option<GxRec>,
 )
     ensures { (t : Tables) (i : ℕ) (h : Holding) → DifferInOne h.facts state.now.facts (gx id.now)
-        → IsAddressOf (view h.facts) (gx id.now) before
+        → record_facts stood.now ≡ facts_on h.facts (gx id.now)
         → Agree t i h is_whole.old index.old rules.old waiting.old
         → Agree t i state.now is_whole.new index.new rules.new waiting.new }
 {
@@ -39,16 +41,16 @@ pub(crate) fn follow(
         keep_nothing(alloc, is_whole, rules, waiting);
         return;
     }
-    if !list_known(state, index, id) {
+    let known = state.gx(id);
+    if !list_known(known, index, id) {
         keep_nothing(alloc, is_whole, rules, waiting);
         return;
     }
-    let after = gateway_address(state, id);
-    touch_at(rules, index, before);
-    touch_at(rules, index, after);
-    wait_one(state, waiting, id);
-    wait_at(state, index, waiting, before);
-    wait_at(state, index, waiting, after);
+    let before = address_in(stood.as_ref());
+    let after = address_in(known);
+    touch_both(rules, index, before, after);
+    wait_gateway(state, waiting, id, after);
+    wait_both(state, index, waiting, before, after);
     forget_gateway(index, id, before, after);
 }
 
@@ -63,14 +65,15 @@ fn keep_nothing(alloc: Global, is_whole: &mut bool, rules: &mut Rules, waiting: 
     *waiting = Waiting::start(alloc);
 }
 
-/// Lists a gateway's session by the record that a state has of it; false where memory is refused.
-fn list_known(state: &State, index: &mut Index, id: &GxSid) -> bool
+/// Lists a gateway's session by the record that is known of it; false where memory is refused.
+fn list_known(known: Option<&GxRec>, index: &mut Index, id: &GxSid) -> bool
     ensures grows { Grows index.old index.new }
-    ensures covers { result ≡ true → (before : List SessionFact)
-        → DifferInOne before state.now.facts (gx id.now)
-        → Covers (view before) index.old → Covers (view state.now.facts) index.new }
+    ensures covers { result ≡ true → (before after : List SessionFact)
+        → record_facts (option_copied known.entry) ≡ facts_on after (gx id.now)
+        → DifferInOne before after (gx id.now)
+        → Covers (view before) index.old → Covers (view after) index.new }
 {
-    let Some(known) = state.gx(id) else {
+    let Some(known) = known else {
         return true;
     };
     match index.cover_gateway(id, known) {

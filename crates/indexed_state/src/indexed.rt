@@ -20,7 +20,7 @@ ghost use Rattle.rule_telling.specs.Pushed.{push_of, untold};
 ghost use Rattle.site_join.specs.States.{record_facts};
 ghost use Rattle.waiting_sessions.specs.Waits.{DueWait};
 
-use crate::addresses::{address_of, forget_moved, gateway_address, touch_at, wait_own};
+use crate::addresses::{address_of, forget_moved, touch_both, wait_both, wait_unlisted};
 use crate::following::follow;
 use crate::whole::make_whole;
 use af_records::AfRec;
@@ -38,7 +38,7 @@ use site_join::{Operation, State};
 use std::alloc::{AllocError, Global};
 use std::marker::Model;
 use waiting_pushes::{next_waiting, untold_by};
-use waiting_sessions::{Waiting, gather, wait_at};
+use waiting_sessions::{Waiting, gather};
 
 /// What a site holds, with the operator tables, by which it is told what rules are. Beside it, unseen, an index of the sessions
 /// that are held, lists of rules that are kept until they may have changed, and the sessions that wait to be looked at for a
@@ -130,11 +130,9 @@ impl IndexedState {
         self.state.note_kept();
         self.state.take(operation)?;
         let after = address_of(&self.state, facts);
-        touch_at(&mut self.rules, &self.index, before);
-        touch_at(&mut self.rules, &self.index, after);
-        wait_own(&self.state, &mut self.waiting, facts);
-        wait_at(&self.state, &self.index, &mut self.waiting, before);
-        wait_at(&self.state, &self.index, &mut self.waiting, after);
+        touch_both(&mut self.rules, &self.index, before, after);
+        wait_unlisted(&self.state, &mut self.waiting, facts, after);
+        wait_both(&self.state, &self.index, &mut self.waiting, before, after);
         forget_moved(&mut self.index, facts, before, after);
         Ok(())
     }
@@ -172,7 +170,6 @@ impl IndexedState {
         ensures refused_record { OnErr result (IsSome given) }
         ensures refused_new { OnErr result (facts_on self.old.holding.facts (gx id.now) ≡ []) }
     {
-        let before = gateway_address(&self.state, id);
         let stood = self.state.put_gx(id, given, clock)?;
         follow(
             self.alloc,
@@ -182,7 +179,7 @@ impl IndexedState {
             &mut self.rules,
             &mut self.waiting,
             id,
-            before,
+            &stood,
         );
         Ok(stood)
     }

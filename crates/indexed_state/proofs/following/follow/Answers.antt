@@ -1,7 +1,9 @@
+use Rattle.std.proofs.Common.{List, Option, ap, ◌∙◌}
 use Rattle.ranked.proofs.Plain.{clash}
 use Rattle.pcrf_model.specs.Sessions.{gx}
 use Rattle.pcrf_model.specs.Views.{view}
-use Rattle.waiting_sessions.proofs.Waited.{keeps_through, waits_on, listed_on}
+use Rattle.site_join.specs.States.{record_facts}
+use Rattle.waiting_sessions.proofs.Waited.{keeps_through, waits_on}
 use Rattle.indexed_state.proofs.Agreeing.{Followed, agree_anew, agree_followed}
 use Rattle.indexed_state.proofs.following.follow.Goals as goal
 
@@ -18,28 +20,28 @@ returns-then-not-list_known c = λ t i h differs was a.
 pub returns : goal.returns
 returns c = λ t i h differs was a.
     let k = c.args.state.now in
-    let d = gx c.args.id.now in
+    let id = c.args.id.now in
+    let d = gx id in
     let new = c.list_known.new.index in
-    let w = c.wait_at-2.new.waiting in
+    let w = c.wait_both.new.waiting in
     let covers = a.covers c.if-not-is_whole.false in
-    let last = c.wait_at-2.ensures.keeps in
-    let later = keeps_through c.wait_one.new.waiting c.wait_at.new.waiting w c.wait_at.ensures.keeps last in
-    let z : Followed t i h k d c.args.index.now new c.args.rules.now c.touch_at.new.rules c.touch_at-2.new.rules c.args.waiting.now w c.args.before c.gateway_address-after.result
+    let last = c.wait_both.ensures.keeps in
+    let z : Followed t i h k d c.args.index.now new c.args.rules.now c.touch_both.new.rules c.args.waiting.now w c.address_in-before.result c.address_in-after.result
     = record {
       differs = differs;
       covers = covers;
-      covered = c.list_known.ensures.covers c.if-not-list_known.false h.facts differs covers;
+      covered = c.list_known.ensures.covers c.if-not-list_known.false h.facts k.facts c.gx-known.ensures differs covers;
       kept = a.kept;
       due = a.due;
       grows = c.list_known.ensures.grows;
-      was_at = was;
-      is_at = c.gateway_address-after.ensures;
-      touched_before = c.touch_at.ensures;
-      touched_after = c.touch_at-2.ensures;
-      keeps = keeps_through c.args.waiting.now c.wait_one.new.waiting w c.wait_one.ensures.keeps later;
-      own = λ g. waits_on (view k.facts) c.wait_one.new.waiting w d later c.wait_one.ensures.waits;
-      near_before = listed_on (view k.facts) new c.wait_at.new.waiting w c.args.before last c.wait_at.ensures.waits;
-      near_after = c.wait_at-2.ensures.waits;
+      was_at = c.address_in-before.ensures h.facts id (ap record_facts c.as_ref.ensures.value ∙ was);
+      is_at = c.address_in-after.ensures k.facts id c.gx-known.ensures;
+      touched_before = c.touch_both.ensures.before;
+      touched_after = c.touch_both.ensures.after;
+      keeps = keeps_through c.args.waiting.now c.wait_gateway.new.waiting w c.wait_gateway.ensures.keeps last;
+      own = λ none g. waits_on (view k.facts) c.wait_gateway.new.waiting w d last (c.wait_gateway.ensures.waits none);
+      near_before = c.wait_both.ensures.before;
+      near_after = c.wait_both.ensures.after;
     } in
-    agree_followed t i h k d c.args.index.now new c.args.rules.now c.touch_at.new.rules c.touch_at-2.new.rules c.args.waiting.now w c.args.before c.gateway_address-after.result
-    z c.args.is_whole.now c.forget_gateway.new.index (c.forget_gateway.ensures (view k.facts) c.gateway_address-after.ensures)
+    agree_followed t i h k d c.args.index.now new c.args.rules.now c.touch_both.new.rules c.args.waiting.now w c.address_in-before.result c.address_in-after.result
+    z c.args.is_whole.now c.forget_gateway.new.index (c.forget_gateway.ensures (view k.facts) (c.address_in-after.ensures k.facts id c.gx-known.ensures))

@@ -7,4 +7,4 @@ pub invariant_of-self-2 : goal.invariant_of-self-2
 invariant_of-self-2 c =
     c.follow.ensures c.self.inside.tables c.self.inside.site c.self.inside.state
     (placed_differs c.self.inside.state c.put_gx.new.self (gx c.args.id.now) (record_facts c.args.given) c.args.clock c.in_ok-stood.ensures.placed)
-    c.gateway_address-before.ensures c.self.invariant
+    c.in_ok-stood.ensures.stood c.self.invariant

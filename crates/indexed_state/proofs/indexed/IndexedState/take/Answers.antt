@@ -1,9 +1,9 @@
-use Rattle.std.proofs.Common.{◌≡◌, true, sym, subst}
+use Rattle.std.proofs.Common.{◌≡◌, None, true, sym, subst}
 use Rattle.pcrf_model.specs.Holdings.{Holding}
 use Rattle.pcrf_model.specs.Sessions.{Session, is_gx}
 use Rattle.pcrf_model.specs.Views.{view}
 use Rattle.waiting_sessions.specs.Waits.{WaitsIfDue}
-use Rattle.waiting_sessions.proofs.Waited.{keeps_through, waits_on, listed_on}
+use Rattle.waiting_sessions.proofs.Waited.{keeps_through, waits_on}
 use Rattle.indexed_state.specs.Indexed.{Agree, IsAddressOf}
 use Rattle.indexed_state.proofs.Agreeing.{Followed, agree_index, agree_grown, agree_followed, operation_differs, operation_covered}
 use Rattle.indexed_state.proofs.indexed.IndexedState.take.Goals as goal
@@ -31,15 +31,16 @@ invariant_of-self-2 c =
     let h = c.self.inside.state in
     let k = c.take.new.self in
     let o = c.args.operation.now in
-    let w = c.wait_at-2.new.waiting in
+    let w = c.wait_both.new.waiting in
+    let before = c.address_of-before.result in
+    let after = c.address_of-after.result in
     let session = c.facts-facts.ensures.session in
-    let last = c.wait_at-2.ensures.keeps in
-    let later = keeps_through c.wait_own.new.waiting c.wait_at.new.waiting w c.wait_at.ensures.keeps last in
-    let is_at : IsAddressOf (view k.facts) o.session c.address_of-after.result =
-    subst (λ (s : Session). IsAddressOf (view k.facts) s c.address_of-after.result) session c.address_of-after.ensures in
-    let own = subst (λ (s : Session). is_gx s.kind ≡ true → WaitsIfDue (view k.facts) c.wait_own.new.waiting s) session c.wait_own.ensures.waits in
+    let last = c.wait_both.ensures.keeps in
+    let is_at : IsAddressOf (view k.facts) o.session after =
+    subst (λ (s : Session). IsAddressOf (view k.facts) s after) session c.address_of-after.ensures in
+    let own = subst (λ (s : Session). after ≡ None → is_gx s.kind ≡ true → WaitsIfDue (view k.facts) c.wait_unlisted.new.waiting s) session c.wait_unlisted.ensures.waits in
     let covers = c.make_whole.ensures.covers c.self.invariant.covers c.in_ok-make_whole.ensures.whole in
-    let z : Followed c.self.inside.tables c.self.inside.site h k o.session c.make_whole.new.index c.cover.new.self c.self.inside.rules c.touch_at.new.rules c.touch_at-2.new.rules c.self.inside.waiting w c.address_of-before.result c.address_of-after.result
+    let z : Followed c.self.inside.tables c.self.inside.site h k o.session c.make_whole.new.index c.cover.new.self c.self.inside.rules c.touch_both.new.rules c.self.inside.waiting w before after
     = record {
       differs = operation_differs h k o c.make_whole.new.index c.cover.new.self c.in_ok-take.ensures.ok c.note_kept.ensures;
       covers = covers;
@@ -47,15 +48,15 @@ invariant_of-self-2 c =
       kept = c.self.invariant.kept;
       due = c.self.invariant.due;
       grows = c.cover.ensures.grows;
-      was_at = subst (λ (s : Session). IsAddressOf (view h.facts) s c.address_of-before.result) session c.address_of-before.ensures;
+      was_at = subst (λ (s : Session). IsAddressOf (view h.facts) s before) session c.address_of-before.ensures;
       is_at = is_at;
-      touched_before = c.touch_at.ensures;
-      touched_after = c.touch_at-2.ensures;
-      keeps = keeps_through c.self.inside.waiting c.wait_own.new.waiting w c.wait_own.ensures.keeps later;
-      own = λ g. waits_on (view k.facts) c.wait_own.new.waiting w o.session later (own g);
-      near_before = listed_on (view k.facts) c.cover.new.self c.wait_at.new.waiting w c.address_of-before.result last c.wait_at.ensures.waits;
-      near_after = c.wait_at-2.ensures.waits;
+      touched_before = c.touch_both.ensures.before;
+      touched_after = c.touch_both.ensures.after;
+      keeps = keeps_through c.self.inside.waiting c.wait_unlisted.new.waiting w c.wait_unlisted.ensures.keeps last;
+      own = λ none g. waits_on (view k.facts) c.wait_unlisted.new.waiting w o.session last (own none g);
+      near_before = c.wait_both.ensures.before;
+      near_after = c.wait_both.ensures.after;
     } in
-    agree_followed c.self.inside.tables c.self.inside.site h k o.session c.make_whole.new.index c.cover.new.self c.self.inside.rules c.touch_at.new.rules c.touch_at-2.new.rules c.self.inside.waiting w
-    c.address_of-before.result c.address_of-after.result z c.make_whole.new.is_whole c.forget_moved.new.index
-    (c.forget_moved.ensures (view k.facts) (subst (λ (s : Session). IsAddressOf (view k.facts) s c.address_of-after.result) (sym session) is_at))
+    agree_followed c.self.inside.tables c.self.inside.site h k o.session c.make_whole.new.index c.cover.new.self c.self.inside.rules c.touch_both.new.rules c.self.inside.waiting w
+    before after z c.make_whole.new.is_whole c.forget_moved.new.index
+    (c.forget_moved.ensures (view k.facts) (subst (λ (s : Session). IsAddressOf (view k.facts) s after) (sym session) is_at))
