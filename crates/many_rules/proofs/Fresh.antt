@@ -1,11 +1,12 @@
 -- Lists that are kept one after the other, until there is one of each live session.
-use Rattle.std.proofs.Common.{◌≡◌, ℕ, Bool, true, false, cond, List, [], ◌∷◌, ◌++◌, ◌⊎◌, Option, Some, None, inl, inr, refl, sym, ap, ◌∙◌, subst}
+use Rattle.std.proofs.Common.{◌≡◌, ℕ, Bool, true, false, cond, List, [], ◌∷◌, ◌++◌, ◌⊎◌, Option, Some, None, inl, inr, length, arith, refl, sym, ap, ◌∙◌, subst}
 use Rattle.std.specs.declared.vec.Vec.{Vec}
 use Rattle.std.specs.Ordering.{is_eq}
 use Rattle.ranked.specs.Orders.{text_cmp}
 use Rattle.ranked.specs.Sets.{In}
 use Rattle.ranked.proofs.OrderLaws.{text_ranked, eq_is}
 use Rattle.ranked.proofs.Plain.{clash}
+use Rattle.ranked.proofs.SetLaws.{In-left, In-right}
 use Rattle.lattice_core.specs.Entries.{value_at}
 use Rattle.lattice_core.proofs.MapParts.{found_entry}
 use Rattle.pcrf_values.specs.RuleValues.{RuleValue}
@@ -13,7 +14,6 @@ use Rattle.pcrf_facts.specs.Facts.{Fact}
 use Rattle.pcrf_facts.specs.Live.{gx_is_live}
 use Rattle.pcrf_model.specs.Holdings.{SessionFact, facts_on}
 use Rattle.pcrf_model.specs.Live.{is_live}
-use Rattle.pcrf_model.specs.Rules.{rules}
 use Rattle.pcrf_model.specs.Sessions.{gx}
 use Rattle.pcrf_model.specs.Tables.{Tables}
 use Rattle.pcrf_model.specs.Views.{View, view}
@@ -56,19 +56,30 @@ module _ {A : Type 0} (t : Tables) (v : View) (before lists after : RulesValue) 
       further q (inr h) = inr (still q (is_eq (text_cmp id q)) refl h)
 
 -- once no lists are left
-pub all_so_far : {A : Type 0} (t : Tables) (v : View) (before lists : RulesValue) (ids rest : List (List ℕ)) (left : List (Vec RuleValue A)) → left ≡ [] → KeptSoFar t v before lists ids rest left → KeepsAll t v before lists ids
-all_so_far t v before lists ids rest left none s = record { each = λ id m. over id rest (subst (λ ls. AreRulesOf t v rest ls) none s.made) (s.each id m); stays = s.stays }
+pub all_so_far : {A : Type 0} (t : Tables) (v : View) (before lists : RulesValue) (ids rest : List (List ℕ)) (left : List (Vec RuleValue A)) → length left ≡ 0 → KeptSoFar t v before lists ids rest left → KeepsAll t v before lists ids
+all_so_far {A} t v before lists ids rest left none s = record { each = λ id m. over id rest left none s.made (s.each id m); stays = s.stays }
   where
-    over : (id : List ℕ) (xs : List (List ℕ)) → AreRulesOf t v xs [] → In id xs ⊎ AreKeptOf t v lists id → AreKeptOf t v lists id
-    over id [] h (inl m) = absurd m
-    over id (x ∷ xs) h w = absurd h
-    over id [] h (inr k) = k
+    over : (id : List ℕ) (xs : List (List ℕ)) (ls : List (Vec RuleValue A)) → length ls ≡ 0 → AreRulesOf t v xs ls → In id xs ⊎ AreKeptOf t v lists id → AreKeptOf t v lists id
+    over id [] [] e h (inl m) = absurd m
+    over id [] [] e h (inr k) = k
+    over id (x ∷ xs) [] e h w = absurd h
+    over id xs (l ∷ ls) e h w = absurd (omega arith)
 
 -- ---- which sessions are stale
 
 -- the session of a record is not live, or its rules are kept, or it is listed
 abbrev pub IsSeen : RulesValue → List (List ℕ) → List ℕ × List Fact → Type 0
 IsSeen kept found e = gx_is_live e.1 ≡ true → kept_at kept e.0 ≡ None → In e.0 found
+
+-- after the session of one more record was listed
+pub next_seen : (kept : RulesValue) (found : List (List ℕ)) (rest next : List (List ℕ × List Fact)) (id : List ℕ) (fs : List Fact) (e : List ℕ × List Fact) → rest ≡ (id, fs) ∷ next
+    → In e rest ⊎ IsSeen kept found e → In e next ⊎ IsSeen kept (found ++ id ∷ []) e
+next_seen kept found rest next id fs e q (inl m) = go (subst (λ (l : List (List ℕ × List Fact)). In e l) q m)
+  where
+    go : In e ((id, fs) ∷ next) → In e next ⊎ IsSeen kept (found ++ id ∷ []) e
+    go (inl p) = inr (λ live stale. In-right e.0 found (id ∷ []) (inl (ap (λ (d : List ℕ × List Fact). d.0) p)))
+    go (inr j) = inl j
+next_seen kept found rest next id fs e q (inr h) = inr (λ live stale. In-left e.0 found (id ∷ []) (h live stale))
 
 -- once each record was looked at
 pub all_stale : (facts : List SessionFact) (kept : RulesValue) (found : List (List ℕ)) (all rest : List (List ℕ × List Fact))
@@ -81,7 +92,7 @@ all_stale facts kept found all rest reads seen none = λ id live stale. of id (v
     of id None e live stale = clash _ live (ap gx_is_live (sym (sym (ap record_facts e) ∙ reads id)))
     of id (Some fs) e live stale = elim (seen (id, fs) (found_entry text_ranked id fs all e)) [
       | inl j ↦ absurd (subst (λ (l : List (List ℕ × List Fact)). In (id, fs) l) none j)
-      | inr h ↦ h (ap gx_is_live (sym (ap record_facts (sym e)) ∙ reads id) ∙ live) stale
+      | inr h ↦ h (ap gx_is_live (sym (ap record_facts e) ∙ reads id) ∙ live) stale
     ]
 
 -- ---- all together

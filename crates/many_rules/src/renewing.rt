@@ -60,11 +60,7 @@ fn is_stale(lists: &Rules, session: &GxSid, known: &GxRec) -> bool
 }
 
 /// Keeps each of the lists as that of the session at its place. A refusal leaves what is kept so far.
-fn keep_all(
-    lists: &mut Rules,
-    sessions: &[GxSid],
-    made: Vec<Vec<Rule>>,
-) -> Result<(), AllocError>
+fn keep_all(lists: &mut Rules, sessions: &[GxSid], made: Vec<Vec<Rule>>) -> Result<(), AllocError>
     ensures all { OnOk result ((t : TablesValue) (v : View)
         → AreRulesOf t v sessions.now made.items → AreKept t v lists.old
         → KeepsAll t v lists.old lists.new sessions.now) }
