@@ -4,7 +4,11 @@
 mod operator_tables;
 mod run;
 #[cfg(test)]
+mod serve_tests;
+mod server;
+#[cfg(test)]
 mod tests;
+mod words;
 
 use std::process::ExitCode;
 

@@ -83,7 +83,7 @@ end
 
 /// A reader and a writer that fail at each call.
 #[derive(Drop)]
-struct Failing;
+pub struct Failing;
 
 impl Read for Failing {
     fn read(&mut self, _buf: &mut [u8]) -> io::Result<usize> {
@@ -103,10 +103,10 @@ impl Write for Failing {
 
 /// What a run prints, what it tells of faults, and its status.
 #[derive(Drop)]
-struct Ended {
-    printed: Vec<u8>,
-    told: Vec<u8>,
-    status: u8,
+pub struct Ended {
+    pub printed: Vec<u8>,
+    pub told: Vec<u8>,
+    pub status: u8,
 }
 
 /// Puts a word behind others.
@@ -115,7 +115,7 @@ fn put_word(alloc: Global, all: &mut Vec<String>, word: &str) -> Result<(), Allo
 }
 
 /// The program's name, and these words.
-fn all_words(alloc: Global, words: &[&str]) -> Result<Vec<String>, AllocError> {
+pub fn all_words(alloc: Global, words: &[&str]) -> Result<Vec<String>, AllocError> {
     let mut all = Vec::new(alloc);
     put_word(alloc, &mut all, "pcrf")?;
     for word in words {
@@ -136,7 +136,7 @@ fn run_all(rt: &HostRuntime, words: &[String], script: &[u8]) -> Ended {
 }
 
 /// Runs a script with these words behind the program's name.
-fn run_words(rt: &HostRuntime, words: &[&str], script: &str) -> Result<Ended, AllocError> {
+pub fn run_words(rt: &HostRuntime, words: &[&str], script: &str) -> Result<Ended, AllocError> {
     let all = all_words(rt.alloc(), words)?;
     let ended = run_all(rt, all.as_slice(), script.as_bytes());
     drop(all);
@@ -144,7 +144,7 @@ fn run_words(rt: &HostRuntime, words: &[&str], script: &str) -> Result<Ended, Al
 }
 
 /// Compares how a run of a case ended with the status, what is printed and what is told that are wanted.
-fn check(rt: &impl Abort, case: &str, ended: &Ended, wanted: (u8, &str, &str)) {
+pub fn check(rt: &impl Abort, case: &str, ended: &Ended, wanted: (u8, &str, &str)) {
     let (status, printed, told) = wanted;
     assert_eq!(rt; ended.status, status, "{case:?}");
     assert_eq!(rt; ended.printed.as_slice(), printed.as_bytes(), "{case:?}");
@@ -152,7 +152,7 @@ fn check(rt: &impl Abort, case: &str, ended: &Ended, wanted: (u8, &str, &str)) {
 }
 
 /// The path of a file of a test, which no other run has.
-fn path_of(rt: &HostRuntime, name: &str) -> Result<String, Fail> {
+pub fn path_of(rt: &HostRuntime, name: &str) -> Result<String, Fail> {
     let id = process::id(rt.process());
     let folder = env::temp_dir(rt)?;
     let path = folder.join(

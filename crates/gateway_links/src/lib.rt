@@ -1,0 +1,12 @@
+//! How gateways are reached: the writing halves of their connections, by host, and the pushes that go out by them.
+#![tactic(auto)]
+
+mod gateways;
+mod half;
+mod outgoing;
+mod pushing;
+
+pub use gateways::Gateways;
+pub use half::Half;
+pub use outgoing::Outgoing;
+pub use pushing::push_all;
