@@ -1,5 +1,6 @@
 //! The gateways that can be reached.
 use crate::half::Half;
+use crate::observer::{Observer, Unobserved};
 use pcrf_values::DiameterIdentity;
 use ranked::Ranked;
 use std::alloc::{AllocError, Global};
@@ -14,11 +15,11 @@ pub(crate) struct Reached<W> {
 }
 
 /// For each host that sent an accepted capabilities exchange the writing half of the connection on which it did so last. Their
-/// lock is held for no write and no call of a site.
+/// lock is held for no write and no call of a site. An observer is told what happens at their connections.
 #[derive(Drop)]
-pub struct Gateways<W> {
-    alloc: Global,
+pub struct Gateways<W, O = Unobserved> {
     reached: Mutex<Vec<Reached<W>>>,
+    observer: O,
 }
 
 /// Whether a host stands behind that one, if one is given.
@@ -47,12 +48,24 @@ fn least_behind<'a, W>(
 }
 
 impl<W: Write + Drop> Gateways<W> {
-    /// No gateway can be reached.
+    /// No gateway can be reached, and nobody is told.
     pub fn start(alloc: Global) -> Gateways<W> {
+        Gateways::observed(alloc, Unobserved)
+    }
+}
+
+impl<W: Write + Drop, O: Observer> Gateways<W, O> {
+    /// No gateway can be reached. The observer is told what happens.
+    pub fn observed(alloc: Global, observer: O) -> Gateways<W, O> {
         Gateways {
-            alloc,
             reached: Mutex::new(Vec::new(alloc)),
+            observer,
         }
+    }
+
+    /// Who is told what happens.
+    pub fn observer(&self) -> &O {
+        &self.observer
     }
 
     /// From now on a host is reached by that half, and by no other.

@@ -3,10 +3,12 @@
 
 mod gateways;
 mod half;
+mod observer;
 mod outgoing;
 mod pushing;
 
 pub use gateways::Gateways;
 pub use half::Half;
+pub use observer::{Observer, Unobserved};
 pub use outgoing::Outgoing;
-pub use pushing::push_all;
+pub use pushing::{push_all, tell_entries};

@@ -7,6 +7,7 @@ ghost use Rattle.reply_values.specs.Replies.{push_view};
 
 use crate::gateways::{Gateways, Reached};
 use crate::half::Half;
+use crate::observer::Observer;
 use crate::outgoing::Outgoing;
 use dia_base::Identity;
 use dia_codec::{WriteFault, write_message};
@@ -22,6 +23,7 @@ use std::alloc::{AllocError, Global};
 use std::io::Write;
 use std::sync::Wait;
 use std::sync::ledger::Ledger;
+use std::thread::Threads;
 
 /// How the pushing to one gateway ended.
 #[derive(Clone, Copy, PartialEq, Eq)]
@@ -30,8 +32,10 @@ enum Pushed {
     All,
     /// Nothing can be written to it.
     Unreached,
-    /// The site makes no further push: its history or its clock is full.
-    Full,
+    /// The site makes no further push: its history is full.
+    HistoryFull,
+    /// It makes none: its clock is at its end.
+    ClockFull,
 }
 
 /// The bytes of a push's re-authorisation request, both of whose identifiers are this number.
@@ -62,7 +66,7 @@ fn last_place<L: Ledger>(seat: &Seat<L>) -> u32 {
 }
 
 /// Makes a push, and tells what is pushed, if something was due.
-fn push_once<R: Wait, L: Ledger>(
+fn push_once<R: Threads + Wait + Sync, L: Ledger>(
     rt: &R,
     site: &LockedSite<L>,
     seat: &mut Seat<L>,
@@ -78,7 +82,7 @@ fn push_once<R: Wait, L: Ledger>(
 }
 
 /// Writes the request of the push that the seat made last, behind the answers that are gathered. False if that can't be done.
-fn send<R: Wait, L: Ledger, W: Write + Drop>(
+fn send<R: Threads + Wait + Sync, L: Ledger, W: Write + Drop>(
     rt: &R,
     alloc: Global,
     site: &LockedSite<L>,
@@ -93,7 +97,7 @@ fn send<R: Wait, L: Ledger, W: Write + Drop>(
 }
 
 /// Pushes to one gateway until nothing is due to it, or it can't go on.
-fn push_each<R: Wait, L: Ledger, W: Write + Drop>(
+fn push_each<R: Threads + Wait + Sync, L: Ledger, W: Write + Drop>(
     rt: &R,
     alloc: Global,
     site: &LockedSite<L>,
@@ -112,7 +116,8 @@ fn push_each<R: Wait, L: Ledger, W: Write + Drop>(
                 }
             }
             Ok(None) => return Ok(Pushed::All),
-            Err(StepFault::HistoryFull | StepFault::ClockFull) => return Ok(Pushed::Full),
+            Err(StepFault::HistoryFull) => return Ok(Pushed::HistoryFull),
+            Err(StepFault::ClockFull) => return Ok(Pushed::ClockFull),
             Err(StepFault::NoMemory) => return Err(AllocError),
         }
     }
@@ -125,7 +130,7 @@ fn push_to(host: &DiameterIdentity) -> Result<Event, AllocError> {
 }
 
 /// Pushes to a gateway.
-fn push_gateway<R: Wait, L: Ledger, W: Write + Drop>(
+fn push_gateway<R: Threads + Wait + Sync, L: Ledger, W: Write + Drop>(
     rt: &R,
     alloc: Global,
     site: &LockedSite<L>,
@@ -141,15 +146,48 @@ fn push_gateway<R: Wait, L: Ledger, W: Write + Drop>(
     pushed
 }
 
+/// Tells an observer how many entries the history had when the seat made its last call.
+pub fn tell_entries<L: Ledger, O: Observer>(observer: &O, seat: &Seat<L>) {
+    if let Some(receipt) = seat.receipts().last() {
+        observer.entered(receipt.place().saturating_add(1));
+    }
+}
+
+/// Tells the observer how the pushing to a host ended, which is reached no more if nothing can be written to it. True if there
+/// may be pushes to others.
+fn conclude<R: Threads + Wait + Sync, L: Ledger, W: Write + Drop, O: Observer>(
+    rt: &R,
+    seat: &Seat<L>,
+    gateways: &Gateways<W, O>,
+    host: &DiameterIdentity,
+    pushed: Pushed,
+) -> bool {
+    let observer = gateways.observer();
+    tell_entries(observer, seat);
+    match pushed {
+        Pushed::All => true,
+        Pushed::Unreached => {
+            gateways.take_ended_out(rt);
+            observer.unreached(host);
+            true
+        }
+        Pushed::HistoryFull => {
+            observer.history_full();
+            false
+        }
+        Pushed::ClockFull => false,
+    }
+}
+
 /// Pushes to every gateway that can be reached, one host after another, until nothing is due to any. A full history or clock
 /// ends it; a gateway to which nothing can be written is reached no more. What was gathered is written before the first
 /// re-authorisation request, so that an answer comes before what it led to.
-pub fn push_all<R: Wait, L: Ledger, W: Write + Drop>(
+pub fn push_all<R: Threads + Wait + Sync, L: Ledger, W: Write + Drop, O: Observer>(
     rt: &R,
     alloc: Global,
     site: &LockedSite<L>,
     seat: &mut Seat<L>,
-    gateways: &Gateways<W>,
+    gateways: &Gateways<W, O>,
     outgoing: &mut Outgoing<'_, W>,
 ) -> Result<(), AllocError>
     ensures { HasEarlier seat.old seat.new }
@@ -159,18 +197,17 @@ pub fn push_all<R: Wait, L: Ledger, W: Write + Drop>(
         let Some(gateway) = gateways.behind(rt, last.as_ref())? else {
             return Ok(());
         };
-        match push_gateway(rt, alloc, site, seat, &gateway, outgoing)? {
-            Pushed::All => {}
-            Pushed::Unreached => gateways.take_ended_out(rt),
-            Pushed::Full => return Ok(()),
+        let pushed = push_gateway(rt, alloc, site, seat, &gateway, outgoing)?;
+        if !conclude(rt, seat, gateways, &gateway.host, pushed) {
+            return Ok(());
         }
         last = Some(gateway.host);
     }
     unreachable!()
 }
 
-impl<W: Write + Drop> Pushes for Gateways<W> {
-    fn push_all<R: Wait, L: Ledger>(
+impl<W: Write + Drop, O: Observer> Pushes for Gateways<W, O> {
+    fn push_all<R: Threads + Wait + Sync, L: Ledger>(
         &self,
         rt: &R,
         alloc: Global,

@@ -4,9 +4,10 @@ ghost use Rattle.dia_codec.specs.Spelling.{IsFrame};
 ghost use Rattle.link_ends.specs.Earlier.{HasEarlier};
 
 use crate::link::{Link, Server};
+use crate::push_answers::tell_push_answer;
 use crate::seat_at_site::SeatAtSite;
 use dia_codec::{Assembler, FrameFault};
-use gateway_links::{Half, push_all};
+use gateway_links::{Half, Observer, push_all};
 use link_ends::{Gate, LinkEnd};
 use site_book::Seat;
 use site_core::{Answer, answer_frame};
@@ -14,14 +15,15 @@ use std::alloc::{AllocError, Global};
 use std::io::{Read, Write};
 use std::sync::ledger::Ledger;
 use std::sync::{Arc, Wait};
+use std::thread::Threads;
 
 /// How many bytes are read at once: more than a message has, so that many answers go out by one write.
 const PIECE_BYTES: usize = 1 << 16;
 
 /// Has a frame answered.
-fn answer<T: Wait, L: Ledger>(
+fn answer<T: Threads + Wait + Sync, L: Ledger, O: Observer>(
     alloc: Global,
-    at: &mut SeatAtSite<'_, T, L>,
+    at: &mut SeatAtSite<'_, T, L, O>,
     frame: &[u8],
 ) -> Result<Answer, AllocError>
     requires { IsFrame frame.now }
@@ -32,11 +34,11 @@ fn answer<T: Wait, L: Ledger>(
 }
 
 /// Pushes to every gateway that can be reached what the last message may have led to.
-fn push<T: Wait, L: Ledger, W: Write + Drop, G: Gate>(
+fn push<T: Threads + Wait + Sync, L: Ledger, W: Write + Drop, O: Observer, G: Gate>(
     rt: &T,
     alloc: Global,
-    at: &mut SeatAtSite<'_, T, L>,
-    link: &mut Link<'_, W, G>,
+    at: &mut SeatAtSite<'_, T, L, O>,
+    link: &mut Link<'_, W, O, G>,
 ) -> Result<(), AllocError>
     ensures { HasEarlier at.old.seat at.new.seat }
 {
@@ -51,26 +53,26 @@ fn push<T: Wait, L: Ledger, W: Write + Drop, G: Gate>(
 }
 
 /// Gathers an answer. The host of a capabilities exchange that it accepts is registered first.
-fn gather<T: Wait, L: Ledger, W: Write + Drop, G: Gate>(
+fn gather<T: Threads + Wait + Sync, L: Ledger, W: Write + Drop, O: Observer, G: Gate>(
     rt: &T,
-    at: &mut SeatAtSite<'_, T, L>,
-    link: &mut Link<'_, W, G>,
+    at: &mut SeatAtSite<'_, T, L, O>,
+    link: &mut Link<'_, W, O, G>,
     answer: &Answer,
 ) -> Result<(), AllocError>
     ensures { at.new.seat ≡ at.old.seat }
 {
-    if let Some(host) = at.take_accepted() {
-        link.register(rt, host)?;
+    if let Some(peer) = at.take_accepted() {
+        link.register(rt, peer.host)?;
     }
     link.gather(answer.bytes.as_slice())
 }
 
 /// Has one frame answered, its answer gathered, and pushes made if it was served. True if the connection ends with it.
-fn serve_frame<T: Wait, L: Ledger, W: Write + Drop, G: Gate>(
+fn serve_frame<T: Threads + Wait + Sync, L: Ledger, W: Write + Drop, O: Observer, G: Gate>(
     rt: &T,
     alloc: Global,
-    at: &mut SeatAtSite<'_, T, L>,
-    link: &mut Link<'_, W, G>,
+    at: &mut SeatAtSite<'_, T, L, O>,
+    link: &mut Link<'_, W, O, G>,
     frame: &[u8],
 ) -> Result<bool, LinkEnd>
     requires { IsFrame frame.now }
@@ -82,16 +84,18 @@ fn serve_frame<T: Wait, L: Ledger, W: Write + Drop, G: Gate>(
     gather(rt, at, link, &answer)?;
     if at.calls() > calls {
         push(rt, alloc, at, link)?;
+    } else {
+        tell_push_answer(alloc, link.gateways.observer(), frame);
     }
     Ok(answer.last)
 }
 
 /// Serves each whole frame that was fed. An error is how the connection ends among them.
-fn drain<T: Wait, L: Ledger, W: Write + Drop, G: Gate>(
+fn drain<T: Threads + Wait + Sync, L: Ledger, W: Write + Drop, O: Observer, G: Gate>(
     rt: &T,
     alloc: Global,
-    at: &mut SeatAtSite<'_, T, L>,
-    link: &mut Link<'_, W, G>,
+    at: &mut SeatAtSite<'_, T, L, O>,
+    link: &mut Link<'_, W, O, G>,
     assembler: &mut Assembler,
 ) -> Result<(), LinkEnd>
     ensures { HasEarlier at.old.seat at.new.seat }
@@ -112,11 +116,18 @@ fn drain<T: Wait, L: Ledger, W: Write + Drop, G: Gate>(
 }
 
 /// Reads and serves what is whole, and writes the answers to what came by one read together, until the connection ends.
-fn serve_stream<T: Wait, L: Ledger, R: Read, W: Write + Drop, G: Gate>(
+fn serve_stream<
+    T: Threads + Wait + Sync,
+    L: Ledger,
+    R: Read,
+    W: Write + Drop,
+    O: Observer,
+    G: Gate,
+>(
     rt: &T,
     alloc: Global,
-    at: &mut SeatAtSite<'_, T, L>,
-    link: &mut Link<'_, W, G>,
+    at: &mut SeatAtSite<'_, T, L, O>,
+    link: &mut Link<'_, W, O, G>,
     reader: &mut R,
 ) -> Result<LinkEnd, LinkEnd>
     ensures { HasEarlier at.old.seat at.new.seat }
@@ -144,11 +155,11 @@ fn serve_stream<T: Wait, L: Ledger, R: Read, W: Write + Drop, G: Gate>(
 }
 
 /// Serves a connection to its end. What was gathered is written whatever the end is, and comes before it.
-fn converse<T: Wait, L: Ledger, R: Read, W: Write + Drop, G: Gate>(
+fn converse<T: Threads + Wait + Sync, L: Ledger, R: Read, W: Write + Drop, O: Observer, G: Gate>(
     rt: &T,
     alloc: Global,
-    at: &mut SeatAtSite<'_, T, L>,
-    link: &mut Link<'_, W, G>,
+    at: &mut SeatAtSite<'_, T, L, O>,
+    link: &mut Link<'_, W, O, G>,
     reader: &mut R,
 ) -> LinkEnd
     ensures { HasEarlier at.old.seat at.new.seat }
@@ -166,9 +177,16 @@ fn converse<T: Wait, L: Ledger, R: Read, W: Write + Drop, G: Gate>(
 
 /// Serves one connection at one seat to its end, and gives the seat back with how it ended. Without a writer it serves nothing:
 /// there was no memory for its worker.
-pub fn serve_connection<T: Wait, L: Ledger, R: Read + Drop, W: Write + Drop, G: Gate>(
+pub fn serve_connection<
+    T: Threads + Wait + Sync,
+    L: Ledger,
+    R: Read + Drop,
+    W: Write + Drop,
+    O: Observer,
+    G: Gate,
+>(
     rt: &T,
-    server: &Server<'_, L, W, G>,
+    server: &Server<'_, L, W, O, G>,
     seat: Seat<L>,
     mut reader: R,
     half: Arc<Half<W>>,
@@ -179,7 +197,7 @@ pub fn serve_connection<T: Wait, L: Ledger, R: Read + Drop, W: Write + Drop, G: 
         return (seat, LinkEnd::NoMemory);
     }
     let mut link = Link::start(server, seat.number(), &half);
-    let mut at = SeatAtSite::of(rt, server.site, seat);
+    let mut at = SeatAtSite::of(rt, server.site, server.gateways.observer(), seat);
     let end = converse(rt, server.alloc, &mut at, &mut link, &mut reader);
     (at.into_seat(), end)
 }

@@ -6,6 +6,7 @@
 
 mod conversing;
 mod link;
+mod push_answers;
 mod seat_at_site;
 mod workers;
 

@@ -1,5 +1,5 @@
 //! A connection beside its seat.
-use gateway_links::{Gateways, Half, Outgoing};
+use gateway_links::{Gateways, Half, Observer, Outgoing};
 use link_ends::{Gate, LinkEnd};
 use pcrf_values::DiameterIdentity;
 use site_lock::LockedSite;
@@ -10,23 +10,23 @@ use std::sync::{Arc, Wait};
 
 /// What all connections of a server share: the site, the gateways that can be reached, and what lets messages through.
 #[derive(Drop)]
-pub struct Server<'a, L: Ledger, W, G> {
+pub struct Server<'a, L: Ledger, W, O, G> {
     /// Where memory comes from.
     pub alloc: Global,
     /// The site at which requests are served.
     pub site: &'a LockedSite<L>,
     /// The gateways that pushes go to.
-    pub gateways: &'a Gateways<W>,
+    pub gateways: &'a Gateways<W, O>,
     /// What lets messages through.
     pub gate: &'a G,
 }
 
 /// A connection, with the answers that are gathered for it.
 #[derive(Drop)]
-pub(crate) struct Link<'a, W, G> {
+pub(crate) struct Link<'a, W, O, G> {
     /// The number of its seat.
     number: usize,
-    pub(crate) gateways: &'a Gateways<W>,
+    pub(crate) gateways: &'a Gateways<W, O>,
     gate: &'a G,
     half: &'a Arc<Half<W>>,
     pub(crate) outgoing: Outgoing<'a, W>,
@@ -38,13 +38,13 @@ pub(crate) struct Link<'a, W, G> {
     left: u64,
 }
 
-impl<'a, W: Write + Drop, G: Gate> Link<'a, W, G> {
+impl<'a, W: Write + Drop, O: Observer, G: Gate> Link<'a, W, O, G> {
     /// A connection that goes by a number.
     pub(crate) fn start<L: Ledger>(
-        server: &Server<'a, L, W, G>,
+        server: &Server<'a, L, W, O, G>,
         number: usize,
         half: &'a Arc<Half<W>>,
-    ) -> Link<'a, W, G> {
+    ) -> Link<'a, W, O, G> {
         Link {
             number,
             gateways: server.gateways,

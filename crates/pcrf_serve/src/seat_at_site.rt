@@ -6,10 +6,9 @@ ghost use Rattle.site_lock.specs.Calls.{GainsReceipt};
 ghost use Rattle.site_machine.specs.Values.{event_value, reply_value, request_value};
 
 use base_profile::BaseKind;
-use dia_base::Identity;
 use dia_base::codes::results::SUCCESS;
-use pcrf_values::DiameterIdentity;
-use ranked::Ranked;
+use dia_base::{Identity, Origin};
+use gateway_links::{Observer, tell_entries};
 use site_book::Seat;
 use site_core::{Serve, ServeFault};
 use site_lock::LockedSite;
@@ -17,33 +16,44 @@ use site_machine::{Event, Reply, Request, StepFault};
 use std::alloc::AllocError;
 use std::sync::Wait;
 use std::sync::ledger::Ledger;
+use std::thread::Threads;
 
-/// A seat with the locked site at which it calls. Each request that it serves is a call of the seat.
+/// A seat with the locked site at which it calls. Each request that it serves is a call of the seat, and an observer is told
+/// what comes of it.
 #[derive(Drop)]
-pub struct SeatAtSite<'a, R, L: Ledger> {
+pub struct SeatAtSite<'a, R, L: Ledger, O> {
     rt: &'a R,
+    observer: &'a O,
     pub(crate) site: &'a LockedSite<L>,
     pub(crate) seat: Seat<L>,
     /// The peer of the capabilities exchange that was accepted, until it is asked for.
-    accepted: Option<DiameterIdentity>,
+    accepted: Option<Origin>,
 }
 
 /// The peer of a capabilities exchange.
-fn exchanging_host(request: &Request) -> Result<Option<DiameterIdentity>, AllocError> {
+fn exchanging_peer(request: &Request) -> Option<&Origin> {
     match request {
         Request::Base(base) => match &base.kind {
-            BaseKind::CapabilitiesExchange(_) => Ok(Some(base.origin.host.try_copy()?)),
-            BaseKind::DeviceWatchdog | BaseKind::DisconnectPeer => Ok(None),
+            BaseKind::CapabilitiesExchange(_) => Some(&base.origin),
+            BaseKind::DeviceWatchdog | BaseKind::DisconnectPeer => None,
         },
-        Request::Ccr(_) | Request::Aar(_) | Request::Str(_) => Ok(None),
+        Request::Ccr(_) | Request::Aar(_) | Request::Str(_) => None,
     }
 }
 
-/// Whether a request of the base protocol succeeded.
-fn succeeds(reply: &Reply) -> bool {
+/// The peer of a capabilities exchange, copied.
+fn copied_peer(request: &Request) -> Result<Option<Origin>, AllocError> {
+    match exchanging_peer(request) {
+        Some(peer) => Ok(Some(peer.try_copy()?)),
+        None => Ok(None),
+    }
+}
+
+/// The Result-Code of a request of the base protocol.
+fn base_code(reply: &Reply) -> Option<u32> {
     match reply {
-        Reply::Base(code) => *code == SUCCESS,
-        _ => false,
+        Reply::Base(code) => Some(*code),
+        _ => None,
     }
 }
 
@@ -69,13 +79,19 @@ fn fault_of(fault: StepFault) -> ServeFault {
     }
 }
 
-impl<'a, R: Wait, L: Ledger> SeatAtSite<'a, R, L> {
+impl<'a, R: Threads + Wait + Sync, L: Ledger, O: Observer> SeatAtSite<'a, R, L, O> {
     /// A seat that calls at that site.
-    pub fn of(rt: &'a R, site: &'a LockedSite<L>, seat: Seat<L>) -> SeatAtSite<'a, R, L>
+    pub fn of(
+        rt: &'a R,
+        site: &'a LockedSite<L>,
+        observer: &'a O,
+        seat: Seat<L>,
+    ) -> SeatAtSite<'a, R, L, O>
         ensures { result.seat ≡ seat }
     {
         SeatAtSite {
             rt,
+            observer,
             site,
             seat,
             accepted: None,
@@ -88,6 +104,7 @@ impl<'a, R: Wait, L: Ledger> SeatAtSite<'a, R, L> {
     {
         let SeatAtSite {
             rt: _,
+            observer: _,
             site: _,
             seat,
             accepted: _,
@@ -100,15 +117,30 @@ impl<'a, R: Wait, L: Ledger> SeatAtSite<'a, R, L> {
         self.seat.receipts().len()
     }
 
-    /// The host whose capabilities exchange was accepted since this was asked last.
-    pub(crate) fn take_accepted(&mut self) -> Option<DiameterIdentity>
+    /// The peer whose capabilities exchange was accepted since this was asked last.
+    pub(crate) fn take_accepted(&mut self) -> Option<Origin>
         ensures seat { self.new.seat ≡ self.old.seat }
     {
         self.accepted.take()
     }
 
-    /// Has a request served, of which this host is known if it is a capabilities exchange.
-    fn call(&mut self, event: &Event, host: Option<DiameterIdentity>) -> Result<Reply, ServeFault>
+    /// Tells the observer what came of a call that was made, by a peer if it was a capabilities exchange.
+    fn tell(&self, peer: Option<&Origin>, code: Option<u32>) {
+        tell_entries(self.observer, &self.seat);
+        if let (Some(peer), Some(code)) = (peer, code) {
+            self.observer.exchanged(peer, code);
+        }
+    }
+
+    /// Tells the observer of a call that was not made.
+    fn tell_fault(&self, fault: StepFault) {
+        if fault == StepFault::HistoryFull {
+            self.observer.history_full();
+        }
+    }
+
+    /// Has a request served, of which this peer is known if it is a capabilities exchange.
+    fn call(&mut self, event: &Event, peer: Option<Origin>) -> Result<Reply, ServeFault>
         ensures site { self.new.site ≡ self.old.site }
         ensures receipt { IfOk result (λ reply. GainsReceipt
             self.old.seat (event_value event.now) (reply_value reply) self.new.seat) }
@@ -116,17 +148,22 @@ impl<'a, R: Wait, L: Ledger> SeatAtSite<'a, R, L> {
     {
         match self.site.call(self.rt, &mut self.seat, event) {
             Ok(reply) => {
-                if host.is_some() && succeeds(&reply) {
-                    self.accepted = host;
+                let code = base_code(&reply);
+                self.tell(peer.as_ref(), code);
+                if code == Some(SUCCESS) {
+                    self.accepted = peer;
                 }
                 Ok(reply)
             }
-            Err(fault) => Err(fault_of(fault)),
+            Err(fault) => {
+                self.tell_fault(fault);
+                Err(fault_of(fault))
+            }
         }
     }
 }
 
-impl<R: Wait, L: Ledger> Serve for SeatAtSite<'_, R, L> {
+impl<R: Threads + Wait + Sync, L: Ledger, O: Observer> Serve for SeatAtSite<'_, R, L, O> {
     ghost use Rattle.pcrf_serve.specs.Serving.{GainsReply, MayBeFull};
 
     ghost names = { λ s. s.site.now.identity };
@@ -141,11 +178,11 @@ impl<R: Wait, L: Ledger> Serve for SeatAtSite<'_, R, L> {
     }
 
     fn serve(&mut self, request: Request) -> (Request, Result<Reply, ServeFault>) {
-        let Ok(host) = exchanging_host(&request) else {
+        let Ok(peer) = copied_peer(&request) else {
             return (request, Err(ServeFault::NoMemory));
         };
         let event = Event::Serve(request);
-        let called = self.call(&event, host);
+        let called = self.call(&event, peer);
         (request_of(event), called)
     }
 }

@@ -5,7 +5,7 @@ ghost use Rattle.pcrf_serve.specs.Workers.{AllGiveBack, AllBegun, AllJoin, Begun
 
 use crate::conversing::serve_connection;
 use crate::link::Server;
-use gateway_links::{Gateways, Half};
+use gateway_links::{Gateways, Half, Observer};
 use link_ends::{Gate, LinkEnd};
 use site_book::Seat;
 use site_lock::LockedSite;
@@ -39,15 +39,16 @@ enum Begun<L: Ledger> {
 fn begin<
     's,
     E,
-    T: Wait + Sync,
+    T: Threads + Wait + Sync,
     L: Ledger + Send + Sync + 's,
     R: Read + Send + Drop + 's,
     W: Write + Send + Drop + 's,
+    O: Observer + Sync + 's,
     G: Gate + Sync + 's,
 >(
     rt: &'s T,
     scope: &Scope<'s, E>,
-    server: &'s Server<'s, L, W, G>,
+    server: &'s Server<'s, L, W, O, G>,
     seat: Seat<L>,
     reader: R,
     half: Arc<Half<W>>,
@@ -78,15 +79,16 @@ type Pair<W> = (Arc<Half<W>>, Arc<Half<W>>);
 fn begin_all<
     's,
     E,
-    T: Wait + Sync,
+    T: Threads + Wait + Sync,
     L: Ledger + Send + Sync + 's,
     R: Read + Send + Drop + 's,
     W: Write + Send + Drop + 's,
+    O: Observer + Sync + 's,
     G: Gate + Sync + 's,
 >(
     rt: &'s T,
     scope: &Scope<'s, E>,
-    server: &'s Server<'s, L, W, G>,
+    server: &'s Server<'s, L, W, O, G>,
     connections: Vec<(Seat<L>, R, W)>,
     mut halves: Vec<Pair<W>>,
     mut begun: Vec<Begun<L>>,
@@ -181,11 +183,12 @@ fn run<
     L: Ledger + Send + Sync + 's,
     R: Read + Send + Drop + 's,
     W: Write + Send + Drop + 's,
+    O: Observer + Sync + 's,
     G: Gate + Sync + 's,
 >(
     rt: &'s T,
     scope: &Scope<'s, E>,
-    server: &'s Server<'s, L, W, G>,
+    server: &'s Server<'s, L, W, O, G>,
     connections: Vec<(Seat<L>, R, W)>,
     room: Room<L, W>,
 ) -> Vec<(Seat<L>, LinkEnd)>
@@ -209,13 +212,14 @@ pub fn serve_sessions<
     L: Ledger + Send + Sync,
     R: Read + Send + Drop,
     W: Write + Send + Drop,
+    O: Observer + Sync,
     G: Gate + Sync,
 >(
     rt: &T,
     alloc: Global,
     site: &LockedSite<L>,
     connections: Vec<(Seat<L>, R, W)>,
-    gateways: &Gateways<W>,
+    gateways: &Gateways<W, O>,
     gate: &G,
 ) -> Result<Vec<(Seat<L>, LinkEnd)>, (AllocError, Vec<(Seat<L>, R, W)>)>
     ensures seats { IfOk result (λ ended. AllGiveBack connections.items ended.items) }
