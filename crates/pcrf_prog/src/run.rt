@@ -5,6 +5,7 @@ use crate::words::{Asked, ServeWords, read_words};
 use clap::Error;
 use clap::error::ErrorKind;
 use dia_codec::Counted;
+use log::{LevelFilter, Log};
 use op_tables::{TableFault, Tables};
 use pcrf_script::{ScriptEnd, run_script};
 use pcrf_server::ServerFault;
@@ -57,6 +58,15 @@ impl<
 /// The words of the command line, the program's name first.
 pub fn words<R: Env + AllocGlobal>(rt: &R) -> io::Result<Vec<String>> {
     Ok(env::args(rt)?.collect(rt.alloc())?)
+}
+
+/// How much an operator is told on standard error beside faults: nothing, or what the environment asks for. A text that names no
+/// level asks for all.
+pub fn level<R: Env + AllocGlobal>(rt: &R) -> LevelFilter {
+    match env::var(rt, "PCRF_LOG") {
+        Ok(text) => text.as_str().parse::<LevelFilter>().unwrap_or(LevelFilter::Info),
+        Err(_) => LevelFilter::Off,
+    }
 }
 
 /// Writes one line of faults, and answers the status.
@@ -132,8 +142,9 @@ fn settled<W: Write + Drop, F: Write>(mut writer: W, faults: &mut F, entries: us
 }
 
 /// Serves with the tables of the words, and answers the status.
-fn run_started<H: Host, W: Write + Drop, F: Write>(
+fn run_started<H: Host, G: Log + Sync, W: Write + Drop, F: Write>(
     rt: &H,
+    log: &G,
     words: &ServeWords<'_>,
     start: Start,
     writer: W,
@@ -143,21 +154,22 @@ fn run_started<H: Host, W: Write + Drop, F: Write>(
         Ok(tables) => tables,
         Err(why) => return refused_tables(faults, why),
     };
-    match serve(rt, rt.alloc(), words, start, tables) {
+    match serve(rt, rt.alloc(), words, start, tables, log) {
         Ok(entries) => settled(writer, faults, entries),
         Err(why) => refused_server(faults, why),
     }
 }
 
 /// Runs a server, and answers the status.
-fn run_server<H: Host, W: Write + Drop, F: Write>(
+fn run_server<H: Host, G: Log + Sync, W: Write + Drop, F: Write>(
     rt: &H,
+    log: &G,
     words: &ServeWords<'_>,
     writer: W,
     faults: &mut F,
 ) -> u8 {
     match start_of(rt.alloc(), words) {
-        Ok(Some(start)) => run_started(rt, words, start, writer, faults),
+        Ok(Some(start)) => run_started(rt, log, words, start, writer, faults),
         Ok(None) => fault(faults, "pcrf: command line\n", COMMAND_LINE),
         Err(_) => fault(faults, "pcrf: no memory\n", NO_MEMORY),
     }
@@ -178,8 +190,9 @@ fn run_script_with<R: Read + Drop, W: Write + Drop, F: Write>(
 }
 
 /// Does what the words ask for, and answers the status.
-fn run_words<H: Host, R: Read + Drop, W: Write + Drop, F: Write>(
+fn run_words<H: Host, G: Log + Sync, R: Read + Drop, W: Write + Drop, F: Write>(
     rt: &H,
+    log: &G,
     words: &[String],
     reader: R,
     writer: W,
@@ -190,21 +203,23 @@ fn run_words<H: Host, R: Read + Drop, W: Write + Drop, F: Write>(
             let tables = operator_tables::of_file(rt, file);
             run_script_with(rt.alloc(), tables, reader, writer, faults)
         }
-        Ok(Asked::Serve(serve)) => run_server(rt, &serve, writer, faults),
+        Ok(Asked::Serve(serve)) => run_server(rt, log, &serve, writer, faults),
         Err(error) => refused_words(faults, &error),
     }
 }
 
-/// Runs the program, and answers its exit status. Faults are found in the order words, tables, sockets, run.
-pub fn run<H: Host, R: Read + Drop, W: Write + Drop, F: Write + Drop>(
+/// Runs the program, and answers its exit status. Faults are found in the order words, tables, sockets, run. The log is told what
+/// happens at a server.
+pub fn run<H: Host, G: Log + Sync, R: Read + Drop, W: Write + Drop, F: Write + Drop>(
     rt: &H,
+    log: &G,
     words: &[String],
     reader: R,
     writer: W,
     mut faults: F,
 ) -> u8 {
     if words.len() > 1 {
-        return run_words(rt, words, reader, writer, &mut faults);
+        return run_words(rt, log, words, reader, writer, &mut faults);
     }
     let tables = operator_tables::held(rt.alloc());
     run_script_with(rt.alloc(), tables, reader, writer, &mut faults)

@@ -1,8 +1,9 @@
 //! A run that serves.
 use crate::words::{Names, ServeWords};
 use dia_base::Identity;
+use log::Log;
 use op_tables::Tables;
-use pcrf_server::{Addresses, Limits, SeatPlan, ServerFault, SiteEpoch, run_server};
+use pcrf_server::{Addresses, SeatPlan, ServerFault, Settings, SiteEpoch, run_server};
 use pcrf_values::DiameterIdentity;
 use std::alloc::{AllocError, Global};
 use std::net::{Ipv4Addr, Net, TcpListener, TcpStream};
@@ -15,7 +16,7 @@ use std::time::Clock;
 pub struct Start {
     identity: Identity,
     place: SiteEpoch,
-    limits: Limits,
+    plan: SeatPlan,
 }
 
 /// The names of the words; `None` where a name is empty or too long, or the address is none of IPv4.
@@ -44,35 +45,42 @@ pub fn start_of(alloc: Global, words: &ServeWords<'_>) -> Result<Option<Start>, 
     let Some(plan) = SeatPlan::of(words.connections as usize, words.peers.len()) else {
         return Ok(None);
     };
-    let limits = Limits {
-        plan,
-        turns: words.turns,
+    let Some(identity) = identity_of(alloc, words.names)? else {
+        return Ok(None);
     };
-    let identity = identity_of(alloc, words.names)?;
-    Ok(identity.map(|identity| Start {
+    Ok(Some(Start {
         identity,
         place,
-        limits,
+        plan,
     }))
 }
 
-/// Serves, and answers how many entries the history settled with.
-pub fn serve<R: Net<Listener = TcpListener, Stream = TcpStream> + Threads + Wait + Clock + Sync>(
+/// Serves, and answers how many entries the history settled with. The log is told what happens meanwhile.
+pub fn serve<
+    R: Net<Listener = TcpListener, Stream = TcpStream> + Threads + Wait + Clock + Sync,
+    G: Log + Sync,
+>(
     rt: &R,
     alloc: Global,
     words: &ServeWords<'_>,
     start: Start,
     tables: Tables,
+    log: &G,
 ) -> Result<usize, ServerFault> {
     let Start {
         identity,
         place,
-        limits,
+        plan,
     } = start;
-    let addresses = Addresses {
-        listen: words.listen,
-        exchange: words.exchange,
-        peers: words.peers.as_slice(),
+    let settings = Settings {
+        place,
+        plan,
+        turns: words.turns,
+        addresses: Addresses {
+            listen: words.listen,
+            exchange: words.exchange,
+            peers: words.peers.as_slice(),
+        },
     };
-    run_server(rt, alloc, (identity, tables), place, limits, &addresses)
+    run_server(rt, alloc, identity, tables, &settings, log)
 }

@@ -1,5 +1,6 @@
 //! What the program prints on its faults, and its exit status.
-use crate::run::{no_words, run};
+use crate::run::{Host, no_words, run};
+use log::sink::Discard;
 use std::alloc::{AllocError, Global};
 use std::io::{self, ErrorKind, Read, Write};
 use std::process::Abort;
@@ -125,9 +126,9 @@ pub fn all_words(alloc: Global, words: &[&str]) -> Result<Vec<String>, AllocErro
 }
 
 /// Runs a script with all these words.
-fn run_all(rt: &HostRuntime, words: &[String], script: &[u8]) -> Ended {
+fn run_all<H: Host>(rt: &H, words: &[String], script: &[u8]) -> Ended {
     let (mut printed, mut told) = (Vec::new(rt.alloc()), Vec::new(rt.alloc()));
-    let status = run(rt, words, script, &mut printed, &mut told);
+    let status = run(rt, &Discard, words, script, &mut printed, &mut told);
     Ended {
         printed,
         told,
@@ -136,7 +137,7 @@ fn run_all(rt: &HostRuntime, words: &[String], script: &[u8]) -> Ended {
 }
 
 /// Runs a script with these words behind the program's name.
-pub fn run_words(rt: &HostRuntime, words: &[&str], script: &str) -> Result<Ended, AllocError> {
+pub fn run_words<H: Host>(rt: &H, words: &[&str], script: &str) -> Result<Ended, AllocError> {
     let all = all_words(rt.alloc(), words)?;
     let ended = run_all(rt, all.as_slice(), script.as_bytes());
     drop(all);
@@ -193,7 +194,7 @@ fn scripts_end_with_their_status(rt: HostRuntime) {
 #[test]
 fn failed_input_is_told(rt: HostRuntime) {
     let (mut out, mut faults) = (Vec::new(rt.alloc()), Vec::new(rt.alloc()));
-    let status = run(&rt, &[], Failing, &mut out, &mut faults);
+    let status = run(&rt, &Discard, &[], Failing, &mut out, &mut faults);
     drop(out);
     assert_eq!(rt; status, 3);
     assert_eq!(rt; faults.as_slice(), b"pcrf: input failed\n".as_slice());
@@ -202,7 +203,7 @@ fn failed_input_is_told(rt: HostRuntime) {
 #[test]
 fn failed_output_is_told(rt: HostRuntime) {
     let mut faults = Vec::new(rt.alloc());
-    let status = run(&rt, &[], SCRIPT.as_bytes(), Failing, &mut faults);
+    let status = run(&rt, &Discard, &[], SCRIPT.as_bytes(), Failing, &mut faults);
     assert_eq!(rt; status, 3);
     assert_eq!(rt; faults.as_slice(), b"pcrf: output failed\n".as_slice());
 }

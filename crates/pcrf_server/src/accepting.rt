@@ -1,5 +1,7 @@
 //! Connections that are accepted when they are first read, so that those that are there are served while others are awaited.
+use crate::journal::tell_connected;
 use crate::sockets::prepare;
+use log::Log;
 use std::alloc::{AllocError, Global};
 use std::io::{self, ErrorKind, Read, Write};
 use std::net::{Shutdown, TcpListener, TcpStream};
@@ -19,18 +21,28 @@ pub fn places(alloc: Global, count: usize) -> Result<Vec<Accepted>, AllocError> 
 
 /// The reading half of a connection, which accepts it at its first read.
 #[derive(Drop)]
-pub struct Reading<'a> {
+pub struct Reading<'a, G> {
     pub(crate) listener: &'a TcpListener,
     pub(crate) place: &'a Accepted,
+    /// The number of its seat.
+    pub(crate) number: usize,
+    pub(crate) log: &'a G,
 }
 
-impl<'a> Reading<'a> {
+impl<'a, G: Log> Reading<'a, G> {
+    /// Accepts the connection.
+    fn accept(&self) -> io::Result<()> {
+        let (stream, peer) = self.listener.accept()?;
+        prepare(&stream)?;
+        tell_connected(self.log, self.number, peer);
+        let _ = self.place.try_set(stream);
+        Ok(())
+    }
+
     /// The connection, which is awaited where none was accepted yet.
     fn stream(&self) -> io::Result<&'a TcpStream> {
         if self.place.get().is_none() {
-            let (stream, _) = self.listener.accept()?;
-            prepare(&stream)?;
-            let _ = self.place.try_set(stream);
+            self.accept()?;
         }
         let Some(stream) = self.place.get() else {
             return Err(io::Error::from(ErrorKind::NotConnected));
@@ -39,7 +51,7 @@ impl<'a> Reading<'a> {
     }
 }
 
-impl Read for Reading<'_> {
+impl<G: Log> Read for Reading<'_, G> {
     fn read(&mut self, buf: &mut [u8]) -> io::Result<usize> {
         let mut stream = self.stream()?;
         stream.read(buf)

@@ -1,8 +1,9 @@
-//! Exchanges of letters with peers, each by a worker of its own.
-use crate::open::Open;
+//! Exchanges of letters with peer sites, each by a worker of its own.
+use crate::journal::{tell_sending_ended, tell_sent, tell_taken, tell_taking_ended};
 use crate::settings::SiteEpoch;
-use crate::sockets::PeerStream;
-use link_ends::Pushes;
+use crate::sockets::PeerLink;
+use link_ends::{Gate, LinkEnd, Pushes};
+use log::Log;
 use peer_cursors::Cursors;
 use peer_links::{Role, exchange_with};
 use site_book::Seat;
@@ -14,50 +15,87 @@ use std::thread::{JoinHandle, Scope, Threads};
 
 /// What all exchanges of a server share.
 #[derive(Drop)]
-pub struct Exchanges<'a, L: Ledger, P> {
+pub struct Exchanges<'a, L: Ledger, P, G> {
     pub alloc: Global,
     pub site: &'a LockedSite<L>,
     pub gateways: &'a P,
     pub place: SiteEpoch,
     pub turns: u32,
+    pub log: &'a G,
 }
 
 /// An exchange that is to be made.
 #[derive(Drop)]
 pub struct Exchange<'a, L: Ledger> {
     pub seat: Seat<L>,
-    pub role: Role,
-    pub stream: &'a PeerStream,
+    pub link: &'a PeerLink,
 }
 
-/// Exchanges letters over a connection until it ends, and gives the seat back. Without a connection nothing is exchanged: there
-/// was no memory for its worker.
-fn exchange_letters<T: Wait, L: Ledger, P: Pushes>(
+/// Lets every letter through, and tells of each that was acknowledged.
+#[derive(Drop)]
+struct Letters<'a, G> {
+    link: &'a PeerLink,
+    log: &'a G,
+}
+
+impl<G: Log> Gate for Letters<'_, G> {
+    fn enter(&self, _connection: usize, _message: u64) -> bool {
+        true
+    }
+
+    fn leave(&self, _connection: usize, message: u64) -> bool {
+        match self.link.role {
+            Role::Dial => tell_sent(self.log, message, self.link.address),
+            Role::Listen => tell_taken(self.log, message, self.link.address),
+        }
+        true
+    }
+}
+
+/// Tells how an exchange ended.
+fn tell_end<G: Log>(log: &G, link: &PeerLink, end: LinkEnd) {
+    match link.role {
+        Role::Dial => tell_sending_ended(log, link.address, end),
+        Role::Listen => tell_taking_ended(log, link.address, end),
+    }
+}
+
+/// Exchanges letters over a connection until it ends. Without a connection nothing is exchanged: there was no memory for its
+/// worker.
+fn exchange_letters<T: Threads + Wait + Sync, L: Ledger, P: Pushes, G: Log>(
     rt: &T,
-    all: &Exchanges<'_, L, P>,
-    exchange: Exchange<'_, L>,
-) -> Seat<L> {
-    let Exchange {
-        mut seat,
-        role,
-        stream,
-    } = exchange;
-    let Some(stream) = stream.lock(rt).take() else {
-        return seat;
+    all: &Exchanges<'_, L, P, G>,
+    seat: &mut Seat<L>,
+    link: &PeerLink,
+) -> LinkEnd {
+    let Some(stream) = link.stream.lock(rt).take() else {
+        return LinkEnd::NoMemory;
     };
     let mut cursors = Cursors::start(all.place.number, all.place.epoch);
-    let _end = exchange_with(
+    let letters = Letters { link, log: all.log };
+    exchange_with(
         rt,
         all.alloc,
         all.site,
-        &mut seat,
+        seat,
         &mut cursors,
         all.gateways,
-        role,
+        link.role,
         stream,
         all.turns,
-        &Open,
-    );
+        &letters,
+    )
+}
+
+/// Makes an exchange, and gives its seat back.
+fn make<T: Threads + Wait + Sync, L: Ledger, P: Pushes, G: Log>(
+    rt: &T,
+    all: &Exchanges<'_, L, P, G>,
+    exchange: Exchange<'_, L>,
+) -> Seat<L> {
+    let Exchange { mut seat, link } = exchange;
+    let end = exchange_letters(rt, all, &mut seat, link);
+    tell_end(all.log, link, end);
     seat
 }
 
@@ -69,17 +107,24 @@ pub enum Begun<L: Ledger> {
 }
 
 /// Begins an exchange. One that can't be started finds no connection.
-pub fn begin<'s, E, T: Wait + Sync, L: Ledger + Send + Sync + 's, P: Pushes + Sync + 's>(
+pub fn begin<
+    's,
+    E,
+    T: Threads + Wait + Sync,
+    L: Ledger + Send + Sync + 's,
+    P: Pushes + Sync + 's,
+    G: Log + Sync + 's,
+>(
     rt: &'s T,
     scope: &Scope<'s, E>,
-    all: &'s Exchanges<'s, L, P>,
-    begun: Exchange<'s, L>,
+    all: &'s Exchanges<'s, L, P, G>,
+    exchange: Exchange<'s, L>,
 ) -> Begun<L> {
-    let stream = begun.stream;
-    match scope.spawn(move || exchange_letters(rt, all, begun)) {
+    let link = exchange.link;
+    match scope.spawn(move || make(rt, all, exchange)) {
         Ok(handle) => Begun::Running(handle),
         Err(refused) => {
-            *stream.lock(rt) = None;
+            *link.stream.lock(rt) = None;
             Begun::Refused((refused.value)())
         }
     }

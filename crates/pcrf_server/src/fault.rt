@@ -1,5 +1,5 @@
 //! Why a server ends without having settled.
-use std::alloc::AllocError;
+use std::alloc::{AllocError, AllocFailed};
 use std::io;
 use thiserror::Error;
 
@@ -24,6 +24,17 @@ impl From<AllocError> for ServerFault {
     ghost from_gives = { λ _ fault. fault ≡ faults.NoMemory };
 
     fn from(_refused: AllocError) -> ServerFault {
+        ServerFault::NoMemory
+    }
+}
+
+impl<T: Drop> From<AllocFailed<T>> for ServerFault {
+    ghost use Rattle.std.specs.Prelude.{◌≡◌};
+    ghost use Rattle.pcrf_server.specs.declared.fault.ServerFault.TheVariants as faults;
+
+    ghost from_gives = { λ _ fault. fault ≡ faults.NoMemory };
+
+    fn from(_refused: AllocFailed<T>) -> ServerFault {
         ServerFault::NoMemory
     }
 }

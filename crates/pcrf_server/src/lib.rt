@@ -3,13 +3,16 @@
 #![tactic(auto)]
 
 mod accepting;
+mod ending;
 mod exchanging;
 mod fault;
+mod journal;
 mod open;
+mod printable;
 mod serving;
 mod settings;
 mod sockets;
 
 pub use fault::ServerFault;
 pub use serving::run_server;
-pub use settings::{Addresses, Limits, SeatPlan, SiteEpoch};
+pub use settings::{Addresses, SeatPlan, Settings, SiteEpoch};

@@ -5,12 +5,14 @@ ghost use Rattle.site_book.specs.Limits.{most_seats};
 use crate::accepting::{Accepted, Reading, Writing, places};
 use crate::exchanging::{Begun, Exchange, Exchanges, begin, join};
 use crate::fault::ServerFault;
+use crate::journal::{Journal, tell_ended};
 use crate::open::Open;
-use crate::settings::{Addresses, Limits, SiteEpoch};
+use crate::settings::Settings;
 use crate::sockets::{Sockets, open_sockets};
 use dia_base::Identity;
 use gateway_links::Gateways;
 use link_ends::LinkEnd;
+use log::Log;
 use op_tables::Tables;
 use pcrf_serve::serve_sessions;
 use site_book::Seat;
@@ -28,18 +30,21 @@ use std::time::Clock;
 const HISTORY_LIMIT: usize = 1_000_000;
 
 /// A connection with its seat.
-type Connection<'a, L> = (Seat<L>, Reading<'a>, Writing<'a>);
+type Connection<'a, L, G> = (Seat<L>, Reading<'a, G>, Writing<'a>);
+
+/// What the exchanges of a server share, with the gateways that are pushed to.
+type Shared<'s, 'p, L, G> = Exchanges<'s, L, Gateways<Writing<'p>, Journal<'p, G>>, G>;
 
 /// What the workers of a server begin with, and room for what they give back.
 #[derive(Drop)]
-struct Work<'a, L: Ledger> {
-    connections: Vec<Connection<'a, L>>,
+struct Work<'a, L: Ledger, G> {
+    connections: Vec<Connection<'a, L, G>>,
     exchanges: Vec<Exchange<'a, L>>,
     begun: Vec<Begun<L>>,
     back: Vec<Seat<L>>,
 }
 
-impl<'a, L: Ledger> Work<'a, L> {
+impl<'a, L: Ledger, G: Log> Work<'a, L, G> {
     /// Nothing yet, with room for what begins.
     fn room(alloc: Global, connections: usize, exchanges: usize) -> Result<Self, AllocError> {
         Ok(Work {
@@ -63,39 +68,52 @@ impl<'a, L: Ledger> Work<'a, L> {
         seat: Seat<L>,
         places: &'a [Accepted],
         sockets: &'a Sockets,
+        log: &'a G,
     ) -> Result<(), AllocError> {
         let number = seat.number();
         if let Some(place) = places.get(number) {
-            let listener = &sockets.listener;
-            let reading = Reading { listener, place };
+            let reading = Reading {
+                listener: &sockets.listener,
+                place,
+                number,
+                log,
+            };
             self.connections.push((seat, reading, Writing { place }))?;
-        } else if let Some((role, stream)) = sockets.peer(number.saturating_sub(places.len())) {
-            self.exchanges.push(Exchange { seat, role, stream })?;
+        } else if let Some(link) = sockets.peers.get(number.saturating_sub(places.len())) {
+            self.exchanges.push(Exchange { seat, link })?;
         }
         Ok(())
     }
 }
 
 /// Each seat with its connection, and all room that is needed.
-fn assigned<'a, L: Ledger>(
+fn assigned<'a, L: Ledger, G: Log>(
     alloc: Global,
     seats: Vec<Seat<L>>,
     places: &'a [Accepted],
     sockets: &'a Sockets,
-) -> Result<Work<'a, L>, AllocError> {
+    log: &'a G,
+) -> Result<Work<'a, L, G>, AllocError> {
     let mut work = Work::room(alloc, places.len(), seats.len())?;
     for seat in seats {
-        work.assign(seat, places, sockets)?;
+        work.assign(seat, places, sockets, log)?;
     }
     work.reserve()?;
     Ok(work)
 }
 
 /// Begins each exchange.
-fn begin_all<'s, 'p: 's, E, T: Wait + Sync, L: Ledger + Send + Sync + 's>(
+fn begin_all<
+    's,
+    'p: 's,
+    E,
+    T: Threads + Wait + Sync,
+    L: Ledger + Send + Sync + 's,
+    G: Log + Sync + 'p,
+>(
     rt: &'s T,
     scope: &Scope<'s, E>,
-    all: &'s Exchanges<'s, L, Gateways<Writing<'p>>>,
+    all: &'s Shared<'s, 'p, L, G>,
     exchanges: Vec<Exchange<'s, L>>,
     mut begun: Vec<Begun<L>>,
 ) -> Result<Vec<Begun<L>>, AllocError> {
@@ -118,22 +136,31 @@ fn join_all<T: Threads, L: Ledger>(
 }
 
 /// The seats that came back from connections, put behind the others.
-fn seats_of<L: Ledger>(
+fn seats_of<L: Ledger, G: Log>(
     ended: Vec<(Seat<L>, LinkEnd)>,
     mut back: Vec<Seat<L>>,
+    log: &G,
 ) -> Result<Vec<Seat<L>>, AllocError> {
-    for (seat, _end) in ended {
+    for (seat, end) in ended {
+        tell_ended(log, seat.number(), end);
         back.push(seat)?;
     }
     Ok(back)
 }
 
 /// Serves every connection while letters are exchanged, and gives all seats back.
-fn serve_all<'s, 'p: 's, E, T: Threads + Wait + Sync, L: Ledger + Send + Sync + 's>(
+fn serve_all<
+    's,
+    'p: 's,
+    E,
+    T: Threads + Wait + Sync,
+    L: Ledger + Send + Sync + 's,
+    G: Log + Sync + 'p,
+>(
     rt: &'s T,
     scope: &Scope<'s, E>,
-    all: &'s Exchanges<'s, L, Gateways<Writing<'p>>>,
-    work: Work<'p, L>,
+    all: &'s Shared<'s, 'p, L, G>,
+    work: Work<'p, L, G>,
 ) -> Result<Vec<Seat<L>>, AllocError> {
     let Work {
         connections,
@@ -145,31 +172,32 @@ fn serve_all<'s, 'p: 's, E, T: Threads + Wait + Sync, L: Ledger + Send + Sync + 
     let served = serve_sessions(rt, all.alloc, all.site, connections, all.gateways, &Open);
     let back = join_all(rt, begun, back)?;
     match served {
-        Ok(ended) => seats_of(ended, back),
+        Ok(ended) => seats_of(ended, back, all.log),
         Err(_refused) => Err(AllocError),
     }
 }
 
 /// Serves at a locked site until every connection has ended, and gives all seats back.
-fn serve_at<T: Threads + Wait + Sync, L: Ledger + Send + Sync>(
+fn serve_at<T: Threads + Wait + Sync, L: Ledger + Send + Sync, G: Log + Sync>(
     rt: &T,
     alloc: Global,
     site: &LockedSite<L>,
     seats: Vec<Seat<L>>,
-    place: SiteEpoch,
-    limits: Limits,
+    settings: &Settings<'_>,
     sockets: &Sockets,
+    log: &G,
 ) -> Result<Vec<Seat<L>>, AllocError> {
-    let places = places(alloc, limits.plan.connections)?;
-    let gateways = Gateways::start(alloc);
+    let places = places(alloc, settings.plan.connections)?;
+    let gateways = Gateways::observed(alloc, Journal::of(log, HISTORY_LIMIT));
     let all = Exchanges {
         alloc,
         site,
         gateways: &gateways,
-        place,
-        turns: limits.turns,
+        place: settings.place,
+        turns: settings.turns,
+        log,
     };
-    let work = assigned(alloc, seats, places.as_slice(), sockets)?;
+    let work = assigned(alloc, seats, places.as_slice(), sockets, log)?;
     let shared = &all;
     thread::scope(
         thread::scope_env(),
@@ -198,42 +226,44 @@ fn settle<L: Ledger>(
 }
 
 /// Locks a site, serves, and settles.
-fn serve_locked<T: Threads + Wait + Sync, L: Ledger + Send + Sync>(
+fn serve_locked<T: Threads + Wait + Sync, L: Ledger + Send + Sync, G: Log + Sync>(
     rt: &T,
     alloc: Global,
     blank: Blank,
     site: Site,
-    place: SiteEpoch,
-    limits: Limits,
+    count: usize,
+    settings: &Settings<'_>,
     sockets: &Sockets,
+    log: &G,
 ) -> Result<usize, ServerFault>
     requires name { blank.name ≡ L.name }
     requires parts { blank.parts ≡ L.parts }
-    requires one_each { blank.parts ≡ limits.plan.connections + 2 * limits.plan.peers }
+    requires one_each { blank.parts ≡ count }
+    requires seats { (1 ≤ count) × (count ≤ most_seats) }
 {
-    let seats = limits.plan.seats();
-    let Ok((site, seats)) = LockedSite::<L>::start(alloc, blank, site, seats, HISTORY_LIMIT) else {
+    let Ok((site, seats)) = LockedSite::<L>::start(alloc, blank, site, count, HISTORY_LIMIT) else {
         return Err(ServerFault::NoMemory);
     };
-    let seats = serve_at(rt, alloc, &site, seats, place, limits, sockets);
+    let seats = serve_at(rt, alloc, &site, seats, settings, sockets, log);
     settle(site, seats)
 }
 
-/// Runs a server: binds its sockets, meets its peers, accepts its connections and serves them, each by a worker of its own, and
-/// when all have ended settles the history and tells how many entries it has.
+/// Runs a server: binds its sockets, meets its peer sites, accepts its connections and serves them, each by a worker of its own,
+/// and when all have ended settles the history and tells how many entries it has. The log is told what happens meanwhile.
 pub fn run_server<
     R: Net<Listener = TcpListener, Stream = TcpStream> + Threads + Wait + Clock + Sync,
+    G: Log + Sync,
 >(
     rt: &R,
     alloc: Global,
-    site: (Identity, Tables),
-    place: SiteEpoch,
-    limits: Limits,
-    addresses: &Addresses<'_>,
+    identity: Identity,
+    tables: Tables,
+    settings: &Settings<'_>,
+    log: &G,
 ) -> Result<usize, ServerFault> {
-    let sockets = open_sockets(rt, alloc, addresses)?;
-    let (identity, tables) = site;
-    let site = Site::start(alloc, tables, identity, place.number);
-    let blank = Blank::new(limits.plan.seats() as u64);
-    serve_locked::<R, Brand>(rt, alloc, blank, site, place, limits, &sockets)
+    let sockets = open_sockets(rt, alloc, &settings.addresses, log)?;
+    let site = Site::start(alloc, tables, identity, settings.place.number);
+    let count = settings.plan.seats();
+    let blank = Blank::new(count as u64);
+    serve_locked::<R, Brand, G>(rt, alloc, blank, site, count, settings, &sockets, log)
 }

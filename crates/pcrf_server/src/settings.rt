@@ -28,8 +28,8 @@ impl SiteEpoch {
     }
 }
 
-/// How many connections a server accepts, and how many peers it has: each peer takes two seats, one to send it letters and one
-/// to take its letters.
+/// How many connections a server accepts, and how many peer sites it has: each of these takes two seats, one to send it letters
+/// and one to take its letters.
 #[derive(Clone, Copy, Debug, PartialEq, Eq)]
 pub struct SeatPlan {
     pub(crate) connections: usize,
@@ -59,22 +59,26 @@ impl SeatPlan {
     }
 }
 
-/// Where a server listens, and where its peers do: an IPv4 address, a colon and a port each.
+/// Where a server listens, and where its peer sites do: an IPv4 address, a colon and a port each.
 #[derive(Clone, Copy)]
 pub struct Addresses<'a> {
     /// Where gateways and application functions connect.
     pub listen: &'a str,
-    /// Where peers connect that send letters.
+    /// Where peer sites connect that send letters.
     pub exchange: &'a str,
-    /// Where each peer takes letters.
+    /// Where each peer site takes letters.
     pub peers: &'a [&'a str],
 }
 
-/// How far a server goes.
+/// What a server is told beside its names and tables.
 #[derive(Clone, Copy)]
-pub struct Limits {
+pub struct Settings<'a> {
+    /// Which site it is.
+    pub place: SiteEpoch,
     /// Its seats.
     pub plan: SeatPlan,
-    /// How many letters each exchange with a peer has.
+    /// How many letters each exchange with a peer site has.
     pub turns: u32,
+    /// Where it and its peer sites are.
+    pub addresses: Addresses<'a>,
 }

@@ -1,14 +1,16 @@
 //! The sockets of a server.
 use crate::fault::ServerFault;
+use crate::journal::{tell_dialled, tell_dialling, tell_listens};
 use crate::settings::Addresses;
+use log::Log;
 use peer_links::Role;
 use std::alloc::Global;
-use std::net::{Net, SocketAddrV4, TcpListener, TcpStream};
+use std::net::{Net, SocketAddr, SocketAddrV4, TcpListener, TcpStream};
 use std::sync::Mutex;
 use std::time::{Clock, Duration};
 use std::{io, thread};
 
-/// How often a peer is dialed at most.
+/// How often a peer site is dialled at most.
 const TRIES: u32 = 600;
 
 /// How many milliseconds a server waits before it dials again.
@@ -17,31 +19,35 @@ const PAUSE_MILLIS: u64 = 100;
 /// How many seconds a write may take: who doesn't read for so long loses its connection.
 const WRITE_SECONDS: u64 = 30;
 
-/// A connection to a peer, until its worker takes it.
-pub type PeerStream = Mutex<Option<TcpStream>>;
+/// A connection to a peer site.
+#[derive(Drop)]
+pub struct PeerLink {
+    /// Who dialled sends letters, and who was dialled takes them.
+    pub role: Role,
+    /// The other end.
+    pub address: SocketAddr,
+    /// The connection, until its worker takes it.
+    pub stream: Mutex<Option<TcpStream>>,
+}
+
+impl PeerLink {
+    /// A connection with nobody who took it yet.
+    fn of(role: Role, address: SocketAddr, stream: TcpStream) -> PeerLink {
+        PeerLink {
+            role,
+            address,
+            stream: Mutex::new(Some(stream)),
+        }
+    }
+}
 
 /// The sockets of a server.
 #[derive(Drop)]
 pub struct Sockets {
     /// Where gateways and application functions connect.
     pub listener: TcpListener,
-    /// Connections that send letters.
-    pub dialed: Vec<PeerStream>,
-    /// Connections that take letters.
-    pub accepted: Vec<PeerStream>,
-}
-
-impl Sockets {
-    /// The connection to a peer at that place, and which side of it this server is: those that send letters come first.
-    pub fn peer(&self, place: usize) -> Option<(Role, &PeerStream)> {
-        match self.dialed.get(place) {
-            Some(stream) => Some((Role::Dial, stream)),
-            None => {
-                let place = place.saturating_sub(self.dialed.len());
-                Some((Role::Listen, self.accepted.get(place)?))
-            }
-        }
-    }
+    /// The connections to peer sites.
+    pub peers: Vec<PeerLink>,
 }
 
 /// Small messages are sent at once, and a write doesn't wait for ever.
@@ -66,79 +72,83 @@ fn bind<R: Net<Listener = TcpListener, Stream = TcpStream>>(
     Ok(TcpListener::bind(rt, address(text)?)?)
 }
 
-/// Dials a peer until it answers, or too often.
+/// Dials a peer site until it answers, or too often.
 fn dial<R: Net<Listener = TcpListener, Stream = TcpStream> + Clock>(
     rt: &R,
     text: &str,
-) -> Result<TcpStream, ServerFault> {
+) -> Result<PeerLink, ServerFault> {
     let address = address(text)?;
     for _ in 0..TRIES {
         if let Ok(stream) = TcpStream::connect(rt, address) {
             prepare(&stream)?;
-            return Ok(stream);
+            return Ok(PeerLink::of(Role::Dial, SocketAddr::V4(address), stream));
         }
         thread::sleep(rt, Duration::from_millis(PAUSE_MILLIS));
     }
     Err(ServerFault::Network)
 }
 
-/// Dials each peer.
-fn dial_all<R: Net<Listener = TcpListener, Stream = TcpStream> + Clock>(
+/// Dials each peer site.
+fn dial_all<R: Net<Listener = TcpListener, Stream = TcpStream> + Clock, G: Log>(
     rt: &R,
-    alloc: Global,
-    peers: &[&str],
-) -> Result<Vec<PeerStream>, ServerFault> {
-    let mut dialed = Vec::with_capacity(alloc, peers.len())?;
-    for peer in peers {
-        let stream = dial(rt, peer)?;
-        if dialed.push(Mutex::new(Some(stream))).is_err() {
-            return Err(ServerFault::NoMemory);
-        }
+    addresses: &[&str],
+    links: &mut Vec<PeerLink>,
+    log: &G,
+) -> Result<(), ServerFault> {
+    for peer in addresses {
+        let link = dial(rt, peer)?;
+        tell_dialled(log, link.address);
+        links.push(link)?;
     }
-    Ok(dialed)
+    Ok(())
 }
 
-/// Accepts so many peers.
-fn accept_all(
-    alloc: Global,
+/// Accepts a peer site.
+fn accept(listener: &TcpListener) -> Result<PeerLink, ServerFault> {
+    let (stream, address) = listener.accept()?;
+    prepare(&stream)?;
+    Ok(PeerLink::of(Role::Listen, address, stream))
+}
+
+/// Accepts so many peer sites.
+fn accept_all<G: Log>(
     listener: &TcpListener,
     count: usize,
-) -> Result<Vec<PeerStream>, ServerFault> {
-    let mut accepted = Vec::with_capacity(alloc, count)?;
+    links: &mut Vec<PeerLink>,
+    log: &G,
+) -> Result<(), ServerFault> {
     for _ in 0..count {
-        let (stream, _) = listener.accept()?;
-        prepare(&stream)?;
-        if accepted.push(Mutex::new(Some(stream))).is_err() {
-            return Err(ServerFault::NoMemory);
-        }
+        let link = accept(listener)?;
+        tell_dialling(log, link.address);
+        links.push(link)?;
     }
-    Ok(accepted)
+    Ok(())
 }
 
-/// The connections to the peers: each is dialed, and then as many are accepted.
-fn meet_peers<R: Net<Listener = TcpListener, Stream = TcpStream> + Clock>(
+/// The connections to the peer sites: each is dialled, and then as many are accepted.
+fn meet_peers<R: Net<Listener = TcpListener, Stream = TcpStream> + Clock, G: Log>(
     rt: &R,
     alloc: Global,
     exchanging: &TcpListener,
     peers: &[&str],
-) -> Result<(Vec<PeerStream>, Vec<PeerStream>), ServerFault> {
-    let dialed = dial_all(rt, alloc, peers)?;
-    let accepted = accept_all(alloc, exchanging, peers.len())?;
-    Ok((dialed, accepted))
+    log: &G,
+) -> Result<Vec<PeerLink>, ServerFault> {
+    let mut links = Vec::new(alloc);
+    dial_all(rt, peers, &mut links, log)?;
+    accept_all(exchanging, peers.len(), &mut links, log)?;
+    Ok(links)
 }
 
-/// Binds both addresses, and meets the peers.
-pub fn open_sockets<R: Net<Listener = TcpListener, Stream = TcpStream> + Clock>(
+/// Binds both addresses, and meets the peer sites.
+pub fn open_sockets<R: Net<Listener = TcpListener, Stream = TcpStream> + Clock, G: Log>(
     rt: &R,
     alloc: Global,
     addresses: &Addresses<'_>,
+    log: &G,
 ) -> Result<Sockets, ServerFault> {
     let listener = bind(rt, addresses.listen)?;
     let exchanging = bind(rt, addresses.exchange)?;
-    let (dialed, accepted) = meet_peers(rt, alloc, &exchanging, addresses.peers)?;
-    Ok(Sockets {
-        listener,
-        dialed,
-        accepted,
-    })
+    tell_listens(log, listener.local_addr()?, exchanging.local_addr()?);
+    let peers = meet_peers(rt, alloc, &exchanging, addresses.peers, log)?;
+    Ok(Sockets { listener, peers })
 }
