@@ -1,6 +1,7 @@
 //! Runs of the command that serves.
-use crate::run::run;
+use crate::run::{Host, run};
 use crate::tests::{Ended, Failing, all_words, check, path_of, run_words};
+use log::sink::Discard;
 use std::alloc::{AllocError, Global};
 use std::io::{self, Read, Write};
 use std::net::{Shutdown, TcpListener, TcpStream};
@@ -60,13 +61,13 @@ fn bytes_of(alloc: Global, digits: &str) -> Result<Vec<u8>, AllocError> {
 }
 
 /// A port of loopback that nobody has.
-fn free_port(rt: &HostRuntime) -> io::Result<u16> {
+fn free_port<H: Host>(rt: &H) -> io::Result<u16> {
     let listener = TcpListener::bind(rt, "127.0.0.1:0")?;
     Ok(listener.local_addr()?.port())
 }
 
 /// Connects once somebody listens.
-fn connect(rt: &HostRuntime, port: u16) -> Option<TcpStream> {
+fn connect<H: Host>(rt: &H, port: u16) -> Option<TcpStream> {
     for _ in 0..TRIES {
         if let Ok(stream) = TcpStream::connect(rt, ("127.0.0.1", port)) {
             return Some(stream);
@@ -77,7 +78,7 @@ fn connect(rt: &HostRuntime, port: u16) -> Option<TcpStream> {
 }
 
 /// Sends bytes, and gives all that comes back until the end.
-fn ask(rt: &HostRuntime, port: u16, request: &[u8]) -> io::Result<Vec<u8>> {
+fn ask<H: Host>(rt: &H, port: u16, request: &[u8]) -> io::Result<Vec<u8>> {
     let mut answers = Vec::new(rt.alloc());
     let Some(mut stream) = connect(rt, port) else {
         return Ok(answers);
@@ -129,7 +130,7 @@ impl<'a> ServeWords<'a> {
     }
 
     /// Runs the program with them.
-    fn run(&self, rt: &HostRuntime) -> Result<Ended, AllocError> {
+    fn run<H: Host>(&self, rt: &H) -> Result<Ended, AllocError> {
         let words = self.list(rt.alloc())?;
         run_words(rt, words.as_slice(), "")
     }
@@ -210,7 +211,7 @@ fn words_that_a_server_cannot_have_are_told(rt: HostRuntime) -> Result<(), Fail>
 }
 
 /// Whether `clap` refuses a value, and names it.
-fn is_refused(rt: &HostRuntime, option: &str, value: &str) -> Result<bool, AllocError> {
+fn is_refused<H: Host>(rt: &H, option: &str, value: &str) -> Result<bool, AllocError> {
     let words = ServeWords {
         tables: "none",
         listen: "none",
@@ -313,7 +314,7 @@ fn a_line_that_cannot_be_written_is_told(rt: HostRuntime) -> Result<(), Fail> {
     let (answers, status) = thread::join(
         &rt,
         || ask(&rt, port, &[]),
-        || run(&rt, all.as_slice(), b"".as_slice(), Failing, &mut faults),
+        || run(&rt, &Discard, all.as_slice(), b"".as_slice(), Failing, &mut faults),
     );
     assert!(rt; answers?.is_empty());
     assert_eq!(rt; status, 3);

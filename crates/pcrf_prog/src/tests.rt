@@ -163,12 +163,11 @@ pub fn path_of(rt: &HostRuntime, name: &str) -> Result<String, Fail> {
     Ok(String::from_str(rt.alloc(), path.as_str())?)
 }
 
-/// Runs `pcrf world` with a file of these bytes.
-fn run_file(rt: &HostRuntime, name: &str, bytes: &[u8], script: &str) -> Result<Ended, Fail> {
-    let path = path_of(rt, name)?;
-    fs::write(rt, path.as_str(), bytes)?;
-    let ended = run_words(rt, &["world", path.as_str()], script)?;
-    fs::remove_file(rt, path.as_str())?;
+/// Runs `pcrf world` with a file of these bytes at that path.
+fn run_file<H: Host>(rt: &H, path: &str, bytes: &[u8], script: &str) -> Result<Ended, Fail> {
+    fs::write(rt, path, bytes)?;
+    let ended = run_words(rt, &["world", path], script)?;
+    fs::remove_file(rt, path)?;
     Ok(ended)
 }
 
@@ -259,8 +258,9 @@ fn faults_of_tables_are_told_before_the_script_runs(rt: HostRuntime) -> Result<(
         (b"edition = 7 # \xff", "pcrf: tables: unreadable\n"),
         (b"\xc3", "pcrf: tables: unreadable\n"),
     ];
+    let path = path_of(&rt, "faults")?;
     for (bytes, told) in cases {
-        let ended = run_file(&rt, "faults", bytes, SCRIPT)?;
+        let ended = run_file(&rt, path.as_str(), bytes, SCRIPT)?;
         check(&rt, told, &ended, (1, "", told));
         drop(ended);
     }
@@ -270,7 +270,8 @@ fn faults_of_tables_are_told_before_the_script_runs(rt: HostRuntime) -> Result<(
 #[test]
 fn a_row_that_stands_twice_is_told(rt: HostRuntime) -> Result<(), Fail> {
     let tables = format!(in rt.alloc(); "{TELEPHONY}[[apn]]\nname = \"IMS\"\n")?;
-    let ended = run_file(&rt, "twice", tables.as_bytes(), SCRIPT)?;
+    let path = path_of(&rt, "twice")?;
+    let ended = run_file(&rt, path.as_str(), tables.as_bytes(), SCRIPT)?;
     check(
         &rt,
         "twice",
@@ -282,7 +283,7 @@ fn a_row_that_stands_twice_is_told(rt: HostRuntime) -> Result<(), Fail> {
 }
 
 /// Whether tables at this path are told to be unreadable, before the script runs.
-fn is_unreadable(rt: &HostRuntime, path: &str) -> Result<bool, AllocError> {
+fn is_unreadable<H: Host>(rt: &H, path: &str) -> Result<bool, AllocError> {
     let ended = run_words(rt, &["world", path], SCRIPT)?;
     let is_told = ended.told.as_slice() == b"pcrf: tables: unreadable\n".as_slice();
     let is_first = ended.status == 1 && ended.printed.is_empty();
@@ -315,7 +316,8 @@ fn a_file_has_at_most_64_mebibytes(rt: HostRuntime) -> Result<(), Fail> {
 
 #[test]
 fn sites_have_the_tables_of_the_file(rt: HostRuntime) -> Result<(), Fail> {
-    let ended = run_file(&rt, "telephony", TELEPHONY.as_bytes(), REQUESTS)?;
+    let path = path_of(&rt, "telephony")?;
+    let ended = run_file(&rt, path.as_str(), TELEPHONY.as_bytes(), REQUESTS)?;
     check(&rt, "telephony", &ended, (0, ANSWERS, ""));
     drop(ended);
     Ok(())
