@@ -131,7 +131,12 @@ pub fn tell_connected<G: Log>(log: &G, connection: usize, peer: SocketAddr) {
     info!(log; target: TARGET, "connection {connection} from {peer}");
 }
 
-/// A connection ended.
+/// A connection is closed.
+pub fn tell_closed<G: Log>(log: &G, connection: usize) {
+    info!(log; target: TARGET, "connection {connection} is closed");
+}
+
+/// How a connection ended.
 pub fn tell_ended<G: Log>(log: &G, connection: usize, end: LinkEnd) {
     info!(log; target: TARGET, "connection {connection} ended: {}", Ending(end));
 }

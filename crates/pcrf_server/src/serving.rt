@@ -30,14 +30,14 @@ use std::time::Clock;
 const HISTORY_LIMIT: usize = 1_000_000;
 
 /// A connection with its seat.
-type Connection<'a, L, G> = (Seat<L>, Reading<'a, G>, Writing<'a>);
+type Connection<'a, L, G> = (Seat<L>, Reading<'a, G>, Writing<'a, G>);
 
 /// What the exchanges of a server share, with the gateways that are pushed to.
-type Shared<'s, 'p, L, G> = Exchanges<'s, L, Gateways<Writing<'p>, Journal<'p, G>>, G>;
+type Shared<'s, 'p, L, G> = Exchanges<'s, L, Gateways<Writing<'p, G>, Journal<'p, G>>, G>;
 
 /// What the workers of a server begin with, and room for what they give back.
 #[derive(Drop)]
-struct Work<'a, L: Ledger, G> {
+struct Work<'a, L: Ledger, G: Log> {
     connections: Vec<Connection<'a, L, G>>,
     exchanges: Vec<Exchange<'a, L>>,
     begun: Vec<Begun<L>>,
@@ -78,7 +78,8 @@ impl<'a, L: Ledger, G: Log> Work<'a, L, G> {
                 number,
                 log,
             };
-            self.connections.push((seat, reading, Writing { place }))?;
+            let writing = Writing { place, number, log };
+            self.connections.push((seat, reading, writing))?;
         } else if let Some(link) = sockets.peers.get(number.saturating_sub(places.len())) {
             self.exchanges.push(Exchange { seat, link })?;
         }

@@ -13,6 +13,9 @@ use std::{io, thread};
 /// How often a peer site is dialled at most.
 const TRIES: u32 = 600;
 
+/// How many seconds a peer site has to answer.
+const ANSWER_SECONDS: u64 = 1;
+
 /// How many milliseconds a server waits before it dials again.
 const PAUSE_MILLIS: u64 = 100;
 
@@ -77,11 +80,12 @@ fn dial<R: Net<Listener = TcpListener, Stream = TcpStream> + Clock>(
     rt: &R,
     text: &str,
 ) -> Result<PeerLink, ServerFault> {
-    let address = address(text)?;
+    let address = SocketAddr::V4(address(text)?);
+    let answer = Duration::from_secs(ANSWER_SECONDS);
     for _ in 0..TRIES {
-        if let Ok(stream) = TcpStream::connect(rt, address) {
+        if let Ok(stream) = TcpStream::connect_timeout(rt, &address, answer) {
             prepare(&stream)?;
-            return Ok(PeerLink::of(Role::Dial, SocketAddr::V4(address), stream));
+            return Ok(PeerLink::of(Role::Dial, address, stream));
         }
         thread::sleep(rt, Duration::from_millis(PAUSE_MILLIS));
     }
