@@ -35,6 +35,20 @@ impl Gate for Shut {
     }
 }
 
+/// Lets every message in, and no connection go on.
+#[derive(Drop)]
+pub struct Leaving;
+
+impl Gate for Leaving {
+    fn enter(&self, _connection: usize, _message: u64) -> bool {
+        true
+    }
+
+    fn leave(&self, _connection: usize, _message: u64) -> bool {
+        false
+    }
+}
+
 /// A message, by the number of its connection and its own.
 pub type Place = (usize, u64);
 
