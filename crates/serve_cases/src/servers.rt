@@ -147,7 +147,7 @@ fn plain(sends: [Sends; 3], outcome: &'static str) -> Case {
 fn connections_are_served_side_by_side(rt: HostRuntime) {
     let outcome = "Closed 1: 280=2001\nClosed 1: 280=2001\nClosed 0:\n\
         2 entries, 2 told, clock 0, 0 reached\n";
-    // The first connection's message is held until the second one's was answered.
+    // The first connection's message is there before the second one's is served, and is held until that was answered.
     let held = Case {
         orders: &[((0, 0), (1, 0))],
         ..plain([WATCHED, WATCHED, QUIET], outcome)
