@@ -1,16 +1,18 @@
 //! An observer that notes what it is told.
 use dia_base::Origin;
 use gateway_links::Observer;
+use link_ends::LinkEnd;
 use pcrf_values::{DiameterIdentity, GxSid};
 use std::alloc::{AllocError, Global};
 use std::fmt::Write as _;
 use std::sync::{Mutex, Wait};
 
-/// What an observer was told: a line each, and the most entries of which it was told.
+/// What an observer was told: a line each, the most entries of which it was told, and how many connections ended.
 #[derive(Drop)]
 pub struct Told {
     pub lines: String,
     pub entries: usize,
+    pub ended: usize,
 }
 
 /// Notes what it is told.
@@ -42,6 +44,7 @@ impl<'a, R: Wait> Notes<'a, R> {
         let told = Told {
             lines: String::new(alloc),
             entries: 0,
+            ended: 0,
         };
         Notes {
             rt,
@@ -55,6 +58,7 @@ impl<'a, R: Wait> Notes<'a, R> {
         Ok(Told {
             lines: held.lines.clone()?,
             entries: held.entries,
+            ended: held.ended,
         })
     }
 
@@ -88,5 +92,11 @@ impl<R: Wait> Observer for Notes<'_, R> {
 
     fn history_full(&self) {
         self.note(&["full"], None);
+    }
+
+    fn ended(&self, _connection: usize, _end: LinkEnd) {
+        let mut held = self.told.lock(self.rt);
+        let told = &mut *held;
+        told.ended = told.ended.saturating_add(1);
     }
 }

@@ -210,6 +210,9 @@ impl Outcome {
         };
         write!(out, "{} entries, ", left.entries)?;
         write!(out, "{} told, ", self.told.entries)?;
+        if self.told.ended != self.served.len() {
+            write!(out, "{} ends told, ", self.told.ended)?;
+        }
         writeln!(out, "clock {}, {} reached", left.clock, self.reached)?;
         write!(out, "{}", self.told.lines)?;
         Ok(out)
