@@ -1,5 +1,6 @@
 //! Who is told what an operator may want to know of a server's connections.
 use dia_base::Origin;
+use link_ends::LinkEnd;
 use pcrf_values::{DiameterIdentity, GxSid};
 
 /// Is told what happens at connections, and changes nothing of it: each method does nothing unless it is written. Workers call
@@ -21,6 +22,9 @@ pub trait Observer {
 
     /// A request or a push found no room in the history. It is told again each time.
     fn history_full(&self) {}
+
+    /// A connection that was served ended so. It goes by the number of its seat.
+    fn ended(&self, _connection: usize, _end: LinkEnd) {}
 }
 
 /// Tells nobody.

@@ -193,11 +193,15 @@ pub fn serve_connection<
 ) -> (Seat<L>, LinkEnd)
     ensures { HasEarlier seat result.0 }
 {
+    let number = seat.number();
+    let observer = server.gateways.observer();
     if !half.is_open(rt) {
+        observer.ended(number, LinkEnd::NoMemory);
         return (seat, LinkEnd::NoMemory);
     }
-    let mut link = Link::start(server, seat.number(), &half);
-    let mut at = SeatAtSite::of(rt, server.site, server.gateways.observer(), seat);
+    let mut link = Link::start(server, number, &half);
+    let mut at = SeatAtSite::of(rt, server.site, observer, seat);
     let end = converse(rt, server.alloc, &mut at, &mut link, &mut reader);
+    observer.ended(number, end);
     (at.into_seat(), end)
 }

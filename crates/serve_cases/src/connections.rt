@@ -1,30 +1,31 @@
 //! Readers and writers in memory.
 use std::io::{self, ErrorKind, Read, Write};
+use std::sync::{Mutex, Wait};
 
-/// Gives one piece at each read. One of the reads may fail.
+/// What comes by a connection, a piece at each read, and which of its reads and writes fail, counted from 0: that read, and
+/// that write and all after it.
+#[derive(Drop)]
+pub struct Input {
+    pub pieces: Vec<Vec<u8>>,
+    pub failing_read: Option<usize>,
+    pub failing_write: Option<usize>,
+}
+
+/// Gives the pieces of an input, and then the end.
 #[derive(Drop)]
 pub struct Pieces {
     pieces: Vec<Vec<u8>>,
     reads: usize,
-    fails_at: Option<usize>,
+    failing: Option<usize>,
 }
 
 impl Pieces {
-    /// A reader that gives these, and then the end.
-    pub fn of(pieces: Vec<Vec<u8>>) -> Pieces {
+    /// A reader that gives these pieces. One of its reads may fail.
+    pub fn of(pieces: Vec<Vec<u8>>, failing: Option<usize>) -> Pieces {
         Pieces {
             pieces,
             reads: 0,
-            fails_at: None,
-        }
-    }
-
-    /// The same, of which one read fails, counted from 0.
-    pub fn failing_at(pieces: Vec<Vec<u8>>, read: usize) -> Pieces {
-        Pieces {
-            pieces,
-            reads: 0,
-            fails_at: Some(read),
+            failing,
         }
     }
 }
@@ -33,7 +34,7 @@ impl Read for Pieces {
     fn read(&mut self, buf: &mut [u8]) -> io::Result<usize> {
         let read = self.reads;
         self.reads = read.saturating_add(1);
-        if self.fails_at == Some(read) {
+        if self.failing == Some(read) {
             return Err(io::Error::from(ErrorKind::ConnectionReset));
         }
         let Some(piece) = self.pieces.get(read) else {
@@ -45,33 +46,36 @@ impl Read for Pieces {
     }
 }
 
-/// Keeps what is written. One of the writes may fail, and all after it.
+/// What was written by a connection, and by how many writes.
 #[derive(Drop)]
-pub struct Kept<'a> {
-    written: &'a mut Vec<u8>,
-    writes: usize,
-    fails_at: Option<usize>,
+pub struct Written {
+    pub bytes: Vec<u8>,
+    pub writes: usize,
 }
 
-impl<'a> Kept<'a> {
-    /// A writer whose writes fail from that one on, if one is given.
-    pub fn by(written: &'a mut Vec<u8>, fails_at: Option<usize>) -> Kept<'a> {
-        Kept {
-            written,
-            writes: 0,
-            fails_at,
-        }
-    }
+/// Where what is written is kept.
+pub type Place = Mutex<Written>;
+
+/// Keeps what is written.
+#[derive(Drop)]
+pub struct Keeping<'a, R> {
+    pub rt: &'a R,
+    pub place: &'a Place,
+    pub failing: Option<usize>,
 }
 
-impl Write for Kept<'_> {
+impl<R: Wait> Write for Keeping<'_, R> {
     fn write(&mut self, buf: &[u8]) -> io::Result<usize> {
-        let write = self.writes;
-        self.writes = write.saturating_add(1);
-        if self.fails_at.is_some_and(|first: usize| first <= write) {
+        let mut held = self.place.lock(self.rt);
+        let written = &mut *held;
+        if self
+            .failing
+            .is_some_and(|first: usize| first <= written.writes)
+        {
             return Err(io::Error::from(ErrorKind::BrokenPipe));
         }
-        self.written.extend_from_slice(buf)?;
+        written.bytes.extend_from_slice(buf)?;
+        written.writes = written.writes.saturating_add(1);
         Ok(buf.len())
     }
 

@@ -6,12 +6,18 @@
 #[cfg(test)]
 mod connections;
 #[cfg(test)]
+mod frames;
+#[cfg(test)]
 mod gates;
 #[cfg(test)]
-mod outcomes;
+mod messages;
 #[cfg(test)]
-mod requests;
+mod notes;
+#[cfg(test)]
+mod outcomes;
 #[cfg(test)]
 mod servers;
 #[cfg(test)]
 mod sites;
+#[cfg(test)]
+mod streams;

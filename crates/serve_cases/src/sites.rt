@@ -8,7 +8,7 @@ use pcrf_values::BoundedText;
 use site_book::Seat;
 use site_lock::LockedSite;
 use site_machine::Site;
-use std::alloc::Global;
+use std::alloc::{AllocError, Global};
 use std::net::Ipv4Addr;
 use std::process::Abort;
 use std::sync::ledger::{Blank, Ledger};
@@ -50,7 +50,7 @@ fn text<const MOST: usize>(rt: &impl Abort, alloc: Global, bytes: &[u8]) -> Boun
 }
 
 /// A site which took nothing.
-fn new_site(rt: &impl Abort, alloc: Global) -> Site {
+pub fn new_site(rt: &impl Abort, alloc: Global) -> Site {
     let names = Identity {
         host: text(rt, alloc, b"s0"),
         realm: text(rt, alloc, b"r"),
@@ -61,32 +61,45 @@ fn new_site(rt: &impl Abort, alloc: Global) -> Site {
 
 /// A site under a lock, whose history has room for so many entries, and its seats.
 pub fn opened<L: Ledger>(
-    rt: &impl Abort,
     alloc: Global,
     blank: Blank,
+    site: Site,
     seats: usize,
     limit: usize,
-) -> (LockedSite<L>, Vec<Seat<L>>)
+) -> Result<(LockedSite<L>, Vec<Seat<L>>), AllocError>
     requires name { blank.name ≡ L.name }
     requires parts { blank.parts ≡ L.parts }
     requires one_each { blank.parts ≡ seats }
     requires seats { (1 ≤ seats) × (seats ≤ most_seats) }
     requires limit { limit ≤ most_entries }
 {
-    let site = new_site(rt, alloc);
-    let Ok(opened) = LockedSite::<L>::start(alloc, blank, site, seats, limit) else {
-        rt.abort()
-    };
-    opened
+    match LockedSite::<L>::start(alloc, blank, site, seats, limit) {
+        Ok(opened) => Ok(opened),
+        Err(refused) => {
+            drop(refused);
+            Err(AllocError)
+        }
+    }
 }
 
-/// The history settles, and has so many entries.
-pub fn settled<L: Ledger>(site: LockedSite<L>, seats: Vec<Seat<L>>) -> Option<usize> {
+/// What is left of a site: how many entries settled, and its clock then.
+#[derive(Clone, Copy, Debug, PartialEq, Eq)]
+pub struct Left {
+    pub entries: usize,
+    pub clock: u64,
+}
+
+/// What settles, if it does.
+pub fn settled<L: Ledger>(site: LockedSite<L>, seats: Vec<Seat<L>>) -> Option<Left> {
     match site.settle(seats) {
         Ok(settled) => {
-            let entries = settled.pages().entries();
+            let pages = settled.pages();
+            let left = Left {
+                entries: pages.entries(),
+                clock: pages.site().sessions().clock(),
+            };
             drop(settled);
-            Some(entries)
+            Some(left)
         }
         Err(unsettled) => {
             drop(unsettled);
