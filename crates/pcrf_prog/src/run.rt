@@ -64,7 +64,10 @@ pub fn words<R: Env + AllocGlobal>(rt: &R) -> io::Result<Vec<String>> {
 /// level asks for all.
 pub fn level<R: Env + AllocGlobal>(rt: &R) -> LevelFilter {
     match env::var(rt, "PCRF_LOG") {
-        Ok(text) => text.as_str().parse::<LevelFilter>().unwrap_or(LevelFilter::Info),
+        Ok(text) => text
+            .as_str()
+            .parse::<LevelFilter>()
+            .unwrap_or(LevelFilter::Info),
         Err(_) => LevelFilter::Off,
     }
 }

@@ -314,7 +314,14 @@ fn a_line_that_cannot_be_written_is_told(rt: HostRuntime) -> Result<(), Fail> {
     let (answers, status) = thread::join(
         &rt,
         || ask(&rt, port, &[]),
-        || run(&rt, &Discard, all.as_slice(), b"".as_slice(), Failing, &mut faults),
+        || run(
+            &rt,
+            &Discard,
+            all.as_slice(),
+            b"".as_slice(),
+            Failing,
+            &mut faults,
+        ),
     );
     assert!(rt; answers?.is_empty());
     assert_eq!(rt; status, 3);

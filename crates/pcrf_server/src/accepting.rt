@@ -1,5 +1,5 @@
 //! Connections that are accepted when they are first read, so that those that are there are served while others are awaited.
-use crate::journal::{tell_closed, tell_connected};
+use crate::journal::tell_connected;
 use crate::sockets::prepare;
 use log::Log;
 use std::alloc::{AllocError, Global};
@@ -59,28 +59,20 @@ impl<G: Log> Read for Reading<'_, G> {
 }
 
 /// The writing half of a connection, which is closed once this is dropped.
-pub struct Writing<'a, G: Log> {
+pub struct Writing<'a> {
     pub(crate) place: &'a Accepted,
-    /// The number of its seat.
-    pub(crate) number: usize,
-    pub(crate) log: &'a G,
 }
 
-impl<G: Log> Drop for Writing<'_, G> {
+impl Drop for Writing<'_> {
     fn drop(self) {
         if let Some(stream) = self.place.get() {
             let _ = stream.shutdown(Shutdown::Both);
-            tell_closed(self.log, self.number);
         }
-        let Writing {
-            place: _,
-            number: _,
-            log: _,
-        } = self;
+        let Writing { place: _ } = self;
     }
 }
 
-impl<G: Log> Write for Writing<'_, G> {
+impl Write for Writing<'_> {
     fn write(&mut self, buf: &[u8]) -> io::Result<usize> {
         let Some(mut stream) = self.place.get() else {
             return Err(io::Error::from(ErrorKind::NotConnected));

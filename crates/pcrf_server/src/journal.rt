@@ -39,11 +39,6 @@ impl<'a, G: Log> Journal<'a, G> {
     fn near(&self) -> usize {
         self.limit - self.limit / 10
     }
-
-    /// Where it is told.
-    pub fn log(&self) -> &'a G {
-        self.log
-    }
 }
 
 impl<G: Log> Observer for Journal<'_, G> {
@@ -69,6 +64,10 @@ impl<G: Log> Observer for Journal<'_, G> {
         if !self.is_full.swap(true, Ordering::SeqCst) {
             tell_full(self.log);
         }
+    }
+
+    fn ended(&self, connection: usize, end: LinkEnd) {
+        tell_ended(self.log, connection, end);
     }
 }
 
@@ -131,13 +130,8 @@ pub fn tell_connected<G: Log>(log: &G, connection: usize, peer: SocketAddr) {
     info!(log; target: TARGET, "connection {connection} from {peer}");
 }
 
-/// A connection is closed.
-pub fn tell_closed<G: Log>(log: &G, connection: usize) {
-    info!(log; target: TARGET, "connection {connection} is closed");
-}
-
-/// How a connection ended.
-pub fn tell_ended<G: Log>(log: &G, connection: usize, end: LinkEnd) {
+/// A connection ended.
+fn tell_ended<G: Log>(log: &G, connection: usize, end: LinkEnd) {
     info!(log; target: TARGET, "connection {connection} ended: {}", Ending(end));
 }
 

@@ -5,7 +5,7 @@ ghost use Rattle.site_book.specs.Limits.{most_seats};
 use crate::accepting::{Accepted, Reading, Writing, places};
 use crate::exchanging::{Begun, Exchange, Exchanges, begin, join};
 use crate::fault::ServerFault;
-use crate::journal::{Journal, tell_ended};
+use crate::journal::Journal;
 use crate::open::Open;
 use crate::settings::Settings;
 use crate::sockets::{Sockets, open_sockets};
@@ -30,14 +30,14 @@ use std::time::Clock;
 const HISTORY_LIMIT: usize = 1_000_000;
 
 /// A connection with its seat.
-type Connection<'a, L, G> = (Seat<L>, Reading<'a, G>, Writing<'a, G>);
+type Connection<'a, L, G> = (Seat<L>, Reading<'a, G>, Writing<'a>);
 
 /// What the exchanges of a server share, with the gateways that are pushed to.
-type Shared<'s, 'p, L, G> = Exchanges<'s, L, Gateways<Writing<'p, G>, Journal<'p, G>>, G>;
+type Shared<'s, 'p, L, G> = Exchanges<'s, L, Gateways<Writing<'p>, Journal<'p, G>>, G>;
 
 /// What the workers of a server begin with, and room for what they give back.
 #[derive(Drop)]
-struct Work<'a, L: Ledger, G: Log> {
+struct Work<'a, L: Ledger, G> {
     connections: Vec<Connection<'a, L, G>>,
     exchanges: Vec<Exchange<'a, L>>,
     begun: Vec<Begun<L>>,
@@ -78,8 +78,7 @@ impl<'a, L: Ledger, G: Log> Work<'a, L, G> {
                 number,
                 log,
             };
-            let writing = Writing { place, number, log };
-            self.connections.push((seat, reading, writing))?;
+            self.connections.push((seat, reading, Writing { place }))?;
         } else if let Some(link) = sockets.peers.get(number.saturating_sub(places.len())) {
             self.exchanges.push(Exchange { seat, link })?;
         }
@@ -137,13 +136,11 @@ fn join_all<T: Threads, L: Ledger>(
 }
 
 /// The seats that came back from connections, put behind the others.
-fn seats_of<L: Ledger, G: Log>(
+fn seats_of<L: Ledger>(
     ended: Vec<(Seat<L>, LinkEnd)>,
     mut back: Vec<Seat<L>>,
-    log: &G,
 ) -> Result<Vec<Seat<L>>, AllocError> {
-    for (seat, end) in ended {
-        tell_ended(log, seat.number(), end);
+    for (seat, _end) in ended {
         back.push(seat)?;
     }
     Ok(back)
@@ -173,7 +170,7 @@ fn serve_all<
     let served = serve_sessions(rt, all.alloc, all.site, connections, all.gateways, &Open);
     let back = join_all(rt, begun, back)?;
     match served {
-        Ok(ended) => seats_of(ended, back, all.log),
+        Ok(ended) => seats_of(ended, back),
         Err(_refused) => Err(AllocError),
     }
 }

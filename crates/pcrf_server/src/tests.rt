@@ -1,8 +1,8 @@
 //! What an operator is told, in words, and what a server may be told.
 use crate::ending::Ending;
 use crate::journal::{
-    Journal, tell_closed, tell_connected, tell_dialled, tell_dialling, tell_ended, tell_listens,
-    tell_sending_ended, tell_sent, tell_taken, tell_taking_ended,
+    Journal, tell_connected, tell_dialled, tell_dialling, tell_listens, tell_sending_ended,
+    tell_sent, tell_taken, tell_taking_ended,
 };
 use crate::printable::Printable;
 use crate::settings::{SeatPlan, SiteEpoch};
@@ -11,8 +11,8 @@ use dia_codec::FrameFault;
 use gateway_links::Observer;
 use link_ends::LinkEnd;
 use log::sink::Memory;
-use peer_exchange::LetterFault;
 use pcrf_values::{DiameterIdentity, GxSid, SessionId};
+use peer_exchange::LetterFault;
 use std::alloc::Global;
 use std::net::{Ipv4Addr, SocketAddr, SocketAddrV4};
 use std::process::Abort;
@@ -62,6 +62,7 @@ fn what_happens_at_connections_is_told(rt: HostRuntime) {
     journal.push_refused(&session, Some(5003));
     journal.push_refused(&session, None);
     journal.unreached(&peer.host);
+    journal.ended(0, LinkEnd::Disconnected);
     check_lines(
         &rt,
         told,
@@ -71,6 +72,7 @@ fn what_happens_at_connections_is_told(rt: HostRuntime) {
             "[WARN  pcrf] the re-authorisation of gw;1\\x201 was answered by 5003; its rules stand as told all the same",
             "[WARN  pcrf] the re-authorisation of gw;1\\x201 was answered without a code; its rules stand as told all the same",
             "[WARN  pcrf] a re-authorisation request to gw could not be written; it gets none until it connects again",
+            "[INFO  pcrf] connection 0 ended: its peer asked to disconnect",
         ],
     );
 }
@@ -101,8 +103,6 @@ fn what_happens_at_sockets_is_told(rt: HostRuntime) {
     tell_dialled(&told, address(3));
     tell_dialling(&told, address(4));
     tell_connected(&told, 0, address(5));
-    tell_closed(&told, 0);
-    tell_ended(&told, 0, LinkEnd::Disconnected);
     tell_sent(&told, 0, address(3));
     tell_taken(&told, 1, address(4));
     tell_sending_ended(&told, address(3), LinkEnd::WriteFailed);
@@ -115,8 +115,6 @@ fn what_happens_at_sockets_is_told(rt: HostRuntime) {
             "[INFO  pcrf] peer site 192.0.2.1:3 was dialled",
             "[INFO  pcrf] peer site 192.0.2.1:4 connected",
             "[INFO  pcrf] connection 0 from 192.0.2.1:5",
-            "[INFO  pcrf] connection 0 is closed",
-            "[INFO  pcrf] connection 0 ended: its peer asked to disconnect",
             "[INFO  pcrf] letter 0 to peer site 192.0.2.1:3 was acknowledged",
             "[INFO  pcrf] letter 1 of peer site 192.0.2.1:4 was taken",
             "[INFO  pcrf] letters to peer site 192.0.2.1:3 ended: a write failed",
@@ -167,7 +165,11 @@ fn a_site_has_its_number_and_epoch(rt: HostRuntime) {
         ((0, 0), false),
     ];
     for ((number, epoch), is_place) in cases {
-        assert_eq!(rt; SiteEpoch::of(number, epoch).is_some(), is_place, "{number} {epoch}");
+        assert_eq!(rt;
+            SiteEpoch::of(number, epoch).is_some(),
+            is_place,
+            "{number} {epoch}"
+        );
     }
 }
 
@@ -186,6 +188,10 @@ fn seats_are_64_at_most(rt: HostRuntime) {
         ((1, usize::MAX), false),
     ];
     for ((connections, peers), is_plan) in cases {
-        assert_eq!(rt; SeatPlan::of(connections, peers).is_some(), is_plan, "{connections} {peers}");
+        assert_eq!(rt;
+            SeatPlan::of(connections, peers).is_some(),
+            is_plan,
+            "{connections} {peers}"
+        );
     }
 }
