@@ -1,7 +1,8 @@
 //! Runs of the command that serves.
 use crate::run::{Host, run};
-use crate::tests::{Ended, Failing, all_words, check, path_of, run_words};
-use log::sink::Discard;
+use crate::tests::{Ended, Failing, all_words, check, path_of, run_told, run_words};
+use log::Log;
+use log::sink::{Discard, Locked};
 use std::alloc::{AllocError, Global};
 use std::io::{self, Read, Write};
 use std::net::{Shutdown, TcpListener, TcpStream};
@@ -131,8 +132,13 @@ impl<'a> ServeWords<'a> {
 
     /// Runs the program with them.
     fn run<H: Host>(&self, rt: &H) -> Result<Ended, AllocError> {
+        self.run_told(rt, &Discard)
+    }
+
+    /// Runs the program with them, and tells that log what happens.
+    fn run_told<H: Host, G: Log + Sync>(&self, rt: &H, log: &G) -> Result<Ended, AllocError> {
         let words = self.list(rt.alloc())?;
-        run_words(rt, words.as_slice(), "")
+        run_told(rt, log, words.as_slice(), "")
     }
 }
 
@@ -148,31 +154,65 @@ fn at_port(alloc: Global, port: u16) -> Result<String, AllocError> {
     Ok(format!(in alloc; "127.0.0.1:{port}")?)
 }
 
-#[test]
-fn a_server_answers_and_settles(rt: HostRuntime) -> Result<(), Fail> {
-    let path = table_file(&rt, "serve")?;
-    let port = free_port(&rt)?;
+/// What a client of a server is answered, and how the server's run ended.
+#[derive(Drop)]
+struct Served {
+    answers: Vec<u8>,
+    ended: Ended,
+}
+
+/// Has a server answer one client, and tells that log what happens.
+fn serve_once<H: Host, G: Log + Sync>(
+    rt: &H,
+    log: &G,
+    tables: &str,
+    request: &[u8],
+) -> Result<Served, Fail> {
+    let port = free_port(rt)?;
     let listen = at_port(rt.alloc(), port)?;
-    let requests = bytes_of(rt.alloc(), REQUESTS)?;
     let words = ServeWords {
-        tables: path.as_str(),
+        tables,
         listen: listen.as_str(),
         exchange: "127.0.0.1:0",
         other: ("", ""),
         peers: &[],
     };
-    let (answers, ended) = thread::join(
-        &rt,
-        || ask(&rt, port, requests.as_slice()),
-        || words.run(&rt),
-    );
-    let ended = ended?;
-    check(&rt, "serve", &ended, (0, "settled 2\n", ""));
-    assert_eq!(rt;
-        answers?.as_slice(),
-        bytes_of(rt.alloc(), ANSWERS)?.as_slice()
-    );
+    let (answers, ended) = thread::join(rt, || ask(rt, port, request), || words.run_told(rt, log));
+    Ok(Served {
+        answers: answers?,
+        ended: ended?,
+    })
+}
+
+#[test]
+fn a_server_answers_and_settles(rt: HostRuntime) -> Result<(), Fail> {
+    let path = table_file(&rt, "serve")?;
+    let requests = bytes_of(rt.alloc(), REQUESTS)?;
+    let served = serve_once(&rt, &Discard, path.as_str(), requests.as_slice())?;
     fs::remove_file(&rt, path.as_str())?;
+    check(&rt, "serve", &served.ended, (0, "settled 2\n", ""));
+    let answers = bytes_of(rt.alloc(), ANSWERS)?;
+    assert_eq!(rt; served.answers.as_slice(), answers.as_slice());
+    Ok(())
+}
+
+#[test]
+fn what_happens_is_told_to_who_asks(rt: HostRuntime) -> Result<(), Fail> {
+    let path = table_file(&rt, "told")?;
+    let requests = bytes_of(rt.alloc(), REQUESTS)?;
+    let log = Locked::new(rt, Vec::new(rt.alloc()));
+    let served = serve_once(&rt, &log, path.as_str(), requests.as_slice())?;
+    fs::remove_file(&rt, path.as_str())?;
+    check(&rt, "told", &served.ended, (0, "settled 2\n", ""));
+    let bytes = log.into_inner();
+    let told = String::from_utf8_lossy(rt.alloc(), bytes.as_slice())?;
+    for line in [
+        "[INFO  pcrf] listening at 127.0.0.1:",
+        "[INFO  pcrf] connection 0 from 127.0.0.1:",
+        "[INFO  pcrf] connection 0 ended: its peer asked to disconnect\n",
+    ] {
+        assert!(rt; told.as_str().contains(line), "{line}");
+    }
     Ok(())
 }
 

@@ -1,5 +1,6 @@
 //! What the program prints on its faults, and its exit status.
 use crate::run::{Host, no_words, run};
+use log::Log;
 use log::sink::Discard;
 use std::alloc::{AllocError, Global};
 use std::io::{self, ErrorKind, Read, Write};
@@ -126,9 +127,9 @@ pub fn all_words(alloc: Global, words: &[&str]) -> Result<Vec<String>, AllocErro
 }
 
 /// Runs a script with all these words.
-fn run_all<H: Host>(rt: &H, words: &[String], script: &[u8]) -> Ended {
+fn run_all<H: Host, G: Log + Sync>(rt: &H, log: &G, words: &[String], script: &[u8]) -> Ended {
     let (mut printed, mut told) = (Vec::new(rt.alloc()), Vec::new(rt.alloc()));
-    let status = run(rt, &Discard, words, script, &mut printed, &mut told);
+    let status = run(rt, log, words, script, &mut printed, &mut told);
     Ended {
         printed,
         told,
@@ -136,12 +137,22 @@ fn run_all<H: Host>(rt: &H, words: &[String], script: &[u8]) -> Ended {
     }
 }
 
-/// Runs a script with these words behind the program's name.
-pub fn run_words<H: Host>(rt: &H, words: &[&str], script: &str) -> Result<Ended, AllocError> {
+/// Runs a script with these words behind the program's name, and tells that log what happens.
+pub fn run_told<H: Host, G: Log + Sync>(
+    rt: &H,
+    log: &G,
+    words: &[&str],
+    script: &str,
+) -> Result<Ended, AllocError> {
     let all = all_words(rt.alloc(), words)?;
-    let ended = run_all(rt, all.as_slice(), script.as_bytes());
+    let ended = run_all(rt, log, all.as_slice(), script.as_bytes());
     drop(all);
     Ok(ended)
+}
+
+/// Runs a script with these words behind the program's name.
+pub fn run_words<H: Host>(rt: &H, words: &[&str], script: &str) -> Result<Ended, AllocError> {
+    run_told(rt, &Discard, words, script)
 }
 
 /// Compares how a run of a case ended with the status, what is printed and what is told that are wanted.

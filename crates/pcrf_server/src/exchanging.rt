@@ -1,4 +1,5 @@
 //! Exchanges of letters with peer sites, each by a worker of its own.
+use crate::carrying::Carrying;
 use crate::journal::{tell_sending_ended, tell_sent, tell_taken, tell_taking_ended};
 use crate::settings::SiteEpoch;
 use crate::sockets::PeerLink;
@@ -73,6 +74,12 @@ fn exchange_letters<T: Threads + Wait + Sync, L: Ledger, P: Pushes, G: Log>(
     };
     let mut cursors = Cursors::start(all.place.number, all.place.epoch);
     let letters = Letters { link, log: all.log };
+    let carrying = Carrying {
+        stream,
+        peer: link.address,
+        log: all.log,
+        is_begun: false,
+    };
     exchange_with(
         rt,
         all.alloc,
@@ -81,7 +88,7 @@ fn exchange_letters<T: Threads + Wait + Sync, L: Ledger, P: Pushes, G: Log>(
         &mut cursors,
         all.gateways,
         link.role,
-        stream,
+        carrying,
         all.turns,
         &letters,
     )

@@ -135,6 +135,16 @@ fn tell_ended<G: Log>(log: &G, connection: usize, end: LinkEnd) {
     info!(log; target: TARGET, "connection {connection} ended: {}", Ending(end));
 }
 
+/// A letter with so many operations goes to a peer site.
+pub fn tell_sending<G: Log>(log: &G, operations: u32, peer: SocketAddr) {
+    info!(log; target: TARGET, "peer site {peer} is told {operations} operations");
+}
+
+/// A letter with all that the site holds goes to a peer site.
+pub fn tell_sending_all<G: Log>(log: &G, peer: SocketAddr) {
+    info!(log; target: TARGET, "peer site {peer} is told all that the site holds");
+}
+
 /// A letter was acknowledged by a peer site.
 pub fn tell_sent<G: Log>(log: &G, letter: u64, peer: SocketAddr) {
     info!(log; target: TARGET, "letter {letter} to peer site {peer} was acknowledged");

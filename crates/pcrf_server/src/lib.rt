@@ -3,6 +3,7 @@
 #![tactic(auto)]
 
 mod accepting;
+mod carrying;
 mod ending;
 mod exchanging;
 mod fault;

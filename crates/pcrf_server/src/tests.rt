@@ -1,8 +1,9 @@
 //! What an operator is told, in words, and what a server may be told.
+use crate::carrying::Brought;
 use crate::ending::Ending;
 use crate::journal::{
-    Journal, tell_connected, tell_dialled, tell_dialling, tell_listens, tell_sending_ended,
-    tell_sent, tell_taken, tell_taking_ended,
+    Journal, tell_connected, tell_dialled, tell_dialling, tell_listens, tell_sending,
+    tell_sending_all, tell_sending_ended, tell_sent, tell_taken, tell_taking_ended,
 };
 use crate::printable::Printable;
 use crate::settings::{SeatPlan, SiteEpoch};
@@ -103,7 +104,9 @@ fn what_happens_at_sockets_is_told(rt: HostRuntime) {
     tell_dialled(&told, address(3));
     tell_dialling(&told, address(4));
     tell_connected(&told, 0, address(5));
+    tell_sending_all(&told, address(3));
     tell_sent(&told, 0, address(3));
+    tell_sending(&told, 7, address(3));
     tell_taken(&told, 1, address(4));
     tell_sending_ended(&told, address(3), LinkEnd::WriteFailed);
     tell_taking_ended(&told, address(4), LinkEnd::Letter(LetterFault::BadEdition));
@@ -115,7 +118,9 @@ fn what_happens_at_sockets_is_told(rt: HostRuntime) {
             "[INFO  pcrf] peer site 192.0.2.1:3 was dialled",
             "[INFO  pcrf] peer site 192.0.2.1:4 connected",
             "[INFO  pcrf] connection 0 from 192.0.2.1:5",
+            "[INFO  pcrf] peer site 192.0.2.1:3 is told all that the site holds",
             "[INFO  pcrf] letter 0 to peer site 192.0.2.1:3 was acknowledged",
+            "[INFO  pcrf] peer site 192.0.2.1:3 is told 7 operations",
             "[INFO  pcrf] letter 1 of peer site 192.0.2.1:4 was taken",
             "[INFO  pcrf] letters to peer site 192.0.2.1:3 ended: a write failed",
             "[INFO  pcrf] letters of peer site 192.0.2.1:4 ended: a letter had a fault: the letter is of another edition of the operator tables",
@@ -147,6 +152,22 @@ fn every_end_has_its_words(rt: HostRuntime) {
         let text = format!(in rt.alloc(); "{}", Ending(end)).expect(&rt, "memory");
         assert_eq!(rt; text.as_str(), words);
     }
+}
+
+#[test]
+fn letters_tell_what_they_bring(rt: HostRuntime) {
+    let mut range = [0u8; 25];
+    range[..13].copy_from_slice(b"\x00\x00\x00\x30\x01\x00\x00\x00\x07\x00\x00\x01\x01");
+    range[20] = 9;
+    range[23] = 1;
+    range[24] = 2;
+    assert_eq!(rt; Brought::by(&range), Brought::Operations(258));
+    assert_eq!(rt; Brought::by(&range[..24]), Brought::Nothing);
+    range[12] = 2;
+    assert_eq!(rt; Brought::by(&range), Brought::All);
+    range[12] = 3;
+    assert_eq!(rt; Brought::by(&range), Brought::Nothing);
+    assert_eq!(rt; Brought::by(&[]), Brought::Nothing);
 }
 
 #[test]
