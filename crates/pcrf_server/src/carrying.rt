@@ -30,11 +30,17 @@ pub enum Brought {
 impl Brought {
     /// What the bytes of a letter say that it brings.
     pub fn by(letter: &[u8]) -> Brought {
-        match (letter.get(KIND), letter.get(COUNT..)) {
-            (Some(&RANGE), Some(&[a, b, c, d, ..])) => {
-                Brought::Operations(u32::from_be_bytes([a, b, c, d]))
-            }
-            (Some(&SNAPSHOT), _) => Brought::All,
+        if letter.len() < COUNT + 4 {
+            return Brought::Nothing;
+        }
+        match letter[KIND] {
+            RANGE => Brought::Operations(u32::from_be_bytes([
+                letter[COUNT],
+                letter[COUNT + 1],
+                letter[COUNT + 2],
+                letter[COUNT + 3],
+            ])),
+            SNAPSHOT => Brought::All,
             _ => Brought::Nothing,
         }
     }
