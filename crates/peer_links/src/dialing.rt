@@ -14,6 +14,7 @@ use site_machine::{Event, Reply, StepFault};
 use std::io::{Read, Write};
 use std::sync::Wait;
 use std::sync::ledger::Ledger;
+use std::thread::Threads;
 
 /// What the site is to be asked for a letter, from which position of its log on, and past which length of its log; at once
 /// where none is given.
@@ -47,7 +48,7 @@ fn next_question(cursors: &Cursors, first: Option<Ack>) -> Question {
 }
 
 /// Asks the site.
-fn ask<T: Wait, L: Ledger>(
+fn ask<T: Threads + Wait + Sync, L: Ledger>(
     rt: &T,
     site: &LockedSite<L>,
     seat: &mut Seat<L>,
@@ -62,7 +63,7 @@ fn ask<T: Wait, L: Ledger>(
 }
 
 /// The letter of the next turn.
-fn next_letter<T: Wait, L: Ledger>(
+fn next_letter<T: Threads + Wait + Sync, L: Ledger>(
     rt: &T,
     site: &LockedSite<L>,
     seat: &mut Seat<L>,
@@ -101,7 +102,7 @@ fn acknowledged<S: Read + Write>(
 
 /// Sends one letter, and reads its acknowledgement.
 #[tactic(auto, using(crate::proofs::Following::exchanged_earlier, crate::proofs::Following::exchanged_same))]
-fn send_letter<T: Wait, L: Ledger, S: Read + Write>(
+fn send_letter<T: Threads + Wait + Sync, L: Ledger, S: Read + Write>(
     rt: &T,
     site: &LockedSite<L>,
     seat: &mut Seat<L>,
@@ -117,7 +118,7 @@ fn send_letter<T: Wait, L: Ledger, S: Read + Write>(
 }
 
 /// Sends so many letters, each once the one before is acknowledged and the site has grown past what the peer took.
-pub(crate) fn send_letters<T: Wait, L: Ledger, P, G: Gate, S: Read + Write>(
+pub(crate) fn send_letters<T: Threads + Wait + Sync, L: Ledger, P, G: Gate, S: Read + Write>(
     rt: &T,
     link: &Link<'_, L, P, G>,
     seat: &mut Seat<L>,

@@ -14,6 +14,7 @@ use std::alloc::Global;
 use std::io::{Read, Write};
 use std::sync::Wait;
 use std::sync::ledger::Ledger;
+use std::thread::Threads;
 
 /// Which side of an exchange a worker is.
 #[derive(Clone, Copy, Debug, PartialEq, Eq)]
@@ -33,7 +34,13 @@ pub enum Role {
 /// A letter that is not read or not written, and an answer to a letter that is no acknowledgement (`BadShape`), ends with
 /// `Letter`; a full history with `HistoryFull`. A letter that was taken in part, for want of memory, is not counted and not
 /// acknowledged. What was taken stands, whatever the end is.
-pub fn exchange_with<T: Wait, L: Ledger, P: Pushes, S: Read + Write + Drop, G: Gate>(
+pub fn exchange_with<
+    T: Threads + Wait + Sync,
+    L: Ledger,
+    P: Pushes,
+    S: Read + Write + Drop,
+    G: Gate,
+>(
     rt: &T,
     alloc: Global,
     site: &LockedSite<L>,

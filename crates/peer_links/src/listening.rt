@@ -18,6 +18,7 @@ use std::alloc::Global;
 use std::io::{Read, Write};
 use std::sync::Wait;
 use std::sync::ledger::Ledger;
+use std::thread::Threads;
 
 /// Whether the reply says that all of the event was taken.
 fn is_whole(event: &Event, reply: &Reply) -> bool
@@ -31,7 +32,7 @@ fn is_whole(event: &Event, reply: &Reply) -> bool
 }
 
 /// Has the site take what a letter brings. What is taken in part stands, for want of memory.
-fn take_whole<T: Wait, L: Ledger>(
+fn take_whole<T: Threads + Wait + Sync, L: Ledger>(
     rt: &T,
     site: &LockedSite<L>,
     seat: &mut Seat<L>,
@@ -52,7 +53,7 @@ fn take_whole<T: Wait, L: Ledger>(
 
 /// Takes what a letter brings, counts the letter once it is taken whole, and tells what its sender is to be told.
 #[tactic(auto, using(crate::proofs::Following::exchanged_took, crate::proofs::Following::exchanged_earlier))]
-fn take_brought<T: Wait, L: Ledger>(
+fn take_brought<T: Threads + Wait + Sync, L: Ledger>(
     rt: &T,
     site: &LockedSite<L>,
     seat: &mut Seat<L>,
@@ -70,7 +71,7 @@ fn take_brought<T: Wait, L: Ledger>(
 
 /// Takes a letter, and tells what its sender is to be told; nothing after an acknowledgement, which is counted.
 #[tactic(auto, using(crate::proofs::Following::exchanged_same, crate::proofs::Following::acked_makers))]
-fn take<T: Wait, L: Ledger>(
+fn take<T: Threads + Wait + Sync, L: Ledger>(
     rt: &T,
     site: &LockedSite<L>,
     seat: &mut Seat<L>,
@@ -91,7 +92,7 @@ fn take<T: Wait, L: Ledger>(
 }
 
 /// Reads one letter, takes it, has pushed what is then due, and acknowledges it.
-fn take_letter<T: Wait, L: Ledger, P: Pushes, G: Gate, S: Read + Write>(
+fn take_letter<T: Threads + Wait + Sync, L: Ledger, P: Pushes, G: Gate, S: Read + Write>(
     rt: &T,
     alloc: Global,
     link: &Link<'_, L, P, G>,
@@ -113,7 +114,13 @@ fn take_letter<T: Wait, L: Ledger, P: Pushes, G: Gate, S: Read + Write>(
 }
 
 /// Takes so many letters.
-pub(crate) fn take_letters<T: Wait, L: Ledger, P: Pushes, G: Gate, S: Read + Write>(
+pub(crate) fn take_letters<
+    T: Threads + Wait + Sync,
+    L: Ledger,
+    P: Pushes,
+    G: Gate,
+    S: Read + Write,
+>(
     rt: &T,
     alloc: Global,
     link: &Link<'_, L, P, G>,
