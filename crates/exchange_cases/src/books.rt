@@ -11,6 +11,7 @@ use std::process::Abort;
 use std::sync::Wait;
 use std::sync::ledger::{Blank, Ledger};
 use std::test::*;
+use std::thread::Threads;
 
 /// A site under a lock, whose history has room for so many entries, and its seats.
 pub fn opened<L: Ledger>(
@@ -33,13 +34,17 @@ pub fn opened<L: Ledger>(
     opened
 }
 
-/// The first of the seats.
-pub fn seat_of<'a, L: Ledger>(rt: &impl Abort, seats: &'a mut Vec<Seat<L>>) -> &'a mut Seat<L> {
-    seats.get_mut(0).expect(rt, "a seat")
+/// A seat by its place.
+pub fn seat_at<'a, L: Ledger>(
+    rt: &impl Abort,
+    seats: &'a mut [Seat<L>],
+    i: usize,
+) -> &'a mut Seat<L> {
+    seats.get_mut(i).expect(rt, "a seat")
 }
 
 /// A seat has the sessions of these places set up.
-pub fn set_up<L: Ledger, R: Wait + Abort>(
+pub fn set_up<L: Ledger, R: Threads + Wait + Abort + Sync>(
     rt: &R,
     alloc: Global,
     site: &LockedSite<L>,

@@ -1,133 +1,118 @@
-//! Letters of site 0, as bytes.
-use crate::sites::{EDITION, session};
-use gx_records::GxFact;
-use peer_exchange::{Acknowledgement, Body, Letter, LetterAssembler, Range, write_letter};
-use site_join::{Operation, SessionFacts};
+//! Letters of version 1, written by hand from docs/LETTERS.md: length, version, edition, site, epoch and kind, then what is said.
 use std::alloc::Global;
 use std::process::Abort;
 
-/// What a peer says.
-#[derive(Clone, Copy, Debug, PartialEq, Eq)]
-pub enum Said {
-    Nothing,
-    /// A range of one operation.
-    Range,
-    /// A range in another version of the format.
-    Version,
-    /// A range under operator tables of another edition.
-    Edition,
-    /// A range with a byte behind it.
-    Longer,
-    /// A range without its last byte, though its length counts it.
-    Cut,
-    /// The length of a letter that no letter may have.
-    Long,
-    /// That it took one operation of site 0 in its first epoch.
-    Acknowledgement,
-    /// The same, and then a range.
-    Both,
-}
+/// Site 0 made one operation, at counter 1: the end of a session.
+pub const RANGE: &str = "0000002e 01 00000007 00 0001 01 0000000000000000 00000001
+    0000000000000001 00 00000000 01 0004 67773b39 00000001 01";
 
-/// The end of a session.
-fn operation(rt: &impl Abort, alloc: Global) -> Operation {
-    let mut facts = Vec::new(alloc);
-    facts.push(GxFact::End).expect(rt, "memory");
-    let facts = SessionFacts::Gx(session(rt, alloc, b'9'), facts);
-    Operation::of(1, 0, 0, facts).expect(rt, "an operation")
-}
+/// It made another one after that, at counter 2.
+pub const NEXT: &str = "0000002e 01 00000007 00 0001 01 0000000000000001 00000001
+    0000000000000002 00 00000000 01 0004 67773b38 00000001 01";
 
-/// It alone.
-fn range(rt: &impl Abort, alloc: Global) -> Body {
-    let mut operations = Vec::new(alloc);
-    let added = operations.push(operation(rt, alloc));
-    added.expect(rt, "memory");
-    Body::Range(Range {
-        from: 0,
-        operations,
-    })
-}
+/// The first range in another version of the format.
+pub const OTHER_VERSION: &str = "0000002e 09 00000007 00 0001 01 0000000000000000 00000001
+    0000000000000001 00 00000000 01 0004 67773b39 00000001 01";
 
-/// Site 1 took one operation of site 0.
-fn acknowledgement() -> Body {
-    Body::Acknowledgement(Acknowledgement {
-        maker: 0,
-        maker_epoch: 1,
-        cursor: 1,
-    })
-}
+/// The same under operator tables of another edition.
+pub const OTHER_EDITION: &str = "0000002e 01 00000008 00 0001 01 0000000000000000 00000001
+    0000000000000001 00 00000000 01 0004 67773b39 00000001 01";
 
-/// The bytes of a letter of a site in its first epoch.
-fn written(rt: &impl Abort, alloc: Global, edition: u32, site: u8, said: Body) -> Vec<u8> {
-    let letter = Letter::of(edition, site, 1, said).expect(rt, "a letter");
-    let frame = write_letter(alloc, &letter);
-    drop(letter);
-    frame.expect(rt, "memory")
-}
+/// The same without its last byte.
+pub const SHORTER: &str = "0000002d 01 00000007 00 0001 01 0000000000000000 00000001
+    0000000000000001 00 00000000 01 0004 67773b39 00000001";
 
-/// A frame with a byte changed.
-fn changed(rt: &impl Abort, mut frame: Vec<u8>, at: usize, byte: u8) -> Vec<u8> {
-    let place = frame.get_mut(at).expect(rt, "a byte");
-    *place = byte;
-    frame
-}
+/// The same with a byte behind it.
+pub const LONGER: &str = "0000002f 01 00000007 00 0001 01 0000000000000000 00000001
+    0000000000000001 00 00000000 01 0004 67773b39 00000001 01 00";
 
-/// A range that is spelled wrong.
-fn misspelled(rt: &impl Abort, alloc: Global, said: Said) -> Vec<u8> {
-    let mut frame = written(rt, alloc, EDITION, 0, range(rt, alloc));
-    let length = (frame.len() & 0xff) as u8;
-    match said {
-        Said::Version => changed(rt, frame, 4, 9),
-        Said::Longer => {
-            frame.push(0).expect(rt, "memory");
-            changed(rt, frame, 3, length.wrapping_sub(3))
-        }
-        Said::Cut => {
-            frame.pop();
-            frame
-        }
-        _ => frame,
+/// The length of a letter that no letter may have.
+pub const TOO_LONG: &str = "40000001";
+
+/// Site 1 took nothing of site 0.
+pub const TOOK_NONE: &str = "00000014 01 00000007 01 0001 03 00 0001 0000000000000000";
+
+/// It took one operation of site 0.
+pub const TOOK_ONE: &str = "00000014 01 00000007 01 0001 03 00 0001 0000000000000001";
+
+/// It took two.
+pub const TOOK_TWO: &str = "00000014 01 00000007 01 0001 03 00 0001 0000000000000002";
+
+/// Site 2 took two of site 0.
+pub const OTHER_TOOK_TWO: &str = "00000014 01 00000007 02 0001 03 00 0001 0000000000000002";
+
+/// Site 0 holds nothing.
+pub const NOTHING: &str =
+    "0000001d 01 00000007 00 0001 02 0000000000000000 0000000000000000 00000000";
+
+/// Site 0 holds the session of place 1.
+pub const ONE: &str = "000000ab 01 00000007 00 0001 02 0000000000000001 0000000000000001 00000001
+    01 0004 67773b31 00000006
+    02 01 04 0a000031 00000000 0000000000000001 00
+    02 02 0003 696d73 00000000 0000000000000001 00
+    02 03 0001 01 000f 303031303130303030303030303031 00000000 0000000000000001 00
+    02 04 0002 6777 00000000 0000000000000001 00
+    02 05 0001 72 00000000 0000000000000001 00
+    02 06 00000001 00000000 0000000000000001 00";
+
+/// Site 0 holds the sessions of places 1 and 2.
+pub const TWO: &str = "00000139 01 00000007 00 0001 02 0000000000000002 0000000000000002 00000002
+    01 0004 67773b31 00000006
+    02 01 04 0a000031 00000000 0000000000000001 00
+    02 02 0003 696d73 00000000 0000000000000001 00
+    02 03 0001 01 000f 303031303130303030303030303031 00000000 0000000000000001 00
+    02 04 0002 6777 00000000 0000000000000001 00
+    02 05 0001 72 00000000 0000000000000001 00
+    02 06 00000001 00000000 0000000000000001 00
+    01 0004 67773b32 00000006
+    02 01 04 0a000032 00000000 0000000000000002 00
+    02 02 0003 696d73 00000000 0000000000000002 00
+    02 03 0001 01 000f 303031303130303030303030303031 00000000 0000000000000002 00
+    02 04 0002 6777 00000000 0000000000000002 00
+    02 05 0001 72 00000000 0000000000000002 00
+    02 06 00000001 00000000 0000000000000002 00";
+
+/// Site 0 set up the session of place 2 by its second operation.
+pub const SECOND: &str = "00000062 01 00000007 00 0001 01 0000000000000001 00000001
+    0000000000000002 00 00000000 01 0004 67773b32 00000006
+    02 01 04 0a000032
+    02 02 0003 696d73
+    02 03 0001 01 000f 303031303130303030303030303031
+    02 04 0002 6777
+    02 05 0001 72
+    02 06 00000001";
+
+/// The value of a hexadecimal digit.
+fn digit(byte: u8) -> Option<u8> {
+    match byte {
+        b'0'..=b'9' => Some(byte - b'0'),
+        b'a'..=b'f' => Some(byte - b'a' + 10),
+        _ => None,
     }
 }
 
-/// An acknowledgement, and then a range.
-fn both(rt: &impl Abort, alloc: Global) -> Vec<u8> {
-    let mut frames = written(rt, alloc, EDITION, 1, acknowledgement());
-    let range = written(rt, alloc, EDITION, 0, range(rt, alloc));
-    frames
-        .extend_from_slice(range.as_slice())
-        .expect(rt, "memory");
-    drop(range);
-    frames
-}
-
-/// What a peer says, as bytes.
-pub fn bytes_of(rt: &impl Abort, alloc: Global, said: Said) -> Vec<u8> {
-    match said {
-        Said::Nothing => Vec::new(alloc),
-        Said::Long => Vec::from_slice(alloc, &[0x40, 0, 0, 1]).expect(rt, "memory"),
-        Said::Edition => written(rt, alloc, EDITION + 1, 0, range(rt, alloc)),
-        Said::Acknowledgement => written(rt, alloc, EDITION, 1, acknowledgement()),
-        Said::Both => both(rt, alloc),
-        Said::Range | Said::Version | Said::Longer | Said::Cut => misspelled(rt, alloc, said),
+/// Adds the bytes that are written down by pairs of digits.
+fn put_bytes(rt: &impl Abort, text: &str, out: &mut Vec<u8>) {
+    let mut high: Option<u8> = None;
+    for byte in text.as_bytes() {
+        let Some(low) = digit(*byte) else {
+            continue;
+        };
+        high = match high {
+            Some(high) => {
+                out.push(high * 16 + low).expect(rt, "memory");
+                None
+            }
+            None => Some(low),
+        };
     }
 }
 
-/// How many whole letters the bytes are.
-pub fn letters_in(rt: &impl Abort, alloc: Global, bytes: &[u8]) -> usize {
-    let mut frames = LetterAssembler::start(alloc);
-    assert!(rt; frames.feed(bytes).is_ok());
-    let mut count = 0;
-    for _ in 0..bytes.len() {
-        let given = frames.next().expect(rt, "frames");
-        let whole = given.is_some();
-        drop(given);
-        if !whole {
-            break;
-        }
-        count += 1;
+/// The letters as bytes, one after the other.
+pub fn bytes_of(rt: &impl Abort, alloc: Global, letters: &[&str]) -> Vec<u8> {
+    let mut bytes = Vec::new(alloc);
+    for letter in letters {
+        put_bytes(rt, letter, &mut bytes);
     }
-    let all = frames.is_empty();
-    drop(frames);
-    assert!(rt; all);
-    count
+    bytes
 }

@@ -1,18 +1,21 @@
-//! Sites, and requests for them.
+//! Sites, and what happens at them.
+ghost use Rattle.std.specs.Prelude.{◌<◌};
+ghost use Rattle.pcrf_model.specs.Limits.{site_limit};
+
 use dia_base::{Identity, Origin};
 use gx_profile::{Ccr, RequestKind};
+use gx_records::GxFact;
 use op_tables::{Tables, read_tables};
 use pcrf_values::{Apn, BoundedText, GxSid, Subscriber, Subscribers, SubscriptionType};
+use site_join::{LAST_COUNTER, Operation, SessionFacts};
 use site_machine::{Event, Request, Site};
-use std::alloc::Global;
+use std::alloc::{AllocError, Global};
+use std::fmt::Write as _;
 use std::net::Ipv4Addr;
 use std::process::Abort;
 
-/// The edition of the sites' operator tables.
-pub const EDITION: u32 = 7;
-
-/// The operator tables: one access point without rules.
-const TABLES: &str = r#"
+/// Operator tables of edition 7 with one access point, before its rules.
+const HEAD: &str = r#"
 edition = 7
 rtcp_bps = 5000
 [signalling]
@@ -27,15 +30,38 @@ precedence = 50
 name = "ims"
 "#;
 
+/// A rule of the access point, behind its name.
+const RULE: &str = r#"
+qci = 5
+priority = 9
+capability = 1
+vulnerability = 0
+max_ul = 32000
+max_dl = 32000
+precedence = 40
+status = 2
+filters = ["permit out ip from any to any"]
+"#;
+
+/// Operator tables whose access point has so many rules.
+fn tables_text(alloc: Global, rules: u32) -> Result<String, AllocError> {
+    let mut text = format!(in alloc; "{HEAD}")?;
+    for number in 0..rules {
+        write!(text, "[[apn.rule]]\nname = \"a{number:02}\"{RULE}")?;
+    }
+    Ok(text)
+}
+
+/// They are read.
+fn tables(rt: &impl Abort, alloc: Global, rules: u32) -> Tables {
+    let text = tables_text(alloc, rules).expect(rt, "memory");
+    read_tables(alloc, text.as_str()).expect(rt, "tables")
+}
+
 /// A text.
 fn text<const MOST: usize>(rt: &impl Abort, alloc: Global, bytes: &[u8]) -> BoundedText<MOST> {
     let read = BoundedText::read(alloc, bytes).expect(rt, "memory");
     read.expect(rt, "a text")
-}
-
-/// The tables are read.
-fn tables(rt: &impl Abort, alloc: Global) -> Tables {
-    read_tables(alloc, TABLES).expect(rt, "tables")
 }
 
 /// The names of a site.
@@ -47,18 +73,16 @@ fn names(rt: &impl Abort, alloc: Global) -> Identity {
     }
 }
 
-/// Site 0, which took nothing.
-pub fn new_site(rt: &impl Abort, alloc: Global) -> Site {
-    Site::start(alloc, tables(rt, alloc), names(rt, alloc), 0)
-}
-
-/// Site 1, which took nothing.
-pub fn other_site(rt: &impl Abort, alloc: Global) -> Site {
-    Site::start(alloc, tables(rt, alloc), names(rt, alloc), 1)
+/// A site which took nothing, and whose sessions have so many rules.
+pub fn new_site(rt: &impl Abort, alloc: Global, number: u8, rules: u32) -> Site
+    requires { number < site_limit }
+{
+    let tables = tables(rt, alloc, rules);
+    Site::start(alloc, tables, names(rt, alloc), number)
 }
 
 /// The Session-Id of a session, which one letter names.
-pub fn session(rt: &impl Abort, alloc: Global, place: u8) -> GxSid {
+fn session(rt: &impl Abort, alloc: Global, place: u8) -> GxSid {
     GxSid::of(text(rt, alloc, &[b'g', b'w', b';', place]))
 }
 
@@ -97,4 +121,21 @@ fn initial(rt: &impl Abort, alloc: Global, place: u8) -> Ccr {
 /// A session is to be set up.
 pub fn attach(rt: &impl Abort, alloc: Global, place: u8) -> Event {
     Event::Serve(Request::Ccr(initial(rt, alloc, place)))
+}
+
+/// The end of a session, under the last counter that there is.
+fn last_operation(rt: &impl Abort, alloc: Global, place: u8) -> Operation {
+    let mut facts = Vec::new(alloc);
+    facts.push(GxFact::End).expect(rt, "memory");
+    let facts = SessionFacts::Gx(session(rt, alloc, place), facts);
+    let made = Operation::of(LAST_COUNTER, 2, 1, facts);
+    made.expect(rt, "an operation")
+}
+
+/// It is to be taken.
+pub fn take_last(rt: &impl Abort, alloc: Global, place: u8) -> Event {
+    let mut operations = Vec::new(alloc);
+    let added = operations.push(last_operation(rt, alloc, place));
+    added.expect(rt, "memory");
+    Event::Ops(operations)
 }
