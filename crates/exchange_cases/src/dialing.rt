@@ -1,12 +1,10 @@
 //! Peers that are dialed.
 use crate::letters::*;
-use crate::peers::{Case, Outcome, assert_outcome, outcome, told};
+use crate::peers::{Case, Outcome, assert_case, outcome, told};
 use crate::wire::{Doors, READ_BYTES, WRITE_BYTES};
 use link_ends::LinkEnd;
 use peer_exchange::LetterFault;
 use peer_links::Role;
-use std::marker::Brand;
-use std::sync::ledger::Blank;
 use std::test::*;
 
 /// The site was asked once.
@@ -115,10 +113,10 @@ fn several() -> [Case; 5] {
 #[test]
 fn letters_are_sent(rt: HostRuntime) {
     for (i, case) in single().iter().enumerate() {
-        assert_outcome::<Brand, _>(&rt, rt.alloc(), Blank::new(1), case, i);
+        assert_case(&rt, rt.alloc(), case, i);
     }
     for (i, case) in several().iter().enumerate() {
-        assert_outcome::<Brand, _>(&rt, rt.alloc(), Blank::new(1), case, 100 + i);
+        assert_case(&rt, rt.alloc(), case, 100 + i);
     }
 }
 
@@ -165,12 +163,12 @@ fn fails_at_write(call: usize) -> Case {
 #[test]
 fn what_fails_loses_nothing_held(rt: HostRuntime) {
     for i in 0..24 {
-        assert_outcome::<Brand, _>(&rt, rt.alloc(), Blank::new(1), &gone(i), i);
+        assert_case(&rt, rt.alloc(), &gone(i), i);
     }
     for i in 0..5 {
-        assert_outcome::<Brand, _>(&rt, rt.alloc(), Blank::new(1), &fails_at_read(i), 100 + i);
+        assert_case(&rt, rt.alloc(), &fails_at_read(i), 100 + i);
     }
     for i in 0..9 {
-        assert_outcome::<Brand, _>(&rt, rt.alloc(), Blank::new(1), &fails_at_write(i), 200 + i);
+        assert_case(&rt, rt.alloc(), &fails_at_write(i), 200 + i);
     }
 }

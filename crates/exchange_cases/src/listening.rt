@@ -1,12 +1,10 @@
 //! Peers that are listened to.
 use crate::letters::*;
-use crate::peers::{Case, Outcome, assert_outcome, outcome, told};
+use crate::peers::{Case, Outcome, assert_case, outcome, told};
 use crate::wire::{Doors, Gateways, READ_BYTES, WRITE_BYTES};
 use link_ends::LinkEnd;
 use peer_exchange::LetterFault;
 use peer_links::Role;
-use std::marker::Brand;
-use std::sync::ledger::Blank;
 use std::test::*;
 
 /// Nothing happened at the site.
@@ -135,10 +133,10 @@ fn ended() -> [Case; 14] {
 #[test]
 fn letters_are_taken(rt: HostRuntime) {
     for (i, case) in taken().iter().enumerate() {
-        assert_outcome::<Brand, _>(&rt, rt.alloc(), Blank::new(1), case, i);
+        assert_case(&rt, rt.alloc(), case, i);
     }
     for (i, case) in ended().iter().enumerate() {
-        assert_outcome::<Brand, _>(&rt, rt.alloc(), Blank::new(1), case, 100 + i);
+        assert_case(&rt, rt.alloc(), case, 100 + i);
     }
 }
 
@@ -186,12 +184,12 @@ fn fails_at_write(call: usize) -> Case {
 #[test]
 fn what_fails_loses_nothing_taken(rt: HostRuntime) {
     for i in 0..50 {
-        assert_outcome::<Brand, _>(&rt, rt.alloc(), Blank::new(1), &gone(i), i);
+        assert_case(&rt, rt.alloc(), &gone(i), i);
     }
     for i in 0..9 {
-        assert_outcome::<Brand, _>(&rt, rt.alloc(), Blank::new(1), &fails_at_read(i), 100 + i);
+        assert_case(&rt, rt.alloc(), &fails_at_read(i), 100 + i);
     }
     for i in 0..7 {
-        assert_outcome::<Brand, _>(&rt, rt.alloc(), Blank::new(1), &fails_at_write(i), 200 + i);
+        assert_case(&rt, rt.alloc(), &fails_at_write(i), 200 + i);
     }
 }

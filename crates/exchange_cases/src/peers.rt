@@ -12,6 +12,7 @@ use peer_links::{Role, exchange_with};
 use site_book::Seat;
 use site_lock::LockedSite;
 use std::alloc::Global;
+use std::marker::Brand;
 use std::process::Abort;
 use std::sync::Wait;
 use std::sync::ledger::{Blank, Ledger};
@@ -87,7 +88,12 @@ pub fn told(
 }
 
 /// What comes of an exchange is what is to come of it.
-pub fn assert_outcome<L: Ledger, R: Threads + Wait + Abort + Sync>(
+pub fn assert_case<R: Threads + Wait + Abort + Sync>(rt: &R, alloc: Global, case: &Case, i: usize) {
+    assert_outcome::<Brand, R>(rt, alloc, Blank::new(1), case, i);
+}
+
+/// The same, by the ledger of a blank.
+fn assert_outcome<L: Ledger, R: Threads + Wait + Abort + Sync>(
     rt: &R,
     alloc: Global,
     blank: Blank,

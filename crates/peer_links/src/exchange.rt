@@ -25,6 +25,33 @@ pub enum Role {
     Listen,
 }
 
+/// Exchanges so many letters.
+fn exchanged<T: Threads + Wait + Sync, L: Ledger, P: Pushes, S: Read + Write + Drop, G: Gate>(
+    rt: &T,
+    alloc: Global,
+    site: &LockedSite<L>,
+    seat: &mut Seat<L>,
+    cursors: &mut Cursors,
+    gateways: &P,
+    role: Role,
+    stream: S,
+    turns: u32,
+    gate: &G,
+) -> Result<(), LinkEnd>
+    ensures { Exchanged seat.old seat.new cursors.old.makers cursors.new.makers }
+{
+    let link = Link {
+        site,
+        gateways,
+        gate,
+    };
+    let mut letters = Letters::start(alloc, site.edition(), stream);
+    match role {
+        Role::Dial => send_letters(rt, &link, seat, cursors, &mut letters, turns),
+        Role::Listen => take_letters(rt, alloc, &link, seat, cursors, &mut letters, turns),
+    }
+}
+
 /// Exchanges letters with a peer, so many in all, and tells how the connection ended: `Closed` after the last.
 ///
 /// Who dials sends all that its site holds first. From then on the sender of the first acknowledgement is its peer: each
@@ -54,17 +81,9 @@ pub fn exchange_with<
 ) -> LinkEnd
     ensures { Exchanged seat.old seat.new cursors.old.makers cursors.new.makers }
 {
-    let link = Link {
-        site,
-        gateways,
-        gate,
-    };
-    let mut letters = Letters::start(alloc, site.edition(), stream);
-    let done = match role {
-        Role::Dial => send_letters(rt, &link, seat, cursors, &mut letters, turns),
-        Role::Listen => take_letters(rt, alloc, &link, seat, cursors, &mut letters, turns),
-    };
-    match done {
+    match exchanged(
+        rt, alloc, site, seat, cursors, gateways, role, stream, turns, gate,
+    ) {
         Ok(()) => LinkEnd::Closed,
         Err(end) => end,
     }
