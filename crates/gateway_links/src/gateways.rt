@@ -1,0 +1,111 @@
+//! The gateways that can be reached.
+use crate::half::Half;
+use crate::observer::{Observer, Unobserved};
+use pcrf_values::DiameterIdentity;
+use ranked::Ranked;
+use std::alloc::{AllocError, Global};
+use std::io::Write;
+use std::sync::{Arc, Mutex, Wait};
+
+/// A host with the half that it is reached by.
+#[derive(Drop)]
+pub(crate) struct Reached<W> {
+    pub(crate) host: DiameterIdentity,
+    pub(crate) half: Arc<Half<W>>,
+}
+
+/// For each host that sent an accepted capabilities exchange the writing half of the connection on which it did so last. Their
+/// lock is held for no write and no call of a site. An observer is told what happens at their connections.
+#[derive(Drop)]
+pub struct Gateways<W, O = Unobserved> {
+    reached: Mutex<Vec<Reached<W>>>,
+    observer: O,
+}
+
+/// Whether a host stands behind that one, if one is given.
+fn is_behind(host: &DiameterIdentity, last: Option<&DiameterIdentity>) -> bool {
+    match last {
+        Some(last) => *host > *last,
+        None => true,
+    }
+}
+
+/// The least host behind that one.
+fn least_behind<'a, W>(
+    reached: &'a [Reached<W>],
+    last: Option<&DiameterIdentity>,
+) -> Option<&'a Reached<W>> {
+    let mut least: Option<&'a Reached<W>> = None;
+    for gateway in reached {
+        if is_behind(&gateway.host, last) {
+            match least {
+                Some(other) if other.host <= gateway.host => {}
+                _ => least = Some(gateway),
+            }
+        }
+    }
+    least
+}
+
+impl<W: Write + Drop> Gateways<W> {
+    /// No gateway can be reached, and nobody is told.
+    pub fn start(alloc: Global) -> Gateways<W> {
+        Gateways::observed(alloc, Unobserved)
+    }
+}
+
+impl<W: Write + Drop, O: Observer> Gateways<W, O> {
+    /// No gateway can be reached. The observer is told what happens.
+    pub fn observed(alloc: Global, observer: O) -> Gateways<W, O> {
+        Gateways {
+            reached: Mutex::new(Vec::new(alloc)),
+            observer,
+        }
+    }
+
+    /// Who is told what happens.
+    pub fn observer(&self) -> &O {
+        &self.observer
+    }
+
+    /// From now on a host is reached by that half, and by no other.
+    pub fn register(
+        &self,
+        rt: &impl Wait,
+        host: DiameterIdentity,
+        half: &Arc<Half<W>>,
+    ) -> Result<(), AllocError> {
+        let half = Arc::try_clone(half)?;
+        let mut reached = self.reached.lock(rt);
+        reached.reserve(1)?;
+        reached.retain(|other: &Reached<W>| other.host != host);
+        reached.push(Reached { host, half })?;
+        Ok(())
+    }
+
+    /// The hosts that were reached by halves which have ended are not reached any more.
+    pub fn take_ended_out(&self, rt: &impl Wait) {
+        let mut reached = self.reached.lock(rt);
+        reached.retain(|gateway: &Reached<W>| !gateway.half.has_ended());
+    }
+
+    /// How many hosts are reached.
+    pub fn count(&self, rt: &impl Wait) -> usize {
+        self.reached.lock(rt).len()
+    }
+
+    /// The least host behind that one, with its half.
+    pub(crate) fn behind(
+        &self,
+        rt: &impl Wait,
+        last: Option<&DiameterIdentity>,
+    ) -> Result<Option<Reached<W>>, AllocError> {
+        let reached = self.reached.lock(rt);
+        let Some(gateway) = least_behind(reached.as_slice(), last) else {
+            return Ok(None);
+        };
+        let half = Arc::try_clone(&gateway.half)?;
+        let host = gateway.host.try_copy()?;
+        Ok(Some(Reached { host, half }))
+    }
+}

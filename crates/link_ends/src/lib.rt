@@ -1,0 +1,11 @@
+//! What every connection of a locked site shares, whoever is at the other end: how it ends, what lets its messages through, and
+//! what a worker is to push after a message.
+#![tactic(auto)]
+
+mod end;
+mod gate;
+mod pushes;
+
+pub use end::LinkEnd;
+pub use gate::Gate;
+pub use pushes::Pushes;

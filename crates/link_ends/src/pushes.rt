@@ -1,0 +1,24 @@
+//! What is to be pushed after a message.
+ghost use Rattle.link_ends.specs.Earlier.{HasEarlier};
+
+use site_book::Seat;
+use site_lock::LockedSite;
+use std::alloc::{AllocError, Global};
+use std::sync::Wait;
+use std::sync::ledger::Ledger;
+use std::thread::Threads;
+
+/// Whoever knows how gateways are reached.
+pub trait Pushes {
+    /// Has the site make every push that is due to a gateway that can be reached, each as a call of the seat, and sends them.
+    /// A history or a clock that is full ends the pushing, and a gateway to which nothing can be written is passed over; want
+    /// of memory alone is an error.
+    fn push_all<R: Threads + Wait + Sync, L: Ledger>(
+        &self,
+        rt: &R,
+        alloc: Global,
+        site: &LockedSite<L>,
+        seat: &mut Seat<L>,
+    ) -> Result<(), AllocError>
+        ensures { HasEarlier seat.old seat.new };
+}

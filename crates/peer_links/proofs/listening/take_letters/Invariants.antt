@@ -1,0 +1,5 @@
+use Rattle.peer_links.specs.Exchanging.{Exchanged}
+use Rattle.peer_links.proofs.listening.take_letters.Given as goal
+
+abbrev pub invariant-loop-message : goal.invariant-loop-message
+invariant-loop-message g l = Exchanged l.fn.seat l.seat l.fn.cursors.makers l.cursors.makers

@@ -1,0 +1,142 @@
+//! The side that sends letters, and reads what is acknowledged.
+ghost use Rattle.std.specs.Prelude.{◌≡◌};
+ghost use Rattle.link_ends.specs.Earlier.{HasEarlier};
+ghost use Rattle.peer_links.specs.Exchanging.{Exchanged};
+
+use crate::letters::Letters;
+use crate::link::Link;
+use link_ends::{Gate, LinkEnd};
+use peer_cursors::{Ack, Cursors};
+use peer_exchange::{Letter, LetterFault};
+use site_book::Seat;
+use site_lock::LockedSite;
+use site_machine::{Event, Reply, StepFault};
+use std::io::{Read, Write};
+use std::sync::Wait;
+use std::sync::ledger::Ledger;
+use std::thread::Threads;
+
+/// What the site is to be asked for a letter, from which position of its log on, and past which length of its log; at once
+/// where none is given.
+#[derive(Drop)]
+struct Question {
+    event: Event,
+    from: u64,
+    past: Option<u64>,
+}
+
+/// The question of the next turn. The peer is who acknowledged first; before, all that the site holds is asked for.
+fn next_question(cursors: &Cursors, first: Option<Ack>) -> Question {
+    let Some(first) = first else {
+        return Question {
+            event: Event::AskWhole,
+            from: 0,
+            past: None,
+        };
+    };
+    let peer = first.sender();
+    let taken = match cursors.peer(peer) {
+        Some(known) => known.taken(),
+        None => 0,
+    };
+    // The whole is asked for where nothing was taken: from 0 on.
+    Question {
+        event: cursors.ask(peer),
+        from: taken,
+        past: Some(taken),
+    }
+}
+
+/// Asks the site.
+fn ask<T: Threads + Wait + Sync, L: Ledger>(
+    rt: &T,
+    site: &LockedSite<L>,
+    seat: &mut Seat<L>,
+    question: &Question,
+) -> Result<Reply, StepFault>
+    ensures { HasEarlier seat.old seat.new }
+{
+    match question.past {
+        None => site.call(rt, seat, &question.event),
+        Some(past) => site.call_grown(rt, seat, &question.event, past),
+    }
+}
+
+/// The letter of the next turn.
+fn next_letter<T: Threads + Wait + Sync, L: Ledger>(
+    rt: &T,
+    site: &LockedSite<L>,
+    seat: &mut Seat<L>,
+    cursors: &Cursors,
+    first: Option<Ack>,
+) -> Result<Letter, LinkEnd>
+    ensures { HasEarlier seat.old seat.new }
+{
+    let question = next_question(cursors, first);
+    let reply = match ask(rt, site, seat, &question) {
+        Ok(reply) => reply,
+        Err(fault) => return Err(LinkEnd::from(fault)),
+    };
+    match cursors.letter_of(site.edition(), question.from, reply) {
+        Some(letter) => Ok(letter),
+        // It is more than a letter carries.
+        None => Err(LinkEnd::Letter(LetterFault::TooLong)),
+    }
+}
+
+/// Reads an acknowledgement, and counts it.
+#[tactic(auto, using(crate::proofs::Following::acked_makers))]
+fn acknowledged<S: Read + Write>(
+    cursors: &mut Cursors,
+    letters: &mut Letters<S>,
+) -> Result<Ack, LinkEnd>
+    ensures { cursors.new.makers ≡ cursors.old.makers }
+{
+    let letter = letters.read()?;
+    let Some(ack) = Ack::carried_by(&letter) else {
+        return Err(LinkEnd::Letter(LetterFault::BadShape));
+    };
+    cursors.acked(&ack);
+    Ok(ack)
+}
+
+/// Sends one letter, and reads its acknowledgement.
+#[tactic(auto, using(crate::proofs::Following::exchanged_earlier, crate::proofs::Following::exchanged_same))]
+fn send_letter<T: Threads + Wait + Sync, L: Ledger, S: Read + Write>(
+    rt: &T,
+    site: &LockedSite<L>,
+    seat: &mut Seat<L>,
+    cursors: &mut Cursors,
+    letters: &mut Letters<S>,
+    first: Option<Ack>,
+) -> Result<Ack, LinkEnd>
+    ensures { Exchanged seat.old seat.new cursors.old.makers cursors.new.makers }
+{
+    let letter = next_letter(rt, site, seat, cursors, first)?;
+    letters.write(&letter)?;
+    acknowledged(cursors, letters)
+}
+
+/// Sends so many letters, each once the one before is acknowledged and the site has grown past what the peer took.
+pub(crate) fn send_letters<T: Threads + Wait + Sync, L: Ledger, P, G: Gate, S: Read + Write>(
+    rt: &T,
+    link: &Link<'_, L, P, G>,
+    seat: &mut Seat<L>,
+    cursors: &mut Cursors,
+    letters: &mut Letters<S>,
+    turns: u32,
+) -> Result<(), LinkEnd>
+    ensures { Exchanged seat.old seat.new cursors.old.makers cursors.new.makers }
+{
+    let connection = seat.number();
+    let mut first: Option<Ack> = None;
+    for message in 0..turns {
+        link.enter(connection, message)?;
+        let ack = send_letter(rt, link.site, seat, cursors, letters, first)?;
+        if first.is_none() {
+            first = Some(ack);
+        }
+        link.leave(connection, message)?;
+    }
+    Ok(())
+}

@@ -1,0 +1,138 @@
+//! The side that takes letters, and acknowledges them.
+ghost use Rattle.std.specs.Prelude.{◌≡◌, true, OnOk, OnErr};
+ghost use Rattle.site_machine.specs.Values.{event_value, reply_value};
+ghost use Rattle.link_ends.specs.Earlier.{HasEarlier};
+ghost use Rattle.peer_links.specs.Exchanging.{Exchanged, GainsWhole, IsWhole};
+ghost use Rattle.peer_links.specs.Headings.{IsOpened};
+
+use crate::heading::Heading;
+use crate::letters::Letters;
+use crate::link::Link;
+use link_ends::{Gate, LinkEnd, Pushes};
+use peer_cursors::{Ack, Cursors};
+use peer_exchange::Letter;
+use site_book::Seat;
+use site_lock::LockedSite;
+use site_machine::{Event, Reply};
+use std::alloc::Global;
+use std::io::{Read, Write};
+use std::sync::Wait;
+use std::sync::ledger::Ledger;
+use std::thread::Threads;
+
+/// Whether the reply says that all of the event was taken.
+fn is_whole(event: &Event, reply: &Reply) -> bool
+    ensures { result ≡ true → IsWhole (event_value event.now) (reply_value reply.now) }
+{
+    match (event, reply) {
+        (Event::Ops(operations), Reply::Taken(count)) => *count == operations.len(),
+        (Event::Whole(_), Reply::Done) => true,
+        _ => false,
+    }
+}
+
+/// Has the site take what a letter brings. What is taken in part stands, for want of memory.
+fn take_whole<T: Threads + Wait + Sync, L: Ledger>(
+    rt: &T,
+    site: &LockedSite<L>,
+    seat: &mut Seat<L>,
+    event: &Event,
+) -> Result<(), LinkEnd>
+    ensures whole { OnOk result (GainsWhole seat.old seat.new (event_value event.now)) }
+    ensures part { OnErr result (HasEarlier seat.old seat.new) }
+{
+    let reply = match site.call(rt, seat, event) {
+        Ok(reply) => reply,
+        Err(fault) => return Err(LinkEnd::from(fault)),
+    };
+    if !is_whole(event, &reply) {
+        return Err(LinkEnd::NoMemory);
+    }
+    Ok(())
+}
+
+/// Takes what a letter brings, counts the letter once it is taken whole, and tells what its sender is to be told.
+#[tactic(auto, using(crate::proofs::Following::exchanged_took, crate::proofs::Following::exchanged_earlier))]
+fn take_brought<T: Threads + Wait + Sync, L: Ledger>(
+    rt: &T,
+    site: &LockedSite<L>,
+    seat: &mut Seat<L>,
+    cursors: &mut Cursors,
+    heading: Heading,
+    event: Event,
+) -> Result<Ack, LinkEnd>
+    requires { IsOpened heading (event_value event) }
+    ensures { Exchanged seat.old seat.new cursors.old.makers cursors.new.makers }
+{
+    take_whole(rt, site, seat, &event)?;
+    let letter = heading.close(event);
+    Ok(cursors.took(&letter))
+}
+
+/// Takes a letter, and tells what its sender is to be told; nothing after an acknowledgement, which is counted.
+#[tactic(auto, using(crate::proofs::Following::exchanged_same, crate::proofs::Following::acked_makers))]
+fn take<T: Threads + Wait + Sync, L: Ledger>(
+    rt: &T,
+    site: &LockedSite<L>,
+    seat: &mut Seat<L>,
+    cursors: &mut Cursors,
+    letter: Letter,
+) -> Result<Option<Ack>, LinkEnd>
+    ensures { Exchanged seat.old seat.new cursors.old.makers cursors.new.makers }
+{
+    if let Some(ack) = Ack::carried_by(&letter) {
+        cursors.acked(&ack);
+        return Ok(None);
+    }
+    let Some((heading, event)) = Heading::open(letter) else {
+        return Ok(None);
+    };
+    let ack = take_brought(rt, site, seat, cursors, heading, event)?;
+    Ok(Some(ack))
+}
+
+/// Reads one letter, takes it, has pushed what is then due, and acknowledges it.
+fn take_letter<T: Threads + Wait + Sync, L: Ledger, P: Pushes, G: Gate, S: Read + Write>(
+    rt: &T,
+    alloc: Global,
+    link: &Link<'_, L, P, G>,
+    seat: &mut Seat<L>,
+    cursors: &mut Cursors,
+    letters: &mut Letters<S>,
+    message: u32,
+) -> Result<(), LinkEnd>
+    ensures { Exchanged seat.old seat.new cursors.old.makers cursors.new.makers }
+{
+    let letter = letters.read()?;
+    link.enter(seat.number(), message)?;
+    let Some(ack) = take(rt, link.site, seat, cursors, letter)? else {
+        return link.leave(seat.number(), message);
+    };
+    link.gateways.push_all(rt, alloc, link.site, seat)?;
+    letters.acknowledge(&ack)?;
+    link.leave(seat.number(), message)
+}
+
+/// Takes so many letters.
+pub(crate) fn take_letters<
+    T: Threads + Wait + Sync,
+    L: Ledger,
+    P: Pushes,
+    G: Gate,
+    S: Read + Write,
+>(
+    rt: &T,
+    alloc: Global,
+    link: &Link<'_, L, P, G>,
+    seat: &mut Seat<L>,
+    cursors: &mut Cursors,
+    letters: &mut Letters<S>,
+    turns: u32,
+) -> Result<(), LinkEnd>
+    ensures { Exchanged seat.old seat.new cursors.old.makers cursors.new.makers }
+{
+    for message in 0..turns {
+        take_letter(rt, alloc, link, seat, cursors, letters, message)?;
+    }
+    Ok(())
+}
