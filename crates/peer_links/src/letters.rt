@@ -31,11 +31,6 @@ impl<S: Read + Write> Letters<S> {
         }
     }
 
-    /// The edition of the operator tables.
-    pub(crate) fn edition(&self) -> u32 {
-        self.edition
-    }
-
     /// The next letter, or how the connection ends where there is none that can be read.
     pub(crate) fn read(&mut self) -> Result<Letter, LinkEnd> {
         let mut piece = [0u8; PIECE_BYTES];
