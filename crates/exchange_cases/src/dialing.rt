@@ -1,6 +1,6 @@
 //! Peers that are dialed.
 use crate::letters::*;
-use crate::peers::{Case, Outcome, assert_case, outcome, told};
+use crate::peers::{Case, Outcome, assert_case, ends, told};
 use crate::wire::{Doors, READ_BYTES, WRITE_BYTES};
 use link_ends::LinkEnd;
 use peer_exchange::LetterFault;
@@ -9,7 +9,7 @@ use std::test::*;
 
 /// The site was asked once.
 fn asked(end: LinkEnd) -> Outcome {
-    outcome(end, 0, 1, 0, 0)
+    ends(end, 0, 1, 0, 0)
 }
 
 /// A peer that answers so to a site that holds nothing.
@@ -28,13 +28,13 @@ fn answered_two(
     Case {
         turns,
         places: b"12",
-        ..told(Role::Dial, said, letters, outcome(end, 0, entries, 2, 2))
+        ..told(Role::Dial, said, letters, ends(end, 0, entries, 2, 2))
     }
 }
 
 /// Exchanges of one letter, or of none.
 fn single() -> [Case; 11] {
-    let unasked = outcome(LinkEnd::Closed, 0, 0, 0, 0);
+    let unasked = ends(LinkEnd::Closed, 0, 0, 0, 0);
     [
         answered(&[TOOK_NONE], LinkEnd::Closed),
         answered(&[], LinkEnd::Closed),

@@ -25,7 +25,7 @@ enum Told {
 }
 
 /// What is told of an event once the site has made more operations than so many.
-fn told<L: Ledger, R: Threads + Wait + Sync>(
+fn told_past<L: Ledger, R: Threads + Wait + Sync>(
     rt: &R,
     site: &LockedSite<L>,
     seat: &mut Seat<L>,
@@ -74,7 +74,7 @@ fn ask<L: Ledger, R: Threads + Wait + Abort + Sync>(
     let both = Told::Own(2, 2);
     let full = Told::Fault(StepFault::HistoryFull);
     for (past, wanted) in [(0, both), (1, both), (0, full), (2, full)] {
-        assert_eq!(rt; told(rt, site, seat, &Event::AskOwn(0), past), wanted);
+        assert_eq!(rt; told_past(rt, site, seat, &Event::AskOwn(0), past), wanted);
     }
 }
 
@@ -118,7 +118,7 @@ fn wait_by_threads<L: Ledger + Send + Sync, R: Threads + Wait + Abort + Sync>(
             if i == 0 {
                 set_up(rt, alloc, site, seat, b"12");
             } else {
-                let told = told(rt, site, seat, &Event::AskOwn(0), 1);
+                let told = told_past(rt, site, seat, &Event::AskOwn(0), 1);
                 assert_eq!(rt; told, Told::Own(2, 2));
             }
         },
@@ -155,9 +155,9 @@ fn push_at_the_end<L: Ledger, R: Threads + Wait + Abort + Sync>(
 ) {
     set_up(rt, alloc, site, seat, b"1");
     let event = take_last(rt, alloc, b'9');
-    let taken = told(rt, site, seat, &event, 0);
+    let taken = told_past(rt, site, seat, &event, 0);
     drop(event);
     assert_eq!(rt; taken, Told::Other);
     let full = Told::Fault(StepFault::ClockFull);
-    assert_eq!(rt; told(rt, site, seat, &Event::Push(None), 0), full);
+    assert_eq!(rt; told_past(rt, site, seat, &Event::Push(None), 0), full);
 }

@@ -1,6 +1,6 @@
 //! Peers that are listened to.
 use crate::letters::*;
-use crate::peers::{Case, Outcome, assert_case, outcome, told};
+use crate::peers::{Case, Outcome, assert_case, ends, told};
 use crate::wire::{Doors, Gateways, READ_BYTES, WRITE_BYTES};
 use link_ends::LinkEnd;
 use peer_exchange::LetterFault;
@@ -9,12 +9,12 @@ use std::test::*;
 
 /// Nothing happened at the site.
 fn unchanged(end: LinkEnd) -> Outcome {
-    outcome(end, 0, 0, 0, 0)
+    ends(end, 0, 0, 0, 0)
 }
 
 /// The first range was taken.
 fn took_one(end: LinkEnd) -> Outcome {
-    outcome(end, 1, 1, 1, 0)
+    ends(end, 1, 1, 1, 0)
 }
 
 /// A peer that says this, and is told that.
@@ -33,7 +33,7 @@ fn refused(said: &'static [&'static str], fault: LetterFault) -> Case {
 
 /// The letters are taken as they should be.
 fn taken() -> [Case; 11] {
-    let took_two = outcome(LinkEnd::Closed, 2, 2, 2, 0);
+    let took_two = ends(LinkEnd::Closed, 2, 2, 2, 0);
     [
         heard(&[RANGE], &[TOOK_ONE], took_one(LinkEnd::Closed)),
         heard(&[RANGE, NEXT], &[TOOK_ONE], took_one(LinkEnd::Closed)),
@@ -51,12 +51,12 @@ fn taken() -> [Case; 11] {
             ..heard(
                 &[RANGE, RANGE],
                 &[TOOK_ONE, TOOK_ONE],
-                outcome(LinkEnd::Closed, 1, 2, 1, 0),
+                ends(LinkEnd::Closed, 1, 2, 1, 0),
             )
         },
         // A range past what was taken is taken, and counts for nothing.
-        heard(&[NEXT], &[TOOK_NONE], outcome(LinkEnd::Closed, 0, 1, 2, 0)),
-        heard(&[ONE], &[TOOK_ONE], outcome(LinkEnd::Closed, 1, 1, 1, 1)),
+        heard(&[NEXT], &[TOOK_NONE], ends(LinkEnd::Closed, 0, 1, 2, 0)),
+        heard(&[ONE], &[TOOK_ONE], ends(LinkEnd::Closed, 1, 1, 1, 1)),
         Case {
             turns: 0,
             ..heard(&[RANGE], &[], unchanged(LinkEnd::Closed))
@@ -116,12 +116,12 @@ fn ended() -> [Case; 14] {
         // What is due is pushed, and only then is the letter acknowledged.
         Case {
             gateways: Gateways::Asked,
-            ..heard(&[RANGE], &[TOOK_ONE], outcome(LinkEnd::Closed, 1, 2, 1, 0))
+            ..heard(&[RANGE], &[TOOK_ONE], ends(LinkEnd::Closed, 1, 2, 1, 0))
         },
         Case {
             gateways: Gateways::Asked,
             writes: 0,
-            ..heard(&[RANGE], &[], outcome(LinkEnd::WriteFailed, 1, 2, 1, 0))
+            ..heard(&[RANGE], &[], ends(LinkEnd::WriteFailed, 1, 2, 1, 0))
         },
         Case {
             gateways: Gateways::Refused,
@@ -151,7 +151,7 @@ fn gone(given: usize) -> Case {
         given: 50 + given,
         turns: 2,
         places: b"1",
-        ..heard(&[RANGE, NEXT], &[TOOK_ONE], outcome(end, 1, 2, 1, 1))
+        ..heard(&[RANGE, NEXT], &[TOOK_ONE], ends(end, 1, 2, 1, 1))
     }
 }
 

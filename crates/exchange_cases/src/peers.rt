@@ -51,7 +51,7 @@ pub struct Outcome {
 }
 
 /// So many operations of site 0 are counted; so many entries settle, with this clock, and so many sessions.
-pub fn outcome(end: LinkEnd, taken: u64, entries: usize, clock: u64, live: usize) -> Outcome {
+pub fn ends(end: LinkEnd, taken: u64, entries: usize, clock: u64, live: usize) -> Outcome {
     Outcome {
         end,
         taken,
