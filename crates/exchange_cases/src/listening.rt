@@ -148,7 +148,7 @@ fn gone(given: usize) -> Case {
         LinkEnd::Cut
     };
     Case {
-        given: 50 + given,
+        given: given.saturating_add(50),
         turns: 2,
         places: b"1",
         ..heard(&[RANGE, NEXT], &[TOOK_ONE], ends(end, 1, 2, 1, 1))
