@@ -86,10 +86,10 @@ pub fn settled<L: Ledger>(rt: &impl Abort, site: LockedSite<L>, seats: Vec<Seat<
 
 /// How many sessions of gateways a site shows.
 fn live(site: &Site) -> usize {
-    let mut count = 0;
+    let mut count = 0usize;
     for (_, record) in site.sessions().all_gx() {
         if record.live() {
-            count += 1;
+            count = count.saturating_add(1);
         }
     }
     count

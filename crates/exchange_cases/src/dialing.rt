@@ -135,7 +135,7 @@ fn gone(given: usize) -> Case {
 
 /// A reader that fails at a call.
 fn fails_at_read(call: usize) -> Case {
-    let end = if call * READ_BYTES < 24 {
+    let end = if call.saturating_mul(READ_BYTES) < 24 {
         LinkEnd::ReadFailed
     } else {
         LinkEnd::Closed
@@ -155,7 +155,7 @@ fn fails_at_write(call: usize) -> Case {
     };
     Case {
         writes: call,
-        written: call * WRITE_BYTES,
+        written: call.saturating_mul(WRITE_BYTES),
         ..answered(&[TOOK_NONE], end)
     }
 }

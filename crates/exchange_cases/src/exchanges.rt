@@ -2,7 +2,7 @@
 ghost use Rattle.std.specs.Prelude.{◌≡◌, ◌≤◌};
 ghost use Rattle.site_book.specs.Limits.{most_entries, most_seats};
 
-use crate::books::{Settlement, opened, set_up, settled};
+use crate::books::{Settlement, opened, seat_at, set_up, settled};
 use crate::sites::new_site;
 use crate::wire::{Gateways, OPEN};
 use link_ends::LinkEnd;
@@ -11,8 +11,6 @@ use peer_links::{Role, exchange_with};
 use site_book::Seat;
 use site_lock::LockedSite;
 use std::alloc::Global;
-use std::io;
-use std::io::{Read, Write};
 use std::marker::Brand;
 use std::net::{Net, SocketAddr, TcpListener, TcpStream};
 use std::process::Abort;
@@ -22,58 +20,38 @@ use std::test::*;
 use std::thread::{Threads, for_each_mut};
 use std::time::Duration;
 
-/// A side of an exchange of so many turns, and what came of it: who dials is site 0, who listens site 1.
+/// A side of an exchange of one letter, and what came of it: who dials is site 0, who listens site 1.
 #[derive(Clone, Copy)]
 struct Side {
     role: Role,
-    turns: u32,
-    /// The sessions that are set up before.
-    places: &'static [u8],
-    /// Those that are set up once the first letter was written.
-    later: &'static [u8],
     came: Option<(LinkEnd, Settlement)>,
 }
 
-/// What settles of so many sessions, each set up by one operation.
-fn with_sessions(entries: usize, sessions: usize) -> Option<(LinkEnd, Settlement)> {
+/// What a site of one session settles with.
+fn with_session(entries: usize) -> Option<(LinkEnd, Settlement)> {
     let settlement = Settlement {
         entries,
-        clock: sessions as u64,
-        live: sessions,
+        clock: 1,
+        live: 1,
     };
     Some((LinkEnd::Closed, settlement))
 }
 
-/// Both sides of an exchange.
-fn sides(turns: u32, later: &'static [u8]) -> [Side; 2] {
-    let listening = Side {
-        role: Role::Listen,
-        turns,
-        places: b"",
-        later: b"",
-        came: None,
-    };
+#[test]
+fn a_letter_brings_a_session(rt: HostRuntime) {
     let dialing = Side {
         role: Role::Dial,
-        places: b"1",
-        later,
-        ..listening
+        came: None,
     };
-    [dialing, listening]
-}
-
-#[test]
-fn letters_bring_sessions(rt: HostRuntime) {
-    let mut single = sides(1, b"");
-    exchange_over_loopback(&rt, rt.alloc(), &mut single);
-    let [dialed, listened] = single;
-    assert_eq!(rt; dialed.came, with_sessions(2, 1));
-    assert_eq!(rt; listened.came, with_sessions(1, 1));
-    let mut growing = sides(2, b"2");
-    exchange_over_loopback(&rt, rt.alloc(), &mut growing);
-    let [dialed, listened] = growing;
-    assert_eq!(rt; dialed.came, with_sessions(4, 2));
-    assert_eq!(rt; listened.came, with_sessions(2, 2));
+    let listening = Side {
+        role: Role::Listen,
+        came: None,
+    };
+    let mut sides = [dialing, listening];
+    exchange_over_loopback(&rt, rt.alloc(), &mut sides);
+    let [dialed, listened] = sides;
+    assert_eq!(rt; dialed.came, with_session(2));
+    assert_eq!(rt; listened.came, with_session(1));
 }
 
 /// The sides exchange letters, each in a thread of its own.
@@ -102,7 +80,7 @@ fn take_part<R: Net<Listener = TcpListener, Stream = TcpStream> + Threads + Wait
     side: &mut Side,
 ) {
     let stream = connected(rt, listener, address, side.role);
-    let came = came::<Brand, _>(rt, alloc, Blank::new(2), side, &stream);
+    let came = came::<Brand, _>(rt, alloc, Blank::new(1), side.role, &stream);
     drop(stream);
     side.came = Some(came);
 }
@@ -128,44 +106,37 @@ fn came<L: Ledger, R: Threads + Wait + Abort + Sync>(
     rt: &R,
     alloc: Global,
     blank: Blank,
-    side: &Side,
+    role: Role,
     stream: &TcpStream,
 ) -> (LinkEnd, Settlement)
     requires name { blank.name ≡ L.name }
     requires parts { blank.parts ≡ L.parts }
-    requires two { blank.parts ≡ 2 }
+    requires one { blank.parts ≡ 1 }
 {
-    let site = match side.role {
+    let site = match role {
         Role::Dial => new_site(rt, alloc, 0, 0),
         Role::Listen => new_site(rt, alloc, 1, 0),
     };
-    let (site, mut seats) = opened::<L>(rt, alloc, blank, 2, 9, site);
-    let end = exchanged(rt, alloc, &site, seats.as_mut_slice(), side, stream);
+    let (site, mut seats) = opened::<L>(rt, alloc, blank, 1, 9, site);
+    let seat = seat_at(rt, seats.as_mut_slice(), 0);
+    let end = exchanged(rt, alloc, &site, seat, role, stream);
     (end, settled(rt, site, seats))
 }
 
-/// How a side's exchange ends. The first seat exchanges; the second has sessions set up.
+/// How a side's exchange ends: who dials has a session set up before.
 fn exchanged<L: Ledger, R: Threads + Wait + Abort + Sync>(
     rt: &R,
     alloc: Global,
     site: &LockedSite<L>,
-    seats: &mut [Seat<L>],
-    side: &Side,
+    seat: &mut Seat<L>,
+    role: Role,
     stream: &TcpStream,
 ) -> LinkEnd {
-    let (seat, others) = seats.split_first_mut().expect(rt, "a seat");
-    let other = others.first_mut().expect(rt, "another seat");
-    set_up(rt, alloc, site, other, side.places);
-    let growing = Growing {
-        rt,
-        alloc,
-        site,
-        seat: other,
-        later: side.later,
-        stream,
-    };
-    let number = match side.role {
-        Role::Dial => 0,
+    let number = match role {
+        Role::Dial => {
+            set_up(rt, alloc, site, seat, b"1");
+            0
+        }
         Role::Listen => 1,
     };
     let mut cursors = Cursors::start(number, 1);
@@ -176,38 +147,9 @@ fn exchanged<L: Ledger, R: Threads + Wait + Abort + Sync>(
         seat,
         &mut cursors,
         &Gateways::Unreached,
-        side.role,
-        growing,
-        side.turns,
+        role,
+        stream,
+        1,
         &OPEN,
     )
-}
-
-/// A stream at which a seat has sessions set up before the first read.
-#[derive(Drop)]
-struct Growing<'a, L: Ledger, R> {
-    rt: &'a R,
-    alloc: Global,
-    site: &'a LockedSite<L>,
-    seat: &'a mut Seat<L>,
-    later: &'static [u8],
-    stream: &'a TcpStream,
-}
-
-impl<L: Ledger, R: Threads + Wait + Abort + Sync> Read for Growing<'_, L, R> {
-    fn read(&mut self, buf: &mut [u8]) -> io::Result<usize> {
-        set_up(self.rt, self.alloc, self.site, self.seat, self.later);
-        self.later = b"";
-        self.stream.read(buf)
-    }
-}
-
-impl<L: Ledger, R> Write for Growing<'_, L, R> {
-    fn write(&mut self, buf: &[u8]) -> io::Result<usize> {
-        self.stream.write(buf)
-    }
-
-    fn flush(&mut self) -> io::Result<()> {
-        self.stream.flush()
-    }
 }

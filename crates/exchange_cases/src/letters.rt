@@ -100,7 +100,7 @@ fn put_bytes(rt: &impl Abort, text: &str, out: &mut Vec<u8>) {
         };
         high = match high {
             Some(high) => {
-                out.push(high * 16 + low).expect(rt, "memory");
+                out.push((high << 4) | low).expect(rt, "memory");
                 None
             }
             None => Some(low),

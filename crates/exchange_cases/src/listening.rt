@@ -148,7 +148,7 @@ fn gone(given: usize) -> Case {
         LinkEnd::Cut
     };
     Case {
-        given: 50 + given,
+        given: given.saturating_add(50),
         turns: 2,
         places: b"1",
         ..heard(&[RANGE, NEXT], &[TOOK_ONE], ends(end, 1, 2, 1, 1))
@@ -159,7 +159,7 @@ fn gone(given: usize) -> Case {
 fn fails_at_read(call: usize) -> Case {
     Case {
         reads: call,
-        ..if call * READ_BYTES < 50 {
+        ..if call.saturating_mul(READ_BYTES) < 50 {
             heard(&[RANGE], &[], unchanged(LinkEnd::ReadFailed))
         } else {
             heard(&[RANGE], &[TOOK_ONE], took_one(LinkEnd::Closed))
@@ -176,7 +176,7 @@ fn fails_at_write(call: usize) -> Case {
     };
     Case {
         writes: call,
-        written: call * WRITE_BYTES,
+        written: call.saturating_mul(WRITE_BYTES),
         ..heard(&[RANGE], &[TOOK_ONE], took_one(end))
     }
 }
