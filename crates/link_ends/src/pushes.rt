@@ -1,4 +1,5 @@
 //! What is to be pushed after a message.
+ghost use Rattle.std.specs.Thread.{IsSync};
 ghost use Rattle.link_ends.specs.Earlier.{HasEarlier};
 
 use site_book::Seat;
@@ -20,5 +21,6 @@ pub trait Pushes {
         site: &LockedSite<L>,
         seat: &mut Seat<L>,
     ) -> Result<(), AllocError>
+        requires { IsSync R.row }
         ensures { HasEarlier seat.old seat.new };
 }

@@ -1,4 +1,5 @@
 //! Readers and writers in memory.
+use crate::gates::Writes;
 use std::io::{self, ErrorKind, Read, Write};
 use std::sync::{Mutex, Wait};
 
@@ -56,16 +57,19 @@ pub struct Written {
 /// Where what is written is kept.
 pub type Place = Mutex<Written>;
 
-/// Keeps what is written.
+/// Keeps what is written to a connection, of which others are told first.
 #[derive(Drop)]
-pub struct Keeping<'a, R> {
+pub struct Keeping<'a, R, G> {
     pub rt: &'a R,
+    pub connection: usize,
     pub place: &'a Place,
     pub failing: Option<usize>,
+    pub told: &'a G,
 }
 
-impl<R: Wait> Write for Keeping<'_, R> {
+impl<R: Wait, G: Writes> Write for Keeping<'_, R, G> {
     fn write(&mut self, buf: &[u8]) -> io::Result<usize> {
+        self.told.writing(self.connection);
         let mut held = self.place.lock(self.rt);
         let written = &mut *held;
         if self

@@ -7,9 +7,17 @@ use std::time::{Clock, Duration};
 /// How often a gate looks again, a millisecond apart.
 const TURNS: u32 = 10_000;
 
+/// Is told of writes.
+pub trait Writes {
+    /// Something is to be written to a connection. The write is made when this has returned.
+    fn writing(&self, _connection: usize) {}
+}
+
 /// Lets everything through.
 #[derive(Drop)]
 pub struct Open;
+
+impl Writes for Open {}
 
 impl Gate for Open {
     fn enter(&self, _connection: usize, _message: u64) -> bool {
@@ -25,6 +33,8 @@ impl Gate for Open {
 #[derive(Drop)]
 pub struct Shut;
 
+impl Writes for Shut {}
+
 impl Gate for Shut {
     fn enter(&self, _connection: usize, _message: u64) -> bool {
         false
@@ -38,6 +48,8 @@ impl Gate for Shut {
 /// Lets every message in, and no connection go on.
 #[derive(Drop)]
 pub struct Leaving;
+
+impl Writes for Leaving {}
 
 impl Gate for Leaving {
     fn enter(&self, _connection: usize, _message: u64) -> bool {
@@ -117,6 +129,8 @@ pub struct InOrder<'a, R> {
     pub orders: Vec<Order>,
 }
 
+impl<R: Clock> Writes for InOrder<'_, R> {}
+
 impl<R: Clock> Gate for InOrder<'_, R> {
     fn enter(&self, connection: usize, message: u64) -> bool {
         for order in self.orders.as_slice() {
@@ -133,6 +147,47 @@ impl<R: Clock> Gate for InOrder<'_, R> {
     fn leave(&self, connection: usize, message: u64) -> bool {
         for order in self.orders.as_slice() {
             order.note_answered((connection, message));
+        }
+        true
+    }
+}
+
+/// Holds the first write to the first connection until a message of the second was answered, which isn't let in before.
+#[derive(Drop)]
+pub struct AtFirstWrite<'a, R> {
+    rt: &'a R,
+    is_writing: AtomicBool,
+    is_answered: AtomicBool,
+}
+
+impl<'a, R: Clock> AtFirstWrite<'a, R> {
+    /// Nothing was written yet.
+    pub fn start(rt: &'a R) -> AtFirstWrite<'a, R> {
+        AtFirstWrite {
+            rt,
+            is_writing: AtomicBool::new(false),
+            is_answered: AtomicBool::new(false),
+        }
+    }
+}
+
+impl<R: Clock> Writes for AtFirstWrite<'_, R> {
+    fn writing(&self, connection: usize) {
+        if connection == 0 {
+            self.is_writing.store(true, Ordering::SeqCst);
+            let _is_answered = comes(self.rt, &self.is_answered);
+        }
+    }
+}
+
+impl<R: Clock> Gate for AtFirstWrite<'_, R> {
+    fn enter(&self, connection: usize, _message: u64) -> bool {
+        connection != 1 || comes(self.rt, &self.is_writing)
+    }
+
+    fn leave(&self, connection: usize, _message: u64) -> bool {
+        if connection == 1 {
+            self.is_answered.store(true, Ordering::SeqCst);
         }
         true
     }

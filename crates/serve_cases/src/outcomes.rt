@@ -4,6 +4,7 @@ ghost use Rattle.site_book.specs.Limits.{most_entries};
 
 use crate::connections::{Input, Keeping, Pieces, Place, Written};
 use crate::frames::put_frames;
+use crate::gates::Writes;
 use crate::notes::{Notes, Told};
 use crate::sites::{Left, new_site, opened, settled};
 use gateway_links::Gateways;
@@ -36,7 +37,7 @@ pub struct Outcome {
 }
 
 /// A connection with its seat.
-type Connection<'a, L, R> = (Seat<L>, Pieces, Keeping<'a, R>);
+type Connection<'a, L, R, G> = (Seat<L>, Pieces, Keeping<'a, R, G>);
 
 /// Room for what is written to so many connections.
 fn places(alloc: Global, count: usize) -> Result<Vec<Place>, AllocError> {
@@ -52,12 +53,13 @@ fn places(alloc: Global, count: usize) -> Result<Vec<Place>, AllocError> {
 }
 
 /// A seat with its connection.
-fn connected<'a, L: Ledger, R: Wait>(
+fn connected<'a, L: Ledger, R: Wait, G: Writes>(
     rt: &'a R,
     seat: Seat<L>,
     input: Input,
     place: &'a Place,
-) -> Connection<'a, L, R> {
+    told: &'a G,
+) -> Connection<'a, L, R, G> {
     let Input {
         pieces,
         failing_read,
@@ -65,23 +67,26 @@ fn connected<'a, L: Ledger, R: Wait>(
     } = input;
     let writer = Keeping {
         rt,
+        connection: seat.number(),
         place,
         failing: failing_write,
+        told,
     };
     (seat, Pieces::of(pieces, failing_read), writer)
 }
 
 /// The seats with their connections.
-fn connect<'a, L: Ledger, R: Wait>(
+fn connect<'a, L: Ledger, R: Wait, G: Writes>(
     rt: &'a R,
     alloc: Global,
     seats: Vec<Seat<L>>,
     inputs: Vec<Input>,
     places: &'a [Place],
-) -> Result<Vec<Connection<'a, L, R>>, AllocError> {
+    told: &'a G,
+) -> Result<Vec<Connection<'a, L, R, G>>, AllocError> {
     let mut connections = Vec::with_capacity(alloc, places.len())?;
     for ((seat, input), place) in seats.into_iter().zip(inputs).zip(places) {
-        connections.push(connected(rt, seat, input, place))?;
+        connections.push(connected(rt, seat, input, place, told))?;
     }
     Ok(connections)
 }
@@ -101,12 +106,12 @@ fn parted<L: Ledger>(
 }
 
 /// Serves connections to their ends.
-fn serve_all<'a, L: Ledger + Send + Sync, R: Threads + Wait + Sync, G: Gate + Sync>(
+fn serve_all<'a, L: Ledger + Send + Sync, R: Threads + Wait + Sync, G: Gate + Writes + Sync>(
     rt: &R,
     alloc: Global,
     site: &LockedSite<L>,
-    connections: Vec<Connection<'a, L, R>>,
-    gateways: &Gateways<Keeping<'a, R>, Notes<'a, R>>,
+    connections: Vec<Connection<'a, L, R, G>>,
+    gateways: &Gateways<Keeping<'a, R, G>, Notes<'a, R>>,
     gate: &G,
 ) -> Result<(Vec<Seat<L>>, Vec<LinkEnd>), AllocError> {
     match serve_sessions(rt, alloc, site, connections, gateways, gate) {
@@ -127,16 +132,16 @@ struct Ended {
 }
 
 /// Serves inputs to their ends, and gives the seats back.
-fn serve_inputs<'a, L: Ledger + Send + Sync, R: Threads + Wait + Sync, G: Gate + Sync>(
+fn serve_inputs<'a, L: Ledger + Send + Sync, R: Threads + Wait + Sync, G: Gate + Writes + Sync>(
     rt: &'a R,
     alloc: Global,
     site: &LockedSite<L>,
     seats: Vec<Seat<L>>,
     inputs: Vec<Input>,
     places: &'a [Place],
-    gate: &G,
+    gate: &'a G,
 ) -> Result<(Vec<Seat<L>>, Ended), AllocError> {
-    let connections = connect(rt, alloc, seats, inputs, places)?;
+    let connections = connect(rt, alloc, seats, inputs, places, gate)?;
     let gateways = Gateways::observed(alloc, Notes::start(rt, alloc));
     let (seats, ends) = serve_all(rt, alloc, site, connections, &gateways, gate)?;
     let told = gateways.observer().told()?;
@@ -164,7 +169,7 @@ fn served_of(
 }
 
 /// Serves three connections at a site whose history has room for so many entries.
-pub fn serve<L: Ledger + Send + Sync, R: Threads + Wait + Abort + Sync, G: Gate + Sync>(
+pub fn serve<L: Ledger + Send + Sync, R: Threads + Wait + Abort + Sync, G: Gate + Writes + Sync>(
     rt: &R,
     alloc: Global,
     blank: Blank,

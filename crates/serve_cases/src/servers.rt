@@ -2,7 +2,7 @@
 ghost use Rattle.std.specs.Prelude.{◌≡◌};
 
 use crate::connections::Input;
-use crate::gates::{InOrder, Leaving, Order, Place, Shut};
+use crate::gates::{AtFirstWrite, InOrder, Leaving, Order, Place, Shut, Writes};
 use crate::messages::{Sent, bytes_of};
 use crate::outcomes::{Outcome, serve};
 use link_ends::Gate;
@@ -105,7 +105,7 @@ fn in_order<'a, R: Clock>(
 }
 
 /// What comes of a case, in words.
-fn text_of<R: Threads + Wait + Abort + Sync, G: Gate + Sync>(
+fn text_of<R: Threads + Wait + Abort + Sync, G: Gate + Writes + Sync>(
     rt: &R,
     alloc: Global,
     case: Case,
@@ -361,5 +361,18 @@ fn a_gate_that_lets_nothing_go_on_ends_a_connection(rt: HostRuntime) {
     let outcome = "Gate 1: 280=2001\nClosed 0:\nClosed 0:\n1 entries, 1 told, clock 0, 0 reached\n";
     let shut = plain([WATCHED, QUIET, QUIET], outcome);
     let text = text_of(&rt, rt.alloc(), shut, &Leaving);
+    assert_eq!(rt; text.as_str(), outcome);
+}
+
+/// A gateway makes itself known, and nothing else.
+const EXCHANGED: Sends = &[&[Sent::Exchange(GX)]];
+
+#[test]
+fn a_gateway_is_reached_before_it_has_its_answer(rt: HostRuntime) {
+    // Each of the two requests makes an entry, and each a push behind it.
+    let outcome = "Closed 1: 257=2001\nClosed 1: 280=2001\nClosed 0:\n\
+        4 entries, 4 told, clock 0, 0 reached\ngw r 2001\n";
+    let known = plain([EXCHANGED, WATCHED, QUIET], outcome);
+    let text = text_of(&rt, rt.alloc(), known, &AtFirstWrite::start(&rt));
     assert_eq!(rt; text.as_str(), outcome);
 }
