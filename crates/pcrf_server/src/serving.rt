@@ -176,14 +176,14 @@ fn serve_all<
 }
 
 /// Serves at a locked site until every connection has ended, and gives all seats back.
-fn serve_at<T: Threads + Wait + Sync, L: Ledger + Send + Sync, G: Log + Sync>(
-    rt: &T,
+fn serve_at<'x, T: Threads + Wait + Sync, L: Ledger + Send + Sync, G: Log + Sync>(
+    rt: &'x T,
     alloc: Global,
-    site: &LockedSite<L>,
+    site: &'x LockedSite<L>,
     seats: Vec<Seat<L>>,
     settings: &Settings<'_>,
-    sockets: &Sockets,
-    log: &G,
+    sockets: &'x Sockets,
+    log: &'x G,
 ) -> Result<Vec<Seat<L>>, AllocError> {
     let places = places(alloc, settings.plan.connections)?;
     let gateways = Gateways::observed(alloc, Journal::of(log, HISTORY_LIMIT));
