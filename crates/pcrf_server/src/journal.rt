@@ -137,7 +137,7 @@ fn tell_ended<G: Log>(log: &G, connection: usize, end: LinkEnd) {
 
 /// A letter with so many operations goes to a peer site.
 pub fn tell_sending<G: Log>(log: &G, operations: u32, peer: SocketAddr) {
-    info!(log; target: TARGET, "peer site {peer} is told {operations} operations");
+    info!(log; target: TARGET, "peer site {peer} is told {operations} of the site's operations");
 }
 
 /// A letter with all that the site holds goes to a peer site.

@@ -29,22 +29,22 @@ use std::time::Clock;
 /// How many entries the history of a server has room for.
 const HISTORY_LIMIT: usize = 1_000_000;
 
-/// A connection with its seat.
-type Connection<'a, L, G> = (Seat<L>, Reading<'a, G>, Writing<'a>);
+/// A connection with its seat. It stands at a place that lives for `'a`; the server's sockets and log live for `'x`.
+type Connection<'x, 'a, L, G> = (Seat<L>, Reading<'x, 'a, G>, Writing<'a>);
 
 /// What the exchanges of a server share, with the gateways that are pushed to.
-type Shared<'s, 'p, L, G> = Exchanges<'s, L, Gateways<Writing<'p>, Journal<'p, G>>, G>;
+type Shared<'x, 'g, 'a, L, G> = Exchanges<'x, 'g, L, Gateways<Writing<'a>, Journal<'x, G>>, G>;
 
 /// What the workers of a server begin with, and room for what they give back.
 #[derive(Drop)]
-struct Work<'a, L: Ledger, G> {
-    connections: Vec<Connection<'a, L, G>>,
-    exchanges: Vec<Exchange<'a, L>>,
+struct Work<'x, 'a, L: Ledger, G> {
+    connections: Vec<Connection<'x, 'a, L, G>>,
+    exchanges: Vec<Exchange<'x, L>>,
     begun: Vec<Begun<L>>,
     back: Vec<Seat<L>>,
 }
 
-impl<'a, L: Ledger, G: Log> Work<'a, L, G> {
+impl<'x, 'a, L: Ledger, G: Log> Work<'x, 'a, L, G> {
     /// Nothing yet, with room for what begins.
     fn room(alloc: Global, connections: usize, exchanges: usize) -> Result<Self, AllocError> {
         Ok(Work {
@@ -67,8 +67,8 @@ impl<'a, L: Ledger, G: Log> Work<'a, L, G> {
         &mut self,
         seat: Seat<L>,
         places: &'a [Accepted],
-        sockets: &'a Sockets,
-        log: &'a G,
+        sockets: &'x Sockets,
+        log: &'x G,
     ) -> Result<(), AllocError> {
         let number = seat.number();
         if let Some(place) = places.get(number) {
@@ -87,13 +87,13 @@ impl<'a, L: Ledger, G: Log> Work<'a, L, G> {
 }
 
 /// Each seat with its connection, and all room that is needed.
-fn assigned<'a, L: Ledger, G: Log>(
+fn assigned<'x, 'a, L: Ledger, G: Log>(
     alloc: Global,
     seats: Vec<Seat<L>>,
     places: &'a [Accepted],
-    sockets: &'a Sockets,
-    log: &'a G,
-) -> Result<Work<'a, L, G>, AllocError> {
+    sockets: &'x Sockets,
+    log: &'x G,
+) -> Result<Work<'x, 'a, L, G>, AllocError> {
     let mut work = Work::room(alloc, places.len(), seats.len())?;
     for seat in seats {
         work.assign(seat, places, sockets, log)?;
@@ -105,16 +105,18 @@ fn assigned<'a, L: Ledger, G: Log>(
 /// Begins each exchange.
 fn begin_all<
     's,
-    'p: 's,
+    'x: 's,
+    'g: 's,
+    'a: 'g,
     E,
     T: Threads + Wait + Sync,
-    L: Ledger + Send + Sync + 's,
-    G: Log + Sync + 'p,
+    L: Ledger + Send + Sync + 'x,
+    G: Log + Sync + 'x,
 >(
     rt: &'s T,
     scope: &Scope<'s, E>,
-    all: &'s Shared<'s, 'p, L, G>,
-    exchanges: Vec<Exchange<'s, L>>,
+    all: &'s Shared<'x, 'g, 'a, L, G>,
+    exchanges: Vec<Exchange<'x, L>>,
     mut begun: Vec<Begun<L>>,
 ) -> Result<Vec<Begun<L>>, AllocError> {
     for exchange in exchanges {
@@ -149,16 +151,18 @@ fn seats_of<L: Ledger>(
 /// Serves every connection while letters are exchanged, and gives all seats back.
 fn serve_all<
     's,
-    'p: 's,
+    'x: 's,
+    'g: 's,
+    'a: 'g,
     E,
     T: Threads + Wait + Sync,
-    L: Ledger + Send + Sync + 's,
-    G: Log + Sync + 'p,
+    L: Ledger + Send + Sync + 'x,
+    G: Log + Sync + 'x,
 >(
     rt: &'s T,
     scope: &Scope<'s, E>,
-    all: &'s Shared<'s, 'p, L, G>,
-    work: Work<'p, L, G>,
+    all: &'s Shared<'x, 'g, 'a, L, G>,
+    work: Work<'x, 'a, L, G>,
 ) -> Result<Vec<Seat<L>>, AllocError> {
     let Work {
         connections,
@@ -175,33 +179,46 @@ fn serve_all<
     }
 }
 
-/// Serves at a locked site until every connection has ended, and gives all seats back.
-fn serve_at<T: Threads + Wait + Sync, L: Ledger + Send + Sync, G: Log + Sync>(
+/// Starts all workers of a server, and gives all seats back when they have ended.
+fn serve_work<'x, 'g, 'a: 'g, T: Threads + Wait + Sync, L: Ledger + Send + Sync, G: Log + Sync>(
     rt: &T,
     alloc: Global,
-    site: &LockedSite<L>,
-    seats: Vec<Seat<L>>,
+    site: &'x LockedSite<L>,
+    gateways: &'g Gateways<Writing<'a>, Journal<'x, G>>,
+    work: Work<'x, 'a, L, G>,
     settings: &Settings<'_>,
-    sockets: &Sockets,
-    log: &G,
+    log: &'x G,
 ) -> Result<Vec<Seat<L>>, AllocError> {
-    let places = places(alloc, settings.plan.connections)?;
-    let gateways = Gateways::observed(alloc, Journal::of(log, HISTORY_LIMIT));
     let all = Exchanges {
         alloc,
         site,
-        gateways: &gateways,
+        gateways,
         place: settings.place,
         turns: settings.turns,
         log,
     };
-    let work = assigned(alloc, seats, places.as_slice(), sockets, log)?;
     let shared = &all;
     thread::scope(
         thread::scope_env(),
         rt,
         move |scope| serve_all(rt, scope, shared, work),
     )
+}
+
+/// Serves at a locked site until every connection has ended, and gives all seats back.
+fn serve_at<'x, T: Threads + Wait + Sync, L: Ledger + Send + Sync, G: Log + Sync>(
+    rt: &T,
+    alloc: Global,
+    site: &'x LockedSite<L>,
+    seats: Vec<Seat<L>>,
+    settings: &Settings<'_>,
+    sockets: &'x Sockets,
+    log: &'x G,
+) -> Result<Vec<Seat<L>>, AllocError> {
+    let places = places(alloc, settings.plan.connections)?;
+    let gateways = Gateways::observed(alloc, Journal::of(log, HISTORY_LIMIT));
+    let work = assigned(alloc, seats, places.as_slice(), sockets, log)?;
+    serve_work(rt, alloc, site, &gateways, work, settings, log)
 }
 
 /// Settles the history, and tells how many entries it has.

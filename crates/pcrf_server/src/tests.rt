@@ -120,7 +120,7 @@ fn what_happens_at_sockets_is_told(rt: HostRuntime) {
             "[INFO  pcrf] connection 0 from 192.0.2.1:5",
             "[INFO  pcrf] peer site 192.0.2.1:3 is told all that the site holds",
             "[INFO  pcrf] letter 0 to peer site 192.0.2.1:3 was acknowledged",
-            "[INFO  pcrf] peer site 192.0.2.1:3 is told 7 operations",
+            "[INFO  pcrf] peer site 192.0.2.1:3 is told 7 of the site's operations",
             "[INFO  pcrf] letter 1 of peer site 192.0.2.1:4 was taken",
             "[INFO  pcrf] letters to peer site 192.0.2.1:3 ended: a write failed",
             "[INFO  pcrf] letters of peer site 192.0.2.1:4 ended: a letter had a fault: the letter is of another edition of the operator tables",
