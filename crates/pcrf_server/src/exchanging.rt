@@ -116,7 +116,7 @@ pub enum Begun<L: Ledger> {
 /// Begins an exchange. One that can't be started finds no connection.
 pub fn begin<
     's,
-    'x: 's,
+    'x: 'g,
     'g: 's,
     E,
     T: Threads + Wait + Sync,

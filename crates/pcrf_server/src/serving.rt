@@ -105,7 +105,7 @@ fn assigned<'x, 'a, L: Ledger, G: Log>(
 /// Begins each exchange.
 fn begin_all<
     's,
-    'x: 's,
+    'x: 'g,
     'g: 's,
     'a: 'g,
     E,
@@ -151,7 +151,7 @@ fn seats_of<L: Ledger>(
 /// Serves every connection while letters are exchanged, and gives all seats back.
 fn serve_all<
     's,
-    'x: 's,
+    'x: 'g,
     'g: 's,
     'a: 'g,
     E,
@@ -180,7 +180,7 @@ fn serve_all<
 }
 
 /// Starts all workers of a server, and gives all seats back when they have ended.
-fn serve_work<'x, 'g, 'a: 'g, T: Threads + Wait + Sync, L: Ledger + Send + Sync, G: Log + Sync>(
+fn serve_work<'x: 'g, 'g, 'a: 'g, T: Threads + Wait + Sync, L: Ledger + Send + Sync, G: Log + Sync>(
     rt: &T,
     alloc: Global,
     site: &'x LockedSite<L>,
