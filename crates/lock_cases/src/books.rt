@@ -271,7 +271,11 @@ fn clock_at_its_end_pushes_nothing(rt: HostRuntime) {
 }
 
 /// A rule is due to a gateway, and then the clock is at its end: the push is refused, and the site settles.
-fn clock_at_its_end<L: Ledger, R: Threads + Wait + Abort + Sync>(rt: &R, alloc: Global, blank: Blank)
+fn clock_at_its_end<L: Ledger, R: Threads + Wait + Abort + Sync>(
+    rt: &R,
+    alloc: Global,
+    blank: Blank,
+)
     requires name { blank.name ≡ L.name }
     requires parts { blank.parts ≡ L.parts }
     requires one { blank.parts ≡ 1 }

@@ -3,7 +3,7 @@ ghost use Rattle.std.specs.Prelude.{◌≡◌};
 
 use crate::making::state_of;
 use crate::renewing::{RULES, count_kept, new_site};
-use site_book::{Seat};
+use site_book::Seat;
 use site_join::State;
 use site_lock::LockedSite;
 use site_machine::{Event, Reply};
@@ -67,7 +67,8 @@ fn taken_whole<L: Ledger, R: Threads + Wait + Abort + Sync>(rt: &R, alloc: Globa
     requires parts { blank.parts ≡ L.parts }
     requires one { blank.parts ≡ 1 }
 {
-    let Ok((site, mut seats)) = LockedSite::<L>::start(alloc, blank, new_site(rt, alloc), 1, 4) else {
+    let Ok((site, mut seats)) = LockedSite::<L>::start(alloc, blank, new_site(rt, alloc), 1, 4)
+    else {
         rt.abort()
     };
     let state = state_of(rt, alloc, MANY);

@@ -79,11 +79,26 @@ fn access_point(rt: &impl Abort, alloc: Global) -> Apn {
 fn gateway_facts(rt: &impl Abort, alloc: Global, number: u16, at: Tag) -> Vec<GxFact> {
     let mut facts = Vec::new(alloc);
     put(rt, &mut facts, at, SessionValue::Address(address(number)));
-    put(rt, &mut facts, at, SessionValue::Apn(access_point(rt, alloc)));
+    put(
+        rt,
+        &mut facts,
+        at,
+        SessionValue::Apn(access_point(rt, alloc)),
+    );
     let given = SessionValue::Subscribers(subscribers(rt, alloc));
     put(rt, &mut facts, at, given);
-    put(rt, &mut facts, at, SessionValue::Host(text(rt, alloc, "gw")));
-    put(rt, &mut facts, at, SessionValue::Realm(text(rt, alloc, "r")));
+    put(
+        rt,
+        &mut facts,
+        at,
+        SessionValue::Host(text(rt, alloc, "gw")),
+    );
+    put(
+        rt,
+        &mut facts,
+        at,
+        SessionValue::Realm(text(rt, alloc, "r")),
+    );
     let last = BoundedNumber::of(1).expect(rt, "1");
     put(rt, &mut facts, at, SessionValue::Last(last));
     facts

@@ -95,7 +95,10 @@ fn same_gateway(ours: &SessionSeen<GxSeen>, theirs: &SessionSeen<GxSeen>) -> boo
 /// The same is seen of two calls: what they are bound to.
 fn same_call(ours: &SessionSeen<AfSeen>, theirs: &SessionSeen<AfSeen>) -> bool {
     match (ours, theirs) {
-        (SessionSeen::Live(ours), SessionSeen::Live(theirs)) => match (&ours.binding, &theirs.binding) {
+        (SessionSeen::Live(ours), SessionSeen::Live(theirs)) => match (
+            &ours.binding,
+            &theirs.binding,
+        ) {
             (Some(ours), Some(theirs)) => ours.cmp(theirs).is_eq(),
             (None, None) => true,
             _ => false,
@@ -121,7 +124,9 @@ fn same_value(ours: &OperatorValue, theirs: &OperatorValue) -> bool {
 /// Ends a session of which a list is kept.
 fn end_one(rt: &impl Abort, alloc: Global, site: &mut Site, number: u16, counter: u64) {
     let mut operations: Vec<Operation> = Vec::new(alloc);
-    operations.push(end(rt, alloc, number, counter)).expect(rt, "memory");
+    operations
+        .push(end(rt, alloc, number, counter))
+        .expect(rt, "memory");
     let taken = site.take_all(operations.as_slice()).is_ok();
     drop(operations);
     assert!(rt; taken);

@@ -226,7 +226,9 @@ fn measure_with<R: AllocGlobal + Clock + Print + Threads + Wait + Sync>(
     }
     let bare = time_bare(rt, events)?;
     let rounds = ROUNDS / threads as u32;
-    let count = rounds.saturating_mul(threads as u32).saturating_mul(SESSIONS);
+    let count = rounds
+        .saturating_mul(threads as u32)
+        .saturating_mul(SESSIONS);
     let blank = Blank::new(threads as u64);
     let times = time_locked::<Brand, _>(rt, blank, threads, events, rounds, count)?;
     let steps = ROUNDS.saturating_mul(SESSIONS);

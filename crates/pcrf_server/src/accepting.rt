@@ -21,15 +21,15 @@ pub fn places(alloc: Global, count: usize) -> Result<Vec<Accepted>, AllocError> 
 
 /// The reading half of a connection, which accepts it at its first read.
 #[derive(Drop)]
-pub struct Reading<'x, 'a, G> {
-    pub(crate) listener: &'x TcpListener,
+pub struct Reading<'a, G> {
+    pub(crate) listener: &'a TcpListener,
     pub(crate) place: &'a Accepted,
     /// The number of its seat.
     pub(crate) number: usize,
-    pub(crate) log: &'x G,
+    pub(crate) log: &'a G,
 }
 
-impl<'a, G: Log> Reading<'_, 'a, G> {
+impl<'a, G: Log> Reading<'a, G> {
     /// Accepts the connection.
     fn accept(&self) -> io::Result<()> {
         let (stream, peer) = self.listener.accept()?;
@@ -51,7 +51,7 @@ impl<'a, G: Log> Reading<'_, 'a, G> {
     }
 }
 
-impl<G: Log> Read for Reading<'_, '_, G> {
+impl<G: Log> Read for Reading<'_, G> {
     fn read(&mut self, buf: &mut [u8]) -> io::Result<usize> {
         let mut stream = self.stream()?;
         stream.read(buf)

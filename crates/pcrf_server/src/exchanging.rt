@@ -16,20 +16,20 @@ use std::thread::{JoinHandle, Scope, Threads};
 
 /// What all exchanges of a server share.
 #[derive(Drop)]
-pub struct Exchanges<'x, 'g, L: Ledger, P, G> {
+pub struct Exchanges<'a, L: Ledger, P, G> {
     pub alloc: Global,
-    pub site: &'x LockedSite<L>,
-    pub gateways: &'g P,
+    pub site: &'a LockedSite<L>,
+    pub gateways: &'a P,
     pub place: SiteEpoch,
     pub turns: u32,
-    pub log: &'x G,
+    pub log: &'a G,
 }
 
 /// An exchange that is to be made.
 #[derive(Drop)]
-pub struct Exchange<'x, L: Ledger> {
+pub struct Exchange<'a, L: Ledger> {
     pub seat: Seat<L>,
-    pub link: &'x PeerLink,
+    pub link: &'a PeerLink,
 }
 
 /// Lets every letter through, and tells of each that was acknowledged.
@@ -65,7 +65,7 @@ fn tell_end<G: Log>(log: &G, link: &PeerLink, end: LinkEnd) {
 /// worker.
 fn exchange_letters<T: Threads + Wait + Sync, L: Ledger, P: Pushes, G: Log>(
     rt: &T,
-    all: &Exchanges<'_, '_, L, P, G>,
+    all: &Exchanges<'_, L, P, G>,
     seat: &mut Seat<L>,
     link: &PeerLink,
 ) -> LinkEnd {
@@ -97,7 +97,7 @@ fn exchange_letters<T: Threads + Wait + Sync, L: Ledger, P: Pushes, G: Log>(
 /// Makes an exchange, and gives its seat back.
 fn make<T: Threads + Wait + Sync, L: Ledger, P: Pushes, G: Log>(
     rt: &T,
-    all: &Exchanges<'_, '_, L, P, G>,
+    all: &Exchanges<'_, L, P, G>,
     exchange: Exchange<'_, L>,
 ) -> Seat<L> {
     let Exchange { mut seat, link } = exchange;
@@ -116,18 +116,16 @@ pub enum Begun<L: Ledger> {
 /// Begins an exchange. One that can't be started finds no connection.
 pub fn begin<
     's,
-    'x: 'g,
-    'g: 's,
     E,
     T: Threads + Wait + Sync,
-    L: Ledger + Send + Sync + 'x,
-    P: Pushes + Sync + 'g,
-    G: Log + Sync + 'x,
+    L: Ledger + Send + Sync + 's,
+    P: Pushes + Sync + 's,
+    G: Log + Sync + 's,
 >(
     rt: &'s T,
     scope: &Scope<'s, E>,
-    all: &'s Exchanges<'x, 'g, L, P, G>,
-    exchange: Exchange<'x, L>,
+    all: &'s Exchanges<'s, L, P, G>,
+    exchange: Exchange<'s, L>,
 ) -> Begun<L> {
     let link = exchange.link;
     match scope.spawn(move || make(rt, all, exchange)) {

@@ -10,8 +10,8 @@ use crate::open::Open;
 use crate::settings::Settings;
 use crate::sockets::{Sockets, open_sockets};
 use dia_base::Identity;
-use gateway_links::Gateways;
-use link_ends::LinkEnd;
+use gateway_links::{Gateways, Observer};
+use link_ends::{LinkEnd, Pushes};
 use log::Log;
 use op_tables::Tables;
 use pcrf_serve::serve_sessions;
@@ -19,6 +19,7 @@ use site_book::Seat;
 use site_lock::LockedSite;
 use site_machine::Site;
 use std::alloc::{AllocError, Global};
+use std::io::{Read, Write};
 use std::marker::Brand;
 use std::net::{Net, TcpListener, TcpStream};
 use std::sync::Wait;
@@ -29,22 +30,16 @@ use std::time::Clock;
 /// How many entries the history of a server has room for.
 const HISTORY_LIMIT: usize = 1_000_000;
 
-/// A connection with its seat. It stands at a place that lives for `'a`; the server's sockets and log live for `'x`.
-type Connection<'x, 'a, L, G> = (Seat<L>, Reading<'x, 'a, G>, Writing<'a>);
-
-/// What the exchanges of a server share, with the gateways that are pushed to.
-type Shared<'x, 'g, 'a, L, G> = Exchanges<'x, 'g, L, Gateways<Writing<'a>, Journal<'x, G>>, G>;
-
 /// What the workers of a server begin with, and room for what they give back.
 #[derive(Drop)]
-struct Work<'x, 'a, L: Ledger, G> {
-    connections: Vec<Connection<'x, 'a, L, G>>,
-    exchanges: Vec<Exchange<'x, L>>,
+struct Work<'a, L: Ledger, R, W> {
+    connections: Vec<(Seat<L>, R, W)>,
+    exchanges: Vec<Exchange<'a, L>>,
     begun: Vec<Begun<L>>,
     back: Vec<Seat<L>>,
 }
 
-impl<'x, 'a, L: Ledger, G: Log> Work<'x, 'a, L, G> {
+impl<'a, L: Ledger, G: Log> Work<'a, L, Reading<'a, G>, Writing<'a>> {
     /// Nothing yet, with room for what begins.
     fn room(alloc: Global, connections: usize, exchanges: usize) -> Result<Self, AllocError> {
         Ok(Work {
@@ -67,8 +62,8 @@ impl<'x, 'a, L: Ledger, G: Log> Work<'x, 'a, L, G> {
         &mut self,
         seat: Seat<L>,
         places: &'a [Accepted],
-        sockets: &'x Sockets,
-        log: &'x G,
+        sockets: &'a Sockets,
+        log: &'a G,
     ) -> Result<(), AllocError> {
         let number = seat.number();
         if let Some(place) = places.get(number) {
@@ -87,13 +82,13 @@ impl<'x, 'a, L: Ledger, G: Log> Work<'x, 'a, L, G> {
 }
 
 /// Each seat with its connection, and all room that is needed.
-fn assigned<'x, 'a, L: Ledger, G: Log>(
+fn assigned<'a, L: Ledger, G: Log>(
     alloc: Global,
     seats: Vec<Seat<L>>,
     places: &'a [Accepted],
-    sockets: &'x Sockets,
-    log: &'x G,
-) -> Result<Work<'x, 'a, L, G>, AllocError> {
+    sockets: &'a Sockets,
+    log: &'a G,
+) -> Result<Work<'a, L, Reading<'a, G>, Writing<'a>>, AllocError> {
     let mut work = Work::room(alloc, places.len(), seats.len())?;
     for seat in seats {
         work.assign(seat, places, sockets, log)?;
@@ -105,18 +100,16 @@ fn assigned<'x, 'a, L: Ledger, G: Log>(
 /// Begins each exchange.
 fn begin_all<
     's,
-    'x: 'g,
-    'g: 's,
-    'a: 'g,
     E,
     T: Threads + Wait + Sync,
-    L: Ledger + Send + Sync + 'x,
-    G: Log + Sync + 'x,
+    L: Ledger + Send + Sync + 's,
+    P: Pushes + Sync + 's,
+    G: Log + Sync + 's,
 >(
     rt: &'s T,
     scope: &Scope<'s, E>,
-    all: &'s Shared<'x, 'g, 'a, L, G>,
-    exchanges: Vec<Exchange<'x, L>>,
+    all: &'s Exchanges<'s, L, P, G>,
+    exchanges: Vec<Exchange<'s, L>>,
     mut begun: Vec<Begun<L>>,
 ) -> Result<Vec<Begun<L>>, AllocError> {
     for exchange in exchanges {
@@ -151,18 +144,18 @@ fn seats_of<L: Ledger>(
 /// Serves every connection while letters are exchanged, and gives all seats back.
 fn serve_all<
     's,
-    'x: 'g,
-    'g: 's,
-    'a: 'g,
     E,
     T: Threads + Wait + Sync,
-    L: Ledger + Send + Sync + 'x,
-    G: Log + Sync + 'x,
+    L: Ledger + Send + Sync + 's,
+    R: Read + Send + Drop,
+    W: Write + Send + Drop + 's,
+    O: Observer + Sync + 's,
+    G: Log + Sync + 's,
 >(
     rt: &'s T,
     scope: &Scope<'s, E>,
-    all: &'s Shared<'x, 'g, 'a, L, G>,
-    work: Work<'x, 'a, L, G>,
+    all: &'s Exchanges<'s, L, Gateways<W, O>, G>,
+    work: Work<'s, L, R, W>,
 ) -> Result<Vec<Seat<L>>, AllocError> {
     let Work {
         connections,
@@ -180,14 +173,21 @@ fn serve_all<
 }
 
 /// Starts all workers of a server, and gives all seats back when they have ended.
-fn serve_work<'x: 'g, 'g, 'a: 'g, T: Threads + Wait + Sync, L: Ledger + Send + Sync, G: Log + Sync>(
+fn serve_work<
+    T: Threads + Wait + Sync,
+    L: Ledger + Send + Sync,
+    R: Read + Send + Drop,
+    W: Write + Send + Drop,
+    O: Observer + Sync,
+    G: Log + Sync,
+>(
     rt: &T,
     alloc: Global,
-    site: &'x LockedSite<L>,
-    gateways: &'g Gateways<Writing<'a>, Journal<'x, G>>,
-    work: Work<'x, 'a, L, G>,
+    site: &LockedSite<L>,
+    gateways: &Gateways<W, O>,
+    work: Work<'_, L, R, W>,
     settings: &Settings<'_>,
-    log: &'x G,
+    log: &G,
 ) -> Result<Vec<Seat<L>>, AllocError> {
     let all = Exchanges {
         alloc,
@@ -206,18 +206,18 @@ fn serve_work<'x: 'g, 'g, 'a: 'g, T: Threads + Wait + Sync, L: Ledger + Send + S
 }
 
 /// Serves at a locked site until every connection has ended, and gives all seats back.
-fn serve_at<'x, T: Threads + Wait + Sync, L: Ledger + Send + Sync, G: Log + Sync>(
+fn serve_at<'a, T: Threads + Wait + Sync, L: Ledger + Send + Sync, G: Log + Sync>(
     rt: &T,
     alloc: Global,
-    site: &'x LockedSite<L>,
+    site: &LockedSite<L>,
     seats: Vec<Seat<L>>,
     settings: &Settings<'_>,
-    sockets: &'x Sockets,
-    log: &'x G,
+    places: &'a [Accepted],
+    sockets: &'a Sockets,
+    log: &'a G,
 ) -> Result<Vec<Seat<L>>, AllocError> {
-    let places = places(alloc, settings.plan.connections)?;
     let gateways = Gateways::observed(alloc, Journal::of(log, HISTORY_LIMIT));
-    let work = assigned(alloc, seats, places.as_slice(), sockets, log)?;
+    let work = assigned(alloc, seats, places, sockets, log)?;
     serve_work(rt, alloc, site, &gateways, work, settings, log)
 }
 
@@ -248,6 +248,7 @@ fn serve_locked<T: Threads + Wait + Sync, L: Ledger + Send + Sync, G: Log + Sync
     site: Site,
     count: usize,
     settings: &Settings<'_>,
+    places: &[Accepted],
     sockets: &Sockets,
     log: &G,
 ) -> Result<usize, ServerFault>
@@ -259,7 +260,7 @@ fn serve_locked<T: Threads + Wait + Sync, L: Ledger + Send + Sync, G: Log + Sync
     let Ok((site, seats)) = LockedSite::<L>::start(alloc, blank, site, count, HISTORY_LIMIT) else {
         return Err(ServerFault::NoMemory);
     };
-    let seats = serve_at(rt, alloc, &site, seats, settings, sockets, log);
+    let seats = serve_at(rt, alloc, &site, seats, settings, places, sockets, log);
     settle(site, seats)
 }
 
@@ -277,8 +278,19 @@ pub fn run_server<
     log: &G,
 ) -> Result<usize, ServerFault> {
     let sockets = open_sockets(rt, alloc, &settings.addresses, log)?;
+    let places = places(alloc, settings.plan.connections)?;
     let site = Site::start(alloc, tables, identity, settings.place.number);
     let count = settings.plan.seats();
     let blank = Blank::new(count as u64);
-    serve_locked::<R, Brand, G>(rt, alloc, blank, site, count, settings, &sockets, log)
+    serve_locked::<R, Brand, G>(
+        rt,
+        alloc,
+        blank,
+        site,
+        count,
+        settings,
+        places.as_slice(),
+        &sockets,
+        log,
+    )
 }
