@@ -178,6 +178,7 @@ fn converse<T: Threads + Wait + Sync, L: Ledger, R: Read, W: Write + Drop, O: Ob
 /// Serves one connection at one seat to its end, and gives the seat back with how it ended. Without a writer it serves nothing:
 /// there was no memory for its worker.
 pub fn serve_connection<
+    'a,
     T: Threads + Wait + Sync,
     L: Ledger,
     R: Read + Drop,
@@ -185,8 +186,8 @@ pub fn serve_connection<
     O: Observer,
     G: Gate,
 >(
-    rt: &T,
-    server: &Server<'_, L, W, O, G>,
+    rt: &'a T,
+    server: &'a Server<'a, L, W, O, G>,
     seat: Seat<L>,
     mut reader: R,
     half: Arc<Half<W>>,

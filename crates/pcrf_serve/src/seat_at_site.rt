@@ -1,6 +1,5 @@
 //! A seat at a locked site serves requests.
 ghost use Rattle.std.specs.Prelude.{◌≡◌, IfOk, OnErr};
-ghost use Rattle.std.specs.Thread.{IsSync};
 ghost use Rattle.pcrf_model.specs.Steps.{Serve as ServeEvent};
 ghost use Rattle.pcrf_serve.specs.Serving.{IsServing};
 ghost use Rattle.site_lock.specs.Calls.{GainsReceipt};
@@ -29,7 +28,6 @@ pub struct SeatAtSite<'a, R, L: Ledger, O> {
     pub(crate) seat: Seat<L>,
     /// The peer of the capabilities exchange that was accepted, until it is asked for.
     accepted: Option<Origin>,
-    ghost shared: { IsSync R.row },
 }
 
 /// The peer of a capabilities exchange.
@@ -102,7 +100,7 @@ impl<'a, R: Threads + Wait + Sync, L: Ledger, O: Observer> SeatAtSite<'a, R, L, 
 
     /// The seat, back.
     pub fn into_seat(self) -> Seat<L>
-        ensures { result ≡ self.seat }
+        ensures { result ≡ self.entry.seat }
     {
         let SeatAtSite {
             rt: _,
