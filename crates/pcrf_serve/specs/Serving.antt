@@ -10,10 +10,6 @@ use Rattle.site_lock.specs.Calls.{GainsReceipt}
 abbrev pub GainsReply : SeatValue → RequestValue → ReplyValue → SeatValue → Type 0
 GainsReply before request reply after = GainsReceipt before (Serve request) reply after
 
--- Only who holds the lock sees whether the history has room.
-abbrev pub MayBeFull : {A : Type 0} → A → Type 0
-MayBeFull s = ⊤
-
 -- a request is served
 abbrev pub IsServing : SiteEvent → Type 0
 IsServing (Serve request) = ⊤

@@ -3,6 +3,7 @@ ghost use Rattle.std.specs.Prelude.{◌≡◌};
 ghost use Rattle.dia_codec.specs.Spelling.{IsFrame};
 ghost use Rattle.link_ends.specs.Earlier.{HasEarlier};
 
+use crate::answering::answer;
 use crate::link::{Link, Server};
 use crate::push_answers::tell_push_answer;
 use crate::seat_at_site::SeatAtSite;
@@ -10,7 +11,7 @@ use dia_codec::{Assembler, FrameFault};
 use gateway_links::{Half, Observer, push_all};
 use link_ends::{Gate, LinkEnd};
 use site_book::Seat;
-use site_core::{Answer, answer_frame};
+use site_core::Answer;
 use std::alloc::{AllocError, Global};
 use std::io::{Read, Write};
 use std::sync::ledger::Ledger;
@@ -20,24 +21,11 @@ use std::thread::Threads;
 /// How many bytes are read at once: more than a message has, so that many answers go out by one write.
 const PIECE_BYTES: usize = 1 << 16;
 
-/// Has a frame answered.
-fn answer<T: Threads + Wait + Sync, L: Ledger, O: Observer>(
-    alloc: Global,
-    at: &mut SeatAtSite<'_, T, L, O>,
-    frame: &[u8],
-) -> Result<Answer, AllocError>
-    requires { IsFrame frame.now }
-    ensures { HasEarlier at.old.seat at.new.seat }
-{
-    let answer = answer_frame(alloc, at, frame)?;
-    Ok(answer)
-}
-
 /// Pushes to every gateway that can be reached what the last message may have led to.
 fn push<T: Threads + Wait + Sync, L: Ledger, W: Write + Drop, O: Observer, G: Gate>(
     rt: &T,
     alloc: Global,
-    at: &mut SeatAtSite<'_, T, L, O>,
+    at: &mut SeatAtSite<'_, L, O>,
     link: &mut Link<'_, W, O, G>,
 ) -> Result<(), AllocError>
     ensures { HasEarlier at.old.seat at.new.seat }
@@ -55,7 +43,7 @@ fn push<T: Threads + Wait + Sync, L: Ledger, W: Write + Drop, O: Observer, G: Ga
 /// Gathers an answer. The host of a capabilities exchange that it accepts is registered first.
 fn gather<T: Threads + Wait + Sync, L: Ledger, W: Write + Drop, O: Observer, G: Gate>(
     rt: &T,
-    at: &mut SeatAtSite<'_, T, L, O>,
+    at: &mut SeatAtSite<'_, L, O>,
     link: &mut Link<'_, W, O, G>,
     answer: &Answer,
 ) -> Result<(), AllocError>
@@ -71,7 +59,7 @@ fn gather<T: Threads + Wait + Sync, L: Ledger, W: Write + Drop, O: Observer, G: 
 fn serve_frame<T: Threads + Wait + Sync, L: Ledger, W: Write + Drop, O: Observer, G: Gate>(
     rt: &T,
     alloc: Global,
-    at: &mut SeatAtSite<'_, T, L, O>,
+    at: &mut SeatAtSite<'_, L, O>,
     link: &mut Link<'_, W, O, G>,
     frame: &[u8],
 ) -> Result<bool, LinkEnd>
@@ -80,7 +68,7 @@ fn serve_frame<T: Threads + Wait + Sync, L: Ledger, W: Write + Drop, O: Observer
 {
     link.enter()?;
     let calls = at.calls();
-    let answer = answer(alloc, at, frame)?;
+    let answer = answer(rt, alloc, at, frame)?;
     gather(rt, at, link, &answer)?;
     if at.calls() > calls {
         push(rt, alloc, at, link)?;
@@ -94,7 +82,7 @@ fn serve_frame<T: Threads + Wait + Sync, L: Ledger, W: Write + Drop, O: Observer
 fn drain<T: Threads + Wait + Sync, L: Ledger, W: Write + Drop, O: Observer, G: Gate>(
     rt: &T,
     alloc: Global,
-    at: &mut SeatAtSite<'_, T, L, O>,
+    at: &mut SeatAtSite<'_, L, O>,
     link: &mut Link<'_, W, O, G>,
     assembler: &mut Assembler,
 ) -> Result<(), LinkEnd>
@@ -126,7 +114,7 @@ fn serve_stream<
 >(
     rt: &T,
     alloc: Global,
-    at: &mut SeatAtSite<'_, T, L, O>,
+    at: &mut SeatAtSite<'_, L, O>,
     link: &mut Link<'_, W, O, G>,
     reader: &mut R,
 ) -> Result<LinkEnd, LinkEnd>
@@ -158,7 +146,7 @@ fn serve_stream<
 fn converse<T: Threads + Wait + Sync, L: Ledger, R: Read, W: Write + Drop, O: Observer, G: Gate>(
     rt: &T,
     alloc: Global,
-    at: &mut SeatAtSite<'_, T, L, O>,
+    at: &mut SeatAtSite<'_, L, O>,
     link: &mut Link<'_, W, O, G>,
     reader: &mut R,
 ) -> LinkEnd
@@ -201,7 +189,7 @@ pub fn serve_connection<
         return (seat, LinkEnd::NoMemory);
     }
     let mut link = Link::start(server, number, &half);
-    let mut at = SeatAtSite::of(rt, server.site, observer, seat);
+    let mut at = SeatAtSite::of(server.site, observer, seat);
     let end = converse(rt, server.alloc, &mut at, &mut link, &mut reader);
     observer.ended(number, end);
     (at.into_seat(), end)

@@ -1,9 +1,10 @@
 //! Connections of gateways and application functions, served side by side at one locked site: one worker for each.
 //!
-//! A worker reads what there is, has each whole message answered as a site answers it (`site_core`), writes the answers of one
+//! A worker reads what there is, has each whole message read and answered as a site does (`site_core`), writes the answers of one
 //! read together, and after each message that was served pushes to the gateways that can be reached.
 #![tactic(auto)]
 
+mod answering;
 mod conversing;
 mod link;
 mod push_answers;
@@ -12,5 +13,4 @@ mod workers;
 
 pub use conversing::serve_connection;
 pub use link::Server;
-pub use seat_at_site::SeatAtSite;
 pub use workers::{KeepsEarlier, serve_sessions};

@@ -1,16 +1,15 @@
 //! A seat at a locked site serves requests.
 ghost use Rattle.std.specs.Prelude.{◌≡◌, IfOk, OnErr};
 ghost use Rattle.pcrf_model.specs.Steps.{Serve as ServeEvent};
-ghost use Rattle.pcrf_serve.specs.Serving.{IsServing};
+ghost use Rattle.pcrf_serve.specs.Serving.{GainsReply, IsServing};
 ghost use Rattle.site_lock.specs.Calls.{GainsReceipt};
 ghost use Rattle.site_machine.specs.Values.{event_value, reply_value, request_value};
 
 use base_profile::BaseKind;
+use dia_base::Origin;
 use dia_base::codes::results::SUCCESS;
-use dia_base::{Identity, Origin};
 use gateway_links::{Observer, tell_entries};
 use site_book::Seat;
-use site_core::{Serve, ServeFault};
 use site_lock::LockedSite;
 use site_machine::{Event, Reply, Request, StepFault};
 use std::alloc::AllocError;
@@ -21,8 +20,7 @@ use std::thread::Threads;
 /// A seat with the locked site at which it calls. Each request that it serves is a call of the seat, and an observer is told
 /// what comes of it.
 #[derive(Drop)]
-pub struct SeatAtSite<'a, R, L: Ledger, O> {
-    rt: &'a R,
+pub(crate) struct SeatAtSite<'a, L: Ledger, O> {
     observer: &'a O,
     pub(crate) site: &'a LockedSite<L>,
     pub(crate) seat: Seat<L>,
@@ -50,7 +48,7 @@ fn copied_peer(request: &Request) -> Result<Option<Origin>, AllocError> {
 }
 
 /// The Result-Code of a request of the base protocol.
-fn base_code(reply: &Reply) -> Option<u32> {
+pub(crate) fn base_code(reply: &Reply) -> Option<u32> {
     match reply {
         Reply::Base(code) => Some(*code),
         _ => None,
@@ -70,27 +68,16 @@ fn request_of(event: Event) -> Request
     }
 }
 
-/// Why a request is not served that a site doesn't take. A site needs no counter for its reply to a request: it refuses one by
-/// itself where the clock is at its end.
-fn fault_of(fault: StepFault) -> ServeFault {
-    match fault {
-        StepFault::HistoryFull | StepFault::ClockFull => ServeFault::Full,
-        StepFault::NoMemory => ServeFault::NoMemory,
-    }
-}
-
-impl<'a, R: Threads + Wait + Sync, L: Ledger, O: Observer> SeatAtSite<'a, R, L, O> {
+impl<'a, L: Ledger, O: Observer> SeatAtSite<'a, L, O> {
     /// A seat that calls at that site.
-    pub fn of(
-        rt: &'a R,
+    pub(crate) fn of(
         site: &'a LockedSite<L>,
         observer: &'a O,
         seat: Seat<L>,
-    ) -> SeatAtSite<'a, R, L, O>
+    ) -> SeatAtSite<'a, L, O>
         ensures { result.seat ≡ seat }
     {
         SeatAtSite {
-            rt,
             observer,
             site,
             seat,
@@ -99,11 +86,10 @@ impl<'a, R: Threads + Wait + Sync, L: Ledger, O: Observer> SeatAtSite<'a, R, L, 
     }
 
     /// The seat, back.
-    pub fn into_seat(self) -> Seat<L>
+    pub(crate) fn into_seat(self) -> Seat<L>
         ensures { result ≡ self.entry.seat }
     {
         let SeatAtSite {
-            rt: _,
             observer: _,
             site: _,
             seat,
@@ -140,13 +126,18 @@ impl<'a, R: Threads + Wait + Sync, L: Ledger, O: Observer> SeatAtSite<'a, R, L, 
     }
 
     /// Has a request served, of which this peer is known if it is a capabilities exchange.
-    fn call(&mut self, event: &Event, peer: Option<Origin>) -> Result<Reply, ServeFault>
+    fn call<R: Threads + Wait + Sync>(
+        &mut self,
+        rt: &R,
+        event: &Event,
+        peer: Option<Origin>,
+    ) -> Result<Reply, StepFault>
         ensures site { self.new.site ≡ self.old.site }
         ensures receipt { IfOk result (λ reply. GainsReceipt
             self.old.seat (event_value event.now) (reply_value reply) self.new.seat) }
-        ensures err { OnErr result (self.new ≡ self.old) }
+        ensures err { OnErr result (self.new.seat ≡ self.old.seat) }
     {
-        match self.site.call(self.rt, &mut self.seat, event) {
+        match self.site.call(rt, &mut self.seat, event) {
             Ok(reply) => {
                 let code = base_code(&reply);
                 self.tell(peer.as_ref(), code);
@@ -157,32 +148,28 @@ impl<'a, R: Threads + Wait + Sync, L: Ledger, O: Observer> SeatAtSite<'a, R, L, 
             }
             Err(fault) => {
                 self.tell_fault(fault);
-                Err(fault_of(fault))
+                Err(fault)
             }
         }
     }
-}
 
-impl<R: Threads + Wait + Sync, L: Ledger, O: Observer> Serve for SeatAtSite<'_, R, L, O> {
-    ghost use Rattle.pcrf_serve.specs.Serving.{GainsReply, MayBeFull};
-
-    ghost names = { λ s. s.site.now.identity };
-
-    ghost may_reply = { λ old request reply new.
-        (new.site ≡ old.site) × GainsReply old.seat request reply new.seat };
-
-    ghost is_full = { MayBeFull };
-
-    fn identity(&self) -> &Identity {
-        self.site.identity()
-    }
-
-    fn serve(&mut self, request: Request) -> (Request, Result<Reply, ServeFault>) {
+    /// Has a request served, and gives it back with what came of its call.
+    pub(crate) fn serve<R: Threads + Wait + Sync>(
+        &mut self,
+        rt: &R,
+        request: Request,
+    ) -> (Request, Result<Reply, StepFault>)
+        ensures given_back { request_value result.0 ≡ request_value request }
+        ensures site { self.new.site ≡ self.old.site }
+        ensures receipt { IfOk result.1 (λ reply. GainsReply
+            self.old.seat (request_value request) (reply_value reply) self.new.seat) }
+        ensures err { OnErr result.1 (self.new.seat ≡ self.old.seat) }
+    {
         let Ok(peer) = copied_peer(&request) else {
-            return (request, Err(ServeFault::NoMemory));
+            return (request, Err(StepFault::NoMemory));
         };
         let event = Event::Serve(request);
-        let called = self.call(&event, peer);
+        let called = self.call(rt, &event, peer);
         (request_of(event), called)
     }
 }
