@@ -45,13 +45,13 @@ use waiting_sessions::{Waiting, gather, wait_at};
 /// push.
 #[derive(Drop)]
 pub struct IndexedState {
-    alloc: Global,
-    tables: Tables,
+    pub(crate) alloc: Global,
+    pub(crate) tables: Tables,
     pub(crate) state: State,
-    index: Index,
+    pub(crate) index: Index,
     /// The index covers the state.
-    is_whole: bool,
-    rules: Rules,
+    pub(crate) is_whole: bool,
+    pub(crate) rules: Rules,
     waiting: Waiting,
     /// The number of the site at which those that wait may be due.
     site: u8,

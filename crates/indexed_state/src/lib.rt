@@ -6,6 +6,7 @@ mod addresses;
 mod following;
 mod held;
 mod indexed;
+mod renewing;
 mod whole;
 
 pub use indexed::IndexedState;

@@ -12,6 +12,7 @@ use site_machine::{Event, Reply, Site, StepFault};
 use std::alloc::{AllocError, Global};
 use std::marker::Model;
 use std::sync::ledger::{Blank, Ledger, Share};
+use std::thread::Threads;
 
 /// A site with its history, and room for the receipts of each seat, which settling needs.
 #[derive(Drop)]
@@ -100,6 +101,14 @@ impl<L: Ledger> SiteBook<L> {
         ensures { result ≡ is_short self.now past }
     {
         self.entries() < self.limit() && self.site().logged() <= past
+    }
+
+    /// Derives the rules of each live gateway's session of which the site keeps none, in as many threads as there are
+    /// processors, and has it keep them. Nothing else changes, also where memory is refused.
+    pub fn renew(&mut self, rt: &(impl Threads + Sync)) -> Result<(), AllocError>
+        ensures { self.new ≡ self.old }
+    {
+        self.pages.renew(rt)
     }
 
     /// Makes an event happen, as a call of a seat. The entry comes last, and the seat gains its receipt. A fault changes

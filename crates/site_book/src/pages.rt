@@ -10,6 +10,7 @@ use site_machine::{Event, Reply, Site, StepFault};
 use std::alloc::AllocError;
 use std::marker::Model;
 use std::sync::ledger::{Book, Ledger};
+use std::thread::Threads;
 
 /// A site, what it held and had made when the book was opened, and the history since: an entry for each call, which the
 /// number of the ledger counts.
@@ -64,6 +65,13 @@ impl<L: Ledger> Pages<L> {
         ensures replays { IsHistoryOf self.now }
     {
         &self.site
+    }
+
+    /// Has the site keep the rules of each live gateway's session, as its own `renew` does: nothing else changes.
+    pub(crate) fn renew(&mut self, rt: &(impl Threads + Sync)) -> Result<(), AllocError>
+        ensures { self.new ≡ self.old }
+    {
+        self.site.renew(rt)
     }
 
     /// Makes an event happen, as a call of a seat. The entry comes last, and the seat gains its receipt. A fault changes

@@ -6,6 +6,7 @@ mod calls;
 mod event;
 mod fault;
 mod operations;
+mod renewing;
 mod request;
 mod site;
 mod spare;
