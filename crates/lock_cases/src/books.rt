@@ -42,7 +42,7 @@ fn told_by(reply: &Result<Reply, StepFault>) -> Told {
 }
 
 /// What a seat is told of an event.
-fn call<L: Ledger, R: Wait>(
+fn call<L: Ledger, R: Threads + Wait + Sync>(
     rt: &R,
     site: &LockedSite<L>,
     seat: &mut Seat<L>,
@@ -55,7 +55,7 @@ fn call<L: Ledger, R: Wait>(
 }
 
 /// What a seat is told of the initial request of a session.
-fn call_attach<L: Ledger, R: Wait + Abort>(
+fn call_attach<L: Ledger, R: Threads + Wait + Abort + Sync>(
     rt: &R,
     alloc: Global,
     site: &LockedSite<L>,
@@ -69,7 +69,7 @@ fn call_attach<L: Ledger, R: Wait + Abort>(
 }
 
 /// A seat has the sessions of these places set up.
-fn set_up<L: Ledger, R: Wait + Abort>(
+fn set_up<L: Ledger, R: Threads + Wait + Abort + Sync>(
     rt: &R,
     alloc: Global,
     site: &LockedSite<L>,
@@ -191,7 +191,7 @@ fn full_book_stays_full(rt: HostRuntime) {
 }
 
 /// A book of two entries is full at the third call, and at the fourth; it settles.
-fn full_book<L: Ledger, R: Wait + Abort>(rt: &R, alloc: Global, blank: Blank)
+fn full_book<L: Ledger, R: Threads + Wait + Abort + Sync>(rt: &R, alloc: Global, blank: Blank)
     requires name { blank.name ≡ L.name }
     requires parts { blank.parts ≡ L.parts }
     requires one { blank.parts ≡ 1 }
@@ -202,7 +202,7 @@ fn full_book<L: Ledger, R: Wait + Abort>(rt: &R, alloc: Global, blank: Blank)
 }
 
 /// Fills a book of two entries, and calls twice more.
-fn fill<L: Ledger, R: Wait + Abort>(
+fn fill<L: Ledger, R: Threads + Wait + Abort + Sync>(
     rt: &R,
     alloc: Global,
     site: &LockedSite<L>,
@@ -225,7 +225,7 @@ fn seat_left_out_does_not_settle(rt: HostRuntime) {
 }
 
 /// A book whose second seat is left out does not settle; with it, it does.
-fn seat_left_out<L: Ledger, R: Wait + Abort>(rt: &R, alloc: Global, blank: Blank)
+fn seat_left_out<L: Ledger, R: Threads + Wait + Abort + Sync>(rt: &R, alloc: Global, blank: Blank)
     requires name { blank.name ≡ L.name }
     requires parts { blank.parts ≡ L.parts }
     requires two { blank.parts ≡ 2 }
@@ -271,7 +271,7 @@ fn clock_at_its_end_pushes_nothing(rt: HostRuntime) {
 }
 
 /// A rule is due to a gateway, and then the clock is at its end: the push is refused, and the site settles.
-fn clock_at_its_end<L: Ledger, R: Wait + Abort>(rt: &R, alloc: Global, blank: Blank)
+fn clock_at_its_end<L: Ledger, R: Threads + Wait + Abort + Sync>(rt: &R, alloc: Global, blank: Blank)
     requires name { blank.name ≡ L.name }
     requires parts { blank.parts ≡ L.parts }
     requires one { blank.parts ≡ 1 }
@@ -282,7 +282,7 @@ fn clock_at_its_end<L: Ledger, R: Wait + Abort>(rt: &R, alloc: Global, blank: Bl
 }
 
 /// Sets up a session of 41 rules, of which 40 are told, and takes the last operation that there may be.
-fn end_the_clock<L: Ledger, R: Wait + Abort>(
+fn end_the_clock<L: Ledger, R: Threads + Wait + Abort + Sync>(
     rt: &R,
     alloc: Global,
     site: &LockedSite<L>,
@@ -304,7 +304,7 @@ fn opening_knows_what_was_told(rt: HostRuntime) {
 }
 
 /// A site that told a gateway two rules is put under a lock: of the same request the gateway is told nothing again.
-fn opening_knows<L: Ledger, R: Wait + Abort>(rt: &R, alloc: Global, blank: Blank)
+fn opening_knows<L: Ledger, R: Threads + Wait + Abort + Sync>(rt: &R, alloc: Global, blank: Blank)
     requires name { blank.name ≡ L.name }
     requires parts { blank.parts ≡ L.parts }
     requires one { blank.parts ≡ 1 }

@@ -31,7 +31,7 @@ const LEAST_MADE: u64 = 20_000;
 const RULES: u32 = 2;
 
 /// A thread makes a call.
-fn make_call<L: Ledger, R: Wait + Abort>(
+fn make_call<L: Ledger, R: Threads + Wait + Abort + Sync>(
     rt: &R,
     alloc: Global,
     site: &LockedSite<L>,
@@ -47,7 +47,7 @@ fn make_call<L: Ledger, R: Wait + Abort>(
 }
 
 /// A thread makes all its calls.
-fn make_calls<L: Ledger, R: Wait + Abort>(
+fn make_calls<L: Ledger, R: Threads + Wait + Abort + Sync>(
     rt: &R,
     alloc: Global,
     site: &LockedSite<L>,

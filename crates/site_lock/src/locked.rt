@@ -16,6 +16,7 @@ use std::alloc::{AllocError, Global};
 use std::marker::Model;
 use std::sync::ledger::{Blank, Ledger};
 use std::sync::{Condvar, Mutex, Wait};
+use std::thread::Threads;
 
 /// A book that threads share, under the one lock of its site. What a thread is told by a call is what the book's own call told:
 /// the seat has a receipt of it, and only that call gives receipts. Each call wakes those that wait for the site to grow. Beside
@@ -49,6 +50,21 @@ fn names_of(site: &Site) -> Result<Identity, AllocError>
         realm,
         address: names.address,
     })
+}
+
+/// Has the site keep the rules of all its live sessions after it took a whole state of another, so that who asks for them next
+/// need not wait. Where memory is refused they are derived when they are asked for.
+fn renew_after<L: Ledger>(
+    rt: &(impl Threads + Sync),
+    book: &mut SiteBook<L>,
+    event: &Event,
+    reply: &Result<Reply, StepFault>,
+)
+    ensures { book.new ≡ book.old }
+{
+    if let (Event::Whole(_), Ok(Reply::Done)) = (event, reply) {
+        let _ = book.renew(rt);
+    }
 }
 
 impl<L: Ledger> LockedSite<L> {
@@ -127,8 +143,9 @@ impl<L: Ledger> LockedSite<L> {
     }
 
     /// Makes an event happen, as a call of a seat, once the lock is free. The seat gains the receipt of this event with the
-    /// reply that is answered, or stays as it was.
-    pub fn call<R: Wait>(
+    /// reply that is answered, or stays as it was. Where the site took a whole state of another, the rules of its sessions are
+    /// made before the call answers, in as many threads as there are processors.
+    pub fn call<R: Threads + Wait + Sync>(
         &self,
         rt: &R,
         seat: &mut Seat<L>,
@@ -140,13 +157,14 @@ impl<L: Ledger> LockedSite<L> {
     {
         let mut book = self.book.lock(rt);
         let reply = book.step(seat, event);
+        renew_after(rt, &mut book, event, &reply);
         self.grown.notify_all();
         reply
     }
 
     /// The same, once the site has made more operations itself than so many, or its history is full.
     #[tactic(auto, using(crate::proofs::Telling::told_grown))]
-    pub fn call_grown<R: Wait>(
+    pub fn call_grown<R: Threads + Wait + Sync>(
         &self,
         rt: &R,
         seat: &mut Seat<L>,
@@ -162,6 +180,7 @@ impl<L: Ledger> LockedSite<L> {
             .grown
             .wait_while(rt, self.book.lock(rt), |book| book.is_short(past));
         let answer = book.step(seat, event);
+        renew_after(rt, &mut book, event, &answer);
         self.grown.notify_all();
         answer
     }
