@@ -1,5 +1,5 @@
 //! Lists of Session-Ids by key.
-ghost use Rattle.std.specs.Prelude.{◌≡◌, [], OnOk, OnErr};
+ghost use Rattle.std.specs.Prelude.{◌≡◌, [], IfOk, OnOk, OnErr, map};
 ghost use Rattle.std.specs.Option.{option_copied};
 ghost use Rattle.ranked.specs.Ascending.{Rises};
 ghost use Rattle.session_lists.specs.Lists.{first_of, ids_at, ids_or_none, with_id, without_first, without_id};
@@ -42,6 +42,17 @@ impl<K: Ranked, S: Ranked> SessionLists<K, S> {
         ensures { ids_or_none (option_copied result) ≡ ids_at K.cmp self.now key.now }
     {
         self.lists.get(key)
+    }
+
+    /// The keys under which Session-Ids are listed, ascending.
+    pub fn keys(&self) -> Result<Vec<K>, AllocError>
+        ensures { IfOk result (λ keys. keys.items ≡ map (λ e. e.0) self.now) }
+    {
+        let mut keys = Vec::new(self.alloc);
+        for key in self.lists.keys() {
+            keys.push(key.try_copy()?)?;
+        }
+        Ok(keys)
     }
 
     /// Lists a session under a key; a refusal changes nothing.

@@ -1,5 +1,7 @@
 -- The push of a session that is due.
-use Rattle.std.specs.Prelude.{ℕ, cond, List, Option, Some, None}
+use Rattle.std.specs.Prelude.{ℕ, cond, List, Option, Some, None, if◌then◌else◌}
+use Rattle.std.specs.Ordering.{is_lt}
+use Rattle.ranked.specs.Orders.{text_cmp}
 use Rattle.pcrf_model.specs.Pushing.{is_due}
 use Rattle.pcrf_model.specs.Replies.{PushValue}
 use Rattle.pcrf_model.specs.Sessions.{Session}
@@ -10,3 +12,9 @@ use Rattle.rule_telling.specs.Pushed.{push_of}
 -- the push of the session, if it is due for the host, any where none is given
 abbrev pub push_if_due : Tables → ℕ → View → Option (List ℕ) → Session → Option PushValue
 push_if_due t i v name s = cond (is_due t i v name s) (Some (push_of t v s)) None
+
+-- of two pushes that to the session with the lesser Session-Id, where there are two
+abbrev pub lesser_push : Option PushValue → Option PushValue → Option PushValue
+lesser_push None q = q
+lesser_push (Some p) None = Some p
+lesser_push (Some p) (Some q) = if is_lt (text_cmp q.session p.session) then Some q else Some p

@@ -2,8 +2,10 @@
 //! first session that is due of those that wait.
 #![tactic(auto)]
 
+mod anywhere;
 mod pushing;
 mod telling;
 
+pub use anywhere::next_waiting_anywhere;
 pub use pushing::next_waiting;
 pub use telling::untold_by;

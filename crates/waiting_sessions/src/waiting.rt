@@ -1,5 +1,5 @@
 //! Sessions that wait to be looked at for a push.
-ghost use Rattle.std.specs.Prelude.{◌≡◌, ℕ, List, true, false};
+ghost use Rattle.std.specs.Prelude.{◌≡◌, ℕ, List, true, false, IfOk, map};
 ghost use Rattle.ranked.specs.Orders.{text_cmp};
 ghost use Rattle.ranked.specs.Ascending.{Rises};
 ghost use Rattle.session_lists.specs.Lists.{first_of, ids_at, without_first};
@@ -7,7 +7,7 @@ ghost use Rattle.waiting_sessions.specs.Waits.{Keeps, WaitsUnder, waiting_of};
 
 use pcrf_values::{DiameterIdentity, GxSid};
 use session_lists::SessionLists;
-use std::alloc::Global;
+use std::alloc::{AllocError, Global};
 use std::marker::Model;
 
 /// Sessions by the host of their gateway. Where memory was refused for one, all wait.
@@ -51,6 +51,13 @@ impl Waiting {
         ensures { result ≡ self.now.all }
     {
         self.all
+    }
+
+    /// The hosts under which sessions wait, where not all do, ascending.
+    pub fn hosts(&self) -> Result<Vec<DiameterIdentity>, AllocError>
+        ensures { IfOk result (λ hosts. hosts.items ≡ map (λ e. e.0) self.now.lists) }
+    {
+        self.lists.keys()
     }
 
     /// Has a session wait under a host.
