@@ -255,8 +255,8 @@ fn try_settling<L: Ledger>(book: SiteBook<L>, seats: Vec<Seat<L>>, tally: &mut T
     count_settled(tally, found, (LIMIT, Step::AskOwn.site()), "book");
 }
 
-/// Makes all calls of a book and of a locked site.
+/// Makes all calls of a locked site and of a book.
 pub fn try_books<R: Threads + Wait + Sync>(rt: &R, alloc: Global, tally: &mut Tally) {
-    try_book::<Brand>(alloc, Blank::new(1), tally);
     try_calls::<R, Brand>(rt, alloc, Blank::new(1), tally);
+    try_book::<Brand>(alloc, Blank::new(1), tally);
 }
