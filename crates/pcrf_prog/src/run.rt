@@ -1,14 +1,22 @@
 //! A run of the program over words, a reader and writers that are handed in.
 use crate::operator_tables::{self, TablesFault};
+use crate::server::{Start, serve, start_of};
+use crate::words::{Asked, ServeWords, read_words};
+use clap::Error;
 use clap::error::ErrorKind;
-use clap::{Arg, Command, Error};
 use dia_codec::Counted;
+use log::{LevelFilter, Log};
 use op_tables::{TableFault, Tables};
 use pcrf_script::{ScriptEnd, run_script};
+use pcrf_server::ServerFault;
 use std::alloc::Global;
 use std::env;
 use std::io::{self, Read, Write};
+use std::net::{Net, TcpListener, TcpStream};
 use std::rt::{Env, Files};
+use std::sync::Wait;
+use std::thread::Threads;
+use std::time::Clock;
 
 /// The status where the operator tables were at fault.
 const TABLES: u8 = 1;
@@ -19,36 +27,49 @@ const COMMAND_LINE: u8 = 2;
 /// The status where the script, its input or its output was at fault.
 const SCRIPT: u8 = 3;
 
+/// The status where a server's sockets were at fault.
+const NETWORK: u8 = 4;
+
+/// The status where a server's history did not settle.
+const UNSETTLED: u8 = 5;
+
 /// The status where memory ran out.
 const NO_MEMORY: u8 = 6;
+
+/// What a run needs of its machine.
+pub trait Host: Files
+    + AllocGlobal
+    + Net<Listener = TcpListener, Stream = TcpStream>
+    + Threads
+    + Wait
+    + Clock
+    + Sync {}
+
+impl<
+    H: Files
+        + AllocGlobal
+        + Net<Listener = TcpListener, Stream = TcpStream>
+        + Threads
+        + Wait
+        + Clock
+        + Sync,
+> Host for H {}
 
 /// The words of the command line, the program's name first.
 pub fn words<R: Env + AllocGlobal>(rt: &R) -> io::Result<Vec<String>> {
     Ok(env::args(rt)?.collect(rt.alloc())?)
 }
 
-/// Reads the words, and answers which file of tables they name: `clap` demands one.
-fn table_file<'a>(alloc: Global, words: &'a [String]) -> Result<&'a str, Error> {
-    let tables = Arg::new(alloc, "TABLES").required(true).help(
-        "The file with the operator tables, in TOML; examples/ has some",
-    );
-    let world = Command::new(alloc, "world")
-        .about("Runs the script of standard input on several sites with these operator tables")
-        .arg(tables)?;
-    let pcrf = Command::new(alloc, "pcrf")
-        .about(
-            "A policy and charging rules function of several active sites. Without any word it \
-             runs a script as `pcrf world` does, with tables of its own: one access point, `ims`",
-        )
-        .subcommand_required(true)
-        .subcommand(world)?;
-    let matches = pcrf.try_get_matches_from(words)?;
-    let world = matches.subcommand_matches("world");
-    Ok(
-        world
-            .and_then(|world| world.get_str("TABLES"))
-            .unwrap_or_default(),
-    )
+/// How much an operator is told on standard error beside faults: nothing, or what the environment asks for. A text that names no
+/// level asks for all.
+pub fn level<R: Env + AllocGlobal>(rt: &R) -> LevelFilter {
+    match env::var(rt, "PCRF_LOG") {
+        Ok(text) => text
+            .as_str()
+            .parse::<LevelFilter>()
+            .unwrap_or(LevelFilter::Info),
+        Err(_) => LevelFilter::Off,
+    }
 }
 
 /// Writes one line of faults, and answers the status.
@@ -105,24 +126,104 @@ fn run_world<R: Read + Drop, W: Write + Drop, F: Write>(
     }
 }
 
-/// Runs the program, and answers its exit status. Faults are found in the order words, tables, script.
-pub fn run<H: Files + AllocGlobal, R: Read + Drop, W: Write + Drop, F: Write + Drop>(
+/// Tells why a server ended without having settled, and answers the status.
+fn refused_server<F: Write>(faults: &mut F, why: ServerFault) -> u8 {
+    let _ = writeln!(faults, "pcrf: {why}");
+    match why {
+        ServerFault::Network => NETWORK,
+        ServerFault::Unsettled => UNSETTLED,
+        ServerFault::NoMemory => NO_MEMORY,
+    }
+}
+
+/// Tells how many entries a server's history settled with, and answers the status.
+fn settled<W: Write + Drop, F: Write>(mut writer: W, faults: &mut F, entries: usize) -> u8 {
+    if writeln!(writer, "settled {entries}").is_err() || writer.flush().is_err() {
+        return fault(faults, "pcrf: output failed\n", SCRIPT);
+    }
+    0
+}
+
+/// Serves with the tables of the words, and answers the status.
+fn run_started<H: Host, G: Log + Sync, W: Write + Drop, F: Write>(
     rt: &H,
+    log: &G,
+    words: &ServeWords<'_>,
+    start: Start,
+    writer: W,
+    faults: &mut F,
+) -> u8 {
+    let tables = match operator_tables::of_file(rt, words.tables) {
+        Ok(tables) => tables,
+        Err(why) => return refused_tables(faults, why),
+    };
+    match serve(rt, rt.alloc(), words, start, tables, log) {
+        Ok(entries) => settled(writer, faults, entries),
+        Err(why) => refused_server(faults, why),
+    }
+}
+
+/// Runs a server, and answers the status.
+fn run_server<H: Host, G: Log + Sync, W: Write + Drop, F: Write>(
+    rt: &H,
+    log: &G,
+    words: &ServeWords<'_>,
+    writer: W,
+    faults: &mut F,
+) -> u8 {
+    match start_of(rt.alloc(), words) {
+        Ok(Some(start)) => run_started(rt, log, words, start, writer, faults),
+        Ok(None) => fault(faults, "pcrf: command line\n", COMMAND_LINE),
+        Err(_) => fault(faults, "pcrf: no memory\n", NO_MEMORY),
+    }
+}
+
+/// Runs the script with tables that were read, and answers the status.
+fn run_script_with<R: Read + Drop, W: Write + Drop, F: Write>(
+    alloc: Global,
+    tables: Result<Tables, TablesFault>,
+    reader: R,
+    writer: W,
+    faults: &mut F,
+) -> u8 {
+    match tables {
+        Ok(tables) => run_world(alloc, tables, reader, writer, faults),
+        Err(why) => refused_tables(faults, why),
+    }
+}
+
+/// Does what the words ask for, and answers the status.
+fn run_words<H: Host, G: Log + Sync, R: Read + Drop, W: Write + Drop, F: Write>(
+    rt: &H,
+    log: &G,
+    words: &[String],
+    reader: R,
+    writer: W,
+    faults: &mut F,
+) -> u8 {
+    match read_words(rt.alloc(), words) {
+        Ok(Asked::World(file)) => {
+            let tables = operator_tables::of_file(rt, file);
+            run_script_with(rt.alloc(), tables, reader, writer, faults)
+        }
+        Ok(Asked::Serve(serve)) => run_server(rt, log, &serve, writer, faults),
+        Err(error) => refused_words(faults, &error),
+    }
+}
+
+/// Runs the program, and answers its exit status. Faults are found in the order words, tables, sockets, run. The log is told what
+/// happens at a server.
+pub fn run<H: Host, G: Log + Sync, R: Read + Drop, W: Write + Drop, F: Write + Drop>(
+    rt: &H,
+    log: &G,
     words: &[String],
     reader: R,
     writer: W,
     mut faults: F,
 ) -> u8 {
-    let tables = if words.len() > 1 {
-        match table_file(rt.alloc(), words) {
-            Ok(file) => operator_tables::of_file(rt, file),
-            Err(error) => return refused_words(&mut faults, &error),
-        }
-    } else {
-        operator_tables::held(rt.alloc())
-    };
-    match tables {
-        Ok(tables) => run_world(rt.alloc(), tables, reader, writer, &mut faults),
-        Err(why) => refused_tables(&mut faults, why),
+    if words.len() > 1 {
+        return run_words(rt, log, words, reader, writer, &mut faults);
     }
+    let tables = operator_tables::held(rt.alloc());
+    run_script_with(rt.alloc(), tables, reader, writer, &mut faults)
 }

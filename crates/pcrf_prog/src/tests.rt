@@ -1,5 +1,7 @@
 //! What the program prints on its faults, and its exit status.
-use crate::run::{no_words, run};
+use crate::run::{Host, no_words, run};
+use log::Log;
+use log::sink::Discard;
 use std::alloc::{AllocError, Global};
 use std::io::{self, ErrorKind, Read, Write};
 use std::process::Abort;
@@ -83,7 +85,7 @@ end
 
 /// A reader and a writer that fail at each call.
 #[derive(Drop)]
-struct Failing;
+pub struct Failing;
 
 impl Read for Failing {
     fn read(&mut self, _buf: &mut [u8]) -> io::Result<usize> {
@@ -103,10 +105,10 @@ impl Write for Failing {
 
 /// What a run prints, what it tells of faults, and its status.
 #[derive(Drop)]
-struct Ended {
-    printed: Vec<u8>,
-    told: Vec<u8>,
-    status: u8,
+pub struct Ended {
+    pub printed: Vec<u8>,
+    pub told: Vec<u8>,
+    pub status: u8,
 }
 
 /// Puts a word behind others.
@@ -115,7 +117,7 @@ fn put_word(alloc: Global, all: &mut Vec<String>, word: &str) -> Result<(), Allo
 }
 
 /// The program's name, and these words.
-fn all_words(alloc: Global, words: &[&str]) -> Result<Vec<String>, AllocError> {
+pub fn all_words(alloc: Global, words: &[&str]) -> Result<Vec<String>, AllocError> {
     let mut all = Vec::new(alloc);
     put_word(alloc, &mut all, "pcrf")?;
     for word in words {
@@ -125,9 +127,9 @@ fn all_words(alloc: Global, words: &[&str]) -> Result<Vec<String>, AllocError> {
 }
 
 /// Runs a script with all these words.
-fn run_all(rt: &HostRuntime, words: &[String], script: &[u8]) -> Ended {
+fn run_all<H: Host, G: Log + Sync>(rt: &H, log: &G, words: &[String], script: &[u8]) -> Ended {
     let (mut printed, mut told) = (Vec::new(rt.alloc()), Vec::new(rt.alloc()));
-    let status = run(rt, words, script, &mut printed, &mut told);
+    let status = run(rt, log, words, script, &mut printed, &mut told);
     Ended {
         printed,
         told,
@@ -135,16 +137,26 @@ fn run_all(rt: &HostRuntime, words: &[String], script: &[u8]) -> Ended {
     }
 }
 
-/// Runs a script with these words behind the program's name.
-fn run_words(rt: &HostRuntime, words: &[&str], script: &str) -> Result<Ended, AllocError> {
+/// Runs a script with these words behind the program's name, and tells that log what happens.
+pub fn run_told<H: Host, G: Log + Sync>(
+    rt: &H,
+    log: &G,
+    words: &[&str],
+    script: &str,
+) -> Result<Ended, AllocError> {
     let all = all_words(rt.alloc(), words)?;
-    let ended = run_all(rt, all.as_slice(), script.as_bytes());
+    let ended = run_all(rt, log, all.as_slice(), script.as_bytes());
     drop(all);
     Ok(ended)
 }
 
+/// Runs a script with these words behind the program's name.
+pub fn run_words<H: Host>(rt: &H, words: &[&str], script: &str) -> Result<Ended, AllocError> {
+    run_told(rt, &Discard, words, script)
+}
+
 /// Compares how a run of a case ended with the status, what is printed and what is told that are wanted.
-fn check(rt: &impl Abort, case: &str, ended: &Ended, wanted: (u8, &str, &str)) {
+pub fn check(rt: &impl Abort, case: &str, ended: &Ended, wanted: (u8, &str, &str)) {
     let (status, printed, told) = wanted;
     assert_eq!(rt; ended.status, status, "{case:?}");
     assert_eq!(rt; ended.printed.as_slice(), printed.as_bytes(), "{case:?}");
@@ -152,7 +164,7 @@ fn check(rt: &impl Abort, case: &str, ended: &Ended, wanted: (u8, &str, &str)) {
 }
 
 /// The path of a file of a test, which no other run has.
-fn path_of(rt: &HostRuntime, name: &str) -> Result<String, Fail> {
+pub fn path_of(rt: &HostRuntime, name: &str) -> Result<String, Fail> {
     let id = process::id(rt.process());
     let folder = env::temp_dir(rt)?;
     let path = folder.join(
@@ -162,12 +174,11 @@ fn path_of(rt: &HostRuntime, name: &str) -> Result<String, Fail> {
     Ok(String::from_str(rt.alloc(), path.as_str())?)
 }
 
-/// Runs `pcrf world` with a file of these bytes.
-fn run_file(rt: &HostRuntime, name: &str, bytes: &[u8], script: &str) -> Result<Ended, Fail> {
-    let path = path_of(rt, name)?;
-    fs::write(rt, path.as_str(), bytes)?;
-    let ended = run_words(rt, &["world", path.as_str()], script)?;
-    fs::remove_file(rt, path.as_str())?;
+/// Runs `pcrf world` with a file of these bytes at that path.
+fn run_file<H: Host>(rt: &H, path: &str, bytes: &[u8], script: &str) -> Result<Ended, Fail> {
+    fs::write(rt, path, bytes)?;
+    let ended = run_words(rt, &["world", path], script)?;
+    fs::remove_file(rt, path)?;
     Ok(ended)
 }
 
@@ -193,7 +204,7 @@ fn scripts_end_with_their_status(rt: HostRuntime) {
 #[test]
 fn failed_input_is_told(rt: HostRuntime) {
     let (mut out, mut faults) = (Vec::new(rt.alloc()), Vec::new(rt.alloc()));
-    let status = run(&rt, &[], Failing, &mut out, &mut faults);
+    let status = run(&rt, &Discard, &[], Failing, &mut out, &mut faults);
     drop(out);
     assert_eq!(rt; status, 3);
     assert_eq!(rt; faults.as_slice(), b"pcrf: input failed\n".as_slice());
@@ -202,7 +213,7 @@ fn failed_input_is_told(rt: HostRuntime) {
 #[test]
 fn failed_output_is_told(rt: HostRuntime) {
     let mut faults = Vec::new(rt.alloc());
-    let status = run(&rt, &[], SCRIPT.as_bytes(), Failing, &mut faults);
+    let status = run(&rt, &Discard, &[], SCRIPT.as_bytes(), Failing, &mut faults);
     assert_eq!(rt; status, 3);
     assert_eq!(rt; faults.as_slice(), b"pcrf: output failed\n".as_slice());
 }
@@ -258,8 +269,9 @@ fn faults_of_tables_are_told_before_the_script_runs(rt: HostRuntime) -> Result<(
         (b"edition = 7 # \xff", "pcrf: tables: unreadable\n"),
         (b"\xc3", "pcrf: tables: unreadable\n"),
     ];
+    let path = path_of(&rt, "faults")?;
     for (bytes, told) in cases {
-        let ended = run_file(&rt, "faults", bytes, SCRIPT)?;
+        let ended = run_file(&rt, path.as_str(), bytes, SCRIPT)?;
         check(&rt, told, &ended, (1, "", told));
         drop(ended);
     }
@@ -269,7 +281,8 @@ fn faults_of_tables_are_told_before_the_script_runs(rt: HostRuntime) -> Result<(
 #[test]
 fn a_row_that_stands_twice_is_told(rt: HostRuntime) -> Result<(), Fail> {
     let tables = format!(in rt.alloc(); "{TELEPHONY}[[apn]]\nname = \"IMS\"\n")?;
-    let ended = run_file(&rt, "twice", tables.as_bytes(), SCRIPT)?;
+    let path = path_of(&rt, "twice")?;
+    let ended = run_file(&rt, path.as_str(), tables.as_bytes(), SCRIPT)?;
     check(
         &rt,
         "twice",
@@ -281,7 +294,7 @@ fn a_row_that_stands_twice_is_told(rt: HostRuntime) -> Result<(), Fail> {
 }
 
 /// Whether tables at this path are told to be unreadable, before the script runs.
-fn is_unreadable(rt: &HostRuntime, path: &str) -> Result<bool, AllocError> {
+fn is_unreadable<H: Host>(rt: &H, path: &str) -> Result<bool, AllocError> {
     let ended = run_words(rt, &["world", path], SCRIPT)?;
     let is_told = ended.told.as_slice() == b"pcrf: tables: unreadable\n".as_slice();
     let is_first = ended.status == 1 && ended.printed.is_empty();
@@ -314,7 +327,8 @@ fn a_file_has_at_most_64_mebibytes(rt: HostRuntime) -> Result<(), Fail> {
 
 #[test]
 fn sites_have_the_tables_of_the_file(rt: HostRuntime) -> Result<(), Fail> {
-    let ended = run_file(&rt, "telephony", TELEPHONY.as_bytes(), REQUESTS)?;
+    let path = path_of(&rt, "telephony")?;
+    let ended = run_file(&rt, path.as_str(), TELEPHONY.as_bytes(), REQUESTS)?;
     check(&rt, "telephony", &ended, (0, ANSWERS, ""));
     drop(ended);
     Ok(())

@@ -162,7 +162,23 @@ impl<L: Ledger> LockedSite<L> {
         reply
     }
 
-    /// The same, once the site has made more operations itself than so many, or its history is full.
+    /// The same in the caller's thread alone: the rules of a whole state that the site takes are made when they are asked for.
+    pub fn call_alone<R: Wait>(
+        &self,
+        rt: &R,
+        seat: &mut Seat<L>,
+        event: &Event,
+    ) -> Result<Reply, StepFault>
+        ensures receipt { IfOk result (λ reply. GainsReceipt
+            seat.old (event_value event.now) (reply_value reply) seat.new) }
+        ensures err { OnErr result (seat.new ≡ seat.old) }
+    {
+        let reply = self.book.lock(rt).step(seat, event);
+        self.grown.notify_all();
+        reply
+    }
+
+    /// What `call` does, once the site has made more operations itself than so many, or its history is full.
     #[tactic(auto, using(crate::proofs::Telling::told_grown))]
     pub fn call_grown<R: Threads + Wait + Sync>(
         &self,

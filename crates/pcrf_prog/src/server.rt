@@ -1,0 +1,86 @@
+//! A run that serves.
+use crate::words::{Names, ServeWords};
+use dia_base::Identity;
+use log::Log;
+use op_tables::Tables;
+use pcrf_server::{Addresses, SeatPlan, ServerFault, Settings, SiteEpoch, run_server};
+use pcrf_values::DiameterIdentity;
+use std::alloc::{AllocError, Global};
+use std::net::{Ipv4Addr, Net, TcpListener, TcpStream};
+use std::sync::Wait;
+use std::thread::Threads;
+use std::time::Clock;
+
+/// What a server is made from, beside its tables.
+#[derive(Drop)]
+pub struct Start {
+    identity: Identity,
+    place: SiteEpoch,
+    plan: SeatPlan,
+}
+
+/// The names of the words; `None` where a name is empty or too long, or the address is none of IPv4.
+fn identity_of(alloc: Global, names: Names<'_>) -> Result<Option<Identity>, AllocError> {
+    let Ok(address) = names.address.parse::<Ipv4Addr>() else {
+        return Ok(None);
+    };
+    let Some(host) = DiameterIdentity::read(alloc, names.host.as_bytes())? else {
+        return Ok(None);
+    };
+    let Some(realm) = DiameterIdentity::read(alloc, names.realm.as_bytes())? else {
+        return Ok(None);
+    };
+    Ok(Some(Identity {
+        host,
+        realm,
+        address,
+    }))
+}
+
+/// What the words ask for; `None` where they ask for more seats than there are, or for names that can't be.
+pub fn start_of(alloc: Global, words: &ServeWords<'_>) -> Result<Option<Start>, AllocError> {
+    let Some(place) = SiteEpoch::of(words.site, words.epoch) else {
+        return Ok(None);
+    };
+    let Some(plan) = SeatPlan::of(words.connections as usize, words.peers.len()) else {
+        return Ok(None);
+    };
+    let Some(identity) = identity_of(alloc, words.names)? else {
+        return Ok(None);
+    };
+    Ok(Some(Start {
+        identity,
+        place,
+        plan,
+    }))
+}
+
+/// Serves, and answers how many entries the history settled with. The log is told what happens meanwhile.
+pub fn serve<
+    R: Net<Listener = TcpListener, Stream = TcpStream> + Threads + Wait + Clock + Sync,
+    G: Log + Sync,
+>(
+    rt: &R,
+    alloc: Global,
+    words: &ServeWords<'_>,
+    start: Start,
+    tables: Tables,
+    log: &G,
+) -> Result<usize, ServerFault> {
+    let Start {
+        identity,
+        place,
+        plan,
+    } = start;
+    let settings = Settings {
+        place,
+        plan,
+        turns: words.turns,
+        addresses: Addresses {
+            listen: words.listen,
+            exchange: words.exchange,
+            peers: words.peers.as_slice(),
+        },
+    };
+    run_server(rt, alloc, identity, tables, &settings, log)
+}

@@ -1,0 +1,189 @@
+//! What the words of the command line ask for.
+use clap::{Arg, ArgAction, ArgMatches, Command, Error, value_parser};
+use std::alloc::{AllocError, Global};
+
+/// The number of the first site that there isn't.
+const SITES: i64 = 16;
+
+/// One more connection than a server has seats.
+const CONNECTIONS: i64 = 65;
+
+/// What a run is asked to do.
+#[derive(Drop)]
+pub enum Asked<'a> {
+    /// To run the script of standard input with the tables of that file.
+    World(&'a str),
+    /// To serve.
+    Serve(ServeWords<'a>),
+}
+
+/// The words of a server, whose numbers are in their ranges.
+#[derive(Drop)]
+pub struct ServeWords<'a> {
+    /// The site's number.
+    pub site: u8,
+    /// The epoch that it begins.
+    pub epoch: u16,
+    /// How many connections it accepts.
+    pub connections: u8,
+    /// How many letters each exchange has.
+    pub turns: u32,
+    /// Its names.
+    pub names: Names<'a>,
+    /// Where it listens for connections.
+    pub listen: &'a str,
+    /// Where it listens for peers.
+    pub exchange: &'a str,
+    /// The file of its operator tables.
+    pub tables: &'a str,
+    /// Where its peers listen.
+    pub peers: Vec<&'a str>,
+}
+
+/// The names of a Diameter node.
+#[derive(Clone, Copy)]
+pub struct Names<'a> {
+    /// Its host.
+    pub host: &'a str,
+    /// Its realm.
+    pub realm: &'a str,
+    /// Its IPv4 address.
+    pub address: &'a str,
+}
+
+/// An option that has to be there.
+fn option<'a>(alloc: Global, name: &'a str, value: &'a str, help: &'a str) -> Arg<'a> {
+    Arg::new(alloc, name)
+        .long(name)
+        .value_name(value)
+        .required(true)
+        .help(help)
+}
+
+/// The file of operator tables.
+fn tables<'a>(alloc: Global) -> Arg<'a> {
+    Arg::new(alloc, "TABLES").required(true).help(
+        "The file with the operator tables, in TOML; examples/ has some",
+    )
+}
+
+/// Adds the options that are numbers.
+fn with_numbers<'a>(alloc: Global, serve: Command<'a>) -> Result<Command<'a>, AllocError> {
+    let site = option(alloc, "site", "N", "The site's number, 0 to 15").value_parser(value_parser!(
+        u8
+    ).range(..SITES));
+    let serve = serve.arg(site)?;
+    let epoch = option(
+        alloc,
+        "epoch",
+        "E",
+        "How often the site has started, from 1",
+    )
+    .value_parser(value_parser!(u16).range(1..));
+    let serve = serve.arg(epoch)?;
+    let connections = option(
+        alloc,
+        "connections",
+        "K",
+        "How many connections are accepted, 1 to 64; with two seats a peer 64 in all at most",
+    )
+    .value_parser(value_parser!(u8).range(1..CONNECTIONS));
+    let serve = serve.arg(connections)?;
+    let turns = option(
+        alloc,
+        "turns",
+        "T",
+        "How many letters each exchange with a peer has",
+    )
+    .value_parser(value_parser!(u32));
+    serve.arg(turns)
+}
+
+/// Adds the options that are names and addresses.
+fn with_names<'a>(alloc: Global, serve: Command<'a>) -> Result<Command<'a>, AllocError> {
+    let serve = serve.arg(option(alloc, "host", "H", "The site's Origin-Host"))?;
+    let serve = serve.arg(option(alloc, "realm", "R", "The site's Origin-Realm"))?;
+    let address = "The site's Host-IP-Address, of IPv4";
+    let serve = serve.arg(option(alloc, "address", "A", address))?;
+    let listen = "Where gateways and application functions connect: ADDRESS:PORT";
+    let serve = serve.arg(option(alloc, "listen", "L", listen))?;
+    let exchange = "Where peers connect: ADDRESS:PORT";
+    serve.arg(option(alloc, "exchange", "X", exchange))
+}
+
+/// The command that serves.
+fn serve_command<'a>(alloc: Global) -> Result<Command<'a>, AllocError> {
+    let serve = Command::new(alloc, "serve").about(
+        "Serves gateways and application functions, and exchanges letters with peers, until every \
+         connection has ended",
+    );
+    let serve = with_numbers(alloc, serve)?;
+    let serve = with_names(alloc, serve)?;
+    let serve = serve.arg(tables(alloc))?;
+    let peers = Arg::new(alloc, "PEER")
+        .action(ArgAction::Append)
+        .num_args(0..)
+        .help("Where each peer listens for letters: ADDRESS:PORT");
+    serve.arg(peers)
+}
+
+/// The program's command line.
+fn command<'a>(alloc: Global) -> Result<Command<'a>, AllocError> {
+    let world = Command::new(alloc, "world")
+        .about("Runs the script of standard input on several sites with these operator tables")
+        .arg(tables(alloc))?;
+    let pcrf = Command::new(alloc, "pcrf")
+        .about(
+            "A policy and charging rules function of several active sites. Without any word it \
+             runs a script as `pcrf world` does, with tables of its own: one access point, `ims`",
+        )
+        .subcommand_required(true)
+        .subcommand(world)?;
+    pcrf.subcommand(serve_command(alloc)?)
+}
+
+/// The text of an argument that has to be there.
+fn text<'a>(matches: &ArgMatches<'a>, name: &str) -> &'a str {
+    matches.get_str(name).unwrap_or_default()
+}
+
+/// The texts of the peers.
+fn peers_of<'a>(alloc: Global, matches: &ArgMatches<'a>) -> Result<Vec<&'a str>, AllocError> {
+    match matches.get_strs("PEER") {
+        Some(peers) => Vec::from_slice(alloc, peers),
+        None => Ok(Vec::new(alloc)),
+    }
+}
+
+/// The words of a server.
+fn serve_words<'a>(alloc: Global, matches: &ArgMatches<'a>) -> Result<ServeWords<'a>, AllocError> {
+    Ok(ServeWords {
+        site: matches.get_one::<u8>("site").unwrap_or_default(),
+        epoch: matches.get_one::<u16>("epoch").unwrap_or_default(),
+        connections: matches.get_one::<u8>("connections").unwrap_or_default(),
+        turns: matches.get_one::<u32>("turns").unwrap_or_default(),
+        names: Names {
+            host: text(matches, "host"),
+            realm: text(matches, "realm"),
+            address: text(matches, "address"),
+        },
+        listen: text(matches, "listen"),
+        exchange: text(matches, "exchange"),
+        tables: text(matches, "TABLES"),
+        peers: peers_of(alloc, matches)?,
+    })
+}
+
+/// Reads the words, and answers what they ask for. `clap` demands each option, and reads the numbers.
+pub fn read_words<'a>(alloc: Global, words: &'a [String]) -> Result<Asked<'a>, Error> {
+    let matches = command(alloc)?.try_get_matches_from(words)?;
+    if let Some(serve) = matches.subcommand_matches("serve") {
+        return Ok(Asked::Serve(serve_words(alloc, serve)?));
+    }
+    let world = matches.subcommand_matches("world");
+    Ok(Asked::World(
+        world
+            .and_then(|world| world.get_str("TABLES"))
+            .unwrap_or_default(),
+    ))
+}

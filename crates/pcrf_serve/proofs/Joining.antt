@@ -1,0 +1,23 @@
+-- Workers that began with seats give them back.
+use Rattle.std.proofs.Common.{◌≡◌, List, [], ◌∷◌, length, refl, ap, suc}
+use Rattle.std.specs.List.{AllZip}
+use Rattle.site_book.specs.Books.{SeatValue}
+use Rattle.pcrf_serve.specs.declared.workers.Begun.{Begun}
+use Rattle.pcrf_serve.specs.Workers.{AllBegun, AllJoin, AllGiveBack}
+
+-- lists that fit are as long as each other
+pub zip_length : {A B : Type 0} (P : A → B → Type 0) (xs : List A) (ys : List B) → AllZip P xs ys → length ys ≡ length xs
+zip_length P [] [] z = refl
+zip_length P [] (y ∷ ys) z = absurd z
+zip_length P (x ∷ xs) [] z = absurd z
+zip_length P (x ∷ xs) (y ∷ ys) z = ap suc (zip_length P xs ys z.1)
+
+-- what began with the seats of the connections and was joined gives them back
+pub joined : {L : _} {R W E : Type 0} (connections : List (SeatValue × R × W)) (begun : List (Begun L)) (ended : List (SeatValue × E))
+    → AllBegun connections begun → AllJoin begun ended → AllGiveBack connections ended
+joined [] [] [] a b = tt
+joined [] [] (e ∷ ended) a b = absurd b
+joined [] (x ∷ begun) ended a b = absurd a
+joined (c ∷ connections) [] ended a b = absurd a
+joined (c ∷ connections) (x ∷ begun) [] a b = absurd b
+joined (c ∷ connections) (x ∷ begun) (e ∷ ended) a b = (b.0 c.0 a.0, joined connections begun ended a.1 b.1)

@@ -1,0 +1,208 @@
+//! A connection is served to its end.
+ghost use Rattle.std.specs.Prelude.{◌≡◌};
+ghost use Rattle.dia_codec.specs.Spelling.{IsFrame};
+ghost use Rattle.link_ends.specs.Earlier.{HasEarlier};
+
+use crate::link::{Link, Server};
+use crate::push_answers::tell_push_answer;
+use crate::seat_at_site::SeatAtSite;
+use dia_codec::{Assembler, FrameFault};
+use gateway_links::{Half, Observer, push_all};
+use link_ends::{Gate, LinkEnd};
+use site_book::Seat;
+use site_core::{Answer, answer_frame};
+use std::alloc::{AllocError, Global};
+use std::io::{Read, Write};
+use std::sync::ledger::Ledger;
+use std::sync::{Arc, Wait};
+use std::thread::Threads;
+
+/// How many bytes are read at once: more than a message has, so that many answers go out by one write.
+const PIECE_BYTES: usize = 1 << 16;
+
+/// Has a frame answered.
+fn answer<T: Threads + Wait + Sync, L: Ledger, O: Observer>(
+    alloc: Global,
+    at: &mut SeatAtSite<'_, T, L, O>,
+    frame: &[u8],
+) -> Result<Answer, AllocError>
+    requires { IsFrame frame.now }
+    ensures { HasEarlier at.old.seat at.new.seat }
+{
+    let answer = answer_frame(alloc, at, frame)?;
+    Ok(answer)
+}
+
+/// Pushes to every gateway that can be reached what the last message may have led to.
+fn push<T: Threads + Wait + Sync, L: Ledger, W: Write + Drop, O: Observer, G: Gate>(
+    rt: &T,
+    alloc: Global,
+    at: &mut SeatAtSite<'_, T, L, O>,
+    link: &mut Link<'_, W, O, G>,
+) -> Result<(), AllocError>
+    ensures { HasEarlier at.old.seat at.new.seat }
+{
+    push_all(
+        rt,
+        alloc,
+        at.site,
+        &mut at.seat,
+        link.gateways,
+        &mut link.outgoing,
+    )
+}
+
+/// Gathers an answer. The host of a capabilities exchange that it accepts is registered first.
+fn gather<T: Threads + Wait + Sync, L: Ledger, W: Write + Drop, O: Observer, G: Gate>(
+    rt: &T,
+    at: &mut SeatAtSite<'_, T, L, O>,
+    link: &mut Link<'_, W, O, G>,
+    answer: &Answer,
+) -> Result<(), AllocError>
+    ensures { at.new.seat ≡ at.old.seat }
+{
+    if let Some(peer) = at.take_accepted() {
+        link.register(rt, peer.host)?;
+    }
+    link.gather(answer.bytes.as_slice())
+}
+
+/// Has one frame answered, its answer gathered, and pushes made if it was served. True if the connection ends with it.
+fn serve_frame<T: Threads + Wait + Sync, L: Ledger, W: Write + Drop, O: Observer, G: Gate>(
+    rt: &T,
+    alloc: Global,
+    at: &mut SeatAtSite<'_, T, L, O>,
+    link: &mut Link<'_, W, O, G>,
+    frame: &[u8],
+) -> Result<bool, LinkEnd>
+    requires { IsFrame frame.now }
+    ensures { HasEarlier at.old.seat at.new.seat }
+{
+    link.enter()?;
+    let calls = at.calls();
+    let answer = answer(alloc, at, frame)?;
+    gather(rt, at, link, &answer)?;
+    if at.calls() > calls {
+        push(rt, alloc, at, link)?;
+    } else {
+        tell_push_answer(alloc, link.gateways.observer(), frame);
+    }
+    Ok(answer.last)
+}
+
+/// Serves each whole frame that was fed. An error is how the connection ends among them.
+fn drain<T: Threads + Wait + Sync, L: Ledger, W: Write + Drop, O: Observer, G: Gate>(
+    rt: &T,
+    alloc: Global,
+    at: &mut SeatAtSite<'_, T, L, O>,
+    link: &mut Link<'_, W, O, G>,
+    assembler: &mut Assembler,
+) -> Result<(), LinkEnd>
+    ensures { HasEarlier at.old.seat at.new.seat }
+{
+    for _ in rt.forever() {
+        match assembler.next() {
+            Ok(Some(frame)) => {
+                if serve_frame(rt, alloc, at, link, frame.as_slice())? {
+                    return Err(LinkEnd::Disconnected);
+                }
+            }
+            Ok(None) => return Ok(()),
+            Err(FrameFault::NoMemory) => return Err(LinkEnd::NoMemory),
+            Err(fault) => return Err(LinkEnd::Frame(fault)),
+        }
+    }
+    unreachable!()
+}
+
+/// Reads and serves what is whole, and writes the answers to what came by one read together, until the connection ends.
+fn serve_stream<
+    T: Threads + Wait + Sync,
+    L: Ledger,
+    R: Read,
+    W: Write + Drop,
+    O: Observer,
+    G: Gate,
+>(
+    rt: &T,
+    alloc: Global,
+    at: &mut SeatAtSite<'_, T, L, O>,
+    link: &mut Link<'_, W, O, G>,
+    reader: &mut R,
+) -> Result<LinkEnd, LinkEnd>
+    ensures { HasEarlier at.old.seat at.new.seat }
+{
+    let mut assembler = Assembler::start(alloc);
+    let mut piece: Vec<u8> = vec![in alloc; 0; PIECE_BYTES]?;
+    for _ in rt.forever() {
+        let Ok(count) = reader.read(piece.as_mut_slice()) else {
+            return Ok(LinkEnd::ReadFailed);
+        };
+        if count == 0 {
+            return Ok(if assembler.is_empty() {
+                LinkEnd::Closed
+            } else {
+                LinkEnd::Cut
+            });
+        }
+        if assembler.feed(&piece[..count]).is_err() {
+            return Ok(LinkEnd::NoMemory);
+        }
+        drain(rt, alloc, at, link, &mut assembler)?;
+        link.flush(rt)?;
+    }
+    unreachable!()
+}
+
+/// Serves a connection to its end. What was gathered is written whatever the end is, and comes before it.
+fn converse<T: Threads + Wait + Sync, L: Ledger, R: Read, W: Write + Drop, O: Observer, G: Gate>(
+    rt: &T,
+    alloc: Global,
+    at: &mut SeatAtSite<'_, T, L, O>,
+    link: &mut Link<'_, W, O, G>,
+    reader: &mut R,
+) -> LinkEnd
+    ensures { HasEarlier at.old.seat at.new.seat }
+{
+    let end = match serve_stream(rt, alloc, at, link, reader) {
+        Ok(end) | Err(end) => end,
+    };
+    let flushed = link.flush(rt);
+    link.close(rt);
+    match flushed {
+        Ok(()) => end,
+        Err(end) => end,
+    }
+}
+
+/// Serves one connection at one seat to its end, and gives the seat back with how it ended. Without a writer it serves nothing:
+/// there was no memory for its worker.
+pub fn serve_connection<
+    'a,
+    T: Threads + Wait + Sync,
+    L: Ledger,
+    R: Read + Drop,
+    W: Write + Drop,
+    O: Observer,
+    G: Gate,
+>(
+    rt: &'a T,
+    server: &'a Server<'a, L, W, O, G>,
+    seat: Seat<L>,
+    mut reader: R,
+    half: Arc<Half<W>>,
+) -> (Seat<L>, LinkEnd)
+    ensures { HasEarlier seat result.0 }
+{
+    let number = seat.number();
+    let observer = server.gateways.observer();
+    if !half.is_open(rt) {
+        observer.ended(number, LinkEnd::NoMemory);
+        return (seat, LinkEnd::NoMemory);
+    }
+    let mut link = Link::start(server, number, &half);
+    let mut at = SeatAtSite::of(rt, server.site, observer, seat);
+    let end = converse(rt, server.alloc, &mut at, &mut link, &mut reader);
+    observer.ended(number, end);
+    (at.into_seat(), end)
+}

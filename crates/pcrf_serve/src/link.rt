@@ -1,0 +1,104 @@
+//! A connection beside its seat.
+use gateway_links::{Gateways, Half, Observer, Outgoing};
+use link_ends::{Gate, LinkEnd};
+use pcrf_values::DiameterIdentity;
+use site_lock::LockedSite;
+use std::alloc::{AllocError, Global};
+use std::io::Write;
+use std::sync::ledger::Ledger;
+use std::sync::{Arc, Wait};
+
+/// What all connections of a server share: the site, the gateways that can be reached, and what lets messages through.
+#[derive(Drop)]
+pub struct Server<'a, L: Ledger, W, O, G> {
+    /// Where memory comes from.
+    pub alloc: Global,
+    /// The site at which requests are served.
+    pub site: &'a LockedSite<L>,
+    /// The gateways that pushes go to.
+    pub gateways: &'a Gateways<W, O>,
+    /// What lets messages through.
+    pub gate: &'a G,
+}
+
+/// A connection, with the answers that are gathered for it.
+#[derive(Drop)]
+pub(crate) struct Link<'a, W, O, G> {
+    /// The number of its seat.
+    number: usize,
+    pub(crate) gateways: &'a Gateways<W, O>,
+    gate: &'a G,
+    half: &'a Arc<Half<W>>,
+    pub(crate) outgoing: Outgoing<'a, W>,
+    /// How many messages were let in.
+    entered: u64,
+    /// How many of them were answered.
+    answered: u64,
+    /// How many of these have left.
+    left: u64,
+}
+
+impl<'a, W: Write + Drop, O: Observer, G: Gate> Link<'a, W, O, G> {
+    /// A connection that goes by a number.
+    pub(crate) fn start<L: Ledger>(
+        server: &Server<'a, L, W, O, G>,
+        number: usize,
+        half: &'a Arc<Half<W>>,
+    ) -> Link<'a, W, O, G> {
+        Link {
+            number,
+            gateways: server.gateways,
+            gate: server.gate,
+            half,
+            outgoing: Outgoing::by(server.alloc, half),
+            entered: 0,
+            answered: 0,
+            left: 0,
+        }
+    }
+
+    /// Lets the next message in.
+    pub(crate) fn enter(&mut self) -> Result<(), LinkEnd> {
+        if !self.gate.enter(self.number, self.entered) {
+            return Err(LinkEnd::Gate);
+        }
+        self.entered = self.entered.saturating_add(1);
+        Ok(())
+    }
+
+    /// Gathers the answer to the last message, which may be empty.
+    pub(crate) fn gather(&mut self, answer: &[u8]) -> Result<(), AllocError> {
+        self.outgoing.gather(answer)?;
+        self.answered = self.entered;
+        Ok(())
+    }
+
+    /// Writes the answers that are gathered, and lets their messages leave.
+    pub(crate) fn flush(&mut self, rt: &impl Wait) -> Result<(), LinkEnd> {
+        if !self.outgoing.flush(rt) {
+            return Err(LinkEnd::WriteFailed);
+        }
+        for message in self.left..self.answered {
+            self.left = message.saturating_add(1);
+            if !self.gate.leave(self.number, message) {
+                return Err(LinkEnd::Gate);
+            }
+        }
+        Ok(())
+    }
+
+    /// A host is reached by this connection from now on.
+    pub(crate) fn register(
+        &self,
+        rt: &impl Wait,
+        host: DiameterIdentity,
+    ) -> Result<(), AllocError> {
+        self.gateways.register(rt, host, self.half)
+    }
+
+    /// The connection is over: its gateway is reached by it no more, and it is closed.
+    pub(crate) fn close(&self, rt: &impl Wait) {
+        self.half.close(rt);
+        self.gateways.take_ended_out(rt);
+    }
+}

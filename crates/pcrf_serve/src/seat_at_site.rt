@@ -1,0 +1,187 @@
+//! A seat at a locked site serves requests.
+ghost use Rattle.std.specs.Prelude.{◌≡◌, IfOk, OnErr};
+ghost use Rattle.pcrf_model.specs.Steps.{Serve as ServeEvent};
+ghost use Rattle.pcrf_serve.specs.Serving.{IsServing};
+ghost use Rattle.site_lock.specs.Calls.{GainsReceipt};
+ghost use Rattle.site_machine.specs.Values.{event_value, reply_value, request_value};
+
+use base_profile::BaseKind;
+use dia_base::codes::results::SUCCESS;
+use dia_base::{Identity, Origin};
+use gateway_links::{Observer, tell_entries};
+use site_book::Seat;
+use site_core::{Serve, ServeFault};
+use site_lock::LockedSite;
+use site_machine::{Event, Reply, Request, StepFault};
+use std::alloc::AllocError;
+use std::sync::Wait;
+use std::sync::ledger::Ledger;
+
+/// A seat with the locked site at which it calls. Each request that it serves is a call of the seat, and an observer is told
+/// what comes of it.
+#[derive(Drop)]
+pub struct SeatAtSite<'a, R, L: Ledger, O> {
+    rt: &'a R,
+    observer: &'a O,
+    pub(crate) site: &'a LockedSite<L>,
+    pub(crate) seat: Seat<L>,
+    /// The peer of the capabilities exchange that was accepted, until it is asked for.
+    accepted: Option<Origin>,
+}
+
+/// The peer of a capabilities exchange.
+fn exchanging_peer(request: &Request) -> Option<&Origin> {
+    match request {
+        Request::Base(base) => match &base.kind {
+            BaseKind::CapabilitiesExchange(_) => Some(&base.origin),
+            BaseKind::DeviceWatchdog | BaseKind::DisconnectPeer => None,
+        },
+        Request::Ccr(_) | Request::Aar(_) | Request::Str(_) => None,
+    }
+}
+
+/// The peer of a capabilities exchange, copied.
+fn copied_peer(request: &Request) -> Result<Option<Origin>, AllocError> {
+    match exchanging_peer(request) {
+        Some(peer) => Ok(Some(peer.try_copy()?)),
+        None => Ok(None),
+    }
+}
+
+/// The Result-Code of a request of the base protocol.
+fn base_code(reply: &Reply) -> Option<u32> {
+    match reply {
+        Reply::Base(code) => Some(*code),
+        _ => None,
+    }
+}
+
+/// The request of an event.
+fn request_of(event: Event) -> Request
+    requires { IsServing (event_value event) }
+    ensures { ServeEvent (request_value result) ≡ event_value event }
+{
+    match event {
+        Event::Serve(request) => request,
+        Event::Push(_) | Event::Ops(_) | Event::Whole(_) | Event::AskOwn(_) | Event::AskWhole => {
+            unreachable!()
+        }
+    }
+}
+
+/// Why a request is not served that a site doesn't take. A site needs no counter for its reply to a request: it refuses one by
+/// itself where the clock is at its end.
+fn fault_of(fault: StepFault) -> ServeFault {
+    match fault {
+        StepFault::HistoryFull | StepFault::ClockFull => ServeFault::Full,
+        StepFault::NoMemory => ServeFault::NoMemory,
+    }
+}
+
+impl<'a, R: Wait, L: Ledger, O: Observer> SeatAtSite<'a, R, L, O> {
+    /// A seat that calls at that site.
+    pub fn of(
+        rt: &'a R,
+        site: &'a LockedSite<L>,
+        observer: &'a O,
+        seat: Seat<L>,
+    ) -> SeatAtSite<'a, R, L, O>
+        ensures { result.seat ≡ seat }
+    {
+        SeatAtSite {
+            rt,
+            observer,
+            site,
+            seat,
+            accepted: None,
+        }
+    }
+
+    /// The seat, back.
+    pub fn into_seat(self) -> Seat<L>
+        ensures { result ≡ self.entry.seat }
+    {
+        let SeatAtSite {
+            rt: _,
+            observer: _,
+            site: _,
+            seat,
+            accepted: _,
+        } = self;
+        seat
+    }
+
+    /// How many calls the seat has made.
+    pub(crate) fn calls(&self) -> usize {
+        self.seat.receipts().len()
+    }
+
+    /// The peer whose capabilities exchange was accepted since this was asked last.
+    pub(crate) fn take_accepted(&mut self) -> Option<Origin>
+        ensures seat { self.new.seat ≡ self.old.seat }
+    {
+        self.accepted.take()
+    }
+
+    /// Tells the observer what came of a call that was made, by a peer if it was a capabilities exchange.
+    fn tell(&self, peer: Option<&Origin>, code: Option<u32>) {
+        tell_entries(self.observer, &self.seat);
+        if let (Some(peer), Some(code)) = (peer, code) {
+            self.observer.exchanged(peer, code);
+        }
+    }
+
+    /// Tells the observer of a call that was not made.
+    fn tell_fault(&self, fault: StepFault) {
+        if fault == StepFault::HistoryFull {
+            self.observer.history_full();
+        }
+    }
+
+    /// Has a request served, of which this peer is known if it is a capabilities exchange.
+    fn call(&mut self, event: &Event, peer: Option<Origin>) -> Result<Reply, ServeFault>
+        ensures site { self.new.site ≡ self.old.site }
+        ensures receipt { IfOk result (λ reply. GainsReceipt
+            self.old.seat (event_value event.now) (reply_value reply) self.new.seat) }
+        ensures err { OnErr result (self.new ≡ self.old) }
+    {
+        match self.site.call_alone(self.rt, &mut self.seat, event) {
+            Ok(reply) => {
+                let code = base_code(&reply);
+                self.tell(peer.as_ref(), code);
+                if code == Some(SUCCESS) {
+                    self.accepted = peer;
+                }
+                Ok(reply)
+            }
+            Err(fault) => {
+                self.tell_fault(fault);
+                Err(fault_of(fault))
+            }
+        }
+    }
+}
+
+impl<R: Wait, L: Ledger, O: Observer> Serve for SeatAtSite<'_, R, L, O> {
+    ghost use Rattle.pcrf_serve.specs.Serving.{GainsReply, MayBeFull};
+
+    ghost names = { λ s. s.site.now.identity };
+
+    ghost may_reply = { λ old request reply new.
+        (new.site ≡ old.site) × GainsReply old.seat request reply new.seat };
+
+    ghost is_full = { MayBeFull };
+
+    fn identity(&self) -> &Identity {
+        self.site.identity()
+    }
+
+    fn serve(&mut self, request: Request) -> (Request, Result<Reply, ServeFault>) {
+        let Ok(peer) = copied_peer(&request) else {
+            return (request, Err(ServeFault::NoMemory));
+        };
+        let event = Event::Serve(request);
+        let called = self.call(&event, peer);
+        (request_of(event), called)
+    }
+}
