@@ -89,10 +89,7 @@ impl<T: Ranked> Ranked for Listed<T> {
     ghost same = { list_same T.same };
 
     fn try_copy(&self) -> Result<Listed<T>, AllocError> {
-        let mut items = Vec::with_capacity(*self.items.allocator(), self.items.len())?;
-        for item in self.as_slice() {
-            items.push(item.try_copy()?)?;
-        }
+        let items = T::try_copy_slice(*self.items.allocator(), self.as_slice())?;
         Ok(Listed { items })
     }
 }

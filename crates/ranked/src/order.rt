@@ -3,7 +3,7 @@ ghost use Rattle.std.specs.Prelude.{◌≡◌, IfOk, refl};
 ghost use Rattle.std.specs.declared.cmp.Ordering.TheVariants.{Equal};
 ghost use Rattle.ranked.specs.laws.Exact.{nat_same, option_same, pair_same};
 
-use std::alloc::AllocError;
+use std::alloc::{AllocError, Global};
 use std::net::Ipv4Addr;
 
 /// A total order whose equals are the same value.
@@ -14,6 +14,17 @@ pub trait Ranked: Ord + Drop {
     fn try_copy(&self) -> Result<Self, AllocError>
         ensures { IfOk result (λ r. r ≡ self.now) };
 
+    /// Equal values, in their order. A type whose values are their bytes does it in one move.
+    fn try_copy_slice(alloc: Global, items: &[Self]) -> Result<Vec<Self>, AllocError>
+        ensures { IfOk result (λ copies. copies.items ≡ items.now) }
+    {
+        let mut copies = Vec::with_capacity(alloc, items.len())?;
+        for item in items {
+            copies.push(item.try_copy()?)?;
+        }
+        Ok(copies)
+    }
+
     ghost same: { (x y : Self) → Self.cmp x y ≡ Equal → x ≡ y };
 }
 
@@ -23,6 +34,10 @@ impl Ranked for u8 {
     fn try_copy(&self) -> Result<u8, AllocError> {
         Ok(*self)
     }
+
+    fn try_copy_slice(alloc: Global, items: &[u8]) -> Result<Vec<u8>, AllocError> {
+        Vec::from_slice(alloc, items)
+    }
 }
 
 impl Ranked for u32 {
@@ -31,6 +46,10 @@ impl Ranked for u32 {
     fn try_copy(&self) -> Result<u32, AllocError> {
         Ok(*self)
     }
+
+    fn try_copy_slice(alloc: Global, items: &[u32]) -> Result<Vec<u32>, AllocError> {
+        Vec::from_slice(alloc, items)
+    }
 }
 
 impl Ranked for u64 {
@@ -38,6 +57,10 @@ impl Ranked for u64 {
 
     fn try_copy(&self) -> Result<u64, AllocError> {
         Ok(*self)
+    }
+
+    fn try_copy_slice(alloc: Global, items: &[u64]) -> Result<Vec<u64>, AllocError> {
+        Vec::from_slice(alloc, items)
     }
 }
 
@@ -48,6 +71,10 @@ impl Ranked for Ipv4Addr {
 
     fn try_copy(&self) -> Result<Ipv4Addr, AllocError> {
         Ok(*self)
+    }
+
+    fn try_copy_slice(alloc: Global, items: &[Ipv4Addr]) -> Result<Vec<Ipv4Addr>, AllocError> {
+        Vec::from_slice(alloc, items)
     }
 }
 
