@@ -1,20 +1,21 @@
 //! The Session-Ids of both interfaces: neither is taken for the other.
-ghost use Rattle.std.specs.Prelude.{◌≡◌, ◌<◌, ◌≤◌, length};
+ghost use Rattle.std.specs.Prelude.{◌≡◌, ◌<◌, ◌≤◌, length, refl};
 ghost use Rattle.pcrf_values.specs.Limits.{session_id_limit};
 
 use crate::bounded_list::SessionId;
-use ranked::Ranked;
+use ranked::{Ranked, compare_bytes, equal_bytes};
 use std::alloc::AllocError;
+use std::cmp::Ordering;
 use std::marker::Model;
 
 /// The Session-Id of a gateway's session (Gx, TS 29.212, 4a.5.1), which contracts see as its bytes.
-#[derive(Drop, PartialEq, Eq, PartialOrd, Ord)]
+#[derive(Drop)]
 pub struct GxSid {
     id: SessionId,
 }
 
 /// The Session-Id of an application function's session (Rx, TS 29.214, 5.6), which contracts see as its bytes.
-#[derive(Drop, PartialEq, Eq, PartialOrd, Ord)]
+#[derive(Drop)]
 pub struct AfSid {
     id: SessionId,
 }
@@ -89,6 +90,57 @@ impl AfSid {
     }
 }
 
+impl PartialEq for GxSid {
+    ghost use Rattle.std.specs.Prelude.{nat_eq};
+    ghost use Rattle.std.specs.Cmp.{partial_equiv_from_equiv};
+    ghost use Rattle.std.specs.Cmp.Lexicographic.{pointwise, nat_list_eq_equiv};
+
+    ghost eq = { pointwise nat_eq };
+
+    ghost laws = { partial_equiv_from_equiv nat_list_eq_equiv };
+
+    fn eq(&self, other: &GxSid) -> bool {
+        equal_bytes(self.as_slice(), other.as_slice())
+    }
+}
+
+impl Eq for GxSid {
+    ghost use Rattle.std.specs.Cmp.Lexicographic.{nat_list_eq_equiv};
+
+    ghost laws = { nat_list_eq_equiv };
+}
+
+impl PartialOrd for GxSid {
+    ghost use Rattle.std.specs.Cmp.Lexicographic.{texts_po};
+    ghost use Rattle.std.specs.declared.option.Option.TheVariants.{Some};
+    ghost use Rattle.ranked.specs.Orders.{text_cmp};
+
+    ghost partial_cmp = { λ x y. Some (text_cmp x y) };
+
+    ghost laws = { texts_po };
+
+    fn partial_cmp(&self, other: &GxSid) -> Option<Ordering> {
+        Some(self.cmp(other))
+    }
+}
+
+impl Ord for GxSid {
+    ghost use Rattle.std.specs.Cmp.Lexicographic.{nat_list_cmp_total, texts_ties};
+    ghost use Rattle.ranked.specs.Orders.{text_cmp};
+
+    ghost cmp = { text_cmp };
+
+    ghost total = { nat_list_cmp_total };
+
+    ghost matches_partial_cmp = { λ x y. refl };
+
+    ghost matches_eq = { texts_ties };
+
+    fn cmp(&self, other: &GxSid) -> Ordering {
+        compare_bytes(self.as_slice(), other.as_slice())
+    }
+}
+
 impl Ranked for GxSid {
     ghost use Rattle.ranked.specs.laws.Exact.{text_same};
 
@@ -98,6 +150,57 @@ impl Ranked for GxSid {
         Ok(GxSid {
             id: self.id.try_copy()?,
         })
+    }
+}
+
+impl PartialEq for AfSid {
+    ghost use Rattle.std.specs.Prelude.{nat_eq};
+    ghost use Rattle.std.specs.Cmp.{partial_equiv_from_equiv};
+    ghost use Rattle.std.specs.Cmp.Lexicographic.{pointwise, nat_list_eq_equiv};
+
+    ghost eq = { pointwise nat_eq };
+
+    ghost laws = { partial_equiv_from_equiv nat_list_eq_equiv };
+
+    fn eq(&self, other: &AfSid) -> bool {
+        equal_bytes(self.as_slice(), other.as_slice())
+    }
+}
+
+impl Eq for AfSid {
+    ghost use Rattle.std.specs.Cmp.Lexicographic.{nat_list_eq_equiv};
+
+    ghost laws = { nat_list_eq_equiv };
+}
+
+impl PartialOrd for AfSid {
+    ghost use Rattle.std.specs.Cmp.Lexicographic.{texts_po};
+    ghost use Rattle.std.specs.declared.option.Option.TheVariants.{Some};
+    ghost use Rattle.ranked.specs.Orders.{text_cmp};
+
+    ghost partial_cmp = { λ x y. Some (text_cmp x y) };
+
+    ghost laws = { texts_po };
+
+    fn partial_cmp(&self, other: &AfSid) -> Option<Ordering> {
+        Some(self.cmp(other))
+    }
+}
+
+impl Ord for AfSid {
+    ghost use Rattle.std.specs.Cmp.Lexicographic.{nat_list_cmp_total, texts_ties};
+    ghost use Rattle.ranked.specs.Orders.{text_cmp};
+
+    ghost cmp = { text_cmp };
+
+    ghost total = { nat_list_cmp_total };
+
+    ghost matches_partial_cmp = { λ x y. refl };
+
+    ghost matches_eq = { texts_ties };
+
+    fn cmp(&self, other: &AfSid) -> Ordering {
+        compare_bytes(self.as_slice(), other.as_slice())
     }
 }
 

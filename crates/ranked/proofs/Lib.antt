@@ -7,3 +7,4 @@ pub mod PartLaws
 pub mod Placing
 pub mod Plain
 pub mod SetLaws
+pub mod Words

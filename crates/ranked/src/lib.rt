@@ -5,12 +5,14 @@
 #![tactic(auto)]
 
 mod ascending;
+mod bytes;
 pub mod laws;
 mod listed;
 mod order;
 mod tag;
 
 pub use ascending::ascending_of;
+pub use bytes::{compare_bytes, equal_bytes};
 pub use listed::{Listed, Text};
 pub use order::Ranked;
 pub use tag::Tag;
