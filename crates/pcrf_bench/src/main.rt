@@ -9,6 +9,7 @@ mod gateway;
 mod letters;
 mod map;
 mod records;
+mod renewals;
 mod report;
 mod requests;
 mod rules;
@@ -40,6 +41,7 @@ fn measure<R: AllocGlobal + Clock + Print + Threads + Wait + Sync>(
         "map" => map::measure(rt, size),
         "records" => records::measure(rt, size),
         "records_kept" => records::keep(rt, size),
+        "renew" => renewals::measure(rt, size),
         "rx" => rx::measure(rt, size),
         "rx_kept" => rx::keep(rt, size),
         "sites" => sites::measure(rt, size),

@@ -346,10 +346,15 @@ pub fn take_sessions(alloc: Global, site: &mut Site, sessions: u32) -> io::Resul
     take_each(alloc, site, Made::Session, sessions)
 }
 
+/// A site takes a call for each of so many of the first sessions.
+pub fn take_calls(alloc: Global, site: &mut Site, calls: u32) -> io::Result<()> {
+    take_each(alloc, site, Made::Call, calls)
+}
+
 /// A site takes the sessions and the calls.
 fn take_load(alloc: Global, site: &mut Site, load: Load) -> io::Result<()> {
-    take_each(alloc, site, Made::Session, load.sessions)?;
-    take_each(alloc, site, Made::Call, load.calls)?;
+    take_sessions(alloc, site, load.sessions)?;
+    take_calls(alloc, site, load.calls)?;
     take_each(alloc, site, Made::Push, load.calls)
 }
 
