@@ -1,10 +1,10 @@
 -- A frame that is answered gives its seat one more receipt, or none.
-use Rattle.std.proofs.Common.{◌≡◌, ℕ, Bool, List, ◌⊎◌, inl, inr, ap}
+use Rattle.std.proofs.Common.{ℕ, Bool, List, inl, inr, ap}
 use Rattle.dia_codec.specs.declared.message.Header.{Header}
 use Rattle.dia_base.specs.declared.identity.Identity.{Identity}
 use Rattle.pcrf_model.specs.Replies.{ReplyValue}
 use Rattle.pcrf_model.specs.Requests.{RequestValue}
-use Rattle.pcrf_model.specs.Steps.{SiteEvent, Serve}
+use Rattle.pcrf_model.specs.Steps.{Serve}
 use Rattle.site_book.specs.Books.{SeatValue}
 use Rattle.site_core.specs.Asking.{AskedValue, ToServe, ToRefuse, Nothing}
 use Rattle.site_core.specs.Frames.{Answers, IsServed, Unanswered}

@@ -1,4 +1,4 @@
-use Rattle.std.proofs.Common.{◌≡◌, ◌≤◌, ◌+◌, List, [], ◌∷◌, ◌++◌, length, vec_len, vec_capacity, arith, rules, ap, subst, sym, ◌∙◌}
+use Rattle.std.proofs.Common.{length, arith, ap, subst, ◌∙◌}
 use Rattle.pcrf_serve.specs.Workers.{Joins}
 use Rattle.pcrf_serve.proofs.Covering.{Covers, covers_next, covers_all}
 use Rattle.pcrf_serve.proofs.workers.join_all.Goals as goal
