@@ -5,9 +5,10 @@ ghost use Rattle.dia_codec.specs.Limits.{command_bound};
 ghost use Rattle.dia_codec.specs.Spelling.{IsFrame};
 ghost use Rattle.site_core.specs.Asking.{HeaderFits};
 
+use crate::gateway::GATEWAY;
 use crate::report::print_each;
 use crate::requests::{Kind, requests};
-use crate::sites::new_site;
+use crate::sites::{new_site, push_once};
 use dia_codec::{Assembler, Counted, Header};
 use gx_profile::GxReply;
 use site_core::{Asked, Ended, Reply, Request, Site, converse, read_request, write_reply};
@@ -39,7 +40,7 @@ impl Write for Count {
 }
 
 /// A site answers a whole stream.
-fn answer_stream(alloc: Global, site: &mut Site, stream: &[u8]) -> io::Result<()> {
+pub fn answer_stream(alloc: Global, site: &mut Site, stream: &[u8]) -> io::Result<()> {
     let mut reader = Counted::start(stream);
     let mut writer = Counted::start(Count { bytes: 0 });
     match converse(alloc, site, &mut reader, &mut writer) {
@@ -48,15 +49,29 @@ fn answer_stream(alloc: Global, site: &mut Site, stream: &[u8]) -> io::Result<()
     }
 }
 
-/// Each of so many new sessions attaches.
-fn attach(alloc: Global, site: &mut Site, sessions: u32) -> io::Result<()> {
+/// Each of so many sessions sends a request of a kind.
+fn ask_each(alloc: Global, site: &mut Site, kind: Kind, sessions: u32) -> io::Result<()> {
     for turn in 0..sessions.div_ceil(BATCH) {
         let first = turn.saturating_mul(BATCH);
         let count = BATCH.min(sessions.saturating_sub(first));
-        let stream = requests(alloc, Kind::Initial, first, count)?;
+        let stream = requests(alloc, kind, first, count)?;
         answer_stream(alloc, site, stream.as_slice())?;
     }
     Ok(())
+}
+
+/// Each of so many new sessions attaches.
+fn attach(alloc: Global, site: &mut Site, sessions: u32) -> io::Result<()> {
+    ask_each(alloc, site, Kind::Initial, sessions)
+}
+
+/// A call comes for each of so many sessions, and its gateway is told its rule.
+fn call_each(alloc: Global, site: &mut Site, sessions: u32) -> io::Result<()> {
+    ask_each(alloc, site, Kind::Call, sessions)?;
+    for _ in 0..sessions {
+        push_once(site, Some(GATEWAY), true)?;
+    }
+    push_once(site, Some(GATEWAY), false)
 }
 
 /// How long reading, serving and answering took.
@@ -259,10 +274,42 @@ fn measure_at(
     Ok(())
 }
 
+/// Prints the microseconds that a request of each kind takes at a site to which so many sessions attach, each of which has a
+/// call: those that attach then have one last.
+fn measure_called_at(
+    rt: &(impl AllocGlobal + Clock + Print),
+    site: &mut Site,
+    sessions: u32,
+) -> io::Result<()> {
+    attach(rt.alloc(), site, sessions)?;
+    call_each(rt.alloc(), site, sessions)?;
+    println!(rt; "streams: {sessions} sessions, as many calls")?;
+    for (kind, first) in [
+        (Kind::Watchdog, 0),
+        (Kind::Update, 0),
+        (Kind::Initial, sessions),
+        (Kind::Call, sessions),
+        (Kind::CallEnd, sessions / 4),
+        (Kind::Termination, sessions / 2),
+    ] {
+        measure_kind(rt, site, kind, first)?;
+    }
+    Ok(())
+}
+
 /// Prints the microseconds that a request of each kind takes at a site with so many sessions.
 pub fn measure(rt: &(impl AllocGlobal + Clock + Print), sessions: u32) -> io::Result<()> {
     let mut site = new_site(rt.alloc())?;
     let measured = measure_at(rt, &mut site, sessions);
+    drop(site);
+    measured
+}
+
+/// Prints the microseconds that a request of each kind takes at a site with so many sessions, each with a call that is bound to
+/// it and whose rule its gateway was told.
+pub fn measure_called(rt: &(impl AllocGlobal + Clock + Print), sessions: u32) -> io::Result<()> {
+    let mut site = new_site(rt.alloc())?;
+    let measured = measure_called_at(rt, &mut site, sessions);
     drop(site);
     measured
 }
