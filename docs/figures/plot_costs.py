@@ -3,7 +3,8 @@
 
 usage: plot_costs.py RUN.. > costs.svg
 
-Each RUN is a file with what `pcrf_bench streams 1000 10000 100000` printed. Of several runs each point is the median.
+Each RUN is a file with what `pcrf_bench streams_called 1000 10000 100000` printed, or `streams`. Of several runs each point is the
+median.
 """
 import math
 import re
@@ -18,7 +19,7 @@ def points_of(file):
     """The microseconds of each kind of request by the number of sessions."""
     found, sessions, kind = {}, None, None
     for line in open(file, encoding="utf-8"):
-        if match := re.fullmatch(r"streams: (\d+) sessions\n", line):
+        if match := re.fullmatch(r"streams: (\d+) sessions(?:, as many calls)?\n", line):
             sessions = int(match[1])
         elif match := re.fullmatch(r"streams: (\D+)\n", line):
             kind = match[1]

@@ -2,7 +2,7 @@
 //! nothing is due, and where an AA request just made one session due.
 use crate::gateway::GATEWAY;
 use crate::report::print_each;
-use crate::requests::{Kind, requests};
+use crate::requests::{Kind, Places, requests};
 use crate::sites::{new_site, push_nothing, push_once, take_calls, take_sessions};
 use crate::streams::answer_stream;
 use site_core::Site;
@@ -41,7 +41,7 @@ fn time_push(rt: &impl Clock, site: &mut Site, is_due: bool) -> io::Result<Durat
 
 /// A site answers the request of a kind of a place.
 fn ask(alloc: Global, site: &mut Site, kind: Kind, place: u32) -> io::Result<()> {
-    let stream = requests(alloc, kind, place, 1)?;
+    let stream = requests(alloc, kind, Places::of(place, 1))?;
     answer_stream(alloc, site, stream.as_slice())
 }
 
@@ -86,7 +86,7 @@ fn measure_due(
     site: &mut Site,
     sessions: u32,
 ) -> io::Result<()> {
-    let stream = requests(rt.alloc(), Kind::Initial, sessions, DUE)?;
+    let stream = requests(rt.alloc(), Kind::Initial, Places::of(sessions, DUE))?;
     answer_stream(rt.alloc(), site, stream.as_slice())?;
     time_push(rt, site, false)?;
     let times = push_each_due(rt, site, sessions)?;

@@ -7,7 +7,7 @@ ghost use Rattle.site_core.specs.Asking.{HeaderFits};
 
 use crate::gateway::GATEWAY;
 use crate::report::print_each;
-use crate::requests::{Kind, requests};
+use crate::requests::{Kind, Places, requests};
 use crate::sites::{new_site, push_once};
 use dia_codec::{Assembler, Counted, Header};
 use gx_profile::GxReply;
@@ -21,6 +21,9 @@ const BATCH: u32 = 1_000;
 
 /// How many requests of a kind are timed.
 const TIMED: u32 = 100;
+
+/// Into how many parts the sessions are parted where requests are spread over them: requests of a kind have fewer than a quarter.
+const SPREAD: u32 = 1_000;
 
 /// A writer that counts bytes, and keeps none.
 #[derive(Drop)]
@@ -54,7 +57,7 @@ fn ask_each(alloc: Global, site: &mut Site, kind: Kind, sessions: u32) -> io::Re
     for turn in 0..sessions.div_ceil(BATCH) {
         let first = turn.saturating_mul(BATCH);
         let count = BATCH.min(sessions.saturating_sub(first));
-        let stream = requests(alloc, kind, first, count)?;
+        let stream = requests(alloc, kind, Places::of(first, count))?;
         answer_stream(alloc, site, stream.as_slice())?;
     }
     Ok(())
@@ -219,20 +222,20 @@ fn time_together(
     rt: &(impl AllocGlobal + Clock),
     site: &mut Site,
     kind: Kind,
-    first: u32,
+    places: Places,
 ) -> io::Result<Duration> {
-    let stream = requests(rt.alloc(), kind, first, TIMED)?;
+    let stream = requests(rt.alloc(), kind, places)?;
     time_whole(rt, site, stream.as_slice())
 }
 
-/// Answers as many requests of the next sessions, and tells how long each part took.
-fn time_next(
+/// Answers requests of a kind one after the other, and tells how long each part took.
+fn time_parts(
     rt: &(impl AllocGlobal + Clock),
     site: &mut Site,
     kind: Kind,
-    first: u32,
+    places: Places,
 ) -> io::Result<Times> {
-    let stream = requests(rt.alloc(), kind, first.saturating_add(TIMED), TIMED)?;
+    let stream = requests(rt.alloc(), kind, places)?;
     time_apart(rt, site, stream.as_slice())
 }
 
@@ -241,10 +244,10 @@ fn measure_kind(
     rt: &(impl AllocGlobal + Clock + Print),
     site: &mut Site,
     kind: Kind,
-    first: u32,
+    places: Places,
 ) -> io::Result<()> {
-    let whole = time_together(rt, site, kind, first)?;
-    let times = time_next(rt, site, kind, first)?;
+    let whole = time_together(rt, site, kind, places)?;
+    let times = time_parts(rt, site, kind, places.next())?;
     println!(rt; "streams: {}", kind.name())?;
     print_each(rt, "streams:   all of it", TIMED, whole)?;
     print_each(rt, "streams:   reading", TIMED, times.reading)?;
@@ -269,13 +272,13 @@ fn measure_at(
         (Kind::Call, 0),
         (Kind::CallEnd, 0),
     ] {
-        measure_kind(rt, site, kind, first)?;
+        measure_kind(rt, site, kind, Places::of(first, TIMED))?;
     }
     Ok(())
 }
 
 /// Prints the microseconds that a request of each kind takes at a site to which so many sessions attach, each of which has a
-/// call: those that attach then have one last.
+/// call. Requests of these sessions and calls are spread over them; calls come for sessions that attached last.
 fn measure_called_at(
     rt: &(impl AllocGlobal + Clock + Print),
     site: &mut Site,
@@ -284,15 +287,21 @@ fn measure_called_at(
     attach(rt.alloc(), site, sessions)?;
     call_each(rt.alloc(), site, sessions)?;
     println!(rt; "streams: {sessions} sessions, as many calls")?;
-    for (kind, first) in [
-        (Kind::Watchdog, 0),
-        (Kind::Update, 0),
-        (Kind::Initial, sessions),
-        (Kind::Call, sessions),
-        (Kind::CallEnd, sessions / 4),
-        (Kind::Termination, sessions / 2),
+    let step = (sessions / SPREAD).max(1);
+    for (kind, first, step) in [
+        (Kind::Watchdog, 0, 1),
+        (Kind::Update, 0, step),
+        (Kind::Initial, sessions, 1),
+        (Kind::Call, sessions, 1),
+        (Kind::CallEnd, sessions / 4, step),
+        (Kind::Termination, sessions / 2, step),
     ] {
-        measure_kind(rt, site, kind, first)?;
+        let places = Places {
+            first,
+            step,
+            count: TIMED,
+        };
+        measure_kind(rt, site, kind, places)?;
     }
     Ok(())
 }

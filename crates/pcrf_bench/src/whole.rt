@@ -48,20 +48,23 @@ fn times_of(rt: &(impl AllocGlobal + Clock), state: &State) -> io::Result<Times>
     times
 }
 
-/// The state of a site with so many sessions, and as many calls where there are calls.
+/// The state of a site that takes so many sessions, and as many calls where there are calls.
+fn state_at(alloc: Global, site: &mut Site, sessions: u32, has_calls: bool) -> io::Result<State> {
+    if has_calls {
+        take_both(alloc, site, sessions)?;
+    } else {
+        take_sessions(alloc, site, sessions)?;
+    }
+    let (state, _) = site.whole()?;
+    Ok(state)
+}
+
+/// The state of a new site that takes them.
 fn state_of(alloc: Global, sessions: u32, has_calls: bool) -> io::Result<State> {
     let mut site = new_site(alloc)?;
-    let taken = if has_calls {
-        take_both(alloc, &mut site, sessions)
-    } else {
-        take_sessions(alloc, &mut site, sessions)
-    };
-    let whole = site.whole();
+    let state = state_at(alloc, &mut site, sessions, has_calls);
     drop(site);
-    match (taken, whole) {
-        (Ok(()), Ok((state, _))) => Ok(state),
-        _ => Err(io::Error::other("a state is not made")),
-    }
+    state
 }
 
 /// Prints what it takes to take the state of so many sessions.
