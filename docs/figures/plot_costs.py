@@ -11,7 +11,7 @@ import re
 import statistics
 import sys
 
-WIDTH, HEIGHT, LEFT, RIGHT, TOP, BOTTOM = 720, 420, 60, 190, 40, 50
+WIDTH, HEIGHT, LEFT, RIGHT, TOP, BOTTOM = 760, 420, 60, 230, 40, 50
 COLOURS = ["#1b6ca8", "#c8553d", "#588157", "#8a5a9e", "#b08900", "#444444"]
 
 
