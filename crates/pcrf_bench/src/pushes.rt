@@ -1,9 +1,9 @@
-//! Pushes to one gateway at a site with so many live sessions and as many calls, each bound, whose gateways were told all: where
-//! nothing is due, and where an AA request just made one session due.
+//! Pushes to one gateway at a site with so many live sessions and as many calls, each bound, whose gateways were told all:
+//! where nothing is due, and where an AA request just made one session due.
 use crate::gateway::GATEWAY;
 use crate::report::print_each;
 use crate::requests::{Kind, Places, requests};
-use crate::sites::{new_site, push_nothing, push_once, take_calls, take_sessions};
+use crate::sites::{new_site, push_nothing, push_once, take_called};
 use crate::streams::answer_stream;
 use site_core::Site;
 use std::alloc::{AllocGlobal, Global};
@@ -18,12 +18,6 @@ const VAIN: u32 = 100_000;
 
 /// How many sessions are made due, one after the other.
 const DUE: u32 = 200;
-
-/// A site takes so many sessions, each with a call, whose gateways were told all.
-pub fn take_both(alloc: Global, site: &mut Site, sessions: u32) -> io::Result<()> {
-    take_sessions(alloc, site, sessions)?;
-    take_calls(alloc, site, sessions)
-}
 
 /// How long so many pushes take that find nothing due.
 fn time_vain(rt: &impl Clock, site: &mut Site, host: &[u8], count: u32) -> io::Result<Duration> {
@@ -110,7 +104,7 @@ fn measure_at(
     site: &mut Site,
     sessions: u32,
 ) -> io::Result<()> {
-    take_both(rt.alloc(), site, sessions)?;
+    take_called(rt.alloc(), site, sessions)?;
     println!(rt; "pushes: {sessions} sessions, as many calls")?;
     measure_vain(rt, site)?;
     measure_due(rt, site, sessions)

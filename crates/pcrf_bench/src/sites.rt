@@ -284,7 +284,7 @@ fn measure_serving(
     print_each(rt, what, count, time)
 }
 
-/// A site looks for a push: whether something was due, as is said to be so.
+/// A site looks for a push, and finds one where something is due and none where nothing is, or that is an error.
 pub fn push_once(site: &mut Site, host: Option<&[u8]>, is_due: bool) -> io::Result<()> {
     let pushed = site.push(host);
     let found = match &pushed {
@@ -348,9 +348,15 @@ pub fn take_sessions(alloc: Global, site: &mut Site, sessions: u32) -> io::Resul
 }
 
 /// A site takes a call of each of so many first sessions, whose gateways were told their rules.
-pub fn take_calls(alloc: Global, site: &mut Site, calls: u32) -> io::Result<()> {
+fn take_calls(alloc: Global, site: &mut Site, calls: u32) -> io::Result<()> {
     take_each(alloc, site, Made::Call, calls)?;
     take_each(alloc, site, Made::Push, calls)
+}
+
+/// A site takes so many sessions, each with a call, whose gateways were told all.
+pub fn take_called(alloc: Global, site: &mut Site, sessions: u32) -> io::Result<()> {
+    take_sessions(alloc, site, sessions)?;
+    take_calls(alloc, site, sessions)
 }
 
 /// A site takes the sessions and the calls.

@@ -22,7 +22,7 @@ const BATCH: u32 = 1_000;
 /// How many requests of a kind are timed.
 const TIMED: u32 = 100;
 
-/// Into how many parts the sessions are parted where requests are spread over them: requests of a kind have fewer than a quarter.
+/// Into how many parts all sessions are parted where requests are spread over them; those of a kind have less than a quarter.
 const SPREAD: u32 = 1_000;
 
 /// A writer that counts bytes, and keeps none.

@@ -1,9 +1,8 @@
 //! A whole state (`Site::whole`) of so many sessions, whose gateways were told all, without calls and with as many, that
 //! another site takes (`Site::take_state`); and what a session keeps whose gateway was told one rule.
 use crate::gateway::GATEWAY;
-use crate::pushes::take_both;
 use crate::report::print_each;
-use crate::sites::{connection, new_site, push_once, take_sessions};
+use crate::sites::{connection, new_site, push_once, take_called, take_sessions};
 use site_core::Site;
 use site_join::{Operation, State};
 use std::alloc::{AllocError, AllocGlobal, Global};
@@ -51,7 +50,7 @@ fn times_of(rt: &(impl AllocGlobal + Clock), state: &State) -> io::Result<Times>
 /// The state of a site that takes so many sessions, and as many calls where there are calls.
 fn state_at(alloc: Global, site: &mut Site, sessions: u32, has_calls: bool) -> io::Result<State> {
     if has_calls {
-        take_both(alloc, site, sessions)?;
+        take_called(alloc, site, sessions)?;
     } else {
         take_sessions(alloc, site, sessions)?;
     }
