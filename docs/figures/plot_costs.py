@@ -3,14 +3,15 @@
 
 usage: plot_costs.py RUN.. > costs.svg
 
-Each RUN is a file with what `pcrf_bench streams 1000 10000 100000` printed. Of several runs each point is the median.
+Each RUN is a file with what `pcrf_bench streams_called 1000 10000 100000` printed, or `streams`. Of several runs each point is the
+median.
 """
 import math
 import re
 import statistics
 import sys
 
-WIDTH, HEIGHT, LEFT, RIGHT, TOP, BOTTOM = 720, 420, 60, 190, 40, 50
+WIDTH, HEIGHT, LEFT, RIGHT, TOP, BOTTOM = 760, 420, 60, 230, 40, 50
 COLOURS = ["#1b6ca8", "#c8553d", "#588157", "#8a5a9e", "#b08900", "#444444"]
 
 
@@ -18,7 +19,7 @@ def points_of(file):
     """The microseconds of each kind of request by the number of sessions."""
     found, sessions, kind = {}, None, None
     for line in open(file, encoding="utf-8"):
-        if match := re.fullmatch(r"streams: (\d+) sessions\n", line):
+        if match := re.fullmatch(r"streams: (\d+) sessions(?:, as many calls)?\n", line):
             sessions = int(match[1])
         elif match := re.fullmatch(r"streams: (\D+)\n", line):
             kind = match[1]

@@ -8,6 +8,7 @@ mod calls;
 mod gateway;
 mod letters;
 mod map;
+mod pushes;
 mod records;
 mod renewals;
 mod report;
@@ -18,6 +19,7 @@ mod sites;
 mod states;
 mod streams;
 mod tables;
+mod whole;
 
 use std::alloc::AllocGlobal;
 use std::env;
@@ -39,6 +41,7 @@ fn measure<R: AllocGlobal + Clock + Print + Threads + Wait + Sync>(
         "book_updates_kept" => book::keep_updates(rt, size, true),
         "letters" => letters::measure(rt, size),
         "map" => map::measure(rt, size),
+        "pushes" => pushes::measure(rt, size),
         "records" => records::measure(rt, size),
         "records_kept" => records::keep(rt, size),
         "renew" => renewals::measure(rt, size),
@@ -48,7 +51,11 @@ fn measure<R: AllocGlobal + Clock + Print + Threads + Wait + Sync>(
         "states" => states::measure(rt, size),
         "states_kept" => states::keep(rt, size),
         "streams" => streams::measure(rt, size),
+        "streams_called" => streams::measure_called(rt, size),
         "tables" => tables::measure(rt, size),
+        "whole" => whole::measure(rt, size),
+        "whole_site_kept" => whole::keep_site(rt, size),
+        "whole_state_kept" => whole::keep_state(rt, size),
         _ => Err(io::Error::other("there is no such measure")),
     }
 }

@@ -163,11 +163,43 @@ fn put_bytes(alloc: Global, stream: &mut Vec<u8>, kind: Kind, place: u32) -> io:
     Ok(())
 }
 
-/// The requests of so many places, from one on, one behind the other.
-pub fn requests(alloc: Global, kind: Kind, first: u32, count: u32) -> io::Result<Vec<u8>> {
+/// So many places, from one on, by steps.
+#[derive(Clone, Copy, Debug, PartialEq, Eq)]
+pub struct Places {
+    pub first: u32,
+    pub step: u32,
+    pub count: u32,
+}
+
+impl Places {
+    /// So many places, from one on, one after the other.
+    pub fn of(first: u32, count: u32) -> Places {
+        Places {
+            first,
+            step: 1,
+            count,
+        }
+    }
+
+    /// The place of a turn.
+    fn at(self, turn: u32) -> u32 {
+        self.first.saturating_add(turn.saturating_mul(self.step))
+    }
+
+    /// As many places, behind these.
+    pub fn next(self) -> Places {
+        Places {
+            first: self.at(self.count),
+            ..self
+        }
+    }
+}
+
+/// The requests of places, one behind the other.
+pub fn requests(alloc: Global, kind: Kind, places: Places) -> io::Result<Vec<u8>> {
     let mut stream = Vec::new(alloc);
-    for turn in 0..count {
-        put_bytes(alloc, &mut stream, kind, first.saturating_add(turn))?;
+    for turn in 0..places.count {
+        put_bytes(alloc, &mut stream, kind, places.at(turn))?;
     }
     Ok(stream)
 }

@@ -128,7 +128,7 @@ fn connection_facts(alloc: Global, at: Tag, place: u32) -> io::Result<Vec<GxFact
 }
 
 /// The operation of an initial request, and of the rule that its answer tells.
-fn connection(alloc: Global, place: u32) -> io::Result<Operation> {
+pub fn connection(alloc: Global, place: u32) -> io::Result<Operation> {
     let at = stamp(1);
     let id = session_id(alloc, place)?;
     let facts = SessionFacts::Gx(id, connection_facts(alloc, at, place)?);
@@ -284,25 +284,26 @@ fn measure_serving(
     print_each(rt, what, count, time)
 }
 
-/// A site looks for a push, and finds none.
-fn push_once(site: &mut Site, host: Option<&[u8]>) -> io::Result<()> {
+/// A site looks for a push, and finds one where something is due and none where nothing is, or that is an error.
+pub fn push_once(site: &mut Site, host: Option<&[u8]>, is_due: bool) -> io::Result<()> {
     let pushed = site.push(host);
-    let none = match &pushed {
-        Ok(None) => Ok(()),
-        Ok(Some(_)) => Err("something is due"),
-        Err(_) => Err("a push failed"),
+    let found = match &pushed {
+        Ok(found) => Some(found.is_some()),
+        Err(_) => None,
     };
     drop(pushed);
-    match none {
-        Ok(()) => Ok(()),
-        Err(why) => Err(io::Error::other(why)),
+    match found {
+        Some(found) if found == is_due => Ok(()),
+        Some(true) => Err(io::Error::other("something is due")),
+        Some(false) => Err(io::Error::other("nothing is due")),
+        None => Err(io::Error::other("a push failed")),
     }
 }
 
 /// A site looks for a push so many times, and finds none.
-fn push_nothing(site: &mut Site, host: Option<&[u8]>, count: u32) -> io::Result<()> {
+pub fn push_nothing(site: &mut Site, host: Option<&[u8]>, count: u32) -> io::Result<()> {
     for _ in 0..count {
-        push_once(site, host)?;
+        push_once(site, host, false)?;
     }
     Ok(())
 }
@@ -351,11 +352,22 @@ pub fn take_calls(alloc: Global, site: &mut Site, calls: u32) -> io::Result<()> 
     take_each(alloc, site, Made::Call, calls)
 }
 
+/// A site takes a call of each of so many first sessions, whose gateways were told their rules.
+fn take_told_calls(alloc: Global, site: &mut Site, calls: u32) -> io::Result<()> {
+    take_calls(alloc, site, calls)?;
+    take_each(alloc, site, Made::Push, calls)
+}
+
+/// A site takes so many sessions, each with a call, whose gateways were told all.
+pub fn take_called(alloc: Global, site: &mut Site, sessions: u32) -> io::Result<()> {
+    take_sessions(alloc, site, sessions)?;
+    take_told_calls(alloc, site, sessions)
+}
+
 /// A site takes the sessions and the calls.
 fn take_load(alloc: Global, site: &mut Site, load: Load) -> io::Result<()> {
     take_sessions(alloc, site, load.sessions)?;
-    take_calls(alloc, site, load.calls)?;
-    take_each(alloc, site, Made::Push, load.calls)
+    take_told_calls(alloc, site, load.calls)
 }
 
 /// Prints what updates take.

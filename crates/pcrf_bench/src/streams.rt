@@ -5,9 +5,10 @@ ghost use Rattle.dia_codec.specs.Limits.{command_bound};
 ghost use Rattle.dia_codec.specs.Spelling.{IsFrame};
 ghost use Rattle.site_core.specs.Asking.{HeaderFits};
 
+use crate::gateway::GATEWAY;
 use crate::report::print_each;
-use crate::requests::{Kind, requests};
-use crate::sites::new_site;
+use crate::requests::{Kind, Places, requests};
+use crate::sites::{new_site, push_once};
 use dia_codec::{Assembler, Counted, Header};
 use gx_profile::GxReply;
 use site_core::{Asked, Ended, Reply, Request, Site, converse, read_request, write_reply};
@@ -20,6 +21,9 @@ const BATCH: u32 = 1_000;
 
 /// How many requests of a kind are timed.
 const TIMED: u32 = 100;
+
+/// Into how many parts all sessions are parted where requests are spread over them; those of a kind have less than a quarter.
+const SPREAD: u32 = 1_000;
 
 /// A writer that counts bytes, and keeps none.
 #[derive(Drop)]
@@ -39,7 +43,7 @@ impl Write for Count {
 }
 
 /// A site answers a whole stream.
-fn answer_stream(alloc: Global, site: &mut Site, stream: &[u8]) -> io::Result<()> {
+pub fn answer_stream(alloc: Global, site: &mut Site, stream: &[u8]) -> io::Result<()> {
     let mut reader = Counted::start(stream);
     let mut writer = Counted::start(Count { bytes: 0 });
     match converse(alloc, site, &mut reader, &mut writer) {
@@ -48,15 +52,29 @@ fn answer_stream(alloc: Global, site: &mut Site, stream: &[u8]) -> io::Result<()
     }
 }
 
-/// Each of so many new sessions attaches.
-fn attach(alloc: Global, site: &mut Site, sessions: u32) -> io::Result<()> {
+/// Each of so many sessions sends a request of a kind.
+fn ask_each(alloc: Global, site: &mut Site, kind: Kind, sessions: u32) -> io::Result<()> {
     for turn in 0..sessions.div_ceil(BATCH) {
         let first = turn.saturating_mul(BATCH);
         let count = BATCH.min(sessions.saturating_sub(first));
-        let stream = requests(alloc, Kind::Initial, first, count)?;
+        let stream = requests(alloc, kind, Places::of(first, count))?;
         answer_stream(alloc, site, stream.as_slice())?;
     }
     Ok(())
+}
+
+/// Each of so many new sessions attaches.
+fn attach(alloc: Global, site: &mut Site, sessions: u32) -> io::Result<()> {
+    ask_each(alloc, site, Kind::Initial, sessions)
+}
+
+/// A call comes for each of so many sessions, and its gateway is told its rule.
+fn call_each(alloc: Global, site: &mut Site, sessions: u32) -> io::Result<()> {
+    ask_each(alloc, site, Kind::Call, sessions)?;
+    for _ in 0..sessions {
+        push_once(site, Some(GATEWAY), true)?;
+    }
+    push_once(site, Some(GATEWAY), false)
 }
 
 /// How long reading, serving and answering took.
@@ -204,20 +222,20 @@ fn time_together(
     rt: &(impl AllocGlobal + Clock),
     site: &mut Site,
     kind: Kind,
-    first: u32,
+    places: Places,
 ) -> io::Result<Duration> {
-    let stream = requests(rt.alloc(), kind, first, TIMED)?;
+    let stream = requests(rt.alloc(), kind, places)?;
     time_whole(rt, site, stream.as_slice())
 }
 
-/// Answers as many requests of the next sessions, and tells how long each part took.
-fn time_next(
+/// Answers requests of a kind one after the other, and tells how long each part took.
+fn time_parts(
     rt: &(impl AllocGlobal + Clock),
     site: &mut Site,
     kind: Kind,
-    first: u32,
+    places: Places,
 ) -> io::Result<Times> {
-    let stream = requests(rt.alloc(), kind, first.saturating_add(TIMED), TIMED)?;
+    let stream = requests(rt.alloc(), kind, places)?;
     time_apart(rt, site, stream.as_slice())
 }
 
@@ -226,10 +244,10 @@ fn measure_kind(
     rt: &(impl AllocGlobal + Clock + Print),
     site: &mut Site,
     kind: Kind,
-    first: u32,
+    places: Places,
 ) -> io::Result<()> {
-    let whole = time_together(rt, site, kind, first)?;
-    let times = time_next(rt, site, kind, first)?;
+    let whole = time_together(rt, site, kind, places)?;
+    let times = time_parts(rt, site, kind, places.next())?;
     println!(rt; "streams: {}", kind.name())?;
     print_each(rt, "streams:   all of it", TIMED, whole)?;
     print_each(rt, "streams:   reading", TIMED, times.reading)?;
@@ -254,7 +272,36 @@ fn measure_at(
         (Kind::Call, 0),
         (Kind::CallEnd, 0),
     ] {
-        measure_kind(rt, site, kind, first)?;
+        measure_kind(rt, site, kind, Places::of(first, TIMED))?;
+    }
+    Ok(())
+}
+
+/// Prints the microseconds that a request of each kind takes at a site to which so many sessions attach, each of which has a
+/// call. Requests of these sessions and calls are spread over them; calls come for sessions that attached last.
+fn measure_called_at(
+    rt: &(impl AllocGlobal + Clock + Print),
+    site: &mut Site,
+    sessions: u32,
+) -> io::Result<()> {
+    attach(rt.alloc(), site, sessions)?;
+    call_each(rt.alloc(), site, sessions)?;
+    println!(rt; "streams: {sessions} sessions, as many calls")?;
+    let step = (sessions / SPREAD).max(1);
+    for (kind, first, step) in [
+        (Kind::Watchdog, 0, 1),
+        (Kind::Update, 0, step),
+        (Kind::Initial, sessions, 1),
+        (Kind::Call, sessions, 1),
+        (Kind::CallEnd, sessions / 4, step),
+        (Kind::Termination, sessions / 2, step),
+    ] {
+        let places = Places {
+            first,
+            step,
+            count: TIMED,
+        };
+        measure_kind(rt, site, kind, places)?;
     }
     Ok(())
 }
@@ -263,6 +310,15 @@ fn measure_at(
 pub fn measure(rt: &(impl AllocGlobal + Clock + Print), sessions: u32) -> io::Result<()> {
     let mut site = new_site(rt.alloc())?;
     let measured = measure_at(rt, &mut site, sessions);
+    drop(site);
+    measured
+}
+
+/// Prints the microseconds that a request of each kind takes at a site with so many sessions, each with a call that is bound to
+/// it and whose rule its gateway was told.
+pub fn measure_called(rt: &(impl AllocGlobal + Clock + Print), sessions: u32) -> io::Result<()> {
+    let mut site = new_site(rt.alloc())?;
+    let measured = measure_called_at(rt, &mut site, sessions);
     drop(site);
     measured
 }
