@@ -8,6 +8,6 @@ pub returns : goal.returns
 returns g c =
     let gathered = earlier_then _ _ _ c.answer.ensures (earlier_equal _ _ c.gather.ensures) in
     elim c.if-calls.branch [
-      then-calls+in_ok-push w ↦ earlier_then _ _ _ (earlier_then _ _ _ gathered w.push.ensures) (earlier_equal _ _ (ap (λ at. at.seat) w.at-is))
-    | else-calls w ↦ earlier_then _ _ _ gathered (earlier_equal _ _ (ap (λ at. at.seat) w.at-is))
+      | then-calls+in_ok-push w ↦ earlier_then _ _ _ (earlier_then _ _ _ gathered w.push.ensures) (earlier_equal _ _ (ap (λ at. at.seat) w.at-is))
+      | else-calls w ↦ earlier_then _ _ _ gathered (earlier_equal _ _ (ap (λ at. at.seat) w.at-is))
     ]
