@@ -261,11 +261,11 @@ const CALL: Sends = &[&[Sent::Call]];
 
 /// The second connection's call is set up once the first has a session, and the first goes on once it is. The exchange, the
 /// request and the call make an entry each, and each a push behind it, of which the last tells of the call.
-fn with_call(first: Sends, fails: Fails, outcome: &'static str) -> Case {
+fn with_call(sends: [Sends; 3], fails: Fails, outcome: &'static str) -> Case {
     Case {
         orders: &[((1, 0), (0, 1)), ((0, 2), (1, 0))],
         fails,
-        ..plain([first, CALL, QUIET], outcome)
+        ..plain(sends, outcome)
     }
 }
 
@@ -277,7 +277,11 @@ fn a_gateway_is_told_of_a_call(rt: HostRuntime) {
     let outcome = "Disconnected 3: 257=2001 272=2001 258#5#5 282=2001\n\
         Closed 1: 265=2001\nClosed 0:\n\
         9 entries, 9 told, clock 3, 0 reached\ngw r 2001\n";
-    check(&rt, rt.alloc(), with_call(GATEWAY, Fails::Nothing, outcome));
+    check(
+        &rt,
+        rt.alloc(),
+        with_call([GATEWAY, CALL, QUIET], Fails::Nothing, outcome),
+    );
 }
 
 /// The same under an application that is not served.
@@ -291,7 +295,7 @@ fn a_gateway_that_was_refused_is_not_told(rt: HostRuntime) {
     check(
         &rt,
         rt.alloc(),
-        with_call(REFUSED_GATEWAY, Fails::Nothing, outcome),
+        with_call([REFUSED_GATEWAY, CALL, QUIET], Fails::Nothing, outcome),
     );
 }
 
@@ -302,7 +306,7 @@ fn a_gateway_that_cannot_be_told_is_reached_no_more(rt: HostRuntime) {
     check(
         &rt,
         rt.alloc(),
-        with_call(GATEWAY, Fails::Write(1), outcome),
+        with_call([GATEWAY, CALL, QUIET], Fails::Write(1), outcome),
     );
 }
 
