@@ -10,21 +10,11 @@ mod server;
 mod tests;
 mod words;
 
-use log::Logged;
-use log::sink::Console;
 use std::process::ExitCode;
 
 fn main(rt: HostRuntime) -> ExitCode {
-    let log = Logged::new(rt, run::level(&rt), Console(rt));
     let status = match run::words(&rt) {
-        Ok(words) => run::run(
-            &rt,
-            &log,
-            words.as_slice(),
-            rt.stdin(),
-            rt.stdout(),
-            rt.stderr(),
-        ),
+        Ok(words) => run::run_logged(&rt, words.as_slice(), rt.stdin(), rt.stdout(), rt.stderr()),
         Err(error) => run::no_words(rt.stderr(), &error),
     };
     ExitCode::from(status)

@@ -5,13 +5,14 @@ use crate::words::{Asked, ServeWords, read_words};
 use clap::Error;
 use clap::error::ErrorKind;
 use dia_codec::Counted;
-use log::{LevelFilter, Log};
+use log::sink::Console;
+use log::{LevelFilter, Log, Logged};
 use op_tables::{TableFault, Tables};
 use pcrf_script::{ScriptEnd, run_script};
 use pcrf_server::ServerFault;
 use std::alloc::Global;
 use std::env;
-use std::io::{self, Read, Write};
+use std::io::{self, Eprint, Read, Write};
 use std::net::{Net, TcpListener, TcpStream};
 use std::rt::{Env, Files};
 use std::sync::Wait;
@@ -62,7 +63,7 @@ pub fn words<R: Env + AllocGlobal>(rt: &R) -> io::Result<Vec<String>> {
 
 /// How much an operator is told on standard error beside faults: nothing, or what the environment asks for. A text that names no
 /// level asks for all.
-pub fn level<R: Env + AllocGlobal>(rt: &R) -> LevelFilter {
+fn level<R: Env + AllocGlobal>(rt: &R) -> LevelFilter {
     match env::var(rt, "PCRF_LOG") {
         Ok(text) => text
             .as_str()
@@ -226,4 +227,16 @@ pub fn run<H: Host, G: Log + Sync, R: Read + Drop, W: Write + Drop, F: Write + D
     }
     let tables = operator_tables::held(rt.alloc());
     run_script_with(rt.alloc(), tables, reader, writer, &mut faults)
+}
+
+/// Runs the program with a log on standard error, as the environment asks for it, and answers its exit status.
+pub fn run_logged<H: Host + Env + Eprint, R: Read + Drop, W: Write + Drop, F: Write + Drop>(
+    rt: &H,
+    words: &[String],
+    reader: R,
+    writer: W,
+    faults: F,
+) -> u8 {
+    let log = Logged::new(rt, level(rt), Console(rt));
+    run(rt, &log, words, reader, writer, faults)
 }
