@@ -52,18 +52,23 @@ fn address(port: u16) -> SocketAddr {
     SocketAddr::V4(SocketAddrV4::new(Ipv4Addr::new(192, 0, 2, 1), port))
 }
 
+/// A journal is told of a peer and of its session.
+fn tell_of(told: &Memory, peer: &Origin, session: &GxSid) {
+    let journal = Journal::of(told, 30);
+    journal.exchanged(peer, 2001);
+    journal.exchanged(peer, 5010);
+    journal.push_refused(session, Some(5003));
+    journal.push_refused(session, None);
+    journal.unreached(&peer.host);
+    journal.ended(0, LinkEnd::Disconnected);
+}
+
 #[test]
 fn what_happens_at_connections_is_told(rt: HostRuntime) {
     let told = Memory::new(rt.alloc());
-    let journal = Journal::of(&told, 30);
     let peer = peer(&rt, rt.alloc());
     let session = session(&rt, rt.alloc());
-    journal.exchanged(&peer, 2001);
-    journal.exchanged(&peer, 5010);
-    journal.push_refused(&session, Some(5003));
-    journal.push_refused(&session, None);
-    journal.unreached(&peer.host);
-    journal.ended(0, LinkEnd::Disconnected);
+    tell_of(&told, &peer, &session);
     check_lines(
         &rt,
         told,
@@ -78,15 +83,20 @@ fn what_happens_at_connections_is_told(rt: HostRuntime) {
     );
 }
 
-#[test]
-fn a_history_is_told_once_at_nine_tenths_and_once_when_it_is_full(rt: HostRuntime) {
-    let told = Memory::new(rt.alloc());
-    let journal = Journal::of(&told, 30);
+/// A journal is told of a history that grows until it is full.
+fn tell_of_growth(told: &Memory) {
+    let journal = Journal::of(told, 30);
     for entries in [1, 26, 27, 28, 30] {
         journal.entered(entries);
     }
     journal.history_full();
     journal.history_full();
+}
+
+#[test]
+fn a_history_is_told_once_at_nine_tenths_and_once_when_it_is_full(rt: HostRuntime) {
+    let told = Memory::new(rt.alloc());
+    tell_of_growth(&told);
     check_lines(
         &rt,
         told,
