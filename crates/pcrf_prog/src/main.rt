@@ -8,6 +8,7 @@ mod serve_tests;
 mod server;
 #[cfg(test)]
 mod tests;
+mod told;
 mod words;
 
 use log::Logged;

@@ -310,6 +310,26 @@ fn tables_come_before_sockets(rt: HostRuntime) -> Result<(), Fail> {
 }
 
 #[test]
+fn where_tables_of_a_server_are_at_fault_is_told_to_who_asks(rt: HostRuntime) -> Result<(), Fail> {
+    let path = path_of(&rt, "fault")?;
+    fs::write(&rt, path.as_str(), "edition = 7\nrtcp_bps = -1\n")?;
+    let words = ServeWords {
+        tables: path.as_str(),
+        listen: "none",
+        exchange: "none",
+        other: ("", ""),
+        peers: &[],
+    };
+    let log = Locked::new(rt, Vec::new(rt.alloc()));
+    let ended = words.run_told(&rt, &log)?;
+    fs::remove_file(&rt, path.as_str())?;
+    check(&rt, "fault", &ended, (1, "", "pcrf: tables: bad value\n"));
+    let logged = b"[ERROR pcrf] operator tables: bad value at rtcp_bps\n";
+    assert_eq!(rt; log.into_inner().as_slice(), logged.as_slice());
+    Ok(())
+}
+
+#[test]
 fn sockets_that_cannot_be_made_are_told(rt: HostRuntime) -> Result<(), Fail> {
     let path = table_file(&rt, "network")?;
     let held = TcpListener::bind(&rt, "127.0.0.1:0")?;

@@ -1,7 +1,7 @@
 //! What the program prints on its faults, and its exit status.
 use crate::run::{Host, no_words, run};
 use log::Log;
-use log::sink::Discard;
+use log::sink::{Discard, Locked};
 use std::alloc::{AllocError, Global};
 use std::io::{self, ErrorKind, Read, Write};
 use std::process::Abort;
@@ -174,12 +174,23 @@ pub fn path_of(rt: &HostRuntime, name: &str) -> Result<String, Fail> {
     Ok(String::from_str(rt.alloc(), path.as_str())?)
 }
 
-/// Runs `pcrf world` with a file of these bytes at that path.
-fn run_file<H: Host>(rt: &H, path: &str, bytes: &[u8], script: &str) -> Result<Ended, Fail> {
+/// Runs `pcrf world` with a file of these bytes at that path, and tells that log what happens.
+fn run_file_told<H: Host, G: Log + Sync>(
+    rt: &H,
+    log: &G,
+    path: &str,
+    bytes: &[u8],
+    script: &str,
+) -> Result<Ended, Fail> {
     fs::write(rt, path, bytes)?;
-    let ended = run_words(rt, &["world", path], script)?;
+    let ended = run_told(rt, log, &["world", path], script)?;
     fs::remove_file(rt, path)?;
     Ok(ended)
+}
+
+/// Runs `pcrf world` with a file of these bytes at that path.
+fn run_file<H: Host>(rt: &H, path: &str, bytes: &[u8], script: &str) -> Result<Ended, Fail> {
+    run_file_told(rt, &Discard, path, bytes, script)
 }
 
 #[test]
@@ -199,6 +210,39 @@ fn scripts_end_with_their_status(rt: HostRuntime) {
         check(&rt, script, &ended, (status, printed, told));
         drop(ended);
     }
+}
+
+#[test]
+fn why_a_line_is_refused_is_told_to_who_asks(rt: HostRuntime) -> Result<(), Fail> {
+    let cases = [
+        ("sites 1\n", (0, "sites 1\n", ""), ""),
+        (
+            "bogus 0\n",
+            (3, "", "pcrf: script: line 1\n"),
+            "[ERROR pcrf] line 1 of the script was refused: its first word is unknown\n",
+        ),
+        (
+            "sites 1\n\nsites 1\nbogus\n",
+            (3, "sites 1\n", "pcrf: script: line 3\n"),
+            "[ERROR pcrf] line 3 of the script was refused: the world stands already\n",
+        ),
+        (
+            "sites 1\n# show\nshow\n",
+            (3, "sites 1\n", "pcrf: script: line 3\n"),
+            "[ERROR pcrf] line 3 of the script was refused: a word is missing\n",
+        ),
+    ];
+    for (script, wanted, logged) in cases {
+        let log = Locked::new(rt, Vec::new(rt.alloc()));
+        let ended = run_told(&rt, &log, &[], script)?;
+        check(&rt, script, &ended, wanted);
+        assert_eq!(rt;
+            log.into_inner().as_slice(),
+            logged.as_bytes(),
+            "{script:?}"
+        );
+    }
+    Ok(())
 }
 
 #[test]
@@ -274,6 +318,53 @@ fn faults_of_tables_are_told_before_the_script_runs(rt: HostRuntime) -> Result<(
         let ended = run_file(&rt, path.as_str(), bytes, SCRIPT)?;
         check(&rt, told, &ended, (1, "", told));
         drop(ended);
+    }
+    Ok(())
+}
+
+/// Lines behind the tables of a network with calls, the fault that they make, and what is logged of it.
+const PLACES: [(&str, &str, &str); 6] = [
+    (
+        "[[apn.rule]]\nname = = \"web\"\n",
+        "pcrf: tables: syntax\n",
+        "",
+    ),
+    (
+        "[[media]]\ntype = 0\n",
+        "pcrf: tables: duplicate row\n",
+        "[ERROR pcrf] operator tables: duplicate row at media 2, type\n",
+    ),
+    (
+        "[[media]]\ntype = 1\nqci = 10\n",
+        "pcrf: tables: bad value\n",
+        "[ERROR pcrf] operator tables: bad value at media 2, qci\n",
+    ),
+    (
+        "[apn.default]\nqci = 4\n",
+        "pcrf: tables: bad value\n",
+        "[ERROR pcrf] operator tables: bad value at apn 2, default, qci\n",
+    ),
+    (
+        "[[apn.rule]]\nname = \"web\"\n",
+        "pcrf: tables: missing key\n",
+        "[ERROR pcrf] operator tables: missing key at apn 2, rule 1, qci\n",
+    ),
+    (
+        "[[apn]]\nname = \"IMS\"\n",
+        "pcrf: tables: duplicate row\n",
+        "[ERROR pcrf] operator tables: duplicate row at apn 3, name\n",
+    ),
+];
+
+#[test]
+fn where_tables_are_at_fault_is_told_to_who_asks(rt: HostRuntime) -> Result<(), Fail> {
+    let path = path_of(&rt, "places")?;
+    for (more, told, logged) in PLACES {
+        let tables = format!(in rt.alloc(); "{TELEPHONY}{more}")?;
+        let log = Locked::new(rt, Vec::new(rt.alloc()));
+        let ended = run_file_told(&rt, &log, path.as_str(), tables.as_bytes(), SCRIPT)?;
+        check(&rt, more, &ended, (1, "", told));
+        assert_eq!(rt; log.into_inner().as_slice(), logged.as_bytes(), "{more:?}");
     }
     Ok(())
 }
