@@ -1,5 +1,7 @@
+pub mod Keys
 pub mod Places
 pub mod Values
+pub mod Placing
 pub mod Judgement
 pub mod Meaning
 pub mod Statements

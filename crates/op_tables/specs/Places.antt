@@ -1,6 +1,8 @@
 -- The keys of the operator tables, place by place, in the order in which they are judged (this project's profile).
-use Rattle.std.specs.Prelude.{ℕ, List, codes}
+use Rattle.std.specs.Prelude.{ℕ}
 use Rattle.pcrf_values.specs.Limits.{apn_limit}
+use Rattle.op_tables.specs.declared.place.TableKey.{TableKey}
+use Rattle.op_tables.specs.declared.place.TableKey.TheVariants as key
 
 infixr 5 ◌▸◌
 mutual
@@ -16,12 +18,12 @@ mutual
     Filters : ℕ → Shape
     Table : Keys → Shape
     -- at most so many tables, which differ pairwise in what stands at a key that each has, and have these keys behind it
-    Rows : ℕ → List ℕ → Shape → Keys → Shape
+    Rows : ℕ → TableKey → Shape → Keys → Shape
 
   -- a key that has to stand, and one that may be absent
   pub data Key : Type 0 where
-    required : List ℕ → Shape → Key
-    optional : List ℕ → Shape → Key
+    required : TableKey → Shape → Key
+    optional : TableKey → Shape → Key
 
   -- keys in the order in which they are judged
   pub data Keys : Type 0 where
@@ -59,13 +61,13 @@ number_32 = Number 0 4294967295
 -- the keys of a class of service, with others behind them
 abbrev pub class_then : Keys → Keys
 class_then keys =
-    required (codes "qci") (Number 1 9)
-    ▸ required (codes "priority") (Number 1 15)
-    ▸ required (codes "capability") (Number 0 1)
-    ▸ required (codes "vulnerability") (Number 0 1)
-    ▸ required (codes "max_ul") number_32
-    ▸ required (codes "max_dl") number_32
-    ▸ required (codes "precedence") number_32
+    required key.Qci (Number 1 9)
+    ▸ required key.Priority (Number 1 15)
+    ▸ required key.Capability (Number 0 1)
+    ▸ required key.Vulnerability (Number 0 1)
+    ▸ required key.MaxUl number_32
+    ▸ required key.MaxDl number_32
+    ▸ required key.Precedence number_32
     ▸ keys
 
 abbrev pub class_keys : Keys
@@ -74,19 +76,19 @@ class_keys = class_then no_more
 -- the default bearer has no guaranteed bit rate, so its class is one from 5 (TS 23.203, 6.1.7)
 abbrev pub quality_keys : Keys
 quality_keys =
-    required (codes "qci") (Number 5 9)
-    ▸ required (codes "priority") (Number 1 15)
-    ▸ required (codes "capability") (Number 0 1)
-    ▸ required (codes "vulnerability") (Number 0 1)
-    ▸ required (codes "ambr_ul") number_32
-    ▸ required (codes "ambr_dl") number_32
+    required key.Qci (Number 5 9)
+    ▸ required key.Priority (Number 1 15)
+    ▸ required key.Capability (Number 0 1)
+    ▸ required key.Vulnerability (Number 0 1)
+    ▸ required key.AmbrUl number_32
+    ▸ required key.AmbrDl number_32
     ▸ no_more
 
 -- what stands behind a rule's class
 abbrev pub flow_keys : Keys
 flow_keys =
-    required (codes "status") (Number 0 3)
-    ▸ required (codes "filters") (Filters filters_limit)
+    required key.Status (Number 0 3)
+    ▸ required key.Filters (Filters filters_limit)
     ▸ no_more
 
 abbrev pub rule_keys : Keys
@@ -96,10 +98,10 @@ abbrev pub rule_name_shape : Shape
 rule_name_shape = Word rule_name_limit
 
 abbrev pub default_key : Key
-default_key = optional (codes "default") (Table quality_keys)
+default_key = optional key.Default (Table quality_keys)
 
 abbrev pub rules_key : Key
-rules_key = optional (codes "rule") (Rows rules_limit (codes "name") rule_name_shape rule_keys)
+rules_key = optional key.Rule (Rows rules_limit key.Name rule_name_shape rule_keys)
 
 abbrev pub apn_keys : Keys
 apn_keys = default_key ▸ rules_key ▸ no_more
@@ -108,19 +110,19 @@ abbrev pub apn_name_shape : Shape
 apn_name_shape = Name apn_limit
 
 abbrev pub edition_key : Key
-edition_key = required (codes "edition") number_32
+edition_key = required key.Edition number_32
 
 abbrev pub rtcp_key : Key
-rtcp_key = required (codes "rtcp_bps") number_32
+rtcp_key = required key.RtcpBps number_32
 
 abbrev pub signalling_key : Key
-signalling_key = required (codes "signalling") (Table class_keys)
+signalling_key = required key.Signalling (Table class_keys)
 
 abbrev pub media_key : Key
-media_key = optional (codes "media") (Rows media_limit (codes "type") number_32 class_keys)
+media_key = optional key.Media (Rows media_limit key.MediaType number_32 class_keys)
 
 abbrev pub apns_key : Key
-apns_key = optional (codes "apn") (Rows apns_limit (codes "name") apn_name_shape apn_keys)
+apns_key = optional key.Apn (Rows apns_limit key.Name apn_name_shape apn_keys)
 
 abbrev pub top_keys : Keys
 top_keys = edition_key ▸ rtcp_key ▸ signalling_key ▸ media_key ▸ apns_key ▸ no_more

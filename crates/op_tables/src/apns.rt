@@ -5,11 +5,13 @@ ghost use Rattle.ranked.specs.Orders.{text_cmp};
 ghost use Rattle.toml.specs.View.{view, table_view};
 ghost use Rattle.op_tables.specs.Places.{apn_keys, apns_key};
 ghost use Rattle.op_tables.specs.Values.{rows_at as rows_of};
-ghost use Rattle.op_tables.specs.Judgement.{key_fault, keys_fault, apn_judged, apn_fault, fault_of_rows, IsFault};
+ghost use Rattle.op_tables.specs.Judgement.{key_fault, keys_fault, apn_judged, apn_fault, fault_of_rows, IsPlaced};
+ghost use Rattle.op_tables.specs.declared.place.TableKey.TheVariants as key;
 ghost use Rattle.op_tables.specs.Meaning.{apn_of, apn_name, apns_of, row_apn, is_apn_taken};
 
 use crate::copies::TryCopy;
-use crate::fault::TableFault;
+use crate::fault::{PlacedFault, TableFault};
+use crate::place::{Step, TableKey};
 use crate::quality::read_default;
 use crate::reading::{rows_at, table};
 use crate::rules::{OperatorRule, rules_at};
@@ -68,11 +70,11 @@ impl TryCopy for AccessPoint {
 }
 
 /// Reads what an access point has beside its name.
-#[tactic(auto, using(crate::proofs::Faults::is_fault), unfolding(crate::specs::Judgement::keys_fault))]
-fn read_point(alloc: Global, table: &Table) -> Result<AccessPoint, TableFault>
+#[tactic(auto, using(crate::proofs::Faults::is_placed), unfolding(crate::specs::Judgement::keys_fault))]
+fn read_point(alloc: Global, table: &Table) -> Result<AccessPoint, PlacedFault>
     ensures judged { IfOk result (λ _. keys_fault apn_keys (table_view table.now) ≡ None) }
     ensures read { IfOk result (λ point. point ≡ apn_of (table_view table.now)) }
-    ensures refused { IfErr result (λ fault. IsFault fault
+    ensures refused { IfErr result (λ fault. IsPlaced fault
         (keys_fault apn_keys (table_view table.now))) }
 {
     let default = read_default(table)?;
@@ -81,23 +83,23 @@ fn read_point(alloc: Global, table: &Table) -> Result<AccessPoint, TableFault>
 }
 
 /// Adds the access point of one row to those above it.
-#[tactic(auto, using(crate::proofs::Faults::is_fault), unfolding(crate::specs::Judgement::row_judged))]
+#[tactic(auto, using(crate::proofs::Faults::is_placed), unfolding(crate::specs::Judgement::row_judged))]
 fn add_apn(
     alloc: Global,
     apns: &mut BTreeMap<Apn, AccessPoint>,
     row: &Value,
-) -> Result<(), TableFault>
+) -> Result<(), PlacedFault>
     ensures judged { OnOk result (apn_judged (is_apn_taken apns.old.entries (view row.now))
         (view row.now) ≡ None) }
     ensures added { OnOk result (apns.new.entries ≡ insert_entry text_cmp apns.old.entries
         (apn_name (view row.now)) (row_apn (view row.now))) }
-    ensures refused { IfErr result (λ fault. IsFault fault (apn_judged
+    ensures refused { IfErr result (λ fault. IsPlaced fault (apn_judged
         (is_apn_taken apns.old.entries (view row.now)) (view row.now))) }
 {
     let table = table(row)?;
-    let name = name_at(alloc, table, "name")?;
+    let name = name_at(alloc, table, TableKey::Name)?;
     if apns.contains_key(&name) {
-        return Err(TableFault::DuplicateRow);
+        return Err(PlacedFault::at(TableKey::Name, TableFault::DuplicateRow));
     }
     let point = read_point(alloc, table)?;
     apns.insert(name, point)?;
@@ -105,26 +107,29 @@ fn add_apn(
 }
 
 /// Reads the access points of all rows.
-fn read_apns(alloc: Global, rows: &[Value]) -> Result<BTreeMap<Apn, AccessPoint>, TableFault>
-    ensures judged { IfOk result (λ _. fault_of_rows apn_fault [] (map view rows.now) ≡ None) }
+fn read_apns(alloc: Global, rows: &[Value]) -> Result<BTreeMap<Apn, AccessPoint>, PlacedFault>
+    ensures judged { IfOk result (λ _. fault_of_rows key.Apn apn_fault [] (map view rows.now)
+        ≡ None) }
     ensures read { IfOk result (λ apns. apns.entries ≡ apns_of (map view rows.now)) }
-    ensures refused { IfErr result (λ fault. IsFault fault
-        (fault_of_rows apn_fault [] (map view rows.now))) }
+    ensures refused { IfErr result (λ fault. IsPlaced fault
+        (fault_of_rows key.Apn apn_fault [] (map view rows.now))) }
 {
     let mut apns = BTreeMap::new(alloc);
-    for row in rows {
-        add_apn(alloc, &mut apns, row)?;
+    for (above, row) in rows.iter().enumerate() {
+        if let Err(fault) = add_apn(alloc, &mut apns, row) {
+            return Err(fault.within(Step::row(TableKey::Apn, above + 1)));
+        }
     }
     Ok(apns)
 }
 
 /// Reads the access points, if there are any.
-pub fn apns_at(alloc: Global, document: &Table) -> Result<BTreeMap<Apn, AccessPoint>, TableFault>
+pub fn apns_at(alloc: Global, document: &Table) -> Result<BTreeMap<Apn, AccessPoint>, PlacedFault>
     ensures judged { IfOk result (λ _. key_fault apns_key (table_view document.now) ≡ None) }
     ensures read { IfOk result (λ apns. apns.entries
         ≡ apns_of (rows_of (codes "apn") (table_view document.now))) }
-    ensures refused { IfErr result (λ fault. IsFault fault
+    ensures refused { IfErr result (λ fault. IsPlaced fault
         (key_fault apns_key (table_view document.now))) }
 {
-    read_apns(alloc, rows_at(document, "apn", MOST_APNS)?)
+    read_apns(alloc, rows_at(document, TableKey::Apn, MOST_APNS)?)
 }

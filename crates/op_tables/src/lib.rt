@@ -8,6 +8,7 @@ mod copies;
 mod fault;
 pub mod laws;
 mod media;
+mod place;
 mod quality;
 mod reading;
 mod rules;
@@ -17,7 +18,8 @@ mod word;
 
 pub use apns::AccessPoint;
 pub use class::Class;
-pub use fault::TableFault;
+pub use fault::{PlacedFault, TableFault};
+pub use place::{Place, Step, TableKey};
 pub use rules::{OperatorRule, OperatorRuleName};
-pub use tables::{Tables, read_tables};
+pub use tables::{Tables, read_placed, read_tables};
 pub use word::Word;

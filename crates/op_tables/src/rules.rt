@@ -5,12 +5,14 @@ ghost use Rattle.ranked.specs.Orders.{text_cmp};
 ghost use Rattle.pcrf_values.specs.Numbers.{flow_status_number};
 ghost use Rattle.toml.specs.View.{view, table_view};
 ghost use Rattle.op_tables.specs.Places.{flow_keys, rule_keys, rules_key};
-ghost use Rattle.op_tables.specs.Judgement.{key_fault, keys_fault, rule_judged, rule_fault, fault_of_rows, IsFault};
+ghost use Rattle.op_tables.specs.Judgement.{key_fault, keys_fault, rule_judged, rule_fault, fault_of_rows, IsPlaced};
 ghost use Rattle.op_tables.specs.Values.{number_at as number_of, rows_at as rows_of};
+ghost use Rattle.op_tables.specs.declared.place.TableKey.TheVariants as key;
 ghost use Rattle.op_tables.specs.Meaning.{class_of, filters_in, rule_of, rule_name, has_rule};
 
 use crate::class::{Class, read_class};
-use crate::fault::TableFault;
+use crate::fault::{PlacedFault, TableFault};
+use crate::place::{Step, TableKey};
 use crate::reading::{rows_at, status_at, table};
 use crate::texts::{filters_at, word_at};
 use crate::word::Word;
@@ -122,31 +124,31 @@ fn has_rule(rules: &[OperatorRule], name: &OperatorRuleName) -> bool
 }
 
 /// Reads what picks the packets of a rule.
-#[tactic(auto, using(crate::proofs::Faults::is_fault), unfolding(crate::specs::Judgement::keys_fault))]
-fn read_flow(alloc: Global, table: &Table) -> Result<RuleFlow, TableFault>
+#[tactic(auto, using(crate::proofs::Faults::is_placed), unfolding(crate::specs::Judgement::keys_fault))]
+fn read_flow(alloc: Global, table: &Table) -> Result<RuleFlow, PlacedFault>
     ensures judged { IfOk result (λ _. keys_fault flow_keys (table_view table.now) ≡ None) }
     ensures status { IfOk result (λ flow. flow_status_number flow.status
         ≡ number_of (codes "status") (table_view table.now)) }
     ensures filters { IfOk result (λ flow. flow.filters
         ≡ filters_in (codes "filters") (table_view table.now)) }
-    ensures refused { IfErr result (λ fault. IsFault fault
+    ensures refused { IfErr result (λ fault. IsPlaced fault
         (keys_fault flow_keys (table_view table.now))) }
 {
-    let status = status_at(table, "status")?;
-    let filters = filters_at(alloc, table, "filters")?;
+    let status = status_at(table, TableKey::Status)?;
+    let filters = filters_at(alloc, table, TableKey::Filters)?;
     Ok(RuleFlow { status, filters })
 }
 
 /// Reads a rule's class, and what picks its packets.
-#[tactic(auto, using(crate::proofs::Faults::is_fault, crate::proofs::Faults::class_goes_on, crate::proofs::Faults::class_stops))]
-fn read_body(alloc: Global, table: &Table) -> Result<RuleBody, TableFault>
+#[tactic(auto, using(crate::proofs::Faults::is_placed, crate::proofs::Faults::class_goes_on, crate::proofs::Faults::class_stops))]
+fn read_body(alloc: Global, table: &Table) -> Result<RuleBody, PlacedFault>
     ensures judged { IfOk result (λ _. keys_fault rule_keys (table_view table.now) ≡ None) }
     ensures class { IfOk result (λ body. body.class ≡ class_of (table_view table.now)) }
     ensures status { IfOk result (λ body. flow_status_number body.flow.status
         ≡ number_of (codes "status") (table_view table.now)) }
     ensures filters { IfOk result (λ body. body.flow.filters
         ≡ filters_in (codes "filters") (table_view table.now)) }
-    ensures refused { IfErr result (λ fault. IsFault fault
+    ensures refused { IfErr result (λ fault. IsPlaced fault
         (keys_fault rule_keys (table_view table.now))) }
 {
     let class = read_class(table)?;
@@ -155,18 +157,18 @@ fn read_body(alloc: Global, table: &Table) -> Result<RuleBody, TableFault>
 }
 
 /// Adds the rule of one row to those above it.
-#[tactic(auto, using(crate::proofs::Faults::is_fault), unfolding(crate::specs::Judgement::row_judged))]
-fn add_rule(alloc: Global, rules: &mut Vec<OperatorRule>, row: &Value) -> Result<(), TableFault>
+#[tactic(auto, using(crate::proofs::Faults::is_placed), unfolding(crate::specs::Judgement::row_judged))]
+fn add_rule(alloc: Global, rules: &mut Vec<OperatorRule>, row: &Value) -> Result<(), PlacedFault>
     ensures judged { OnOk result (rule_judged
         (has_rule rules.old.items (rule_name (view row.now))) (view row.now) ≡ None) }
     ensures added { OnOk result (rules.new.items ≡ rules.old.items ++ rule_of (view row.now) ∷ []) }
-    ensures refused { IfErr result (λ fault. IsFault fault (rule_judged
+    ensures refused { IfErr result (λ fault. IsPlaced fault (rule_judged
         (has_rule rules.old.items (rule_name (view row.now))) (view row.now))) }
 {
     let table = table(row)?;
-    let name = word_at(alloc, table, "name")?;
+    let name = word_at(alloc, table, TableKey::Name)?;
     if has_rule(rules.as_slice(), &name) {
-        return Err(TableFault::DuplicateRow);
+        return Err(PlacedFault::at(TableKey::Name, TableFault::DuplicateRow));
     }
     let body = read_body(alloc, table)?;
     rules.push(OperatorRule { name, body })?;
@@ -174,26 +176,29 @@ fn add_rule(alloc: Global, rules: &mut Vec<OperatorRule>, row: &Value) -> Result
 }
 
 /// Reads the rules of all rows, in their order.
-fn read_rules(alloc: Global, rows: &[Value]) -> Result<Vec<OperatorRule>, TableFault>
-    ensures judged { IfOk result (λ _. fault_of_rows rule_fault [] (map view rows.now) ≡ None) }
+fn read_rules(alloc: Global, rows: &[Value]) -> Result<Vec<OperatorRule>, PlacedFault>
+    ensures judged { IfOk result (λ _. fault_of_rows key.Rule rule_fault [] (map view rows.now)
+        ≡ None) }
     ensures read { IfOk result (λ rules. rules.items ≡ map rule_of (map view rows.now)) }
-    ensures refused { IfErr result (λ fault. IsFault fault
-        (fault_of_rows rule_fault [] (map view rows.now))) }
+    ensures refused { IfErr result (λ fault. IsPlaced fault
+        (fault_of_rows key.Rule rule_fault [] (map view rows.now))) }
 {
     let mut rules = Vec::new(alloc);
-    for row in rows {
-        add_rule(alloc, &mut rules, row)?;
+    for (above, row) in rows.iter().enumerate() {
+        if let Err(fault) = add_rule(alloc, &mut rules, row) {
+            return Err(fault.within(Step::row(TableKey::Rule, above + 1)));
+        }
     }
     Ok(rules)
 }
 
 /// Reads the rules of an access point, if it has any.
-pub fn rules_at(alloc: Global, point: &Table) -> Result<Vec<OperatorRule>, TableFault>
+pub fn rules_at(alloc: Global, point: &Table) -> Result<Vec<OperatorRule>, PlacedFault>
     ensures judged { IfOk result (λ _. key_fault rules_key (table_view point.now) ≡ None) }
     ensures read { IfOk result (λ rules. rules.items
         ≡ map rule_of (rows_of (codes "rule") (table_view point.now))) }
-    ensures refused { IfErr result (λ fault. IsFault fault
+    ensures refused { IfErr result (λ fault. IsPlaced fault
         (key_fault rules_key (table_view point.now))) }
 {
-    read_rules(alloc, rows_at(point, "rule", MOST_RULES)?)
+    read_rules(alloc, rows_at(point, TableKey::Rule, MOST_RULES)?)
 }

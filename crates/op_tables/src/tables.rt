@@ -5,15 +5,16 @@ ghost use Rattle.toml.specs.View.{table_view};
 ghost use Rattle.toml.specs.Parse.{parse_document};
 ghost use Rattle.pcrf_model.specs.Tables.{media_class, apn_row};
 ghost use Rattle.op_tables.specs.Places.{top_keys};
-ghost use Rattle.op_tables.specs.Judgement.{keys_fault, document_fault, IsFault};
+ghost use Rattle.op_tables.specs.Judgement.{keys_fault, placed_fault, document_fault, IsFault, IsPlaced};
 ghost use Rattle.op_tables.specs.Meaning.{tables_of};
 ghost use Rattle.op_tables.specs.Statements.{NamesRulesApart};
 
 use crate::apns::{AccessPoint, apns_at};
 use crate::class::{Class, class_at};
 use crate::copies::copy_of;
-use crate::fault::TableFault;
+use crate::fault::{PlacedFault, TableFault};
 use crate::media::media_at;
+use crate::place::TableKey;
 use crate::reading::number_at;
 use pcrf_values::Apn;
 use std::alloc::{AllocError, Global};
@@ -100,16 +101,16 @@ impl Tables {
 }
 
 /// Reads the tables of a document.
-#[tactic(auto, using(crate::proofs::Faults::is_fault), unfolding(crate::specs::Judgement::keys_fault, crate::specs::Meaning::tables_of))]
-fn of_document(alloc: Global, document: &Table) -> Result<Tables, TableFault>
+#[tactic(auto, using(crate::proofs::Faults::is_placed), unfolding(crate::specs::Judgement::keys_fault, crate::specs::Meaning::tables_of))]
+fn of_document(alloc: Global, document: &Table) -> Result<Tables, PlacedFault>
     ensures judged { IfOk result (λ _. keys_fault top_keys (table_view document.now) ≡ None) }
     ensures read { IfOk result (λ tables. tables ≡ tables_of (table_view document.now)) }
-    ensures refused { IfErr result (λ fault. IsFault fault
+    ensures refused { IfErr result (λ fault. IsPlaced fault
         (keys_fault top_keys (table_view document.now))) }
 {
-    let edition = number_at(document, "edition")?;
-    let rtcp_bps = number_at(document, "rtcp_bps")?;
-    let signalling = class_at(document, "signalling")?;
+    let edition = number_at(document, TableKey::Edition)?;
+    let rtcp_bps = number_at(document, TableKey::RtcpBps)?;
+    let signalling = class_at(document, TableKey::Signalling)?;
     let media = media_at(alloc, document)?;
     let apns = apns_at(alloc, document)?;
     Ok(Tables {
@@ -121,6 +122,27 @@ fn of_document(alloc: Global, document: &Table) -> Result<Tables, TableFault>
     })
 }
 
+/// Reads operator tables, or gives the first fault and its place.
+pub fn read_placed(alloc: Global, text: &str) -> Result<Tables, PlacedFault>
+    ensures judged { IfOk result (λ _. placed_fault (parse_document text.now) ≡ None) }
+    ensures read { IfOk result (λ tables. option_map tables_of (parse_document text.now)
+        ≡ Some tables) }
+    ensures apart { IfOk result NamesRulesApart }
+    ensures refused { IfErr result (λ fault. IsPlaced fault
+        (placed_fault (parse_document text.now))) }
+{
+    let document = match toml::table_from_str(alloc, text) {
+        Ok(document) => document,
+        Err(refused) => {
+            if refused.is_memory() {
+                return Err(PlacedFault::unplaced(TableFault::NoMemory));
+            }
+            return Err(PlacedFault::unplaced(TableFault::Syntax));
+        }
+    };
+    of_document(alloc, &document)
+}
+
 /// Reads operator tables, or gives the first fault.
 pub fn read_tables(alloc: Global, text: &str) -> Result<Tables, TableFault>
     ensures judged { IfOk result (λ _. document_fault (parse_document text.now) ≡ None) }
@@ -130,14 +152,8 @@ pub fn read_tables(alloc: Global, text: &str) -> Result<Tables, TableFault>
     ensures refused { IfErr result (λ fault. IsFault fault
         (document_fault (parse_document text.now))) }
 {
-    let document = match toml::table_from_str(alloc, text) {
-        Ok(document) => document,
-        Err(refused) => {
-            if refused.is_memory() {
-                return Err(TableFault::NoMemory);
-            }
-            return Err(TableFault::Syntax);
-        }
-    };
-    of_document(alloc, &document)
+    match read_placed(alloc, text) {
+        Ok(tables) => Ok(tables),
+        Err(placed) => Err(placed.fault),
+    }
 }

@@ -2,6 +2,7 @@ use Rattle.std.proofs.Common.{◌≡◌, Option, false, unwrap_or, codes, ◌∙
 use Rattle.std.proofs.lemmas.Result.{err_from_is_err_and}
 use Rattle.toml.specs.Data.{Members, no_members}
 use Rattle.toml.specs.View.{view, table_view}
+use Rattle.op_tables.specs.declared.place.TableKey.TheVariants as key
 use Rattle.op_tables.specs.Places.{rule_name_shape, rule_keys}
 use Rattle.op_tables.specs.Values.{text_in, data_at}
 use Rattle.op_tables.specs.Meaning.{rule_name, has_rule}
@@ -15,5 +16,5 @@ returns-in_err-body-clause-refused c =
     ap (λ (t : Option Members). text_in (data_at (codes "name") (unwrap_or t no_members))) c.in_ok-table.ensures.read ∙ c.in_ok-name.ensures.read in
     let new : has_rule c.args.rules.now.items (rule_name (view c.args.row.now)) ≡ false =
     ap (has_rule c.args.rules.now.items) named ∙ search rules in
-    let rest = rest_of_row (codes "name") rule_name_shape rule_keys _ (view c.args.row.now) (table_view c.in_ok-table.table.now) c.in_ok-table.ensures.read c.in_ok-name.ensures.judged new in
+    let rest = rest_of_row key.Name rule_name_shape rule_keys _ (view c.args.row.now) (table_view c.in_ok-table.table.now) c.in_ok-table.ensures.read c.in_ok-name.ensures.judged new in
     rw (p.1, p.2, rest) c.in_err-body.ensures.refused

@@ -22,5 +22,5 @@ returns-in_err-filter-clause-refused c =
     let i = c.loop-value.value-index in
     let vs = c.args.values.now in
     let around = around_is view vs i c.value-item.result c.loop-value-test.true c.value-item.is in
-    rw (p.1, p.2) (one_bad _ (filter (view c.value-item.result)) (filters filters_limit (map view vs)) c.in_err-filter.ensures.refused
+    rw (p.1, p.2) (one_bad c.args.key _ (filter (view c.value-item.result)) (filters filters_limit (map view vs)) c.in_err-filter.ensures.refused
     (λ none. ap (λ (ds : List Data). filters filters_limit ds) around ∙ ap (option_and_then (one_to filters_limit)) (one_missing filter (map view (take i vs)) (view c.value-item.result) (map view (drop (i + 1) vs)) none)))
