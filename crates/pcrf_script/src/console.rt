@@ -1,4 +1,5 @@
 //! The world of a script, which its lines start and change.
+use crate::fault::{BadLine, Unobeyed};
 use crate::lines::{Line, SiteCount, read_line};
 use crate::messages::put_stream;
 use crate::printing::{put_outcome, put_restart};
@@ -14,19 +15,23 @@ pub(crate) struct Console {
     alloc: Global,
     tables: Tables,
     world: Option<World>,
+    refused: Option<BadLine>,
 }
 
 impl Obey for Console {
     fn obey(&mut self, line: &[u8], out: &mut String) -> Result<(), LineFault> {
-        let line = read_line(self.alloc, line)?;
-        let obeyed = self.obey_line(&line, out);
-        drop(line);
-        obeyed
+        match self.obey_bytes(line, out) {
+            Ok(()) => Ok(()),
+            Err(fault) => {
+                self.refused = fault.reason();
+                Err(LineFault::from(fault))
+            }
+        }
     }
 }
 
 /// Has an event happen in a world, and prints its answer.
-fn step(world: &mut World, event: &WorldEvent, out: &mut String) -> Result<(), LineFault> {
+fn step(world: &mut World, event: &WorldEvent, out: &mut String) -> Result<(), Unobeyed> {
     let answer = world.step(event);
     let printed = put_outcome(out, &answer);
     drop(answer);
@@ -40,11 +45,25 @@ impl Console {
             alloc,
             tables,
             world: None,
+            refused: None,
         }
     }
 
+    /// Why the line that it was given last was refused, if it was.
+    pub(crate) fn refused(&self) -> Option<BadLine> {
+        self.refused
+    }
+
+    /// Reads a line, and does what it asks for.
+    fn obey_bytes(&mut self, line: &[u8], out: &mut String) -> Result<(), Unobeyed> {
+        let line = read_line(self.alloc, line)?;
+        let obeyed = self.obey_line(&line, out);
+        drop(line);
+        obeyed
+    }
+
     /// Does what a line asks for.
-    fn obey_line(&mut self, line: &Line, out: &mut String) -> Result<(), LineFault> {
+    fn obey_line(&mut self, line: &Line, out: &mut String) -> Result<(), Unobeyed> {
         match line {
             Line::Nothing => Ok(()),
             Line::Sites(n) => self.start_world(*n, out),
@@ -59,9 +78,9 @@ impl Console {
     }
 
     /// Starts the world, which only one line may do.
-    fn start_world(&mut self, count: SiteCount, out: &mut String) -> Result<(), LineFault> {
+    fn start_world(&mut self, count: SiteCount, out: &mut String) -> Result<(), Unobeyed> {
         if self.world.is_some() {
-            return Err(LineFault::Bad);
+            return Err(Unobeyed::Bad(BadLine::SecondWorld));
         }
         let tables = self.tables.try_copy(self.alloc)?;
         let n = count.get() as u8;
@@ -71,9 +90,9 @@ impl Console {
     }
 
     /// Gives a site the bytes of a stream.
-    fn give(&mut self, i: usize, bytes: &[u8], out: &mut String) -> Result<(), LineFault> {
+    fn give(&mut self, i: usize, bytes: &[u8], out: &mut String) -> Result<(), Unobeyed> {
         let Some(world) = self.world.take() else {
-            return Err(LineFault::Bad);
+            return Err(Unobeyed::Bad(BadLine::NoWorld));
         };
         let (world, put) = put_stream(self.alloc, world, i, bytes, out);
         self.world = Some(world);
@@ -81,19 +100,19 @@ impl Console {
     }
 
     /// Has a push, or a letter made or taken.
-    fn happen(&mut self, event: WorldEvent, out: &mut String) -> Result<(), LineFault> {
+    fn happen(&mut self, event: WorldEvent, out: &mut String) -> Result<(), Unobeyed> {
         let happened = match &mut self.world {
             Some(world) => step(world, &event, out),
-            None => Err(LineFault::Bad),
+            None => Err(Unobeyed::Bad(BadLine::NoWorld)),
         };
         drop(event);
         happened
     }
 
     /// Has a site start again.
-    fn restart(&mut self, i: usize, out: &mut String) -> Result<(), LineFault> {
+    fn restart(&mut self, i: usize, out: &mut String) -> Result<(), Unobeyed> {
         let Some(world) = &mut self.world else {
-            return Err(LineFault::Bad);
+            return Err(Unobeyed::Bad(BadLine::NoWorld));
         };
         let event = WorldEvent::Restart(i);
         let answer = world.step(&event);
@@ -104,9 +123,9 @@ impl Console {
     }
 
     /// Shows a site.
-    fn show(&mut self, i: usize, out: &mut String) -> Result<(), LineFault> {
+    fn show(&mut self, i: usize, out: &mut String) -> Result<(), Unobeyed> {
         let Some(world) = &self.world else {
-            return Err(LineFault::Bad);
+            return Err(Unobeyed::Bad(BadLine::NoWorld));
         };
         let Some(site) = world.site(i) else {
             return Ok(out.push_str("refused NoSuchSite\n")?);

@@ -3,10 +3,12 @@
 
 mod addressed;
 mod console;
+mod fault;
 mod lines;
 mod messages;
 mod printing;
 mod script;
 
-pub use script::run_script;
+pub use fault::BadLine;
+pub use script::{ScriptRun, run_script, run_told};
 pub use script_lines::ScriptEnd;

@@ -1,6 +1,6 @@
 //! The lines of a script.
+use crate::fault::{BadLine, Unobeyed};
 use pcrf_values::BoundedNumber;
-use script_lines::LineFault;
 use std::alloc::Global;
 
 /// A site or a letter as a script names it: any decimal number. Those that no world has are `usize::MAX`.
@@ -33,62 +33,108 @@ pub(crate) enum Line {
 }
 
 /// A decimal number without leading zeros; one of more than 64 bits is the greatest there is.
-fn number(word: &str) -> Result<Named, LineFault> {
+fn number(word: &str) -> Result<Named, Unobeyed> {
     let digits = word.as_bytes();
     if digits.is_empty() || !digits.iter().all(|digit| digit.is_ascii_digit()) {
-        return Err(LineFault::Bad);
+        return Err(Unobeyed::Bad(BadLine::NoNumber));
     }
     if digits.len() > 1 && digits.first() == Some(&b'0') {
-        return Err(LineFault::Bad);
+        return Err(Unobeyed::Bad(BadLine::NoNumber));
     }
     Ok(word.parse().unwrap_or(usize::MAX))
 }
 
 /// The bytes that pairs of hexadecimal digits spell, one pair at least.
-fn bytes(alloc: Global, word: &str) -> Result<Vec<u8>, LineFault> {
+fn bytes(alloc: Global, word: &str) -> Result<Vec<u8>, Unobeyed> {
     if word.is_empty() {
-        return Err(LineFault::Bad);
+        return Err(Unobeyed::Bad(BadLine::NoBytes));
     }
     match hex::decode(alloc, word) {
         Ok(bytes) => Ok(bytes),
-        Err(hex::FromHexError::OutOfMemory) => Err(LineFault::NoMemory),
-        Err(_) => Err(LineFault::Bad),
+        Err(hex::FromHexError::OutOfMemory) => Err(Unobeyed::NoMemory),
+        Err(_) => Err(Unobeyed::Bad(BadLine::NoBytes)),
     }
 }
 
 /// How many sites a world may have.
-fn sites(word: &str) -> Result<SiteCount, LineFault> {
+fn sites(word: &str) -> Result<SiteCount, Unobeyed> {
     let Ok(n) = u32::try_from(number(word)?) else {
-        return Err(LineFault::Bad);
+        return Err(Unobeyed::Bad(BadLine::SiteCount));
     };
     match SiteCount::of(n) {
         Some(count) => Ok(count),
-        None => Err(LineFault::Bad),
+        None => Err(Unobeyed::Bad(BadLine::SiteCount)),
+    }
+}
+
+/// What stands behind a line's first word, as far as it is looked at: no line has more than two further words.
+type Further<'a> = (Option<&'a str>, Option<&'a str>, Option<&'a str>);
+
+/// The one further word.
+fn one(further: Further<'_>) -> Result<&str, Unobeyed> {
+    match further {
+        (Some(word), None, _) => Ok(word),
+        (None, _, _) => Err(Unobeyed::Bad(BadLine::MissingWord)),
+        (Some(_), Some(_), _) => Err(Unobeyed::Bad(BadLine::ExtraWord)),
+    }
+}
+
+/// The two further words.
+fn two(further: Further<'_>) -> Result<(&str, &str), Unobeyed> {
+    match further {
+        (Some(word), Some(last), None) => Ok((word, last)),
+        (None, _, _) | (Some(_), None, _) => Err(Unobeyed::Bad(BadLine::MissingWord)),
+        (Some(_), Some(_), Some(_)) => Err(Unobeyed::Bad(BadLine::ExtraWord)),
+    }
+}
+
+/// The one number behind a first word.
+fn one_number(further: Further<'_>) -> Result<Named, Unobeyed> {
+    number(one(further)?)
+}
+
+/// The two numbers behind a first word.
+fn two_numbers(further: Further<'_>) -> Result<(Named, Named), Unobeyed> {
+    let (word, last) = two(further)?;
+    Ok((number(word)?, number(last)?))
+}
+
+/// Reads what is to be done by a line's first word, and by what stands behind it.
+fn read_words(alloc: Global, first: &str, further: Further<'_>) -> Result<Line, Unobeyed> {
+    match first {
+        "sites" => Ok(Line::Sites(sites(one(further)?)?)),
+        "msg" => {
+            let (site, hex) = two(further)?;
+            Ok(Line::Message(number(site)?, bytes(alloc, hex)?))
+        }
+        "push" => Ok(Line::Push(one_number(further)?)),
+        "letter" => {
+            let (site, peer) = two_numbers(further)?;
+            Ok(Line::Letter(site, peer))
+        }
+        "merge" => {
+            let (site, letter) = two_numbers(further)?;
+            Ok(Line::Merge(site, letter))
+        }
+        "ack" => {
+            let (site, peer) = two_numbers(further)?;
+            Ok(Line::Ack(site, peer))
+        }
+        "restart" => Ok(Line::Restart(one_number(further)?)),
+        "show" => Ok(Line::Show(one_number(further)?)),
+        _ => Err(Unobeyed::Bad(BadLine::UnknownWord)),
     }
 }
 
 /// Reads a line without its end. Words are parted by one space.
-pub(crate) fn read_line(alloc: Global, line: &[u8]) -> Result<Line, LineFault> {
+pub(crate) fn read_line(alloc: Global, line: &[u8]) -> Result<Line, Unobeyed> {
     if line.is_empty() || line.starts_with(b"#") {
         return Ok(Line::Nothing);
     }
     let Ok(text) = std::str::from_utf8(line) else {
-        return Err(LineFault::Bad);
+        return Err(Unobeyed::Bad(BadLine::NoText));
     };
     let mut words = text.split(" ");
-    let (first, second, third) = (words.next(), words.next(), words.next());
-    if words.next().is_some() {
-        return Err(LineFault::Bad);
-    }
-    match (first, second, third) {
-        (Some("sites"), Some(n), None) => Ok(Line::Sites(sites(n)?)),
-        (Some("msg"), Some(i), Some(hex)) => Ok(Line::Message(number(i)?, bytes(alloc, hex)?)),
-        (Some("push"), Some(i), None) => Ok(Line::Push(number(i)?)),
-        (Some("letter"), Some(i), Some(j)) => Ok(Line::Letter(number(i)?, number(j)?)),
-        (Some("merge"), Some(j), Some(k)) => Ok(Line::Merge(number(j)?, number(k)?)),
-        (Some("ack"), Some(j), Some(i)) => Ok(Line::Ack(number(j)?, number(i)?)),
-        (Some("restart"), Some(i), None) => Ok(Line::Restart(number(i)?)),
-        (Some("show"), Some(i), None) => Ok(Line::Show(number(i)?)),
-        _ => Err(LineFault::Bad),
-    }
+    let first = words.next().unwrap_or("");
+    read_words(alloc, first, (words.next(), words.next(), words.next()))
 }

@@ -2,10 +2,10 @@
 ghost use Rattle.dia_codec.specs.Spelling.{IsFrame};
 
 use crate::addressed::{AddressedSite, Unaddressed};
+use crate::fault::Unobeyed;
 use crate::printing::put_answer;
 use dia_codec::{FrameFault, StreamEnd, frames_of};
 use pcrf_world::World;
-use script_lines::LineFault;
 use site_core::answer_frame;
 use std::alloc::{AllocError, Global};
 
@@ -17,19 +17,19 @@ pub(crate) fn put_stream(
     i: usize,
     bytes: &[u8],
     out: &mut String,
-) -> (World, Result<(), LineFault>) {
+) -> (World, Result<(), Unobeyed>) {
     match AddressedSite::of(world, i) {
         Ok(mut site) => {
             let put = put_messages(alloc, &mut site, bytes, out);
             (site.into_world(), put)
         }
         Err(Unaddressed::NoSuchSite(world)) => (world, put_no_site(out)),
-        Err(Unaddressed::NoMemory(world)) => (world, Err(LineFault::NoMemory)),
+        Err(Unaddressed::NoMemory(world)) => (world, Err(Unobeyed::NoMemory)),
     }
 }
 
 /// Prints that there is no such site.
-fn put_no_site(out: &mut String) -> Result<(), LineFault> {
+fn put_no_site(out: &mut String) -> Result<(), Unobeyed> {
     Ok(out.push_str("refused NoSuchSite\n")?)
 }
 
@@ -39,7 +39,7 @@ fn put_messages(
     site: &mut AddressedSite,
     bytes: &[u8],
     out: &mut String,
-) -> Result<(), LineFault> {
+) -> Result<(), Unobeyed> {
     let stream = frames_of(alloc, &[bytes])?;
     for frame in &stream.frames {
         put_message(alloc, site, frame.as_slice(), out)?;
