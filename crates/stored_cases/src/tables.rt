@@ -1,10 +1,10 @@
 //! Lines on which `op_tables` is tested. `read FILE EDITS` reads the tables of the file with these edits (`edits`), and `text
-//! TEXT` reads the text; in both `\n` ends a line. They write `read`, or the fault. `look FILE WORDS` writes what the look-ups
+//! TEXT` reads the text; in both `\n` ends a line. They write `read`, or the fault and its place. `look FILE WORDS` writes what the look-ups
 //! of the file's tables answer: of a Media-Type at a number, of an access point at another word. What they have to make comes
 //! from the profile of the tables, not from the program.
 use crate::edits::{edited, put_lines};
 use crate::looks::put_tables;
-use op_tables::read_tables;
+use op_tables::{read_placed, read_tables};
 use std::alloc::{AllocError, Global};
 use std::fmt::Write as _;
 use std::{fs, io};
@@ -42,7 +42,7 @@ impl Files {
 
 /// What comes of reading a text.
 fn put_read(alloc: Global, text: &str, out: &mut String) -> Result<(), AllocError> {
-    match read_tables(alloc, text) {
+    match read_placed(alloc, text) {
         Ok(_) => out.push_str("read"),
         Err(fault) => write!(out, "{fault}"),
     }
