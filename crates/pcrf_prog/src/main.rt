@@ -3,7 +3,12 @@
 
 mod operator_tables;
 mod run;
+#[cfg(test)]
+mod serve_tests;
 mod server;
+#[cfg(test)]
+mod tests;
+mod told;
 mod words;
 
 use std::net::{TcpListener, TcpStream};

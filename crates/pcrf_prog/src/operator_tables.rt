@@ -1,5 +1,5 @@
 //! The operator tables of a run: those of a file, or those that the program holds.
-use op_tables::{TableFault, Tables, read_tables};
+use op_tables::{PlacedFault, TableFault, Tables, read_placed};
 use std::alloc::Global;
 use std::fs::{self, OpenFile};
 use std::io::{self, ErrorKind, Read};
@@ -31,15 +31,18 @@ pub enum TablesFault {
     /// There is no such file, it is a folder, it has too many bytes, or they are no text.
     #[error("unreadable")]
     Unreadable,
-    /// The file's text is no operator tables, or memory ran out.
-    #[error("{0}")]
-    Refused(TableFault),
+    /// The file's text is no operator tables.
+    #[error("{}", .0.fault)]
+    Refused(PlacedFault),
+    /// Memory ran out.
+    #[error("no memory")]
+    NoMemory,
 }
 
 /// What a refused call of the system says of the tables.
 fn fault_of(error: &io::Error) -> TablesFault {
     if error.kind() == ErrorKind::OutOfMemory {
-        return TablesFault::Refused(TableFault::NoMemory);
+        return TablesFault::NoMemory;
     }
     TablesFault::Unreadable
 }
@@ -62,7 +65,10 @@ fn read_file<H: Files + AllocGlobal>(rt: &H, path: &str) -> io::Result<Vec<u8>> 
 
 /// The tables of a text.
 fn of_text(alloc: Global, text: &str) -> Result<Tables, TablesFault> {
-    read_tables(alloc, text).map_err(|fault| TablesFault::Refused(fault))
+    read_placed(alloc, text).map_err(|refused| match refused.fault {
+        TableFault::NoMemory => TablesFault::NoMemory,
+        _ => TablesFault::Refused(refused),
+    })
 }
 
 /// The tables of a file.

@@ -1,14 +1,15 @@
 //! A run of the program over words, a reader and writers that are handed in.
 use crate::operator_tables::{self, TablesFault};
 use crate::server::{Start, serve, start_of};
+use crate::told::{tell_line, tell_tables};
 use crate::words::{Asked, ServeWords, read_words};
 use clap::Error;
 use clap::error::ErrorKind;
 use dia_codec::Counted;
 use log::sink::Console;
 use log::{LevelFilter, Log, Logged};
-use op_tables::{TableFault, Tables};
-use pcrf_script::{ScriptEnd, run_script};
+use op_tables::Tables;
+use pcrf_script::{ScriptEnd, ScriptRun, run_told};
 use pcrf_server::ServerFault;
 use std::alloc::Global;
 use std::env;
@@ -97,17 +98,40 @@ fn refused_words<F: Write>(faults: &mut F, error: &Error) -> u8 {
 }
 
 /// Tells why there are no tables, and answers the status.
-fn refused_tables<F: Write>(faults: &mut F, why: TablesFault) -> u8 {
-    if why == TablesFault::Refused(TableFault::NoMemory) {
-        return fault(faults, "pcrf: no memory\n", NO_MEMORY);
+fn refused_tables<G: Log, F: Write>(log: &G, faults: &mut F, why: TablesFault) -> u8 {
+    match why {
+        TablesFault::Unreadable => {}
+        TablesFault::Refused(refused) => tell_tables(log, refused),
+        TablesFault::NoMemory => return fault(faults, "pcrf: no memory\n", NO_MEMORY),
     }
     let _ = writeln!(faults, "pcrf: tables: {why}");
     TABLES
 }
 
+/// Tells which line of a script was refused, and answers the status.
+fn refused_line<F: Write>(faults: &mut F, number: u64) -> u8 {
+    let _ = writeln!(faults, "pcrf: script: line {number}");
+    SCRIPT
+}
+
+/// Tells how a script ended, and answers the status.
+fn ended<G: Log, F: Write>(log: &G, faults: &mut F, run: ScriptRun) -> u8 {
+    if let (ScriptEnd::BadLine(number), Some(why)) = (run.end, run.refused) {
+        tell_line(log, number, why);
+    }
+    match run.end {
+        ScriptEnd::Done => 0,
+        ScriptEnd::BadLine(number) => refused_line(faults, number),
+        ScriptEnd::ReadFailed => fault(faults, "pcrf: input failed\n", SCRIPT),
+        ScriptEnd::WriteFailed => fault(faults, "pcrf: output failed\n", SCRIPT),
+        ScriptEnd::NoMemory => fault(faults, "pcrf: no memory\n", NO_MEMORY),
+    }
+}
+
 /// Runs the script, and answers the status.
-fn run_world<R: Read + Drop, W: Write + Drop, F: Write>(
+fn run_world<G: Log, R: Read + Drop, W: Write + Drop, F: Write>(
     alloc: Global,
+    log: &G,
     tables: Tables,
     reader: R,
     writer: W,
@@ -115,16 +139,8 @@ fn run_world<R: Read + Drop, W: Write + Drop, F: Write>(
 ) -> u8 {
     let mut reader = Counted::start(reader);
     let mut writer = Counted::start(writer);
-    match run_script(alloc, tables, &mut reader, &mut writer) {
-        ScriptEnd::Done => 0,
-        ScriptEnd::BadLine(n) => {
-            let _ = writeln!(faults, "pcrf: script: line {n}");
-            SCRIPT
-        }
-        ScriptEnd::ReadFailed => fault(faults, "pcrf: input failed\n", SCRIPT),
-        ScriptEnd::WriteFailed => fault(faults, "pcrf: output failed\n", SCRIPT),
-        ScriptEnd::NoMemory => fault(faults, "pcrf: no memory\n", NO_MEMORY),
-    }
+    let run = run_told(alloc, tables, &mut reader, &mut writer);
+    ended(log, faults, run)
 }
 
 /// Tells why a server ended without having settled, and answers the status.
@@ -156,7 +172,7 @@ fn run_started<H: Host, G: Log + Sync, W: Write + Drop, F: Write>(
 ) -> u8 {
     let tables = match operator_tables::of_file(rt, words.tables) {
         Ok(tables) => tables,
-        Err(why) => return refused_tables(faults, why),
+        Err(why) => return refused_tables(log, faults, why),
     };
     match serve(rt, rt.alloc(), words, start, tables, log) {
         Ok(entries) => settled(writer, faults, entries),
@@ -180,16 +196,17 @@ fn run_server<H: Host, G: Log + Sync, W: Write + Drop, F: Write>(
 }
 
 /// Runs the script with tables that were read, and answers the status.
-fn run_script_with<R: Read + Drop, W: Write + Drop, F: Write>(
+fn run_script_with<G: Log, R: Read + Drop, W: Write + Drop, F: Write>(
     alloc: Global,
+    log: &G,
     tables: Result<Tables, TablesFault>,
     reader: R,
     writer: W,
     faults: &mut F,
 ) -> u8 {
     match tables {
-        Ok(tables) => run_world(alloc, tables, reader, writer, faults),
-        Err(why) => refused_tables(faults, why),
+        Ok(tables) => run_world(alloc, log, tables, reader, writer, faults),
+        Err(why) => refused_tables(log, faults, why),
     }
 }
 
@@ -205,7 +222,7 @@ fn run_words<H: Host, G: Log + Sync, R: Read + Drop, W: Write + Drop, F: Write>(
     match read_words(rt.alloc(), words) {
         Ok(Asked::World(file)) => {
             let tables = operator_tables::of_file(rt, file);
-            run_script_with(rt.alloc(), tables, reader, writer, faults)
+            run_script_with(rt.alloc(), log, tables, reader, writer, faults)
         }
         Ok(Asked::Serve(serve)) => run_server(rt, log, &serve, writer, faults),
         Err(error) => refused_words(faults, &error),
@@ -213,7 +230,7 @@ fn run_words<H: Host, G: Log + Sync, R: Read + Drop, W: Write + Drop, F: Write>(
 }
 
 /// Runs the program, and answers its exit status. Faults are found in the order words, tables, sockets, run. The log is told what
-/// happens at a server.
+/// happens at a server, where tables are at fault, and why a line of a script is refused.
 pub fn run<H: Host, G: Log + Sync, R: Read + Drop, W: Write + Drop, F: Write + Drop>(
     rt: &H,
     log: &G,
@@ -226,7 +243,7 @@ pub fn run<H: Host, G: Log + Sync, R: Read + Drop, W: Write + Drop, F: Write + D
         return run_words(rt, log, words, reader, writer, &mut faults);
     }
     let tables = operator_tables::held(rt.alloc());
-    run_script_with(rt.alloc(), tables, reader, writer, &mut faults)
+    run_script_with(rt.alloc(), log, tables, reader, writer, &mut faults)
 }
 
 /// Runs the program with a log on standard error, as the environment asks for it, and answers its exit status.
