@@ -102,7 +102,8 @@ def svg():
     parts = [f'<rect width="{width}" height="{height}" fill="white"/>']
     for at, title in enumerate(titles):
         top = height - ROW * (at + 1) - 10
-        parts.append(f'<rect data-floor="{at + 1}" x="0" y="{top}" width="{width}" height="{ROW}" fill="{"#f6f6f6" if at % 2 else "white"}"/>')
+        fill = "#f6f6f6" if at % 2 else "white"
+        parts.append(f'<rect data-floor="{at + 1}" x="0" y="{top}" width="{width}" height="{ROW}" fill="{fill}"/>')
         words = f"{at + 1}. {title}".split(" ")
         lines = [""]
         for word in words:
@@ -115,14 +116,17 @@ def svg():
             y1 = y[above] + (0 if isinstance(above, tuple) else TALL / 2)
             y2 = y[target] - (0 if isinstance(target, tuple) else TALL / 2)
             middle = (y1 + y2) / 2
-            parts.append(f'<path data-from="{name_of(above)}" data-to="{name_of(target)}" d="M{x[above]:.0f} {y1:.0f}C{x[above]:.0f} {middle:.0f} {x[target]:.0f} {middle:.0f} {x[target]:.0f} {y2:.0f}" '
+            x1, x2 = x[above], x[target]
+            curve = f"M{x1:.0f} {y1:.0f}C{x1:.0f} {middle:.0f} {x2:.0f} {middle:.0f} {x2:.0f} {y2:.0f}"
+            parts.append(f'<path data-from="{name_of(above)}" data-to="{name_of(target)}" d="{curve}" '
                          f'stroke="{colour[end]}" fill="none" stroke-width="1.3"/>')
     for name in names:
         dashes = ' stroke-dasharray="4 3"' if re.search(r"_(cases|tests|trials|bench|messages)$", name) else ""
         parts.append(f'<g data-crate="{name}"><rect x="{x[name] - BOX / 2:.0f}" y="{y[name] - TALL / 2:.0f}" '
                      f'width="{BOX}" height="{TALL}" rx="4" fill="#eef4fa" stroke="{colour[name]}"{dashes}/>'
                      f'<text x="{x[name]:.0f}" y="{y[name] + 4:.0f}" text-anchor="middle">{name}</text></g>')
-    head = f'<svg xmlns="http://www.w3.org/2000/svg" viewBox="0 0 {width} {height}" width="{width}" height="{height}" font-family="sans-serif" font-size="12">'
+    head = (f'<svg xmlns="http://www.w3.org/2000/svg" viewBox="0 0 {width} {height}" width="{width}" height="{height}" '
+            'font-family="sans-serif" font-size="12">')
     return "\n".join([head, *parts, "</svg>"])
 
 
