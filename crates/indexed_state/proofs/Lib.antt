@@ -1,2 +1,4 @@
 pub mod Reading
 pub mod Agreeing
+pub mod PlacedRecord
+pub mod Telling

@@ -1,13 +1,15 @@
 -- What is seen of an indexed state, and when its parts agree.
-use Rattle.std.specs.Prelude.{◌≡◌, ℕ, Bool, true, List, Option, Some, None}
+use Rattle.std.specs.Prelude.{◌≡◌, ℕ, Bool, true, false, List, Option, Some, None}
 use Rattle.std.proofs.Common.{option_map}
 use Rattle.std.specs.Net.Addr.{ipv4_octets}
 use Rattle.std.specs.declared.net.ipv4_addr.Ipv4Addr.{Ipv4Addr}
 use Rattle.ranked.specs.Sets.{In}
 use Rattle.pcrf_values.specs.RuleValues.{RuleValue}
-use Rattle.pcrf_facts.specs.Places.{address}
+use Rattle.pcrf_facts.specs.Facts.{Fact, Field}
+use Rattle.pcrf_facts.specs.Held.{held, joined}
+use Rattle.pcrf_facts.specs.Places.{OfRuleName, address}
 use Rattle.pcrf_facts.specs.Values.{Value, Address}
-use Rattle.pcrf_model.specs.Holdings.{Holding}
+use Rattle.pcrf_model.specs.Holdings.{Holding, facts_on}
 use Rattle.pcrf_model.specs.Sessions.{Session, Gx}
 use Rattle.pcrf_model.specs.Tables.{Tables}
 use Rattle.pcrf_model.specs.Views.{View, view, value}
@@ -42,3 +44,14 @@ IsAddressOf v s a = option_map address_value a ≡ value v s address
 pub record TouchesAt (before after : RulesValue) (index : IndexValue) (at : Option Ipv4Addr) : Type 0 where
   pub gone : (a : Ipv4Addr) → at ≡ Some a → (id : List ℕ) → In id (listed_at index Gx a) → kept_at after id ≡ None
   pub same : (id : List ℕ) (rs : List RuleValue) → kept_at after id ≡ Some rs → kept_at before id ≡ Some rs
+
+-- the fact tells a gateway something of a rule
+abbrev pub tells : Fact → Bool
+tells (Field (OfRuleName n) t v) = true
+tells f = false
+
+-- these facts of a session are what is held of it, with what its gateway is told
+pub record IsTold (h : Holding) (s : Session) (known : List Fact) : Type 0 where
+  pub told : List Fact
+  pub each : (f : Fact) → In f told → tells f ≡ true
+  pub joins : known ≡ joined (facts_on h.facts s) (held told)

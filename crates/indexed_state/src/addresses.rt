@@ -9,6 +9,7 @@ ghost use Rattle.site_join.specs.States.{record_facts, session_of};
 ghost use Rattle.indexed_state.specs.Indexed.{IsAddressOf, TouchesAt};
 ghost use Rattle.waiting_sessions.specs.Waits.{Keeps, ListedWait, WaitsIfDue};
 
+use af_records::AfRec;
 use exact_values::same_address;
 use gx_records::GxRec;
 use kept_rules::Rules;
@@ -54,7 +55,16 @@ pub(crate) fn address_in(known: Option<&GxRec>) -> Option<Ipv4Addr>
 fn call_address(state: &State, id: &AfSid) -> Option<Ipv4Addr>
     ensures { IsAddressOf (view state.now.facts) (af id.now) result }
 {
-    let Some(known) = state.af(id) else {
+    call_address_in(state.af(id))
+}
+
+/// The address that an application function's session of this record shows, none where there is no record.
+pub(crate) fn call_address_in(known: Option<&AfRec>) -> Option<Ipv4Addr>
+    ensures { (facts : List SessionFact) (id : List ℕ)
+        → record_facts (option_copied known.entry) ≡ facts_on facts (af id)
+        → IsAddressOf (view facts) (af id) result }
+{
+    let Some(known) = known else {
         return None;
     };
     let Some((_, address)) = known.address() else {
@@ -179,7 +189,12 @@ pub(crate) fn forget_gateway(
 }
 
 /// And with an application function's.
-fn forget_call(index: &mut Index, id: &AfSid, before: Option<Ipv4Addr>, after: Option<Ipv4Addr>)
+pub(crate) fn forget_call(
+    index: &mut Index,
+    id: &AfSid,
+    before: Option<Ipv4Addr>,
+    after: Option<Ipv4Addr>,
+)
     ensures { (v : View) → IsAddressOf v (af id.now) after
         → Covers v index.old → Covers v index.new }
 {

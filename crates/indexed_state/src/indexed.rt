@@ -52,7 +52,7 @@ pub struct IndexedState {
     /// The index covers the state.
     pub(crate) is_whole: bool,
     pub(crate) rules: Rules,
-    waiting: Waiting,
+    pub(crate) waiting: Waiting,
     /// The number of the site at which those that wait may be due.
     site: u8,
 }

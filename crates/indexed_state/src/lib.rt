@@ -6,6 +6,7 @@ mod addresses;
 mod following;
 mod held;
 mod indexed;
+mod recorded;
 mod renewing;
 mod whole;
 

@@ -1,0 +1,90 @@
+-- Where a gateway is told something, nothing else changes: no binding, no list of rules, and no session has to be listed.
+use Rattle.std.proofs.Common.{◌≡◌, ℕ, Bool, true, false, not, ◌&&◌, List, ◌++◌, is_some, inl, inr, refl, sym, ap, ◌∙◌, subst, option_map}
+use Rattle.ranked.specs.Sets.{In}
+use Rattle.ranked.proofs.Plain.{clash}
+use Rattle.pcrf_facts.specs.Facts.{Fact, End, Removed, Field}
+use Rattle.pcrf_facts.specs.Held.{held, is_ended, shown}
+use Rattle.pcrf_facts.specs.Places.{Place, OfSession, OfComponent, OfFlow, OfRuleName, address, apn, subscribers, host, realm, last}
+use Rattle.pcrf_facts.specs.Values.{Entry}
+use Rattle.pcrf_facts.proofs.ShownLaws.{shown-held, is_ended-held}
+use Rattle.pcrf_model.specs.Holdings.{Holding, facts_on}
+use Rattle.pcrf_model.specs.Laws.{DifferInOne, BindsAlike}
+use Rattle.pcrf_model.specs.Sessions.{Session, gx}
+use Rattle.pcrf_model.specs.Tables.{Tables}
+use Rattle.pcrf_model.specs.Views.{view, value}
+use Rattle.pcrf_model.proofs.NeighbourLaws.{which, said, all_keep}
+use Rattle.pcrf_model.proofs.ToldFacts.{Tells, is_told, field_shows, ended_same}
+use Rattle.pcrf_model.proofs.WaitingLaws.{one_enough}
+use Rattle.session_index.specs.Index.{IndexValue}
+use Rattle.kept_rules.specs.Kept.{RulesValue}
+use Rattle.waiting_sessions.specs.Waits.{WaitingValue, waiting_of, Keeps, WaitsIfDue}
+use Rattle.waiting_sessions.proofs.Waited.{may_wait}
+use Rattle.indexed_state.specs.Indexed.{Agree, IsTold, tells}
+use Rattle.indexed_state.proofs.PlacedRecord.{held-append}
+
+-- such a fact tells something of a rule's name
+its_name : (f : Fact) → tells f ≡ true → Tells f
+its_name End h = clash false h refl
+its_name (Removed r) h = clash false h refl
+its_name (Field (OfSession g) t v) h = clash false h refl
+its_name (Field (OfComponent c g) t v) h = clash false h refl
+its_name (Field (OfFlow c n g) t v) h = clash false h refl
+its_name (Field (OfRuleName n) t v) h = record { name = n; tag = t; value = v; is = refl }
+
+module _ (h k : Holding) (id : List ℕ) (known : List Fact) (told : IsTold h (gx id) known) (there : known ≡ facts_on k.facts (gx id)) (differs : DifferInOne h.facts k.facts (gx id)) where
+  -- the session's facts before
+  abbrev own : List Fact
+  own = facts_on h.facts (gx id)
+
+  each_tells : (f : Fact) → In f told.told → Tells f
+  each_tells f i = its_name f (told.each f i)
+
+  -- those after are what is kept of these and of what is told
+  now_is : facts_on k.facts (gx id) ≡ held (own ++ told.told)
+  now_is = sym there ∙ told.joins ∙ held-append own told.told
+
+  -- so a place that is no rule's name shows what it showed
+  shows_on : (p : Place) → is_told p ≡ false → shown own p ≡ shown (facts_on k.facts (gx id)) p
+  shows_on p n = sym (ap (λ (fs : List Fact). shown fs p) now_is ∙ shown-held (own ++ told.told) p ∙ field_shows own told.told each_tells p n)
+
+  -- and the session is ended just where it was
+  ended_on : is_ended own ≡ is_ended (facts_on k.facts (gx id))
+  ended_on = sym (ap is_ended now_is ∙ is_ended-held (own ++ told.told) ∙ ended_same own told.told each_tells)
+
+  -- it binds as before
+  alike : BindsAlike (view h.facts) (view k.facts) (gx id)
+  unfolding view
+  alike = record {
+    of_gateway = refl;
+    lives = λ i. not (ended_on i) && (is_some (shows_on address refl i) && (is_some (shows_on apn refl i) && (is_some (shows_on subscribers refl i)
+        && (is_some (shows_on host refl i) && (is_some (shows_on realm refl i) && is_some (shows_on last refl i))))));
+    stands = ap (option_map (λ (e : Entry). (e.0.counter, (e.0.site, id)))) (shows_on address refl);
+    at_address = ap (option_map (λ (e : Entry). e.1)) (shows_on address refl);
+    of_subscribers = ap (option_map (λ (e : Entry). e.1)) (shows_on subscribers refl);
+    at_apn = ap (option_map (λ (e : Entry). e.1)) (shows_on apn refl);
+  }
+
+  -- each session shows what it showed at a place where this one does
+  same_value : (s : Session) (p : Place) → value (view h.facts) (gx id) p ≡ value (view k.facts) (gx id) p → value (view h.facts) s p ≡ value (view k.facts) s p
+  same_value s p here = elim (which (gx id) s) [
+    | inl e ↦ subst (λ (r : Session). value (view h.facts) r p ≡ value (view k.facts) r p) (sym e) here
+    | inr n ↦ ap (option_map (λ (e : Entry). e.1)) ((said h.facts k.facts (gx id) s differs n).shows p)
+  ]
+
+  -- so the parts agree, where the session waits
+  pub agree_told : (t : Tables) (i : ℕ) (b : Bool) (index : IndexValue) (r : RulesValue) (u w : WaitingValue) → Keeps u w → WaitsIfDue (view k.facts) w (gx id)
+      → Agree t i h b index r u → Agree t i k b index r w
+  agree_told t i b index r u w keeps waits a = record {
+    covers = λ e. record {
+      addresses = λ s x f. (a.covers e).addresses s x (same_value s address alike.at_address ∙ f);
+      subscribed = λ other xs x f m. (a.covers e).subscribed other xs x (same_value (gx other) subscribers alike.of_subscribers ∙ f) m;
+    };
+    kept = record {
+      each = λ other rs f. a.kept.each other rs f ∙ all_keep t h.facts k.facts (gx id) (gx other) differs alike;
+      apart = a.kept.apart;
+    };
+    due = record {
+      listed = λ all. one_enough t i h.facts k.facts (gx id) (waiting_of u) (waiting_of w) differs
+          (a.due.listed (keeps.some all)) (keeps.stay all) (may_wait i (view k.facts) w (gx id) all (λ _. waits)) alike;
+    };
+  }

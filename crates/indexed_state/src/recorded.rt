@@ -1,0 +1,108 @@
+//! Operations that are taken by the record that is then known of their session.
+ghost use Rattle.std.specs.Prelude.{◌≡◌, OnOk, OnErr};
+ghost use Rattle.pcrf_facts.specs.Held.{held, joined};
+ghost use Rattle.pcrf_model.specs.Holdings.{facts_on, kept_of};
+ghost use Rattle.pcrf_model.specs.Operations.{with_operation};
+ghost use Rattle.pcrf_model.specs.Sessions.{gx, af};
+ghost use Rattle.indexed_state.specs.Indexed.{IsTold};
+
+use crate::addresses::{
+    address_in, call_address_in, forget_call, forget_gateway, touch_both, wait_both, wait_gateway,
+};
+use crate::indexed::IndexedState;
+use crate::whole::make_whole;
+use af_records::AfRec;
+use gx_records::GxRec;
+use pcrf_values::{AfSid, GxSid};
+use site_join::Operation;
+use std::alloc::AllocError;
+use waiting_sessions::wait_one;
+
+impl IndexedState {
+    ghost use Rattle.indexed_state.specs.Indexed.{with_holding};
+
+    /// Takes an operation on a gateway's session as `take` does, where the caller has made the record that is known of the
+    /// session then: no fact is joined anew.
+    pub fn take_gateway(
+        &mut self,
+        operation: &Operation,
+        id: &GxSid,
+        known: GxRec,
+    ) -> Result<(), AllocError>
+        requires session { operation.now.session ≡ gx id.now }
+        requires joins { known ≡ joined
+            (facts_on self.old.holding.facts (gx id.now)) (held operation.now.facts) }
+        ensures ok { OnOk result (self.new ≡ with_holding self.old
+            (kept_of (with_operation self.old.holding operation.now))) }
+        ensures err { OnErr result (self.new ≡ self.old) }
+    {
+        make_whole(&self.state, &mut self.index, &mut self.is_whole)?;
+        self.index.cover(operation)?;
+        self.state.note_kept();
+        self.state.note_form();
+        operation.note_form();
+        let after = address_in(Some(&known));
+        let clock = self.state.clock().max(operation.counter());
+        let stood = self.state.put_gx(id, Some(known), clock)?;
+        let before = address_in(stood.as_ref());
+        touch_both(&mut self.rules, &self.index, before, after);
+        wait_gateway(&self.state, &mut self.waiting, id, after);
+        wait_both(&self.state, &self.index, &mut self.waiting, before, after);
+        forget_gateway(&mut self.index, id, before, after);
+        Ok(())
+    }
+
+    /// Takes an operation on a gateway's session as `take_gateway` does, where all that is new is what the gateway is told. No
+    /// list of rules is stale then, and no other session has to wait.
+    pub fn take_told(
+        &mut self,
+        operation: &Operation,
+        id: &GxSid,
+        known: GxRec,
+    ) -> Result<(), AllocError>
+        requires session { operation.now.session ≡ gx id.now }
+        requires joins { known ≡ joined
+            (facts_on self.old.holding.facts (gx id.now)) (held operation.now.facts) }
+        requires told { IsTold self.old.holding (gx id.now) known }
+        ensures ok { OnOk result (self.new ≡ with_holding self.old
+            (kept_of (with_operation self.old.holding operation.now))) }
+        ensures err { OnErr result (self.new ≡ self.old) }
+    {
+        self.state.note_kept();
+        self.state.note_form();
+        operation.note_form();
+        let clock = self.state.clock().max(operation.counter());
+        self.state.put_gx(id, Some(known), clock)?;
+        wait_one(&self.state, &mut self.waiting, id);
+        Ok(())
+    }
+
+    /// Takes an operation on an application function's session, as `take_gateway` does on a gateway's.
+    pub fn take_call(
+        &mut self,
+        operation: &Operation,
+        id: &AfSid,
+        known: AfRec,
+    ) -> Result<(), AllocError>
+        requires session { operation.now.session ≡ af id.now }
+        requires joins { known ≡ joined
+            (facts_on self.old.holding.facts (af id.now)) (held operation.now.facts) }
+        ensures ok { OnOk result (self.new ≡ with_holding self.old
+            (kept_of (with_operation self.old.holding operation.now))) }
+        ensures err { OnErr result (self.new ≡ self.old) }
+    {
+        make_whole(&self.state, &mut self.index, &mut self.is_whole)?;
+        self.index.cover(operation)?;
+        self.state.note_kept();
+        self.state.note_form();
+        operation.note_form();
+        let after = call_address_in(Some(&known));
+        let clock = self.state.clock().max(operation.counter());
+        let stood = self.state.put_af(id, Some(known), clock)?;
+        let before = call_address_in(stood.as_ref());
+        touch_both(&mut self.rules, &self.index, before, after);
+        wait_both(&self.state, &self.index, &mut self.waiting, before, after);
+        forget_call(&mut self.index, id, before, after);
+        Ok(())
+    }
+}
