@@ -1,16 +1,9 @@
 //! What the look-ups of tables answer, as a line of text.
+use crate::text::put_text;
 use op_tables::{AccessPoint, Class, OperatorRule, Tables};
 use pcrf_values::{Apn, DefaultQuality, RetentionPriority};
 use std::alloc::{AllocError, Global};
 use std::fmt::Write as _;
-
-/// Bytes of ASCII.
-fn put_text(out: &mut String, bytes: &[u8]) -> Result<(), AllocError> {
-    for &byte in bytes {
-        out.push(char::from(byte))?;
-    }
-    Ok(())
-}
 
 /// The level, the capability and the vulnerability.
 fn put_priority(out: &mut String, priority: RetentionPriority) -> Result<(), AllocError> {

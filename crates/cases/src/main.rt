@@ -1,88 +1,190 @@
-//! Cases that files hold, and what comes of each.
+//! Cases that lines hold, with what comes of each.
 //!
-//! The program first does what its words say, three by three: `script` or `streams`, a file of operator tables, and a file of
-//! what is done with them. A script is run, and whole streams are answered. The tables are the examples for operators, so
-//! that they stay as the answers show them; the call from its attach to its end is an example too. The bytes of the answers
-//! of `answers.script` come from an encoder written apart from the program, from the tables of the profile: `test_messages`
-//! gives the same for each form of answer.
+//! The lines of standard input that begin with `> ` are what came of the line before them when it was written: they are passed
+//! over. Every other line is written again, with what comes of it behind ` =` or in lines that begin with `> `. So the input
+//! has its answers in it, where a person reads them, and what is written has to be the input again. They come from the
+//! definitions, the profile and `oracle/`, not from the program.
 //!
-//! Then it does what the lines of its standard input say, of requests (`requests`) or of operator tables (`tables`), and
-//! writes what each makes; other lines are written again.
+//! A line that begins with `# ` says what the lines behind it show, on a state without anything. Operations are taken by lines
+//! (`operations`), and `new-letter` begins a letter of those behind it; questions end with ` =` (`questions`). Other lines are of
+//! requests (`requests`), operator tables (`tables`) or letters as bytes (`frames`), and `script TABLES FILE` and `streams TABLES FILE` do with the operator
+//! tables of a file what another says: a script is run, and whole streams are answered. The tables are the examples for
+//! operators, so that they stay as the answers show them; the call from its attach to its end is an example too. The bytes of
+//! the answers of `answers.script` come from an encoder written apart from the program, from the tables of the profile:
+//! `test_messages` gives the same for each form of answer.
+//!
+//! A line that is not understood ends the program with a failure, behind a line of standard error that says why.
 #![tactic(auto)]
 
 mod answers;
+mod cutting;
+mod deltas;
+mod drawing;
 mod edits;
+mod facts;
+mod fault;
+mod frames;
+mod held;
+mod holding;
 mod looks;
 mod notation;
+mod operations;
 mod pieces;
+mod questions;
+mod record_text;
+mod records;
 mod requests;
+mod rules;
 mod scripts;
+mod seen;
+mod states;
 mod streams;
 mod tables;
+mod text;
 mod told;
+mod verdicts;
+mod words;
 
+use crate::fault::Fault;
+use crate::held::Held;
 use crate::tables::Files;
-use std::alloc::{AllocError, Global};
+use crate::words::parted;
+use op_tables::{Tables, read_tables};
+use std::alloc::Global;
+use std::fmt::Write as _;
 use std::process::ExitCode;
-use std::{env, fs, io};
+use std::{fs, io, str};
 
-/// Does with the tables of a file what another holds, behind a line with the names of both, and answers whether it was done.
-fn run_files(rt: &HostRuntime, kind: &str, tables: &str, file: &str) -> io::Result<bool> {
-    println!(rt; "# {tables} {file}")?;
-    let tables = fs::read_to_string(rt, tables)?;
-    let lines = fs::read_to_string(rt, file)?;
-    match kind {
-        "script" => Ok(scripts::run(rt, tables.as_str(), lines.as_str())),
-        "streams" => streams::run(rt, tables.as_str(), lines.as_str()),
-        _ => Ok(false),
+/// What a line is read with.
+#[derive(Drop)]
+struct Given {
+    files: Files,
+    tables: Tables,
+}
+
+/// Adds lines, each behind `> `.
+fn put_behind(text: &str, out: &mut String) -> Result<(), Fault> {
+    for line in text.lines() {
+        out.push_str("\n> ")?;
+        out.push_str(line)?;
+    }
+    Ok(())
+}
+
+/// Adds what a script writes.
+fn put_script(alloc: Global, tables: &str, script: &str, out: &mut String) -> Result<(), Fault> {
+    let mut written = Vec::new(alloc);
+    scripts::run(alloc, tables, script, &mut written)?;
+    match str::from_utf8(written.as_slice()) {
+        Ok(text) => put_behind(text, out),
+        Err(_) => Err(Fault::Not("a script that writes text")),
     }
 }
 
-/// Does what all the words say, and answers whether all was done.
-fn run_words(rt: &HostRuntime) -> io::Result<bool> {
-    let mut words = env::args(rt)?.skip(1);
-    while let Some(kind) = words.next() {
-        let (Some(tables), Some(file)) = (words.next(), words.next()) else {
-            return Ok(false);
-        };
-        if !run_files(rt, kind.as_str(), tables.as_str(), file.as_str())? {
+/// Does with the tables of a file what another says.
+fn put_files(rt: &HostRuntime, line: &str, out: &mut String) -> Result<(), Fault> {
+    out.push_str(line)?;
+    let (kind, words) = parted(line, ' ')?;
+    let (tables, file) = parted(words, ' ')?;
+    let (Ok(tables), Ok(lines)) = (fs::read_to_string(rt, tables), fs::read_to_string(rt, file))
+    else {
+        return Err(Fault::Not("two files"));
+    };
+    match kind {
+        "script" => put_script(rt.alloc(), tables.as_str(), lines.as_str(), out),
+        _ => streams::put_streams(rt.alloc(), tables.as_str(), lines.as_str(), out),
+    }
+}
+
+/// Answers a question, or takes an operation.
+fn put_held(
+    alloc: Global,
+    given: &Given,
+    held: &mut Held,
+    line: &str,
+    out: &mut String,
+) -> Result<(), Fault> {
+    if let Some((asked, _)) = line.split_once(" =") {
+        write!(out, "{asked} =")?;
+        return questions::put_answer(alloc, &given.tables, held, asked, out);
+    }
+    out.push_str(line)?;
+    held.take(alloc, line)
+}
+
+/// Adds a line, and what comes of it.
+fn put_line(
+    rt: &HostRuntime,
+    given: &Given,
+    held: &mut Held,
+    line: &str,
+    out: &mut String,
+) -> Result<(), Fault> {
+    let alloc = rt.alloc();
+    let (word, _) = line.split_once(' ').unwrap_or((line, ""));
+    match word {
+        "" => {}
+        "#" => {
+            out.push_str(line)?;
+            held.clear(alloc);
+        }
+        "new-letter" => {
+            out.push_str(line)?;
+            held.start_letter(alloc)?;
+        }
+        "aar" | "str" | "aaa" | "sta" => requests::put_line(alloc, line, out)?,
+        "text" | "read" | "look" => tables::put_line(alloc, &given.files, line, out)?,
+        "letter" | "cut" | "held" | "whole" | "random" | "changes" => {
+            frames::put_line(alloc, line, out)?
+        }
+        "script" | "streams" => put_files(rt, line, out)?,
+        _ => put_held(alloc, given, held, line, out)?,
+    }
+    Ok(())
+}
+
+/// Writes a line, and what comes of it; whether it is understood.
+fn print_line(rt: &HostRuntime, given: &Given, held: &mut Held, line: &str) -> io::Result<bool> {
+    let mut out = String::new(rt.alloc());
+    match put_line(rt, given, held, line, &mut out) {
+        Ok(()) => println!(rt; "{out}")?,
+        Err(fault) => {
+            eprintln!(rt; "not {}: {line}", fault.text())?;
             return Ok(false);
         }
     }
     Ok(true)
 }
 
-/// Puts what a line makes.
-fn put_line(alloc: Global, files: &Files, line: &str, out: &mut String) -> Result<(), AllocError> {
-    if requests::put_line(alloc, line, out)? || tables::put_line(alloc, files, line, out)? {
-        return Ok(());
-    }
-    out.push_str(line)
-}
-
-/// Writes what a line makes.
-fn print_line(rt: &HostRuntime, files: &Files, line: &str) -> io::Result<()> {
-    let mut out = String::new(rt.alloc());
-    put_line(rt.alloc(), files, line, &mut out)?;
-    println!(rt; "{out}")
-}
-
-/// Reads the lines, and writes what each makes.
-fn run_lines(rt: &HostRuntime) -> io::Result<()> {
-    let files = Files::read(rt)?;
+/// Reads the lines, and writes each with what comes of it, as long as they are understood; whether all are.
+fn run_lines(rt: &HostRuntime, given: &Given, held: &mut Held) -> io::Result<bool> {
     for line in rt.lines(rt.alloc()) {
-        print_line(rt, &files, line?.as_str())?;
+        let line = line?;
+        if !line.starts_with("> ") && !print_line(rt, given, held, line.as_str())? {
+            return Ok(false);
+        }
     }
-    Ok(())
+    Ok(true)
 }
 
-/// Does all, and answers whether it was done.
+/// Does all that the lines say with what they are read with; whether all are understood.
+fn run_with(rt: &HostRuntime, given: &Given) -> io::Result<bool> {
+    let mut held = Held::start(rt.alloc());
+    let done = run_lines(rt, given, &mut held);
+    drop(held);
+    done
+}
+
+/// Does all that the lines say; whether all are understood.
 fn run(rt: &HostRuntime) -> io::Result<bool> {
-    let is_done = run_words(rt)?;
-    if is_done {
-        run_lines(rt)?;
-    }
-    Ok(is_done)
+    let files = Files::read(rt)?;
+    let Ok(tables) = read_tables(rt.alloc(), files.telephony()) else {
+        return Ok(false);
+    };
+    let given = Given { files, tables };
+    let done = run_with(rt, &given);
+    drop(given);
+    done
 }
 
 fn main(rt: HostRuntime) -> ExitCode {

@@ -9,6 +9,7 @@ use dia_base::ReadFault;
 use dia_codec::{Message, read_message};
 use rx_profile::{read_aar, read_str};
 use std::alloc::{AllocError, Global};
+use std::fmt::Write as _;
 use test_messages::{Head, RX, message};
 
 /// The command code of an AA request (TS 29.214, 5.6.1).
@@ -96,16 +97,14 @@ fn put_read(alloc: Global, command: u32, words: &str, out: &mut String) -> Resul
     put
 }
 
-/// Puts what a line makes; whether it is one of these.
-pub fn put_line(alloc: Global, line: &str, out: &mut String) -> Result<bool, AllocError> {
+/// Puts a line, and what it makes.
+pub fn put_line(alloc: Global, line: &str, out: &mut String) -> Result<(), AllocError> {
+    write!(out, "{line}\n> ")?;
     if let Some(words) = line.strip_prefix("aar ") {
-        put_read(alloc, AUTHORIZATION, words, out)?;
-    } else if let Some(words) = line.strip_prefix("str ") {
-        put_read(alloc, TERMINATION, words, out)?;
-    } else if line.starts_with("aaa ") || line.starts_with("sta ") {
-        put_answer(alloc, line, out)?;
-    } else {
-        return Ok(false);
+        return put_read(alloc, AUTHORIZATION, words, out);
     }
-    Ok(true)
+    if let Some(words) = line.strip_prefix("str ") {
+        return put_read(alloc, TERMINATION, words, out);
+    }
+    put_answer(alloc, line, out)
 }

@@ -31,6 +31,11 @@ impl Files {
         })
     }
 
+    /// The tables of calls.
+    pub fn telephony(&self) -> &str {
+        self.operator.as_str()
+    }
+
     /// The text of the file that the words name first.
     fn named(&self, words: &str) -> &str {
         if words.starts_with("small") {
@@ -53,11 +58,13 @@ fn put_look(alloc: Global, text: &str, words: &str, out: &mut String) -> Result<
     let Ok(tables) = read_tables(alloc, text) else {
         return out.push_str("no tables");
     };
-    put_tables(alloc, &tables, words, out)?;
     let copy = tables.try_copy(alloc)?;
+    let mut known = String::new(alloc);
+    put_tables(alloc, &tables, words, &mut known)?;
     let mut again = String::new(alloc);
     put_tables(alloc, &copy, words, &mut again)?;
-    if again.as_str() != out.as_str() {
+    out.push_str(known.as_str())?;
+    if again.as_str() != known.as_str() {
         out.push_str(", and a copy answers otherwise")?;
     }
     Ok(())
@@ -83,21 +90,20 @@ fn put_text(alloc: Global, text: &str, out: &mut String) -> Result<(), AllocErro
     put_read(alloc, lines.as_str(), out)
 }
 
-/// Puts what a line makes; whether it is one of these.
+/// Puts a line, and what it makes.
 pub fn put_line(
     alloc: Global,
     files: &Files,
     line: &str,
     out: &mut String,
-) -> Result<bool, AllocError> {
+) -> Result<(), AllocError> {
+    write!(out, "{line}\n> ")?;
     if let Some(text) = line.strip_prefix("text ") {
-        put_text(alloc, text, out)?;
-    } else if let Some(edits) = line.strip_prefix("read ") {
-        put_edited(alloc, files, edits, out)?;
-    } else if let Some(words) = line.strip_prefix("look ") {
-        put_look(alloc, files.named(words), words, out)?;
-    } else {
-        return Ok(false);
+        return put_text(alloc, text, out);
     }
-    Ok(true)
+    if let Some(edits) = line.strip_prefix("read ") {
+        return put_edited(alloc, files, edits, out);
+    }
+    let words = line.strip_prefix("look ").unwrap_or("");
+    put_look(alloc, files.named(words), words, out)
 }

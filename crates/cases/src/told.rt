@@ -1,16 +1,9 @@
 //! What was read, as a line of text.
+use crate::text::put_text;
 use dia_base::{Origin, ReadFault};
 use rx_profile::{Aar, Component, Flow, FlowUsage, MediaStatus, Rates, Str};
 use std::alloc::AllocError;
 use std::fmt::Write as _;
-
-/// Bytes of ASCII.
-fn put_text(out: &mut String, bytes: &[u8]) -> Result<(), AllocError> {
-    for &byte in bytes {
-        out.push(char::from(byte))?;
-    }
-    Ok(())
-}
 
 /// A word: a number, or `-` for none.
 fn put_number(out: &mut String, number: Option<u32>) -> Result<(), AllocError> {

@@ -1,29 +1,12 @@
 //! What a record shows, as a line of text.
+use crate::text::{put_tag, put_text};
 use af_records::{AfRec, RemovedPart};
 use gx_records::GxRec;
-use lattice_core::Tag;
 use pcrf_values::{Apn, DiameterIdentity, Filters, Rule, RuleName, Subscribers};
+use ranked::Tag;
 use std::alloc::{AllocError, Global};
 use std::fmt::Write as _;
 use std::net::Ipv4Addr;
-use std::process::Abort;
-
-/// Bytes of ASCII.
-fn put_text(out: &mut String, bytes: &[u8]) -> Result<(), AllocError> {
-    for &byte in bytes {
-        out.push(char::from(byte))?;
-    }
-    Ok(())
-}
-
-/// Compares a text with the one that is wanted.
-pub fn compare_text(rt: &impl Abort, text: &str, want: &str) {
-    assert_eq!(rt; text, want);
-}
-
-fn put_tag(out: &mut String, tag: Tag) -> Result<(), AllocError> {
-    write!(out, "@{}.{}.{}", tag.number, tag.counter, tag.site)
-}
 
 /// A text with its tag, under a name.
 fn put_named(out: &mut String, name: &str, tag: Tag, bytes: &[u8]) -> Result<(), AllocError> {
@@ -133,7 +116,8 @@ fn put_rules(out: &mut String, rules: &[(RuleName, Rule)]) -> Result<(), AllocEr
     Ok(())
 }
 
-fn put_gx(out: &mut String, alloc: Global, record: &GxRec) -> Result<(), AllocError> {
+/// What a Gx record shows.
+pub fn put_gx(alloc: Global, record: &GxRec, out: &mut String) -> Result<(), AllocError> {
     put_state(out, record.live(), record.ended())?;
     put_gx_fields(out, record)?;
     put_told(out, record)?;
@@ -141,13 +125,6 @@ fn put_gx(out: &mut String, alloc: Global, record: &GxRec) -> Result<(), AllocEr
     let put = put_rules(out, told.as_slice());
     drop(told);
     put
-}
-
-/// What a Gx record shows.
-pub fn gx_text(alloc: Global, record: &GxRec) -> Result<String, AllocError> {
-    let mut out = String::new(alloc);
-    put_gx(&mut out, alloc, record)?;
-    Ok(out)
 }
 
 fn put_af_fields(out: &mut String, record: &AfRec) -> Result<(), AllocError> {
@@ -250,19 +227,11 @@ fn put_removed(out: &mut String, record: &AfRec) -> Result<(), AllocError> {
     Ok(())
 }
 
-fn put_af(out: &mut String, record: &AfRec, components: &[u32]) -> Result<(), AllocError> {
+/// What an AF record shows, of its components the first.
+pub fn put_af(record: &AfRec, out: &mut String) -> Result<(), AllocError> {
     put_state(out, record.live(), record.ended())?;
     put_af_fields(out, record)?;
-    for number in components {
-        put_component(out, record, *number)?;
-    }
+    put_component(out, record, 1)?;
     put_flows(out, record)?;
     put_removed(out, record)
-}
-
-/// What an AF record shows, of its components those of these numbers.
-pub fn af_text(alloc: Global, record: &AfRec, components: &[u32]) -> Result<String, AllocError> {
-    let mut out = String::new(alloc);
-    put_af(&mut out, record, components)?;
-    Ok(out)
 }

@@ -1,9 +1,9 @@
 //! What an operator sees: `bindings`, and `value` with a line for the clock and for each session; behind a live one stand
 //! its fields, a gateway's home, rules and told rules, and a call's binding.
-use crate::answers::{put_rule, put_rules};
-use crate::replay::replay;
-use crate::tables::tables;
+use crate::questions::{put_rule, put_rules};
+use crate::text::put_text;
 use af_records::{ComponentValue, FlowValue};
+use op_tables::Tables;
 use operator_view::{
     AfField, AfSeen, GxClient, GxSeen, GxUser, OperatorValue, SessionSeen, bindings, value,
 };
@@ -11,17 +11,13 @@ use pcrf_values::{AfSid, GxSid, Rule, RuleName, Subscriber};
 use ranked::Ranked;
 use record_levels::SessionValue;
 use site_join::State;
-use std::alloc::{AllocError, AllocGlobal};
+use std::alloc::{AllocError, Global};
 use std::fmt::Write as _;
-use std::process::Abort;
 
 /// Bytes of ASCII behind a word.
 fn put_word(out: &mut String, word: &str, bytes: &[u8]) -> Result<(), AllocError> {
     write!(out, " {word}")?;
-    for &byte in bytes {
-        out.push(char::from(byte))?;
-    }
-    Ok(())
+    put_text(out, bytes)
 }
 
 /// Subscribers.
@@ -51,10 +47,11 @@ fn put_all_bindings(out: &mut String, found: &[(AfSid, Option<GxSid>)]) -> Resul
 }
 
 /// Each live call with its binding.
-pub fn put_bindings(rt: &(impl AllocGlobal + Abort), state: &State, out: &mut String) {
-    let found = bindings(rt.alloc(), state).expect(rt, "memory");
-    put_all_bindings(out, found.as_slice()).expect(rt, "memory");
+pub fn put_bindings(alloc: Global, state: &State, out: &mut String) -> Result<(), AllocError> {
+    let found = bindings(alloc, state)?;
+    let put = put_all_bindings(out, found.as_slice());
     drop(found);
+    put
 }
 
 /// The user of a gateway's live session.
@@ -177,60 +174,21 @@ fn put_calls(
 }
 
 /// All that is seen.
-fn seen(rt: &(impl AllocGlobal + Abort), state: &State) -> OperatorValue {
-    let tables = tables(rt);
-    let seen = value(rt.alloc(), &tables, state).expect(rt, "memory");
-    drop(tables);
-    seen
+fn put_seen(out: &mut String, seen: &OperatorValue) -> Result<(), AllocError> {
+    write!(out, " {}", seen.clock)?;
+    put_gateways(out, seen.gx.as_slice())?;
+    put_calls(out, seen.af.as_slice())
 }
 
-/// Puts all that is seen.
-pub fn put_value(rt: &(impl AllocGlobal + Abort), state: &State, out: &mut String) {
-    let seen = seen(rt, state);
-    write!(out, " {}", seen.clock).expect(rt, "memory");
-    put_gateways(out, seen.gx.as_slice()).expect(rt, "memory");
-    put_calls(out, seen.af.as_slice()).expect(rt, "memory");
+/// All that is seen of a state.
+pub fn put_value(
+    alloc: Global,
+    tables: &Tables,
+    state: &State,
+    out: &mut String,
+) -> Result<(), AllocError> {
+    let seen = value(alloc, tables, state)?;
+    let put = put_seen(out, &seen);
     drop(seen);
-}
-
-const SEEN: &str = r"
-# nothing
-bindings =
-value = 0
-
-# a live, a partial and an ended session of each kind; calls that are bound to one and to none; a removed flow
-initial gw;1 @0.1.0 address=10.0.0.1 apn=IMS subscribers=1:x+0:y
-update gw;1 @1.2.3
-told gw;1 @0.3.0 a
-partial gw;2 @0.4.0 address=10.0.0.2 apn=ims subscribers=1:x
-initial gw;3 @0.5.0 address=10.0.0.3 apn=ims subscribers=1:x
-terminate gw;3 @1.6.0
-call af;1 @0.7.0 address=10.0.0.1 with 1:media=0 1:up=41000 1:down=80000 1/1:filters=in+out 1/2:filters=in 1/2:usage=1
-call af;1 @0.8.0 with 1/2:removed
-call af;2 @0.9.0 address=10.0.0.2
-call af;3 @0.10.0 apn=ims
-call af;4 @0.11.0 address=10.0.0.1
-hang-up af;4 @0.12.0
-bindings = af;1 to gw;1 af;2 to none
-value = 12
-> gw;1 10.0.0.1 ims 0 y 1 x gw r 2 home 3
-> 40 op/sip 2 5 32000 32000 9/1/0 permit out ip from any to any
-> 100 af/af;1/1/1 2 1 41000 64000 2/0/1 in out
-> told a
-> 40 a 2 5 32000 64000 9/0/0 permit in ip
-> gw;2 partial
-> gw;3 ended
-> af;1 to gw;1 address 10.0.0.1 host af realm r last
-> 1:media 0
-> 1:up 41000
-> 1:down 80000
-> 1/1:filters 2
-> af;2 to none address 10.0.0.2 host af realm r last
-> af;3 partial
-> af;4 ended
-";
-
-#[test]
-fn an_operator_sees_live_partial_and_ended_sessions(rt: HostRuntime) {
-    replay(&rt, SEEN);
+    put
 }
