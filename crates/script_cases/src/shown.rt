@@ -4,7 +4,7 @@ use crate::operations::{
     put_signalling, put_voice, stamp, take_application, take_gateway,
 };
 use op_tables::read_tables;
-use pcrf_show::show_state;
+use operator_view::{put_value, value};
 use ranked::Tag;
 use site_join::State;
 use std::alloc::AllocGlobal;
@@ -122,7 +122,9 @@ fn take_without_binding(rt: &(impl AllocGlobal + Abort), state: &mut State, at: 
 pub fn shows(rt: &(impl AllocGlobal + Abort), state: &State, wanted: &str) {
     let tables = read_tables(rt.alloc(), TABLES).expect(rt, "tables");
     let mut out = String::new(rt.alloc());
-    show_state(rt.alloc(), &mut out, &tables, state).expect(rt, "memory");
+    let seen = value(rt.alloc(), &tables, state).expect(rt, "memory");
+    put_value(&mut out, &seen).expect(rt, "memory");
+    drop(seen);
     drop(tables);
     assert_eq!(rt; out.as_str(), wanted);
 }
