@@ -1,10 +1,6 @@
 """A plain reader and writer of letters, written from docs/LETTERS.md and sharing nothing with the product, and the cases
-that `letter_cases` runs.
-
-    python3 oracle/letters.py stdin > crates/letter_cases/stdin
-    python3 oracle/letters.py stdout > crates/letter_cases/stdout
+that `cases` runs on it: `letters.py` prints the lines, each with what is said of it behind it.
 """
-import sys
 
 EDITION = 7
 LAST = 2 ** 63 - 1
@@ -675,5 +671,5 @@ def lines():
 
 
 if __name__ == "__main__":
-    for line, said in lines():
-        print(line if sys.argv[1] == "stdin" else said)
+    for asked, answer in lines():
+        print(asked if asked == answer else f"{asked}\n> {answer}")

@@ -1,10 +1,10 @@
 #!/usr/bin/env python3
-"""Compares what is stored for the program of stored cases with what the plain model and the generators give.
+"""Compares what is stored for the program of cases with what the plain model and the generators give.
 
-`stored.py CRATE` reads what the crate's folder has: `args`, the files of `data`, `stdin` and `stdout`. It fails where a
-file that is drawn or put together by a program of this folder is another one, where a script, the scripts of a file of
-worlds or a stream print something else than the plain model says, or where a line on scripts does. With `--write` it writes
-the files in place of comparing them, and all that `stdout` has of these.
+`stored.py CRATE` reads what the crate's folder has: the files of `data`, and `stdin`, which has the answers to its lines behind
+them. It fails where a file that is drawn or put together by a program of this folder is another one, where a script, the
+scripts of a file of worlds or a stream print something else than the plain model says, or where a line on scripts does. With
+`--write` it writes the files in place of comparing them, and all that `stdin` and `stdout` have of these.
 """
 import contextlib
 import io
@@ -26,7 +26,7 @@ TABLES = "telephony.toml"
 LINES_WITH = "single-access-point.toml"
 
 
-# ---- what the words of `args` print
+# ---- what the lines on two files print
 
 def script_prints(tables, text):
     """What a script prints."""
@@ -80,10 +80,12 @@ class Stored:
 
     def __init__(self, crate):
         self.crate, self.data, self.compared = crate, os.path.join(crate, "data"), 0
-        words = read(crate, "args").split("\n")[:-1]
-        self.steps = list(zip(words[::3], words[1::3], words[2::3]))
-        self.stdin = read(crate, "stdin").split("\n")[:-1]
-        self.stdout = read(crate, "stdout").split("\n")[:-1]
+        self.lines = []  # each with its answers
+        for line in read(crate, "stdin").split("\n")[:-1]:
+            if line.startswith("> "):
+                self.lines[-1][1].append(line[2:])
+            else:
+                self.lines.append((line, []))
 
     def compare(self, name, stored, wanted):
         """Fails where something stored is another thing than it has to be."""
@@ -92,51 +94,43 @@ class Stored:
             sys.exit(f"{name} differs at {at}")
         self.compared += 1
 
-    def part(self, at):
-        """What stands in `stdout` of a step, behind its heading."""
-        ends = [f"# {tables} {file}" for _, tables, file in self.steps[at:]]
-        first = self.stdout.index(ends[0]) + 1
-        behind = len(self.stdout) - len(self.stdin)
-        last = self.stdout.index(ends[1], first) if len(ends) > 1 else behind
-        return self.stdout[first:last]
+    def answers(self, line):
+        """What the oracle says of a line on two files, None of another."""
+        kind, *files = line.split(" ")
+        if kind not in KINDS or len(files) != 2:
+            return None
+        return KINDS[kind](read_tables(os.path.join(self.data, files[0])), read(self.data, files[1]))
+
+    def on_scripts(self):
+        """The lines on scripts, with what comes of each."""
+        lines = script_lines.all_lines(read_tables(os.path.join(self.data, LINES_WITH)))
+        return [(line, [] if line.startswith("#") else [made]) for line, made in lines]
 
     def compare_all(self):
         """Compares all."""
         for name, text in drawn(self.data).items():
             self.compare(name, read(self.data, name), text)
-        for at, (kind, tables, file) in enumerate(self.steps):
-            if kind in KINDS:
-                wanted = KINDS[kind](read_tables(os.path.join(self.data, tables)), read(self.data, file))
-                self.compare(f"stdout, {tables} {file}", self.part(at), wanted)
-        pairs = zip(self.stdin, self.stdout[len(self.stdout) - len(self.stdin):])
-        words = {line for line, _ in self.lines()}
-        self.compare("the lines on scripts", [pair for pair in pairs if pair[0] in words], list(self.lines()))
-
-    def lines(self):
-        """The lines on scripts, with what each makes."""
-        return script_lines.all_lines(read_tables(os.path.join(self.data, LINES_WITH)))
+        for line, answers in self.lines:
+            wanted = self.answers(line)
+            if wanted is not None:
+                self.compare(line, answers, wanted)
+        wanted = self.on_scripts()
+        words = {line for line, _ in wanted}
+        self.compare("the lines on scripts", [pair for pair in self.lines if pair[0] in words], wanted)
 
     def write(self):
         """Writes all."""
         for name, text in drawn(self.data).items():
             with open(os.path.join(self.data, name), "w", encoding="utf-8") as file:
                 file.write(text)
-        words = {line for line, _ in self.lines()}
-        answers = self.stdout[len(self.stdout) - len(self.stdin):]
-        kept = [pair for pair in zip(self.stdin, answers) if pair[0] not in words]
-        lines = kept + list(self.lines())
-        prints = []
-        for at, (kind, tables, file) in enumerate(self.steps):
-            known = KINDS.get(kind)
-            wanted = known and known(read_tables(os.path.join(self.data, tables)), read(self.data, file))
-            prints += [f"# {tables} {file}"] + (self.part(at) if known is None else wanted)
-        self.store("stdin", [line for line, _ in lines])
-        self.store("stdout", prints + [made for _, made in lines])
-
-    def store(self, name, lines):
-        """Writes lines as a file of the crate."""
-        with open(os.path.join(self.crate, name), "w", encoding="utf-8") as file:
-            file.write("\n".join(lines) + "\n")
+        made = dict(self.on_scripts())
+        lines = []
+        for line, answers in self.lines:
+            known = self.answers(line)
+            lines += [line] + [f"> {answer}" for answer in made.get(line, answers if known is None else known)]
+        for name in ("stdin", "stdout"):
+            with open(os.path.join(self.crate, name), "w", encoding="utf-8") as file:
+                file.write("\n".join(lines) + "\n")
 
 
 def main(crate, *options):

@@ -88,22 +88,6 @@ pub fn call(
     Operation::of(counter, site, 0, facts).expect(rt, "an operation")
 }
 
-/// The end of a gateway's session.
-pub fn gateway_end(rt: &(impl AllocGlobal + Abort), id: &str, counter: u64, site: u8) -> Operation {
-    let mut facts = Vec::new(rt.alloc());
-    facts.push(GxFact::End).expect(rt, "memory");
-    let facts = SessionFacts::Gx(gateway_id(rt, id), facts);
-    Operation::of(counter, site, 0, facts).expect(rt, "an operation")
-}
-
-/// The end of a call.
-pub fn call_end(rt: &(impl AllocGlobal + Abort), id: &str, counter: u64, site: u8) -> Operation {
-    let mut facts = Vec::new(rt.alloc());
-    facts.push(AfFact::End).expect(rt, "memory");
-    let facts = SessionFacts::Af(call_id(rt, id), facts);
-    Operation::of(counter, site, 0, facts).expect(rt, "an operation")
-}
-
 /// An operation of site 0 with one fact on a gateway's session.
 pub fn gateway_fact(
     rt: &(impl AllocGlobal + Abort),

@@ -1,0 +1,105 @@
+//! Operations by lines. `initial`, `update` and `terminate` stand for credit control requests, `call` for an AA request and
+//! `hang-up` for a session termination request; `partial` is an initial request of which the realm is not known, `told`
+//! says that the gateway was told the rule of a word (`rules`), and `gx` and `af` have no facts but those that they name. Behind
+//! that stand the Session-Id, the tag, and what the request gives (`facts`), of a call what regards its parts behind `with`.
+//! The words stand in the order in which an operation has its facts: what is removed, components, flows.
+use crate::facts::{put_call, put_gateway};
+use crate::fault::Fault;
+use crate::rules::rule;
+use crate::words::{parted, tag, text};
+use af_records::AfFact;
+use gx_records::GxFact;
+use pcrf_values::{AfSid, GxSid};
+use ranked::Tag;
+use site_join::{Operation, SessionFacts};
+use std::alloc::Global;
+
+/// Whose session a request is about, and what each of its kind gives.
+#[derive(Clone, Copy)]
+enum Request {
+    Gateway(&'static str),
+    Call(&'static str),
+    Told,
+}
+
+/// The kind of request that a line begins with.
+fn request_of(word: &str) -> Result<Request, Fault> {
+    match word {
+        "gx" => Ok(Request::Gateway("")),
+        "initial" => Ok(Request::Gateway("host=gw realm=r last=1")),
+        "update" => Ok(Request::Gateway("host=gw realm=r last=2")),
+        "partial" => Ok(Request::Gateway("host=gw last=1")),
+        "terminate" => Ok(Request::Gateway("end")),
+        "told" => Ok(Request::Told),
+        "af" => Ok(Request::Call("")),
+        "call" => Ok(Request::Call("host=af realm=r last=0")),
+        "hang-up" => Ok(Request::Call("end")),
+        _ => Err(Fault::Not("a line of the notation")),
+    }
+}
+
+/// The facts of a gateway's session that a request makes.
+fn gateway_facts(alloc: Global, at: Tag, words: &str, each: &str) -> Result<Vec<GxFact>, Fault> {
+    let mut facts = Vec::new(alloc);
+    put_gateway(alloc, &mut facts, at, words)?;
+    put_gateway(alloc, &mut facts, at, each)?;
+    Ok(facts)
+}
+
+/// The facts of a call.
+fn call_facts(alloc: Global, at: Tag, words: &str, each: &str) -> Result<Vec<AfFact>, Fault> {
+    let (session, parts) = words.split_once("with ").unwrap_or((words, ""));
+    let mut facts = Vec::new(alloc);
+    put_call(alloc, &mut facts, at, session)?;
+    put_call(alloc, &mut facts, at, each)?;
+    put_call(alloc, &mut facts, at, parts)?;
+    Ok(facts)
+}
+
+/// That the gateway was told a rule.
+fn told_facts(alloc: Global, at: Tag, word: &str) -> Result<Vec<GxFact>, Fault> {
+    let name = text(alloc, word)?;
+    let told = GxFact::Told(at, name, Some(rule(alloc, word)?));
+    let mut facts = Vec::new(alloc);
+    facts.push(told)?;
+    Ok(facts)
+}
+
+/// The facts on a gateway's session.
+fn on_gateway(alloc: Global, id: &str, facts: Vec<GxFact>) -> Result<SessionFacts, Fault> {
+    Ok(SessionFacts::Gx(GxSid::of(text(alloc, id)?), facts))
+}
+
+/// The facts on a call.
+fn on_call(alloc: Global, id: &str, facts: Vec<AfFact>) -> Result<SessionFacts, Fault> {
+    Ok(SessionFacts::Af(AfSid::of(text(alloc, id)?), facts))
+}
+
+/// The session and the facts of a line.
+fn session_facts(
+    alloc: Global,
+    request: Request,
+    id: &str,
+    at: Tag,
+    words: &str,
+) -> Result<SessionFacts, Fault> {
+    match request {
+        Request::Gateway(each) => on_gateway(alloc, id, gateway_facts(alloc, at, words, each)?),
+        Request::Call(each) => on_call(alloc, id, call_facts(alloc, at, words, each)?),
+        Request::Told => on_gateway(alloc, id, told_facts(alloc, at, words)?),
+    }
+}
+
+/// The operation of a line.
+pub fn operation(alloc: Global, line: &str) -> Result<Operation, Fault> {
+    let (word, rest) = line.split_once(' ').unwrap_or((line, ""));
+    let request = request_of(word)?;
+    let (id, rest) = parted(rest, ' ')?;
+    let (stamp, words) = rest.split_once(' ').unwrap_or((rest, ""));
+    let at = tag(stamp)?;
+    let facts = session_facts(alloc, request, id, at, words)?;
+    match Operation::of(at.counter, at.site, at.number, facts) {
+        Some(made) => Ok(made),
+        None => Err(Fault::Not("an operation")),
+    }
+}

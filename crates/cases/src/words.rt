@@ -1,0 +1,139 @@
+//! Values by words.
+use crate::fault::Fault;
+use pcrf_values::{
+    Apn, BoundedNumber, BoundedText, Filters, Subscriber, Subscribers, SubscriptionType,
+};
+use ranked::Tag;
+use std::alloc::{AllocError, Global};
+use std::net::Ipv4Addr;
+
+/// A number of 32 bits.
+pub fn number(word: &str) -> Result<u32, Fault> {
+    match word.parse::<u32>() {
+        Ok(number) => Ok(number),
+        Err(_) => Err(Fault::Not("a number")),
+    }
+}
+
+/// A number of a range.
+pub fn bounded<const LEAST: u32, const MOST: u32>(
+    word: &str,
+) -> Result<BoundedNumber<LEAST, MOST>, Fault> {
+    match BoundedNumber::of(number(word)?) {
+        Some(number) => Ok(number),
+        None => Err(Fault::Not("a number of its range")),
+    }
+}
+
+/// What a word has before and behind a sign.
+pub fn parted(word: &str, sign: char) -> Result<(&str, &str), Fault> {
+    match word.split_once(sign) {
+        Some(parts) => Ok(parts),
+        None => Err(Fault::Not("two parts")),
+    }
+}
+
+/// The counter and the site of a tag.
+fn stamp(word: &str) -> Option<(u64, u8)> {
+    let (counter, site) = word.split_once('.')?;
+    let counter = counter.parse::<u64>().ok()?;
+    Some((counter, site.parse::<u8>().ok()?))
+}
+
+/// A tag, as `@NUMBER.COUNTER.SITE`.
+pub fn tag(word: &str) -> Result<Tag, Fault> {
+    let Some(rest) = word.strip_prefix("@") else {
+        return Err(Fault::Not("a tag"));
+    };
+    let (asked, rest) = parted(rest, '.')?;
+    let number = number(asked)?;
+    match stamp(rest) {
+        Some((counter, site)) => Ok(Tag {
+            number,
+            counter,
+            site,
+        }),
+        None => Err(Fault::Not("a tag")),
+    }
+}
+
+/// A text.
+pub fn text<const MOST: usize>(alloc: Global, word: &str) -> Result<BoundedText<MOST>, Fault> {
+    match BoundedText::read(alloc, word.as_bytes())? {
+        Some(text) => Ok(text),
+        None => Err(Fault::Not("a text")),
+    }
+}
+
+/// An IPv4 address.
+pub fn address(word: &str) -> Result<Ipv4Addr, Fault> {
+    match word.parse::<Ipv4Addr>() {
+        Ok(address) => Ok(address),
+        Err(_) => Err(Fault::Not("an address")),
+    }
+}
+
+/// An access point name.
+pub fn apn(alloc: Global, word: &str) -> Result<Apn, Fault> {
+    match Apn::folded(alloc, word.as_bytes())? {
+        Some(name) => Ok(name),
+        None => Err(Fault::Not("an access point name")),
+    }
+}
+
+/// A subscriber, as `TYPE:NAME`.
+pub fn subscriber(alloc: Global, word: &str) -> Result<Subscriber, Fault> {
+    let (kind, name) = parted(word, ':')?;
+    match SubscriptionType::from_number(number(kind)?) {
+        Some(kind) => Ok(Subscriber::of(kind, text(alloc, name)?)),
+        None => Err(Fault::Not("the type of a subscriber")),
+    }
+}
+
+/// Adds subscribers with `+` between them.
+fn put_subscribers(alloc: Global, given: &mut Vec<Subscriber>, words: &str) -> Result<(), Fault> {
+    for word in words.split('+') {
+        given.push(subscriber(alloc, word)?)?;
+    }
+    Ok(())
+}
+
+/// Subscribers with `+` between them.
+pub fn subscribers(alloc: Global, words: &str) -> Result<Subscribers, Fault> {
+    let mut given = Vec::new(alloc);
+    put_subscribers(alloc, &mut given, words)?;
+    match Subscribers::of(alloc, given)? {
+        Some(set) => Ok(set),
+        None => Err(Fault::Not("1 to 16 subscribers")),
+    }
+}
+
+/// The text of a word, with spaces for `_`.
+fn spaced(alloc: Global, word: &str) -> Result<String, AllocError> {
+    let mut text = String::new(alloc);
+    for (place, part) in word.split('_').enumerate() {
+        if place > 0 {
+            text.push_str(" ")?;
+        }
+        text.push_str(part)?;
+    }
+    Ok(text)
+}
+
+/// A filter.
+fn filter<const MOST: usize>(alloc: Global, word: &str) -> Result<BoundedText<MOST>, Fault> {
+    let spaced = spaced(alloc, word)?;
+    text(alloc, spaced.as_str())
+}
+
+/// Filters with `+` between them, and `_` for each space.
+pub fn filters(alloc: Global, words: &str) -> Result<Filters, Fault> {
+    let mut given = Vec::new(alloc);
+    for word in words.split('+') {
+        given.push(filter(alloc, word)?)?;
+    }
+    match Filters::of(given) {
+        Some(filters) => Ok(filters),
+        None => Err(Fault::Not("one or two filters")),
+    }
+}
