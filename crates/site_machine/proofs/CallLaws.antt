@@ -34,6 +34,7 @@ use Rattle.pcrf_model.specs.Serving.{serve_aar, serve_str}
 use Rattle.pcrf_model.proofs.HoldingLaws.{session_ranked}
 use Rattle.pcrf_model.proofs.ToldTagLaws.{told_under}
 use Rattle.bind_index.specs.Asking.{HasRecord}
+use Rattle.indexed_state.proofs.PlacedRecord.{facts_on-append, own_under, held-append}
 use Rattle.request_facts.specs.Call.{described}
 use Rattle.site_machine.specs.Calls.{late_refusal}
 use Rattle.site_machine.specs.Facts.{operation_on_call}
@@ -41,23 +42,10 @@ use Rattle.site_machine.specs.Sites.{SiteValue, aar_served, str_served}
 
 -- ---- the facts of one session among others
 
--- those of two lists
-pub facts_on-append : (xs ys : List SessionFact) (s : Session) → facts_on (xs ++ ys) s ≡ facts_on xs s ++ facts_on ys s
-facts_on-append xs ys s = filter_map-append (on_session s) xs ys
-
--- of a session's own
-pub own_under : (s : Session) (fs : List Fact) → facts_on (under s fs) s ≡ fs
-own_under s [] = refl
-own_under s (f ∷ fs) = rw (eq_itself session_ranked s) (ap (λ (l : List Fact). f ∷ l) (own_under s fs))
-
 -- none of a gateway's session among an application function's
 other_under : (id a : List ℕ) (fs : List Fact) → facts_on (under (af a) fs) (gx id) ≡ []
 other_under id a [] = refl
 other_under id a (f ∷ fs) = other_under id a fs
-
--- a record joined with the kept facts of a request has what is kept of them all
-pub held-append : (ks fs : List Fact) → joined ks (held fs) ≡ held (ks ++ fs)
-held-append ks fs = joined_comm ks (held fs) ∙ joined-held fs ks ∙ joined_comm fs ks
 
 -- so with a request's facts the session asks for a binding by that record
 pub asks_with : (facts : List SessionFact) (a : List ℕ) (fs asking : List Fact) → asking ≡ joined (facts_on facts (af a)) (held fs) → HasRecord facts asking (facts ++ under (af a) fs) a
