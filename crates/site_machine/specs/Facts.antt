@@ -1,5 +1,5 @@
 -- The operations that a site makes.
-use Rattle.std.specs.Prelude.{ℕ, Bool, true, false, List, [], ◌∷◌, ◌++◌, map, Option, Some, None}
+use Rattle.std.specs.Prelude.{ℕ, Bool, true, false, List, ◌++◌, map, Option, Some, None}
 use Rattle.ranked.specs.Ascending.{ascending}
 use Rattle.ranked.specs.declared.tag.Tag.{Tag}
 use Rattle.pcrf_values.specs.declared.request_kind.RequestKind.{RequestKind}

@@ -1,6 +1,6 @@
-use Rattle.std.proofs.Common.{◌≡◌, List, [], ◌∷◌, ap, sym, ◌∙◌}
+use Rattle.std.proofs.Common.{List, ap, sym, ◌∙◌}
 use Rattle.pcrf_values.specs.declared.request_kind.RequestKind.{RequestKind}
-use Rattle.pcrf_facts.specs.Facts.{Fact, End}
+use Rattle.pcrf_facts.specs.Facts.{Fact}
 use Rattle.pcrf_facts.specs.Held.{held, joined}
 use Rattle.pcrf_model.specs.Holdings.{facts_on}
 use Rattle.pcrf_model.specs.Operations.{Operation}

@@ -3,7 +3,7 @@ use Rattle.ranked.specs.Ascending.{ascending}
 use Rattle.pcrf_values.specs.declared.refusal.Refusal.{Refusal}
 use Rattle.pcrf_facts.specs.Facts.{Fact, fact_cmp}
 use Rattle.pcrf_facts.specs.FlowWords.{or_else}
-use Rattle.pcrf_model.specs.Replies.{Refused, Outcome}
+use Rattle.pcrf_model.specs.Replies.{Outcome}
 use Rattle.af_records.specs.RecordFacts.{fact_of}
 use Rattle.rx_profile.specs.Requests.{aar_view}
 use Rattle.request_facts.specs.Call.{described}

@@ -1,4 +1,4 @@
-use Rattle.std.proofs.Common.{◌≡◌, ◌≤◌, true, List, ◌++◌, map, Some, Option, ap, sym, ◌∙◌, subst, arith}
+use Rattle.std.proofs.Common.{◌≡◌, true, List, ◌++◌, map, Some, ap, sym, ◌∙◌, subst, arith}
 use Rattle.pcrf_values.specs.RuleValues.{DeltaValue}
 use Rattle.pcrf_facts.specs.Facts.{Fact}
 use Rattle.pcrf_facts.specs.Held.{held, joined}
@@ -15,7 +15,7 @@ use Rattle.gx_records.specs.declared.fact.GxFact.{GxFact}
 use Rattle.gx_records.specs.GxFacts.{fact_of}
 use Rattle.gx_profile.specs.Requests.{ccr_view}
 use Rattle.indexed_state.specs.Indexed.{IsTold}
-use Rattle.site_machine.specs.Facts.{facts_told, fields_of, operation_made, operation_told, operation_with}
+use Rattle.site_machine.specs.Facts.{fields_of, operation_made, operation_told, operation_with}
 use Rattle.site_machine.specs.Sites.{SiteValue, with_made}
 use Rattle.site_machine.proofs.Formed.{stamped, entries_tell, told_formed}
 use Rattle.site_machine.proofs.Telling.{told_joins, told_nothing, told_record, told_each, some_weaker}
