@@ -1,39 +1,24 @@
 -- How a site serves application functions.
-use Rattle.std.proofs.Common.{◌≡◌, ℕ, ◌+◌, Bool, true, false, cond, not, ◌&&◌, is_none, is_some, List, [], ◌∷◌, ◌++◌, map, Option, Some, None, refl, sym, ap, ◌∙◌, subst, option_map, option_copied, Bor}
+use Rattle.std.proofs.Common.{◌≡◌, ℕ, ◌+◌, Bool, true, false, not, ◌&&◌, is_none, is_some, List, [], ◌∷◌, ◌++◌, Option, Some, None, refl, sym, ap, ◌∙◌, option_map, option_copied, Bor}
 use Rattle.std.proofs.lemmas.List.{append-nil}
-use Rattle.std.proofs.lemmas.List.Elements.{filter_map-append}
 use Rattle.std.specs.List.{list_any}
 use Rattle.ranked.specs.Ascending.{ascending}
-use Rattle.ranked.specs.declared.tag.Tag.{Tag}
-use Rattle.ranked.proofs.OrderLaws.{eq_itself}
-use Rattle.ranked.proofs.SetLaws.{map-In}
 use Rattle.pcrf_values.specs.declared.refusal.Refusal.{Refusal}
 use Rattle.pcrf_values.specs.Results.{missing_avp, service_not_authorized, session_not_available, unable_to_comply, unknown_session_id}
 use Rattle.pcrf_facts.specs.Facts.{Fact, End, fact_cmp}
 use Rattle.pcrf_facts.specs.Held.{held, joined, is_ended}
 use Rattle.pcrf_facts.specs.Live.{af_is_live}
-use Rattle.pcrf_facts.proofs.JoinedLaws.{joined_comm, joined-held}
-use Rattle.record_levels.specs.SessionFacts.{session_fact}
-use Rattle.record_levels.specs.declared.session.SessionValue.{SessionValue}
-use Rattle.record_levels.specs.declared.session.SessionValue.TheVariants as session_value
-use Rattle.af_records.specs.RecordFacts.{fact_of}
-use Rattle.af_records.specs.declared.fact.AfFact.{AfFact}
-use Rattle.af_records.specs.declared.fact.AfFact.TheVariants as af_fact
-use Rattle.af_records.specs.declared.fact.ComponentValue.TheVariants as component_value
-use Rattle.af_records.specs.declared.fact.FlowValue.TheVariants as flow_value
-use Rattle.pcrf_model.specs.Sessions.{Session, gx, af}
-use Rattle.pcrf_model.specs.Holdings.{Holding, SessionFact, under, facts_on, on_session}
+use Rattle.pcrf_model.specs.Sessions.{gx, af}
+use Rattle.pcrf_model.specs.Holdings.{Holding, SessionFact, under, facts_on}
 use Rattle.pcrf_model.specs.Tables.{Tables}
-use Rattle.pcrf_model.specs.ToldTags.{IsToldUpTo, ToldUpTo}
 use Rattle.pcrf_model.specs.Views.{view}
 use Rattle.pcrf_model.specs.Live.{is_live}
 use Rattle.pcrf_model.specs.Requests.{AarValue, StrValue}
 use Rattle.pcrf_model.specs.Refusals.{first_cause, aar_refusal, str_refusal, binds_to_none, has_no_class, is_clock_full}
 use Rattle.pcrf_model.specs.Replies.{Done, Refused}
 use Rattle.pcrf_model.specs.Serving.{serve_aar, serve_str}
-use Rattle.pcrf_model.proofs.HoldingLaws.{session_ranked}
-use Rattle.pcrf_model.proofs.ToldTagLaws.{told_under}
 use Rattle.bind_index.specs.Asking.{HasRecord}
+use Rattle.indexed_state.proofs.PlacedRecord.{facts_on-append, own_under, held-append}
 use Rattle.request_facts.specs.Call.{described}
 use Rattle.site_machine.specs.Calls.{late_refusal}
 use Rattle.site_machine.specs.Facts.{operation_on_call}
@@ -41,23 +26,10 @@ use Rattle.site_machine.specs.Sites.{SiteValue, aar_served, str_served}
 
 -- ---- the facts of one session among others
 
--- those of two lists
-pub facts_on-append : (xs ys : List SessionFact) (s : Session) → facts_on (xs ++ ys) s ≡ facts_on xs s ++ facts_on ys s
-facts_on-append xs ys s = filter_map-append (on_session s) xs ys
-
--- of a session's own
-pub own_under : (s : Session) (fs : List Fact) → facts_on (under s fs) s ≡ fs
-own_under s [] = refl
-own_under s (f ∷ fs) = rw (eq_itself session_ranked s) (ap (λ (l : List Fact). f ∷ l) (own_under s fs))
-
 -- none of a gateway's session among an application function's
 other_under : (id a : List ℕ) (fs : List Fact) → facts_on (under (af a) fs) (gx id) ≡ []
 other_under id a [] = refl
 other_under id a (f ∷ fs) = other_under id a fs
-
--- a record joined with the kept facts of a request has what is kept of them all
-pub held-append : (ks fs : List Fact) → joined ks (held fs) ≡ held (ks ++ fs)
-held-append ks fs = joined_comm ks (held fs) ∙ joined-held fs ks ∙ joined_comm fs ks
 
 -- so with a request's facts the session asks for a binding by that record
 pub asks_with : (facts : List SessionFact) (a : List ℕ) (fs asking : List Fact) → asking ≡ joined (facts_on facts (af a)) (held fs) → HasRecord facts asking (facts ++ under (af a) fs) a

@@ -7,4 +7,5 @@ pub mod Replies
 pub mod Restoring
 pub mod SameFacts
 pub mod Taking
+pub mod Telling
 pub mod ToldOrder

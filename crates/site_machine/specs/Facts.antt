@@ -1,5 +1,5 @@
 -- The operations that a site makes.
-use Rattle.std.specs.Prelude.{ℕ, Bool, true, false, List, [], ◌∷◌, ◌++◌, map, Option, Some, None}
+use Rattle.std.specs.Prelude.{ℕ, Bool, true, false, List, ◌++◌, map, Option, Some, None}
 use Rattle.ranked.specs.Ascending.{ascending}
 use Rattle.ranked.specs.declared.tag.Tag.{Tag}
 use Rattle.pcrf_values.specs.declared.request_kind.RequestKind.{RequestKind}
@@ -56,15 +56,23 @@ entries_told d = map removed_entry d.removed ++ map installed_entry d.installed
 abbrev pub told_fact : Tag → ToldName → Fact
 told_fact t e = Field (OfRuleName e.0) t (told_value e.1)
 
--- the operation of an initial request or an update at a site, under a counter: its fields, and what its gateway is told
-abbrev pub operation_told : ℕ → ℕ → CcrValue → RequestKind → DeltaValue → Operation
-operation_told site counter q k d = record {
+-- the facts that tell a gateway of a difference, under a counter of a site
+abbrev pub facts_told : ℕ → ℕ → DeltaValue → List Fact
+facts_told site counter d = ascending fact_cmp (told_facts (record { number = 0; counter = counter; site = site }) d)
+
+-- the operation of a credit control request at a site, under a counter: with these facts
+abbrev pub operation_with : ℕ → ℕ → CcrValue → List Fact → Operation
+operation_with site counter q facts = record {
   counter = counter;
   site = site;
   number = q.number;
   session = gx q.session;
-  facts = fields_of site counter q k ++ ascending fact_cmp (told_facts (record { number = 0; counter = counter; site = site }) d);
+  facts = facts;
 }
+
+-- the operation of an initial request or an update: its fields, and what its gateway is told
+abbrev pub operation_told : ℕ → ℕ → CcrValue → RequestKind → DeltaValue → Operation
+operation_told site counter q k d = operation_with site counter q (fields_of site counter q k ++ facts_told site counter d)
 
 -- the operation of a push of a session at a site, under a counter
 abbrev pub operation_pushed : ℕ → ℕ → List ℕ → DeltaValue → Operation
@@ -73,7 +81,7 @@ operation_pushed site counter session d = record {
   site = site;
   number = 0;
   session = gx session;
-  facts = ascending fact_cmp (told_facts (record { number = 0; counter = counter; site = site }) d);
+  facts = facts_told site counter d;
 }
 
 -- ---- application functions

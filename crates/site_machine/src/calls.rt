@@ -54,7 +54,7 @@ impl Site {
         if let Some(refusal) = self.early_refusal(aar) {
             return Ok(Reply::Refused(refusal));
         }
-        let Some(facts) = self.facts_if_bound(aar)? else {
+        let Some((facts, known)) = self.made_if_bound(aar)? else {
             return Ok(Reply::Refused(Refusal::experimental(SESSION_NOT_AVAILABLE)));
         };
         let Some(counter) = self.next_counter() else {
@@ -62,25 +62,31 @@ impl Site {
         };
         note_aar(aar);
         self.note_number();
-        self.add_on_call(&aar.session, counter, facts)?;
+        self.add_on_call(&aar.session, counter, facts, known)?;
         Ok(Reply::Done)
     }
 
-    /// The facts of what a request describes, under the counter that follows the clock; `None` where its session would be bound
-    /// to none with them.
-    fn facts_if_bound(&self, aar: &Aar) -> Result<Option<Vec<AfFact>>, AllocError>
-        ensures bound { IfOk result (λ facts. is_none facts
+    /// The facts of what a request describes, under the counter that follows the clock, and the record of its session with
+    /// them; `None` where the session would be bound to none then.
+    fn made_if_bound(&self, aar: &Aar) -> Result<Option<(Vec<AfFact>, AfRec)>, AllocError>
+        ensures bound { IfOk result (λ made. is_none made
             ≡ binds_to_none self.now.number self.now.state.holding (aar_view aar.now)) }
-        ensures facts { IfOk result (λ facts. IfSome facts (λ made. map fact_of made.items
+        ensures facts { IfOk result (λ made. IfSome made (λ m. map fact_of m.0.items
             ≡ ascending fact_cmp (described self.now.number (self.now.state.holding.clock + 1)
             (aar_view aar.now)))) }
+        ensures known { IfOk result (λ made. IfSome made (λ m. m.1 ≡ joined
+            (facts_on self.now.state.holding.facts (af aar.now.session))
+            (held (map fact_of m.0.items)))) }
     {
         self.note_number();
         let call = call_of(self.alloc, aar, self.held.clock() + 1, self.number)?;
-        if self.binds_to_none(&aar.session, &call)? {
+        call.note_valid();
+        let facts = call.facts(self.alloc)?;
+        let known = self.with_call(&aar.session, call)?;
+        if self.binds_to_none(&aar.session, &known) {
             return Ok(None);
         }
-        Ok(Some(call.facts(self.alloc)?))
+        Ok(Some((facts, known)))
     }
 
     /// The refusal of an AA request by what is seen before it is bound.
@@ -102,25 +108,25 @@ impl Site {
         None
     }
 
-    /// With what a request describes, its session would be bound to none.
-    fn binds_to_none(&self, session: &AfSid, call: &AfRec) -> Result<bool, AllocError>
-        ensures { IfOk result (λ none. (facts : List Fact) → call.now ≡ held facts
-            → none ≡ is_none (bind (view (self.now.state.holding.facts
-            ++ under (af session.now) facts)) (af session.now))) }
+    /// With this as its record, which has what a request describes, a session would be bound to none.
+    fn binds_to_none(&self, session: &AfSid, known: &AfRec) -> bool
+        ensures { (facts : List Fact) → known.now
+            ≡ joined (facts_on self.now.state.holding.facts (af session.now)) (held facts)
+            → result ≡ is_none (bind (view (self.now.state.holding.facts
+            ++ under (af session.now) facts)) (af session.now)) }
     {
-        let joined = self.with_call(session, call)?;
-        Ok(self.held.bind_by(&joined).is_none())
+        self.held.bind_by(known).is_none()
     }
 
     /// The record of a session with what a request describes.
-    fn with_call(&self, session: &AfSid, call: &AfRec) -> Result<AfRec, AllocError>
+    fn with_call(&self, session: &AfSid, call: AfRec) -> Result<AfRec, AllocError>
         ensures { IfOk result (λ both. both
-            ≡ joined (facts_on self.now.state.holding.facts (af session.now)) call.now) }
+            ≡ joined (facts_on self.now.state.holding.facts (af session.now)) call) }
     {
         call.note_valid();
         match self.held.af(session) {
-            Some(known) => known.joined_copy(call),
-            None => call.try_copy(),
+            Some(known) => known.joined_copy(&call),
+            None => Ok(call),
         }
     }
 
@@ -140,28 +146,34 @@ impl Site {
             return Ok(Reply::Refused(Refusal::base(UNABLE_TO_COMPLY)));
         };
         let facts = end_of(self.alloc)?;
+        let ended = ended_call(self.alloc)?;
         note_str(call);
         self.note_number();
-        self.add_on_call(&call.session, counter, facts)?;
+        self.add_on_call(&call.session, counter, facts, ended)?;
         Ok(Reply::Done)
     }
 
-    /// Adds the operation of these facts on an application function's session, or changes nothing.
+    /// Adds the operation of these facts on an application function's session, of which this record is known then, or changes
+    /// nothing.
     fn add_on_call(
         &mut self,
         session: &AfSid,
         counter: u64,
         facts: Vec<AfFact>,
+        known: AfRec,
     ) -> Result<(), AllocError>
         requires later { length self.old.state.log < counter }
         requires formed { is_operation (operation_on_call
             self.old.number counter session.now (map fact_of facts.items)) ≡ true }
+        requires joins { known ≡ joined (facts_on self.old.state.holding.facts (af session.now))
+            (held (map fact_of facts.items)) }
         ensures ok { OnOk result (self.new ≡ with_made self.old (Some (operation_on_call
             self.old.number counter session.now (map fact_of facts.items)))) }
         ensures err { OnErr result (self.new ≡ self.old) }
     {
         let facts = SessionFacts::Af(session.try_copy()?, facts);
-        self.add(Operation::stamped(counter, self.number, 0, facts))
+        let operation = Operation::stamped(counter, self.number, 0, facts);
+        self.add_to_call(operation, session, known)
     }
 }
 
@@ -172,6 +184,13 @@ fn end_of(alloc: Global) -> Result<Vec<AfFact>, AllocError>
     let mut facts = Vec::new(alloc);
     facts.push(AfFact::End)?;
     Ok(facts)
+}
+
+/// The record of a session that is ended.
+fn ended_call(alloc: Global) -> Result<AfRec, AllocError>
+    ensures { IfOk result (λ known. known ≡ End ∷ []) }
+{
+    AfRec::of_facts(alloc, &[AfFact::End])
 }
 
 /// The session has ended, as far as is known.

@@ -2,6 +2,7 @@
 //! above (`site_core`).
 #![tactic(auto)]
 
+mod adding;
 mod calls;
 mod event;
 mod fault;

@@ -1,16 +1,18 @@
 //! One site: what it holds, and the operations that it made itself.
-ghost use Rattle.std.specs.Prelude.{◌≡◌, ◌≢◌, ◌<◌, ◌≤◌, ◌+◌, [], ◌∷◌, None, Some, false, true, length, map, take, cond, IfOk, OnOk, OnErr, IfErr, IfSome, option_map};
+ghost use Rattle.std.specs.Prelude.{◌≡◌, ◌≢◌, ◌<◌, ◌≤◌, ◌+◌, ◌++◌, [], ◌∷◌, None, Some, false, true, length, map, take, cond, IfOk, OnOk, OnErr, IfErr, IfSome, option_map};
 ghost use Rattle.std.specs.Option.{option_copied};
 ghost use Rattle.ranked.specs.Sets.{Distinct};
 ghost use Rattle.pcrf_values.specs.Results.{authorization_rejected, unable_to_comply};
-ghost use Rattle.pcrf_facts.specs.Held.{is_ended, joined};
+ghost use Rattle.pcrf_values.specs.declared.request_kind.RequestKind.TheVariants.{Termination};
+ghost use Rattle.pcrf_facts.specs.Facts.{End};
+ghost use Rattle.pcrf_facts.specs.Held.{held, is_ended, joined};
 ghost use Rattle.pcrf_facts.specs.Live.{gx_is_live};
 ghost use Rattle.pcrf_model.specs.Limits.{delta_limit, last_counter, site_limit};
 ghost use Rattle.pcrf_model.specs.Holdings.{facts_on, kept_of, replaced};
 ghost use Rattle.pcrf_model.specs.Pushing.{due, lacks_counter};
 ghost use Rattle.pcrf_model.specs.Replies.{OnGx, Granted, Pushed};
 ghost use Rattle.pcrf_model.specs.Serving.{delta_of, empty_delta, provisioned, serve_base};
-ghost use Rattle.pcrf_model.specs.Sessions.{gx};
+ghost use Rattle.pcrf_model.specs.Sessions.{Gx, gx};
 ghost use Rattle.pcrf_model.specs.Steps.{own_from};
 ghost use Rattle.pcrf_model.specs.Views.{view};
 ghost use Rattle.pcrf_model.specs.Rules.{quality_of, rules};
@@ -19,7 +21,8 @@ ghost use Rattle.pcrf_model.specs.OperatorValues.{bindings_of, operator_value};
 ghost use Rattle.operator_view.specs.Shown.{value_view};
 ghost use Rattle.pcrf_model.specs.Refusals.{is_clock_full, ccr_refusal, lacks_parameters, names_no_row};
 ghost use Rattle.pcrf_model.specs.ToldTags.{ToldUpTo};
-ghost use Rattle.pcrf_model.specs.Forms.{are_up_to, is_holding, is_operation};
+ghost use Rattle.pcrf_model.specs.Forms.{are_up_to, is_holding, is_operation, is_record};
+ghost use Rattle.pcrf_model.specs.Operations.{with_operation};
 ghost use Rattle.pcrf_facts.specs.FlowWords.{or_else};
 ghost use Rattle.reply_values.specs.Replies.{push_view};
 ghost use Rattle.rule_delta.specs.Pushed.{push_of, untold};
@@ -66,7 +69,7 @@ pub struct Site {
     identity: Identity,
     pub(crate) number: u8,
     pub(crate) held: IndexedState,
-    log: Vec<Operation>,
+    pub(crate) log: Vec<Operation>,
 }
 
 impl Model for Site {
@@ -88,7 +91,7 @@ impl Model for Site {
 }
 
 impl Site {
-    ghost use Rattle.site_machine.specs.Facts.{fields_of, opens, operation_made, operation_pushed, operation_told};
+    ghost use Rattle.site_machine.specs.Facts.{facts_told, fields_of, opens, operation_made, operation_pushed, operation_told, operation_with};
     ghost use Rattle.site_machine.specs.Left.{ProvisionLeaves, PushLeaves, ReplyLeaves, RequestLeaves};
     ghost use Rattle.site_machine.specs.Replies.{told_reply};
     ghost use Rattle.site_machine.specs.Sites.{new_site, ccr_served, emptied, pushed, served, with_made, with_one, with_record, with_state, with_taken};
@@ -264,6 +267,7 @@ impl Site {
         requires within { counter ≤ last_counter }
         requires first { 1 ≤ counter }
         requires later { length self.old.state.log < counter }
+        requires kind { ccr.now.kind ≡ Termination }
         ensures reply { IfOk result (λ told.
             gx_reply_value told.0 ≡ OnGx (Granted empty_delta None)) }
         ensures spare { IfOk result (λ told. told.1 ≡ spares thrice told.0) }
@@ -272,7 +276,8 @@ impl Site {
         ensures err { OnErr result (self.new ≡ self.old) }
     {
         let operation = self.fields_made(ccr, counter)?;
-        self.add(operation)?;
+        let ended = ended_gateway(self.alloc)?;
+        self.add_to_gateway(operation, &ccr.session, ended)?;
         Ok(nothing_told(self.alloc, thrice))
     }
 
@@ -374,6 +379,9 @@ impl Site {
         requires opens { opens ccr.now.kind ≡ true }
         requires fields { map fact_of facts.items
             ≡ fields_of self.old.number counter (ccr_view ccr.now) ccr.now.kind }
+        requires set { kept_of (with_operation self.old.state.holding
+            (operation_made self.old.number counter (ccr_view ccr.now) ccr.now.kind))
+            ≡ self.old.state.holding }
         ensures reply { IfOk result (λ told. gx_reply_value told.0
             ≡ told_reply self.old.tables (view self.old.state.holding.facts) (gx ccr.now.session)) }
         ensures ok { OnOk result (self.new ≡ with_made self.old (Some (operation_told
@@ -391,11 +399,39 @@ impl Site {
         note_entries(&delta);
         note_ccr(ccr);
         self.note_number();
-        let operation = self.all_made(ccr, counter, facts, &delta)?;
+        self.note_kept();
+        let told = self.facts_told(counter, &delta)?;
+        let known = self.with_told(&ccr.session, told.as_slice())?;
+        let operation = self.all_made(ccr, counter, facts, told)?;
         let reply = GxReply::Granted(delta, quality);
         let spare = spare_replies(&reply, thrice)?;
-        self.add(operation)?;
+        self.add_told(operation, &ccr.session, known)?;
         Ok((reply, spare))
+    }
+
+    /// The facts that tell a gateway of the first entries of a difference.
+    fn facts_told(&self, counter: u64, delta: &FirstEntries) -> Result<Vec<GxFact>, AllocError>
+        ensures { IfOk result (λ facts. map fact_of facts.items
+            ≡ facts_told self.now.number counter delta.now) }
+    {
+        let mut facts = Vec::new(self.alloc);
+        put_told(self.alloc, &mut facts, self.tag(0, counter), delta)?;
+        Ok(facts)
+    }
+
+    /// The record of a session with what its gateway is told, `None` where that is nothing.
+    fn with_told(&self, session: &GxSid, told: &[GxFact]) -> Result<Option<GxRec>, AllocError>
+        requires { map fact_of told.now ≢ [] → is_record Gx (map fact_of told.now) ≡ true }
+        ensures nothing { IfOk result (λ both. (both ≡ None) → map fact_of told.now ≡ []) }
+        ensures joins { IfOk result (λ both. IfSome both (λ known. known ≡ joined
+            (facts_on self.now.state.holding.facts (gx session.now))
+            (held (map fact_of told.now)))) }
+    {
+        if told.is_empty() {
+            return Ok(None);
+        }
+        let made = GxRec::of_facts(self.alloc, told)?;
+        Ok(Some(self.with_fields(session, made)?))
     }
 
     /// What the gateway of a session is still to be told.
@@ -430,17 +466,17 @@ impl Site {
         ccr: &Ccr,
         counter: u64,
         facts: Vec<GxFact>,
-        delta: &FirstEntries,
+        told: Vec<GxFact>,
     ) -> Result<Operation, AllocError>
-        requires fields { map fact_of facts.items
-            ≡ fields_of self.now.number counter (ccr_view ccr.now) ccr.now.kind }
-        requires form { is_operation (operation_told self.now.number counter (ccr_view ccr.now)
-            ccr.now.kind delta.now) ≡ true }
-        ensures { IfOk result (λ operation. operation ≡ operation_told
-            self.now.number counter (ccr_view ccr.now) ccr.now.kind delta.now) }
+        requires { is_operation (operation_with self.now.number counter (ccr_view ccr.now)
+            (map fact_of facts.items ++ map fact_of told.items)) ≡ true }
+        ensures { IfOk result (λ operation. operation
+            ≡ operation_with self.now.number counter (ccr_view ccr.now)
+            (map fact_of facts.items ++ map fact_of told.items)) }
     {
         let mut facts = facts;
-        put_told(self.alloc, &mut facts, self.tag(0, counter), delta)?;
+        let mut told = told;
+        facts.append(&mut told)?;
         let facts = SessionFacts::Gx(ccr.session.try_copy()?, facts);
         Ok(Operation::stamped(counter, self.number, ccr.number, facts))
     }
@@ -683,6 +719,13 @@ pub(crate) fn reply_to_base(request: &BaseRequest) -> Reply
         Some(refusal) => Reply::Base(refusal.code),
         None => Reply::Base(SUCCESS),
     }
+}
+
+/// The record of a session that is ended.
+fn ended_gateway(alloc: Global) -> Result<GxRec, AllocError>
+    ensures { IfOk result (λ known. known ≡ End ∷ []) }
+{
+    GxRec::of_facts(alloc, &[GxFact::End])
 }
 
 /// The session has ended, as far as is known.

@@ -29,6 +29,14 @@ use Rattle.site_machine.proofs.Formed.{put_back_up_to}
 use Rattle.site_machine.proofs.Left.{shown_fields, provisioned_leaves}
 use Rattle.site_machine.proofs.site.Site.provision.Goals as goal
 
+pub tell-requires-clause-set : goal.tell-requires-clause-set
+tell-requires-clause-set c =
+    let s = c.args.self.now in
+    let q = ccr_view c.args.ccr.now in
+    let o = operation_made s.number c.args.counter q q.kind in
+    subst (λ (x : SiteValue). kept_of (with_operation x.state.holding (operation_made x.number c.args.counter q q.kind)) ≡ x.state.holding) (sym c.in_ok-stood.ensures.ok)
+    (once_more s.state.holding o o refl refl (λ (f : Fact) i. i))
+
 pub put_back-requires-clause-known : goal.put_back-requires-clause-known
 put_back-requires-clause-known c = λ none.
     let s = c.args.self.now in

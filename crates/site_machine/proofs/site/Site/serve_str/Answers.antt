@@ -1,5 +1,6 @@
-use Rattle.std.proofs.Common.{◌≡◌, ℕ, ◌+◌, true, false, List, Some, map, ap, sym, ◌∙◌}
+use Rattle.std.proofs.Common.{ℕ, ◌+◌, List, Some, map, ap, sym, ◌∙◌}
 use Rattle.pcrf_facts.specs.Facts.{Fact}
+use Rattle.pcrf_facts.specs.Held.{held, joined}
 use Rattle.pcrf_facts.specs.Live.{af_is_live}
 use Rattle.pcrf_model.specs.Sessions.{af}
 use Rattle.pcrf_model.specs.Holdings.{facts_on}
@@ -9,6 +10,7 @@ use Rattle.rx_profile.specs.Terminations.{str_view}
 use Rattle.site_machine.specs.Facts.{operation_on_call}
 use Rattle.site_machine.specs.Sites.{SiteValue, with_made}
 use Rattle.site_machine.proofs.CallLaws.{str_unknown, str_full, str_accepted}
+use Rattle.site_machine.proofs.Telling.{end_joins}
 use Rattle.site_machine.proofs.site.Site.serve_str.Goals as goal
 
 pub returns-then-not-is_live-clause-reply : goal.returns-then-not-is_live-clause-reply
@@ -55,3 +57,8 @@ returns-clause-ok c =
     ∙ ap (λ (n : ℕ). with_made s (Some (operation_on_call s.number n q.session (map fact_of c.in_ok-facts.facts.items)))) c.in-Some.ensures.some
     ∙ ap (λ (fs : List Fact). with_made s (Some (operation_on_call s.number (s.state.holding.clock + 1) q.session fs))) c.in_ok-facts.ensures
     ∙ sym (ap (λ (o : Outcome). with_made s o.added) (str_accepted s q known c.in-Some.ensures.open))
+
+pub add_on_call-requires-clause-joins : goal.add_on_call-requires-clause-joins
+add_on_call-requires-clause-joins c =
+    let own = facts_on c.args.self.now.state.holding.facts (af c.args.call.now.session) in
+    c.in_ok-ended.ensures ∙ end_joins own ∙ ap (λ (fs : List Fact). joined own (held fs)) (sym c.in_ok-facts.ensures)
