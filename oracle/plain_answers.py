@@ -6,6 +6,7 @@ from messages import avp, message, result, tgpp
 from plain_requests import AAR, CCR, CER, GX, RX, STR, TGPP, first
 
 SUCCESS = 2001
+RAR = 258
 NAMED_APPLICATION = {(CCR, GX), (AAR, RX)}
 
 
@@ -65,6 +66,12 @@ def cca(site, header, values, code, entries=(), default=None):
     avps = [avp(263, first(values, "session")), avp(258, GX)] + names(site)
     avps += [result(code), avp(416, first(values, "kind")), avp(415, first(values, "number"))]
     return answer(header, avps + entries_avps(entries) + quality_avps(default), code)
+
+
+def rar(site, session, host, realm, entries):
+    """The re-authorisation request of a push, with the identifiers 1 and 2 (TS 29.212, 5.6.4)."""
+    avps = [avp(263, session), avp(258, GX)] + names(site) + [avp(283, realm), avp(293, host), avp(285, 0)]
+    return message(0xC0, RAR, GX, avps + entries_avps(entries))
 
 
 def rx_answer(site, header, values, code):

@@ -49,17 +49,19 @@ def taken_of(letters, maker):
 
 
 def said_by(letters, peer, maker, epoch):
-    """How many operations of a maker in an epoch a peer took, as it said last in the latest of its own epochs; None where it said nothing."""
+    """How many operations of a maker in an epoch a peer took, as it said last in the latest of its own epochs, and behind
+    that epoch; None where it said nothing."""
     said = [(one.epoch, one.count) for one in letters if isinstance(one, Acknowledged) and one.sender == peer
             and (one.maker, one.maker_epoch) == (maker, epoch)]
-    return max(said)[1] if said else None
+    return max(said, default=None)
 
 
 def written(site, peer):
     """The letter of a site for a peer: the operations that the peer did not say that it took, or all."""
     known = said_by(site.letters, peer, site.number, site.epoch)
-    if known:
-        return Range(site.number, site.epoch, known, tuple(site.log[known:known + MOST_CARRIED]))
+    if known and known[1]:
+        first = known[1]
+        return Range(site.number, site.epoch, first, tuple(site.log[first:first + MOST_CARRIED]))
     return Whole(site.number, site.epoch, tuple(site.operations), len(site.log))
 
 

@@ -7,7 +7,7 @@ their facts. `plain_site.py TABLES SCRIPT` prints what a script without bad line
 import sys
 from typing import NamedTuple
 
-from plain_answers import SUCCESS, base_answer, cca, refusal, rx_answer
+from plain_answers import SUCCESS, base_answer, cca, rar, refusal, rx_answer
 from plain_facts import (REMOVED, Fact, Session, Tag, View, apn_row, binding, difference, media_row, read_tables, rules,
                          told)
 from plain_letters import acknowledged, written
@@ -19,10 +19,11 @@ MOST_ENTRIES = 40
 
 
 class Operation(NamedTuple):
-    """What one accepted request or push added: its stamp, and facts on one session."""
+    """What one accepted request or push added: its stamp, facts on one session, and a gateway's CC-Request-Number."""
     counter: int
     site: int
     facts: tuple
+    number: int = 0
 
 
 # ---- the facts of requests
@@ -99,9 +100,9 @@ class Site:
         """The tag of the facts of the next operation."""
         return Tag(number, self.clock() + 1, self.number)
 
-    def add(self, facts):
+    def add(self, facts, number=0):
         """Makes an operation of facts."""
-        operation = Operation(self.clock() + 1, self.number, tuple(facts))
+        operation = Operation(self.clock() + 1, self.number, tuple(facts), number)
         self.take([operation])
         self.log.append(operation)
 
@@ -142,12 +143,12 @@ class Site:
         except Refused as refused:
             return cca(self.number, header, values, refused.code)
         if first(values, "kind") == TERMINATION:
-            self.add(ending(session))
+            self.add(ending(session), first(values, "number"))
             return cca(self.number, header, values, SUCCESS)
         fields = ccr_fields(session, values, self.tag(first(values, "number")))
         view = self.view(fields)
         entries = difference(self.tables, view, session)[:MOST_ENTRIES]
-        self.add(fields + told_facts(session, entries, self.tag()))
+        self.add(fields + told_facts(session, entries, self.tag()), first(values, "number"))
         default = apn_row(self.tables, view.value(session, "apn")).get("default")
         return cca(self.number, header, values, SUCCESS, entries, default)
 
@@ -264,7 +265,7 @@ class World:
     def __init__(self, tables, count):
         self.tables = tables
         self.sites = [Site(tables, number) for number in range(count)]
-        self.letters = []
+        self.letters, self.pushes = [], []
 
     def obey(self, line):
         """Does what a line behind `sites` says, and gives the lines that it prints."""
@@ -287,6 +288,8 @@ class World:
         if pushed is None:
             return ["none"]
         session, entries = pushed
+        view = self.sites[site].view()
+        self.pushes.append(rar(site, session.id, view.value(session, "host"), view.value(session, "realm"), entries))
         names = [("-" if rule is None else "+") + printed(name) for name, rule in entries]
         return [" ".join(["push", printed(session.id)] + names)]
 

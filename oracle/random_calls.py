@@ -44,6 +44,8 @@ LEAST = {
 class RandomScript:
     """A script that is drawn line by line, with what it prints."""
 
+    least = LEAST
+
     def __init__(self, tables, seed, tally):
         self.seed, self.draw, self.tally = seed, Draw(seed), tally
         self.refusals = seed >= FIRST_OF_REFUSALS
@@ -177,7 +179,7 @@ class RandomScript:
     def aimed_message(self):
         """A message that is answered as too few were so far."""
         site = self.draw.one(self.world.sites)
-        self.msg(aimed(self.draw, site, self.tally, LEAST), str(site.number))
+        self.msg(aimed(self.draw, site, self.tally, self.least), str(site.number))
 
     def pushes(self):
         """A site pushes until nothing is left, three times at most."""

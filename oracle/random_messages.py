@@ -89,8 +89,8 @@ def owners(parts):
 class Draw:
     """Draws from a seed."""
 
-    def __init__(self, seed):
-        self.random = random.Random(seed)
+    def __init__(self, seed, apns=APNS, hosts=HOSTS):
+        self.random, self.apns, self.hosts = random.Random(seed), apns, hosts
 
     def chance(self, percent):
         """Whether something of so many percent happens."""
@@ -108,13 +108,13 @@ class Draw:
 
     def origin(self):
         """Origin-Host and Origin-Realm."""
-        return [Part(264, self.one(HOSTS)), Part(296, self.one(REALMS))]
+        return [Part(264, self.one(self.hosts)), Part(296, self.one(REALMS))]
 
     def user(self, address, subscribers, apn):
         """Who is meant: address, subscribers and access point, each by its chance."""
         parts = [part for _ in range(self.one([1, 1, 2, 3])) for part in self.some(subscribers, self.subscriber())]
         parts += self.some(address, Part(8, self.one(ADDRESSES)))
-        return parts + self.some(apn, Part(30, b"none" if self.chance(10) else self.one(APNS)))
+        return parts + self.some(apn, Part(30, b"none" if self.chance(10) else self.one(self.apns)))
 
     def subscriber(self):
         """A Subscription-Id."""

@@ -11,15 +11,20 @@
 #![tactic(auto)]
 
 mod answers;
+mod carried;
 mod edits;
+mod events;
+mod lines;
 mod looks;
 mod notation;
+mod outcomes;
 mod pieces;
 mod requests;
 mod scripts;
 mod streams;
 mod tables;
 mod told;
+mod worlds;
 
 use crate::tables::Files;
 use std::alloc::{AllocError, Global};
@@ -33,6 +38,7 @@ fn run_files(rt: &HostRuntime, kind: &str, tables: &str, file: &str) -> io::Resu
     let lines = fs::read_to_string(rt, file)?;
     match kind {
         "script" => Ok(scripts::run(rt, tables.as_str(), lines.as_str())),
+        "worlds" => worlds::run(rt, tables.as_str(), lines.as_str()),
         "streams" => streams::run(rt, tables.as_str(), lines.as_str()),
         _ => Ok(false),
     }
@@ -55,6 +61,9 @@ fn run_words(rt: &HostRuntime) -> io::Result<bool> {
 /// Puts what a line makes.
 fn put_line(alloc: Global, files: &Files, line: &str, out: &mut String) -> Result<(), AllocError> {
     if requests::put_line(alloc, line, out)? || tables::put_line(alloc, files, line, out)? {
+        return Ok(());
+    }
+    if lines::put_line(alloc, files, line, out)? {
         return Ok(());
     }
     out.push_str(line)

@@ -32,7 +32,7 @@ impl Files {
     }
 
     /// The text of the file that the words name first.
-    fn named(&self, words: &str) -> &str {
+    pub fn named(&self, words: &str) -> &str {
         if words.starts_with("small") {
             return self.small.as_str();
         }

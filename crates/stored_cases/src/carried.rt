@@ -1,0 +1,242 @@
+//! What no script prints of a world: how far its sites took each other, what its pushes and letters are as bytes, and what
+//! all its letters tell together.
+use crate::outcomes::Outcomes;
+use dia_base::Identity;
+use dia_codec::{Message, write_message};
+use gx_profile::{PushOut, write_rar};
+use pcrf_show::show_state;
+use pcrf_world::{World, WorldEvent, WorldOutcome};
+use peer_cursors::{Cursor, Cursors};
+use peer_exchange::{Body, Letter, LetterFault, read_letter, write_letter};
+use site_join::{Operation, State};
+use std::alloc::{AllocError, Global};
+use std::fmt::Write as _;
+
+/// How many sites there may be.
+const SITE_LIMIT: u8 = 16;
+
+/// Bytes as one number of 32 bits (Fowler, Noll and Vo, FNV-1a).
+fn mixed(bytes: &[u8]) -> u32 {
+    let mut mixed = 0x811c_9dc5u32;
+    for byte in bytes {
+        mixed = (mixed ^ u32::from(*byte)).wrapping_mul(0x0100_0193);
+    }
+    mixed
+}
+
+/// Puts how far a site took operations, or was said to be taken.
+fn put_cursor(out: &mut String, other: u8, cursor: Cursor) -> Result<(), AllocError> {
+    write!(out, " {other}:{}/{}", cursor.epoch(), cursor.taken())
+}
+
+/// Puts what a site took of each maker of which it took anything, and what each peer said that it took.
+fn put_cursors(out: &mut String, site: usize, cursors: &Cursors) -> Result<(), AllocError> {
+    write!(out, "site {site} epoch {} took", cursors.epoch())?;
+    for other in 0..SITE_LIMIT {
+        let taken = cursors.maker(other);
+        if taken.epoch() > 0 {
+            put_cursor(out, other, taken)?;
+        }
+    }
+    out.push_str(" said")?;
+    for other in 0..SITE_LIMIT {
+        if let Some(said) = cursors.peer(other) {
+            put_cursor(out, other, said)?;
+        }
+    }
+    out.push_str("\n")
+}
+
+/// The bytes of a message; none where it has none.
+fn bytes_of(alloc: Global, message: &Message) -> Vec<u8> {
+    let header = message.header;
+    if header.flags.error || header.command >= 1 << 24 {
+        return Vec::new(alloc);
+    }
+    write_message(alloc, message).unwrap_or(Vec::new(alloc))
+}
+
+/// Puts the re-authorisation request of a push.
+fn put_rar(
+    alloc: Global,
+    identity: &Identity,
+    push: &PushOut,
+    out: &mut String,
+) -> Result<(), AllocError> {
+    let message = write_rar(alloc, identity, 1, 2, push)?;
+    let bytes = bytes_of(alloc, &message);
+    write!(out, " {:08x}", mixed(bytes.as_slice()))
+}
+
+/// Puts the re-authorisation requests of all pushes.
+fn put_pushes(outcomes: &Outcomes<'_>, out: &mut String) -> Result<(), AllocError> {
+    out.push_str("pushes")?;
+    for (event, answer) in outcomes.events.iter().zip(outcomes.answers) {
+        if let (WorldEvent::Push(i, _), Ok(WorldOutcome::Pushed(Some(push)))) = (event, answer)
+            && let Some(site) = outcomes.world.site(*i)
+        {
+            put_rar(outcomes.alloc, site.identity(), push, out)?;
+        }
+    }
+    out.push_str("\n")
+}
+
+/// Puts the bytes of a letter that was read, and whether the letter was written as others.
+fn put_again(
+    alloc: Global,
+    read: &Letter,
+    bytes: &[u8],
+    out: &mut String,
+) -> Result<(), LetterFault> {
+    let written = write_letter(alloc, read)?;
+    write!(out, " {:08x}", mixed(written.as_slice()))?;
+    if written.as_slice() != bytes {
+        out.push_str("!")?;
+    }
+    Ok(())
+}
+
+/// Puts a letter as its bytes are read.
+fn put_letter(alloc: Global, letter: &Letter, out: &mut String) -> Result<(), LetterFault> {
+    let bytes = write_letter(alloc, letter)?;
+    let read = read_letter(alloc, bytes.as_slice(), letter.edition())?;
+    let put = put_again(alloc, &read, bytes.as_slice(), out);
+    drop(read);
+    put
+}
+
+/// Puts all letters.
+fn put_letters(alloc: Global, world: &World, out: &mut String) -> Result<(), AllocError> {
+    out.push_str("letters")?;
+    for k in 0..usize::MAX {
+        let Some(letter) = world.letter(k) else {
+            break;
+        };
+        match put_letter(alloc, letter, out) {
+            Ok(()) => {}
+            Err(LetterFault::NoMemory) => return Err(AllocError),
+            Err(_) => out.push_str(" no-letter")?,
+        }
+    }
+    out.push_str("\n")
+}
+
+/// The state that took these operations, after another.
+fn with_operations(mut state: State, operations: &[Operation]) -> Result<State, AllocError> {
+    for operation in operations {
+        state.take(operation)?;
+    }
+    Ok(state)
+}
+
+/// What a state is that takes what a letter says.
+fn with_letter(state: State, letter: &Letter) -> Result<State, AllocError> {
+    match letter.body() {
+        Body::Range(range) => with_operations(state, range.operations.as_slice()),
+        Body::Snapshot(snapshot) => state.merged_copy(&snapshot.state),
+        Body::Acknowledgement(_) => Ok(state),
+    }
+}
+
+/// A letter as its bytes are read.
+fn read_again(alloc: Global, letter: &Letter) -> Result<Letter, AllocError> {
+    let Ok(bytes) = write_letter(alloc, letter) else {
+        return Err(AllocError);
+    };
+    match read_letter(alloc, bytes.as_slice(), letter.edition()) {
+        Ok(read) => Ok(read),
+        Err(_) => Err(AllocError),
+    }
+}
+
+/// What a state is that takes what a letter says, as its bytes are read.
+fn with_read(alloc: Global, state: State, letter: &Letter) -> Result<State, AllocError> {
+    let read = read_again(alloc, letter)?;
+    let next = with_letter(state, &read);
+    drop(read);
+    next
+}
+
+/// How many letters there are.
+fn letter_count(world: &World) -> usize {
+    for k in 0..usize::MAX {
+        if world.letter(k).is_none() {
+            return k;
+        }
+    }
+    usize::MAX
+}
+
+/// The state that took all letters, each as its bytes are read, the first one first.
+fn forwards(alloc: Global, world: &World, count: usize) -> Result<State, AllocError> {
+    let mut state = State::start(alloc);
+    for k in 0..count {
+        if let Some(letter) = world.letter(k) {
+            state = with_read(alloc, state, letter)?;
+        }
+    }
+    Ok(state)
+}
+
+/// The state that took all letters, the last one first.
+fn backwards(alloc: Global, world: &World, count: usize) -> Result<State, AllocError> {
+    let mut state = State::start(alloc);
+    for k in (0..count).rev() {
+        if let Some(letter) = world.letter(k) {
+            state = with_letter(state, letter)?;
+        }
+    }
+    Ok(state)
+}
+
+/// Puts what a state shows, as one number.
+fn put_shown(
+    alloc: Global,
+    world: &World,
+    state: &State,
+    out: &mut String,
+) -> Result<(), AllocError> {
+    let mut text = String::new(alloc);
+    show_state(alloc, &mut text, world.tables(), state)?;
+    write!(out, "together {:08x}", mixed(text.as_bytes()))
+}
+
+/// Puts whether the state that took all letters the other way round is the same.
+fn put_backwards(
+    alloc: Global,
+    world: &World,
+    state: &State,
+    out: &mut String,
+) -> Result<(), AllocError> {
+    let other = backwards(alloc, world, letter_count(world))?;
+    let same = state.equal(&other);
+    drop(other);
+    out.push_str(if same {
+        "\n"
+    } else {
+        ", otherwise backwards\n"
+    })
+}
+
+/// Puts what all letters tell together.
+fn put_together(alloc: Global, world: &World, out: &mut String) -> Result<(), AllocError> {
+    let state = forwards(alloc, world, letter_count(world))?;
+    let shown = put_shown(alloc, world, &state, out);
+    let compared = put_backwards(alloc, world, &state, out);
+    drop(state);
+    shown?;
+    compared
+}
+
+/// Puts all that.
+pub fn put_carried(outcomes: &Outcomes<'_>, out: &mut String) -> Result<(), AllocError> {
+    let world = outcomes.world;
+    for site in 0..usize::from(outcomes.sites) {
+        if let Some(cursors) = world.cursors(site) {
+            put_cursors(out, site, cursors)?;
+        }
+    }
+    put_pushes(outcomes, out)?;
+    put_letters(outcomes.alloc, world, out)?;
+    put_together(outcomes.alloc, world, out)
+}
