@@ -7,7 +7,7 @@ use pcc_rules::derive;
 use pcrf_values::{AfSid, GxSid, Rule};
 use ranked::Ranked;
 use reply_values::PushOut;
-use rule_telling::next_push;
+use rule_delta::next_push;
 use std::alloc::AllocGlobal;
 use std::process::Abort;
 

@@ -16,7 +16,7 @@ ghost use Rattle.pcrf_model.specs.Sessions.{gx, af};
 ghost use Rattle.pcrf_model.specs.Tables.{Tables as TablesValue};
 ghost use Rattle.pcrf_model.specs.Views.{View, view};
 ghost use Rattle.ranked.specs.Sets.{Distinct};
-ghost use Rattle.rule_telling.specs.Pushed.{push_of, untold};
+ghost use Rattle.rule_delta.specs.Pushed.{push_of, untold};
 ghost use Rattle.site_join.specs.States.{record_facts};
 ghost use Rattle.waiting_sessions.specs.Waits.{DueWait};
 
@@ -32,7 +32,7 @@ use operator_view::{bindings, bindings_by};
 use pcc_rules::derive;
 use pcrf_values::{AfSid, Delta, DiameterIdentity, GxSid, Rule};
 use reply_values::PushOut;
-use rule_telling::next_push;
+use rule_delta::next_push;
 use session_index::Index;
 use site_join::{Operation, State};
 use std::alloc::{AllocError, Global};

@@ -21,7 +21,7 @@ use std::thread::Threads;
 const LIMIT: usize = 5;
 
 /// The fingerprint of what a site holds, and of how many operations it made.
-fn print_of_site(site: &Site) -> u64 {
+pub fn print_of_site(site: &Site) -> u64 {
     mixed(site.sessions().fingerprint(), site.logged())
 }
 

@@ -16,6 +16,7 @@ mod makings;
 mod merges;
 mod operations;
 mod places;
+mod renewals;
 mod samples;
 mod tally;
 mod telling;
@@ -32,6 +33,7 @@ use merges::MergeStates;
 use pcrf_values::{Apn, Delta, Filters, Rule, RuleName, Subscriber, Subscribers};
 use places::{JoinAt, Place, PlaceAt};
 use ranked::Text;
+use renewals::try_renewals;
 use samples::Sample;
 use std::alloc::Global;
 use std::io::Read;
@@ -137,6 +139,7 @@ fn try_all<R: Threads + Wait + Sync>(rt: &R, alloc: Global) -> Tally {
         tally.count(outcome_of::<CarryLetter>(alloc, case), "carry", case.name());
     }
     try_books(rt, alloc, &mut tally);
+    try_renewals(rt, alloc, &mut tally);
     tally
 }
 

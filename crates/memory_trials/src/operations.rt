@@ -1,8 +1,11 @@
 //! Operations of site 2, and what has to be shown of a state that took some.
 use crate::fingerprint::{EMPTY, Fingerprint, fingerprint_of, mixed};
+use crate::values::subscribers_with;
 use af_records::{AfFact, AfRec, ComponentValue, FlowValue};
-use gx_records::{GxFact, SessionValue};
-use pcrf_values::{AfSid, DiameterIdentity, FilterText, Filters, GxSid, SessionId};
+use gx_records::{GxFact, OpenRequestType, SessionValue};
+use pcrf_values::{
+    AfSid, Apn, BoundedNumber, DiameterIdentity, FilterText, Filters, GxSid, SessionId, Subscribers,
+};
 use ranked::Tag;
 use site_join::{Operation, SessionFacts, State};
 use std::alloc::{AllocError, Global};
@@ -36,12 +39,74 @@ fn host_facts(alloc: Global, at: Tag, host: &[u8]) -> Result<Vec<GxFact>, AllocE
     Ok(facts)
 }
 
+/// A gateway's session of this Session-Id.
+pub fn gateway_id(alloc: Global, id: &[u8]) -> Result<GxSid, AllocError> {
+    Ok(GxSid::of(SessionId::read(alloc, id)?.ok_or(AllocError)?))
+}
+
+/// An operation of a gateway's session.
+fn gateway_operation(
+    alloc: Global,
+    id: &[u8],
+    counter: u8,
+    facts: Vec<GxFact>,
+) -> Result<Operation, AllocError> {
+    let facts = SessionFacts::Gx(gateway_id(alloc, id)?, facts);
+    Operation::of(u64::from(counter), 2, 0, facts).ok_or(AllocError)
+}
+
 /// An update of a gateway's session.
 pub fn update(alloc: Global, id: &[u8], counter: u8, host: &[u8]) -> Result<Operation, AllocError> {
     let facts = host_facts(alloc, tag(counter), host)?;
-    let id = GxSid::of(SessionId::read(alloc, id)?.ok_or(AllocError)?);
-    let facts = SessionFacts::Gx(id, facts);
-    Operation::of(u64::from(counter), 2, 0, facts).ok_or(AllocError)
+    gateway_operation(alloc, id, counter, facts)
+}
+
+/// Puts the fact of a field.
+fn put_field(
+    facts: &mut Vec<GxFact>,
+    at: Tag,
+    value: SessionValue<OpenRequestType>,
+) -> Result<(), AllocError> {
+    facts.push(GxFact::Field(at, value))?;
+    Ok(())
+}
+
+/// Puts what an initial request says of the user who has this address.
+fn put_user(
+    alloc: Global,
+    facts: &mut Vec<GxFact>,
+    at: Tag,
+    address: Ipv4Addr,
+) -> Result<(), AllocError> {
+    put_field(facts, at, SessionValue::Address(address))?;
+    let apn = Apn::folded(alloc, b"ims")?.ok_or(AllocError)?;
+    put_field(facts, at, SessionValue::Apn(apn))?;
+    let given = subscribers_with(alloc, &[b"1"])?;
+    let subscribers = Subscribers::of(alloc, given)?.ok_or(AllocError)?;
+    put_field(facts, at, SessionValue::Subscribers(subscribers))
+}
+
+/// Puts what it says of the gateway and of itself.
+fn put_client(alloc: Global, facts: &mut Vec<GxFact>, at: Tag) -> Result<(), AllocError> {
+    let host = DiameterIdentity::read(alloc, b"g")?.ok_or(AllocError)?;
+    put_field(facts, at, SessionValue::Host(host))?;
+    let realm = DiameterIdentity::read(alloc, b"r")?.ok_or(AllocError)?;
+    put_field(facts, at, SessionValue::Realm(realm))?;
+    let last = BoundedNumber::of(1).ok_or(AllocError)?;
+    put_field(facts, at, SessionValue::Last(last))
+}
+
+/// An initial request of a gateway's session whose user has this address.
+pub fn connection(
+    alloc: Global,
+    id: &[u8],
+    counter: u8,
+    address: Ipv4Addr,
+) -> Result<Operation, AllocError> {
+    let mut facts = Vec::new(alloc);
+    put_user(alloc, &mut facts, tag(counter), address)?;
+    put_client(alloc, &mut facts, tag(counter))?;
+    gateway_operation(alloc, id, counter, facts)
 }
 
 /// A list of one filter.

@@ -23,7 +23,7 @@ use Rattle.pcrf_model.specs.Sessions.{Session, session_cmp}
 use Rattle.pcrf_model.specs.Views.{View, Shown, shown_cmp, shown_as, shown_on, showing, view}
 use Rattle.pcrf_model.proofs.HoldingLaws.{session_ranked}
 use Rattle.pcrf_model.proofs.ViewLaws.{shown_ranked, sessions_alone, all-shows, In-all}
-use Rattle.rule_telling.proofs.ToldAlone.{kept_shows}
+use Rattle.rule_delta.proofs.ToldAlone.{kept_shows}
 use Rattle.operator_view.specs.Fields.{field_of, fields_of}
 
 -- by place, and then by value

@@ -14,7 +14,7 @@ use Rattle.pcrf_model.specs.Tables.{Tables}
 use Rattle.pcrf_model.specs.Views.{View, view}
 use Rattle.site_join.specs.States.{Records}
 use Rattle.bind_index.proofs.Entries.{AreRecordsOf, its_facts}
-use Rattle.rule_telling.proofs.ToldAlone.{told_alone}
+use Rattle.rule_delta.proofs.ToldAlone.{told_alone}
 use Rattle.operator_view.specs.ByRecord.{gx_live, gx_seen, gx_known, gx_among, af_live, af_seen, af_known, af_among}
 use Rattle.operator_view.proofs.FieldsAlone.{fields_alone}
 use Rattle.operator_view.proofs.Recorded.{named, has_facts, of_record, picked_of_records, taken_alike}

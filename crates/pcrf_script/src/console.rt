@@ -4,7 +4,7 @@ use crate::lines::{Line, SiteCount, read_line};
 use crate::messages::put_stream;
 use crate::printing::{put_outcome, put_restart};
 use op_tables::Tables;
-use pcrf_show::show_state;
+use operator_view::put_value;
 use pcrf_world::{World, WorldEvent};
 use script_lines::{LineFault, Obey};
 use std::alloc::Global;
@@ -130,6 +130,9 @@ impl Console {
         let Some(site) = world.site(i) else {
             return Ok(out.push_str("refused NoSuchSite\n")?);
         };
-        Ok(show_state(self.alloc, out, site.tables(), site.sessions())?)
+        let value = site.value()?;
+        let put = put_value(out, &value);
+        drop(value);
+        Ok(put?)
     }
 }

@@ -1,6 +1,6 @@
 //! What a script prints of events.
 use gx_profile::PushOut;
-use pcrf_show::put_text;
+use operator_view::put_text;
 use pcrf_values::Rule;
 use pcrf_world::{WorldFault, WorldOutcome};
 use std::alloc::AllocError;

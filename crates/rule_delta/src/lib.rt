@@ -1,9 +1,14 @@
-//! What a gateway is still to be told of its session's rules, and what it has then.
+//! What gateways are told of the rules of their sessions: what a session's gateway is still to be told, what it has then, and
+//! the push that is due at a site (TS 29.212, 4.5.2).
 #![tactic(auto)]
 
 mod application;
 mod differences;
 mod names;
+mod pushing;
+mod telling;
 
 pub use application::apply;
 pub use differences::difference;
+pub use pushing::{Asked, is_asked, is_empty, next_push, push_to};
+pub use telling::{told_of, untold};

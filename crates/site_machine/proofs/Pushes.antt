@@ -16,7 +16,7 @@ use Rattle.pcrf_model.specs.Refusals.{is_clock_full}
 use Rattle.site_machine.specs.Sites.{SiteValue}
 use Rattle.pcrf_model.proofs.BindLaws.{gx_is}
 use Rattle.pcrf_model.proofs.DueLaws.{first_due}
-use Rattle.rule_telling.specs.Pushed.{push_of}
+use Rattle.rule_delta.specs.Pushed.{push_of}
 use Rattle.site_machine.specs.Facts.{operation_pushed}
 use Rattle.site_machine.specs.Sites.{pushed}
 

@@ -22,7 +22,7 @@ ghost use Rattle.pcrf_model.specs.ToldTags.{ToldUpTo};
 ghost use Rattle.pcrf_model.specs.Forms.{are_up_to, is_holding, is_operation};
 ghost use Rattle.pcrf_facts.specs.FlowWords.{or_else};
 ghost use Rattle.reply_values.specs.Replies.{push_view};
-ghost use Rattle.rule_telling.specs.Pushed.{push_of, untold};
+ghost use Rattle.rule_delta.specs.Pushed.{push_of, untold};
 ghost use Rattle.gx_records.specs.GxFacts.{fact_of};
 ghost use Rattle.gx_profile.specs.Requests.{ccr_view};
 ghost use Rattle.base_profile.specs.Requests.{base_view};

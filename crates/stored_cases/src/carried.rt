@@ -1,10 +1,9 @@
 //! What no script prints of a world: how far its sites took each other, what its pushes and letters are as bytes, and what
 //! all its letters tell together.
-use crate::outcomes::Outcomes;
+use crate::outcomes::{Outcomes, put_state};
 use dia_base::Identity;
 use dia_codec::{Message, write_message};
 use gx_profile::{PushOut, write_rar};
-use pcrf_show::show_state;
 use pcrf_world::{World, WorldEvent, WorldOutcome};
 use peer_cursors::{Cursor, Cursors};
 use peer_exchange::{Body, Letter, LetterFault, read_letter, write_letter};
@@ -197,7 +196,7 @@ fn put_shown(
     out: &mut String,
 ) -> Result<(), AllocError> {
     let mut text = String::new(alloc);
-    show_state(alloc, &mut text, world.tables(), state)?;
+    put_state(alloc, world.tables(), state, &mut text)?;
     write!(out, "together {:08x}", mixed(text.as_bytes()))
 }
 

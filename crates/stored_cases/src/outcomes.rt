@@ -6,10 +6,12 @@ use crate::events::Words;
 use dia_base::Identity;
 use dia_codec::{FrameFault, HEADER_BYTES, Header, StreamEnd, frames_of};
 use gx_profile::PushOut;
-use pcrf_show::{put_text, show_state};
+use op_tables::Tables;
+use operator_view::{put_text, put_value, value};
 use pcrf_values::Rule;
 use pcrf_world::{World, WorldEvent, WorldFault, WorldOutcome};
 use site_core::{Asked, Request, read_request, write_refusal, write_reply};
+use site_join::State;
 use std::alloc::{AllocError, Global};
 use std::fmt::Write as _;
 
@@ -216,6 +218,19 @@ impl<'a> Outcomes<'a> {
     }
 }
 
+/// Puts what a state shows, found anew by passes over all its sessions.
+pub fn put_state(
+    alloc: Global,
+    tables: &Tables,
+    state: &State,
+    out: &mut String,
+) -> Result<(), AllocError> {
+    let value = value(alloc, tables, state)?;
+    let put = put_value(out, &value);
+    drop(value);
+    put
+}
+
 /// Puts what a site of a world shows.
 fn put_shown(
     alloc: Global,
@@ -224,7 +239,7 @@ fn put_shown(
     out: &mut String,
 ) -> Result<(), AllocError> {
     match world.site(site) {
-        Some(site) => show_state(alloc, out, site.tables(), site.sessions()),
+        Some(site) => put_state(alloc, site.tables(), site.sessions(), out),
         None => out.push_str("refused NoSuchSite\n"),
     }
 }

@@ -7,8 +7,8 @@ use Rattle.pcrf_model.specs.Pushing.{is_of_host, is_home}
 use Rattle.pcrf_model.specs.Sessions.{gx}
 use Rattle.pcrf_model.specs.Tables.{Tables}
 use Rattle.pcrf_model.specs.Views.{View, view}
-use Rattle.rule_telling.specs.ByRecord.{is_at_host, push_due}
-use Rattle.rule_telling.specs.Pushed.{untold, push_of}
+use Rattle.rule_delta.specs.ByRecord.{is_at_host, push_due}
+use Rattle.rule_delta.specs.Pushed.{untold, push_of}
 use Rattle.waiting_pushes.specs.Due.{push_if_due}
 
 module _ (t : Tables) (i : ℕ) (facts : List SessionFact) (id : List ℕ) where

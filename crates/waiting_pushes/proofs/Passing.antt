@@ -6,7 +6,7 @@ use Rattle.pcrf_model.specs.Replies.{PushValue}
 use Rattle.pcrf_model.specs.Sessions.{Session}
 use Rattle.pcrf_model.specs.Tables.{Tables}
 use Rattle.pcrf_model.specs.Views.{View}
-use Rattle.rule_telling.specs.Pushed.{push_of}
+use Rattle.rule_delta.specs.Pushed.{push_of}
 use Rattle.waiting_pushes.specs.Due.{push_if_due}
 
 -- where something is made of a session it passed

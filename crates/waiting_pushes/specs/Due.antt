@@ -5,7 +5,7 @@ use Rattle.pcrf_model.specs.Replies.{PushValue}
 use Rattle.pcrf_model.specs.Sessions.{Session}
 use Rattle.pcrf_model.specs.Tables.{Tables}
 use Rattle.pcrf_model.specs.Views.{View}
-use Rattle.rule_telling.specs.Pushed.{push_of}
+use Rattle.rule_delta.specs.Pushed.{push_of}
 
 -- the push of the session, if it is due for the host, any where none is given
 abbrev pub push_if_due : Tables → ℕ → View → Option (List ℕ) → Session → Option PushValue

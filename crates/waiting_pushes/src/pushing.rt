@@ -8,7 +8,7 @@ ghost use Rattle.pcrf_model.specs.Sessions.{gx};
 ghost use Rattle.pcrf_model.specs.Views.{view};
 ghost use Rattle.reply_values.specs.Replies.{push_view};
 ghost use Rattle.kept_rules.specs.Kept.{AreKept};
-ghost use Rattle.rule_telling.specs.Pushed.{push_of};
+ghost use Rattle.rule_delta.specs.Pushed.{push_of};
 ghost use Rattle.session_index.specs.Index.{Covers};
 ghost use Rattle.waiting_sessions.specs.Waits.{DueWait};
 
@@ -17,7 +17,7 @@ use kept_rules::Rules;
 use op_tables::Tables;
 use pcrf_values::DiameterIdentity;
 use reply_values::PushOut;
-use rule_telling::Asked;
+use rule_delta::Asked;
 use session_index::Index;
 use site_join::State;
 use std::alloc::{AllocError, Global};

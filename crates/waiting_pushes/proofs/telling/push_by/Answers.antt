@@ -3,7 +3,7 @@ use Rattle.std.specs.Option.{option_copied}
 use Rattle.pcrf_model.specs.Replies.{PushValue}
 use Rattle.pcrf_model.specs.Views.{view}
 use Rattle.reply_values.specs.Replies.{push_view}
-use Rattle.rule_telling.specs.ByRecord.{push_due}
+use Rattle.rule_delta.specs.ByRecord.{push_due}
 use Rattle.waiting_pushes.proofs.DueAlone.{push_alone}
 use Rattle.waiting_pushes.proofs.telling.push_by.Goals as goal
 

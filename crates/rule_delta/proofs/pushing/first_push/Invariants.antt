@@ -1,8 +1,8 @@
 use Rattle.std.proofs.Common.{◌≡◌}
 use Rattle.std.specs.Option.{option_copied}
 use Rattle.pcrf_model.specs.Views.{view}
-use Rattle.rule_telling.specs.ByRecord.{first_push}
-use Rattle.rule_telling.proofs.pushing.first_push.Given as goal
+use Rattle.rule_delta.specs.ByRecord.{first_push}
+use Rattle.rule_delta.proofs.pushing.first_push.Given as goal
 
 -- none so far is due
 abbrev pub invariant-loop-session : goal.invariant-loop-session

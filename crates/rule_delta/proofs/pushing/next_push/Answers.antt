@@ -2,8 +2,8 @@ use Rattle.std.proofs.Common.{◌≡◌, IfOk, Option, option_map, subst}
 use Rattle.std.specs.Option.{option_copied}
 use Rattle.pcrf_model.specs.Replies.{PushValue}
 use Rattle.reply_values.specs.Replies.{push_view}
-use Rattle.rule_telling.proofs.DueRecord.{pushed_is}
-use Rattle.rule_telling.proofs.pushing.next_push.Goals as goal
+use Rattle.rule_delta.proofs.DueRecord.{pushed_is}
+use Rattle.rule_delta.proofs.pushing.next_push.Goals as goal
 
 pub returns-clause-push : goal.returns-clause-push
 returns-clause-push c = subst (λ (o : Option PushValue). IfOk c.first_push.result (λ push. option_map push_view push ≡ o))

@@ -5,8 +5,8 @@ use Rattle.std.proofs.lemmas.Map.Text.{is_eq-slice_cmp}
 use Rattle.ranked.specs.Orders.{text_cmp}
 use Rattle.pcrf_facts.specs.Values.{Entry}
 use Rattle.pcrf_model.specs.Views.{as_text}
-use Rattle.rule_telling.specs.ByRecord.{is_at_host}
-use Rattle.rule_telling.proofs.pushing.is_at_host.Goals as goal
+use Rattle.rule_delta.specs.ByRecord.{is_at_host}
+use Rattle.rule_delta.proofs.pushing.is_at_host.Goals as goal
 
 pub returns-in-Some-host : goal.returns-in-Some-host
 returns-in-Some-host c =

@@ -9,8 +9,8 @@ ghost use Rattle.pcrf_model.specs.Rules.{rules};
 ghost use Rattle.pcrf_model.specs.Sessions.{gx};
 ghost use Rattle.pcrf_model.specs.Views.{view};
 ghost use Rattle.reply_values.specs.Replies.{push_view};
-ghost use Rattle.rule_telling.specs.Pushed.{push_of};
-ghost use Rattle.rule_telling.specs.ByRecord.{alone, first_push, is_asked, is_at_host, is_at_home, push_due};
+ghost use Rattle.rule_delta.specs.Pushed.{push_of};
+ghost use Rattle.rule_delta.specs.ByRecord.{alone, first_push, is_asked, is_at_host, is_at_home, push_due};
 
 use crate::telling::untold;
 use gx_records::GxRec;

@@ -5,13 +5,13 @@ ghost use Rattle.pcrf_model.specs.Differences.{rule_name_of, told};
 ghost use Rattle.pcrf_model.specs.Rules.{rules};
 ghost use Rattle.pcrf_model.specs.Sessions.{gx};
 ghost use Rattle.pcrf_model.specs.Views.{view};
-ghost use Rattle.rule_telling.specs.Pushed.{untold};
+ghost use Rattle.rule_delta.specs.Pushed.{untold};
 
+use crate::differences::difference;
 use gx_records::Told;
 use op_tables::Tables;
 use pcc_rules::derive;
 use pcrf_values::{Delta, GxSid};
-use rule_delta::difference;
 use site_join::State;
 use std::alloc::{AllocError, Global};
 

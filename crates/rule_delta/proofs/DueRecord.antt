@@ -28,8 +28,8 @@ use Rattle.pcrf_model.proofs.HoldingLaws.{session_ranked}
 use Rattle.pcrf_model.proofs.ViewLaws.{its_session, shows-known}
 use Rattle.site_join.specs.States.{Records}
 use Rattle.bind_index.proofs.Entries.{AreRecordsOf, its_facts, has_record}
-use Rattle.rule_telling.specs.Pushed.{untold, push_of}
-use Rattle.rule_telling.specs.ByRecord.{is_at_host, push_due, first_push}
+use Rattle.rule_delta.specs.Pushed.{untold, push_of}
+use Rattle.rule_delta.specs.ByRecord.{is_at_host, push_due, first_push}
 
 -- ---- the first that passes
 

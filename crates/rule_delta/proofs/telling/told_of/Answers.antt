@@ -1,8 +1,8 @@
 use Rattle.std.proofs.Common.{◌≡◌, IfOk, List, ap, ◌∙◌, subst}
 use Rattle.pcrf_facts.specs.ToldWords.{ToldRule, told}
 use Rattle.pcrf_model.specs.Sessions.{gx}
-use Rattle.rule_telling.proofs.ToldAlone.{told_alone}
-use Rattle.rule_telling.proofs.telling.told_of.Goals as goal
+use Rattle.rule_delta.proofs.ToldAlone.{told_alone}
+use Rattle.rule_delta.proofs.telling.told_of.Goals as goal
 
 pub returns-in-Some : goal.returns-in-Some
 returns-in-Some c =

@@ -11,7 +11,7 @@ use Rattle.pcrf_model.specs.Differences.{is_empty, first}
 use Rattle.pcrf_model.specs.Replies.{PushValue}
 use Rattle.pcrf_model.specs.Pushing.{is_of_host, is_home, push_to}
 use Rattle.bind_index.specs.Beside.{beside}
-use Rattle.rule_telling.specs.Pushed.{untold}
+use Rattle.rule_delta.specs.Pushed.{untold}
 
 -- what is read of a Gx session of these facts
 abbrev pub alone : List Fact → View

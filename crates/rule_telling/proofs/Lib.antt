@@ -1,2 +1,0 @@
-pub mod ToldAlone
-pub mod DueRecord

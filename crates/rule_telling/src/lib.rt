@@ -1,9 +1,0 @@
-//! What gateways are told of the rules of their sessions: what a session's gateway is still to be told, and the push that is
-//! due at a site (TS 29.212, 4.5.2).
-#![tactic(auto)]
-
-mod pushing;
-mod telling;
-
-pub use pushing::{Asked, is_asked, is_empty, next_push, push_to};
-pub use telling::{told_of, untold};
