@@ -260,7 +260,7 @@ def by_hand(lines):
 def each_kind(lines):
     """A session of each kind, as it is shown."""
     signalling = aar("10.0.0.2", [component(1, [flow(1, ["permit out tcp from any to any"], usage=2)])], "af \\2")
-    lines.begin(4, "each kind of session is shown: live, ended and in part, bound and not, with bytes that are printed as numbers")
+    lines.begin(4, "each kind of session is shown: live, ended and in part, bound and not, with bytes that are no letters")
     lines.ask(0, first("gw;1;4", "10.0.0.4"), aar("10.0.0.4", [VOICE], "af;4"))
     lines.say("letter 0 1", "merge 1 0", "ack 1 0", "merge 0 1", "restart 1")
     lines.ask(0, ccr(2, 1, "gw;1;4"), aar(None, [component(1)], "af;4"))

@@ -2,8 +2,8 @@
 """Draws random scripts of worlds, which are run line by line and as one `World::run`.
 
 `random_worlds.py DATA` writes the scripts for two of the operator tables in the folder DATA there: of one site to five, a few
-of sixteen, and one that is long. It prints how often each thing was reached, and fails where it was reached too seldom, or where
-sites that took all letters differ. All gateways have one host, `gw`: so a push to it pushes what a push to any does.
+of sixteen, and one that is long. It prints how often each thing was reached, and fails where it was reached too seldom, or
+where sites that took all letters differ. All gateways have one host, `gw`: so a push to it pushes what a push to any does.
 """
 import os
 import sys
@@ -18,7 +18,8 @@ from tally import Tally
 
 HOST = b"gw"
 FILES = {"telephony": (range(5000, 5040), [b"IMS", b"ims", b"net", b"NET"]),
-         "four-access-points": (range(5040, 5060), [b"IMS", b"ims", b"iNternet", b"internet", b"Z\\\xc3\x80", b"z\\\xc3\x80", b"im"])}
+         "four-access-points": (range(5040, 5060), [b"IMS", b"ims", b"iNternet", b"internet", b"Z\\\xc3\x80",
+                                                    b"z\\\xc3\x80", b"im"])}
 LONG = 5039
 MANY = [b"Many", b"internet", b"many"]
 LEAST = {
@@ -187,10 +188,10 @@ class RandomWorld(RandomScript):
 
     def step(self):
         """The next line, or lines."""
-        steps = {self.request: 24, self.any_message: 16, self.aimed_message: 12, self.call: 16, self.hang_up: 10, self.change: 12,
-                 self.push: 8, self.letter: 14, self.merge: 12, self.ack: 5, self.exchange: 14, self.repeat: 6,
-                 self.restart: 2, self.show: 3, self.twins: 6, self.reorder: 3, self.half_known: 3, self.late_ack: 4, self.detach: 6,
-                 self.changed_call: 3, self.late_change: 9, self.old_letter: 4}
+        steps = {self.request: 24, self.any_message: 16, self.aimed_message: 12, self.call: 16, self.hang_up: 10,
+                 self.change: 12, self.push: 8, self.letter: 14, self.merge: 12, self.ack: 5, self.exchange: 14,
+                 self.repeat: 6, self.restart: 2, self.show: 3, self.twins: 6, self.reorder: 3, self.half_known: 3,
+                 self.late_ack: 4, self.detach: 6, self.changed_call: 3, self.late_change: 9, self.old_letter: 4}
         if self.count == 1:
             for several in (self.twins, self.half_known, self.late_ack):
                 del steps[several]

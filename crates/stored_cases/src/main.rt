@@ -1,13 +1,13 @@
 //! Cases that files hold, and what comes of each.
 //!
-//! The program first does what its words say, three by three: `script` or `streams`, a file of operator tables, and a file of
-//! what is done with them. A script is run, and whole streams are answered. The tables are the examples for operators, so
-//! that they stay as the answers show them; the call from its attach to its end is an example too. The bytes of the answers
-//! of `answers.script` come from an encoder written apart from the program, from the tables of the profile: `test_messages`
-//! gives the same for each form of answer.
+//! The program first does what its words say, three by three: `script`, `worlds` or `streams`, a file of operator tables, and
+//! a file of what is done with them. A script is run, the scripts of worlds are run in two ways (`worlds`), and whole streams
+//! are answered. The tables are the examples for operators, so that they stay as the answers show them; the call from its
+//! attach to its end is an example too. What all these have to print comes from the plain model in `oracle/`, apart from the
+//! program.
 //!
-//! Then it does what the lines of its standard input say, of requests (`requests`) or of operator tables (`tables`), and
-//! writes what each makes; other lines are written again.
+//! Then it does what the lines of its standard input say, of requests (`requests`), operator tables (`tables`) or scripts
+//! (`lines`), and writes what each makes; other lines are written again.
 #![tactic(auto)]
 
 mod answers;
