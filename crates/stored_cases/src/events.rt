@@ -44,11 +44,13 @@ pub fn site_count(script: &str) -> u8
     ensures within { result ≤ site_limit }
 {
     let first = script.lines().next().unwrap_or("");
-    let count = Words::of(first).number();
-    if count == 0 || count > 16 {
+    let Ok(n) = u8::try_from(Words::of(first).number()) else {
+        return 1;
+    };
+    if n == 0 || n > 16 {
         return 1;
     }
-    count as u8
+    n
 }
 
 /// To which host a site pushes: a site of an even number to any, and another to `gw`, the host of all gateways.

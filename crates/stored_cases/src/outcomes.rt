@@ -1,7 +1,4 @@
 //! What the outcomes of a world's events print, in the words of a script.
-ghost use Rattle.std.specs.Prelude.{◌<◌, ◌≤◌};
-ghost use Rattle.pcrf_model.specs.Limits.{site_limit};
-
 use crate::events::Words;
 use dia_base::Identity;
 use dia_codec::{FrameFault, HEADER_BYTES, Header, StreamEnd, frames_of};
