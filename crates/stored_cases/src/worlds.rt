@@ -87,26 +87,45 @@ fn run_of(
     Ok(out)
 }
 
-/// Runs a script in both ways, and answers whether it was done.
-fn run_both(rt: &HostRuntime, tables: &Tables, script: &str) -> io::Result<bool> {
-    let Some(printed) = printed(rt.alloc(), tables, script)? else {
+/// Runs a script in both ways, puts what it prints and what is said of its run, and answers whether it was done.
+fn put_both(
+    alloc: Global,
+    tables: &Tables,
+    script: &str,
+    out: &mut String,
+) -> Result<bool, AllocError> {
+    let Some(printed) = printed(alloc, tables, script)? else {
         return Ok(false);
     };
-    let said = run_of(rt.alloc(), tables, script, printed.as_str())?;
-    print!(rt; "{printed}{said}")?;
+    let said = run_of(alloc, tables, script, printed.as_str())?;
+    out.push_str(printed.as_str())?;
+    out.push_str(said.as_str())?;
     Ok(true)
 }
 
-/// Runs each script of a file with operator tables, and answers whether all was done.
-pub fn run(rt: &HostRuntime, tables: &str, file: &str) -> io::Result<bool> {
-    let Ok(tables) = read_tables(rt.alloc(), tables) else {
+/// Runs each script of a file with operator tables, puts what all print, and answers whether all was done.
+pub fn put_worlds(
+    alloc: Global,
+    tables: &str,
+    file: &str,
+    out: &mut String,
+) -> Result<bool, AllocError> {
+    let Ok(tables) = read_tables(alloc, tables) else {
         return Ok(false);
     };
     for part in file.split("\nsites ").skip(1) {
-        let script = format!(in rt.alloc(); "sites {part}\n")?;
-        if !run_both(rt, &tables, script.as_str())? {
+        let script = format!(in alloc; "sites {part}\n")?;
+        if !put_both(alloc, &tables, script.as_str(), out)? {
             return Ok(false);
         }
     }
     Ok(true)
+}
+
+/// Does so, and writes what all print.
+pub fn run(rt: &HostRuntime, tables: &str, file: &str) -> io::Result<bool> {
+    let mut out = String::new(rt.alloc());
+    let is_done = put_worlds(rt.alloc(), tables, file, &mut out)?;
+    print!(rt; "{out}")?;
+    Ok(is_done)
 }
