@@ -75,78 +75,104 @@ def drawn(data):
         return {name: read(folder, name) for name in made}
 
 
-class Stored:
-    """What is stored, and how many parts of it were compared."""
+def read_entries(crate):
+    """Each line that the program is given, with the lines that come of it. A program with words (`args`) writes what comes of
+    them behind headings, and what comes of each line of its input in one line; one without has all in its input, behind `> `."""
+    if not os.path.exists(os.path.join(crate, "args")):
+        entries = []
+        for line in lines_of(crate, "stdin"):
+            if line.startswith("> "):
+                entries[-1][1].append(line[2:])
+            else:
+                entries.append((line, []))
+        return entries
+    words, stdin, stdout = (lines_of(crate, name) for name in ("args", "stdin", "stdout"))
+    steps, behind = list(zip(words[::3], words[1::3], words[2::3])), len(stdout) - len(stdin)
+    ends, at = [], 0
+    for _, tables, file in steps:
+        at = stdout.index(f"# {tables} {file}", at) + 1
+        ends.append(at)
+    parts = [stdout[first:last - 1] for first, last in zip(ends, ends[1:] + [behind + 1])]
+    return [(" ".join(step), part) for step, part in zip(steps, parts)] + [
+        (line, [made]) for line, made in zip(stdin, stdout[behind:])]
 
-    def __init__(self, crate):
-        self.crate, self.data, self.compared = crate, os.path.join(crate, "data"), 0
-        words = read(crate, "args").split("\n")[:-1]
-        self.steps = list(zip(words[::3], words[1::3], words[2::3]))
-        self.stdin = read(crate, "stdin").split("\n")[:-1]
-        self.stdout = read(crate, "stdout").split("\n")[:-1]
 
-    def compare(self, name, stored, wanted):
-        """Fails where something stored is another thing than it has to be."""
-        if stored != wanted:
-            at = next((at for at, pair in enumerate(zip(stored, wanted)) if pair[0] != pair[1]), "its end")
-            sys.exit(f"{name} differs at {at}")
-        self.compared += 1
-
-    def part(self, at):
-        """What stands in `stdout` of a step, behind its heading."""
-        ends = [f"# {tables} {file}" for _, tables, file in self.steps[at:]]
-        first = self.stdout.index(ends[0]) + 1
-        behind = len(self.stdout) - len(self.stdin)
-        last = self.stdout.index(ends[1], first) if len(ends) > 1 else behind
-        return self.stdout[first:last]
-
-    def compare_all(self):
-        """Compares all."""
-        for name, text in drawn(self.data).items():
-            self.compare(name, read(self.data, name), text)
-        for at, (kind, tables, file) in enumerate(self.steps):
-            if kind in KINDS:
-                wanted = KINDS[kind](read_tables(os.path.join(self.data, tables)), read(self.data, file))
-                self.compare(f"stdout, {tables} {file}", self.part(at), wanted)
-        pairs = zip(self.stdin, self.stdout[len(self.stdout) - len(self.stdin):])
-        words = {line for line, _ in self.lines()}
-        self.compare("the lines on scripts", [pair for pair in pairs if pair[0] in words], list(self.lines()))
-
-    def lines(self):
-        """The lines on scripts, with what each makes."""
-        return script_lines.all_lines(read_tables(os.path.join(self.data, LINES_WITH)))
-
-    def write(self):
-        """Writes all."""
-        for name, text in drawn(self.data).items():
-            with open(os.path.join(self.data, name), "w", encoding="utf-8") as file:
-                file.write(text)
-        words = {line for line, _ in self.lines()}
-        answers = self.stdout[len(self.stdout) - len(self.stdin):]
-        kept = [pair for pair in zip(self.stdin, answers) if pair[0] not in words]
-        lines = kept + list(self.lines())
-        prints = []
-        for at, (kind, tables, file) in enumerate(self.steps):
-            known = KINDS.get(kind)
-            wanted = known and known(read_tables(os.path.join(self.data, tables)), read(self.data, file))
-            prints += [f"# {tables} {file}"] + (self.part(at) if known is None else wanted)
-        self.store("stdin", [line for line, _ in lines])
-        self.store("stdout", prints + [made for _, made in lines])
-
-    def store(self, name, lines):
-        """Writes lines as a file of the crate."""
-        with open(os.path.join(self.crate, name), "w", encoding="utf-8") as file:
+def write_entries(crate, entries):
+    """Writes such lines in the same form."""
+    if not os.path.exists(os.path.join(crate, "args")):
+        text = [one for line, made in entries for one in [line] + [f"> {each}" for each in made]]
+        files = {"stdin": text, "stdout": text}
+    else:
+        steps = [(line.split(" "), made) for line, made in entries if line.split(" ")[0] in KINDS]
+        rest = [(line, made) for line, made in entries if line.split(" ")[0] not in KINDS]
+        printed = [one for (_, tables, file), made in steps for one in [f"# {tables} {file}"] + made]
+        files = {"args": [word for words, _ in steps for word in words], "stdin": [line for line, _ in rest],
+                 "stdout": printed + [one for _, made in rest for one in made]}
+    for name, lines in files.items():
+        with open(os.path.join(crate, name), "w", encoding="utf-8") as file:
             file.write("\n".join(lines) + "\n")
+
+
+def lines_of(*path):
+    """The lines of a file."""
+    return read(*path).split("\n")[:-1]
+
+
+def wanted_of(data):
+    """What comes of a line: a function of it, None for a line of which the oracle here says nothing."""
+    small = read_tables(os.path.join(data, LINES_WITH))
+    of_scripts = {line: [made] for line, made in script_lines.all_lines(small) if line != made}
+
+    def wanted(line):
+        kind, *words = line.split(" ")
+        if kind in KINDS and len(words) == 2:
+            return KINDS[kind](read_tables(os.path.join(data, words[0])), read(data, words[1]))
+        return of_scripts.get(line)
+    return wanted, of_scripts
+
+
+def compare(crate):
+    """Compares all that is stored: how much that was."""
+    data, compared = os.path.join(crate, "data"), 0
+    for name, text in drawn(data).items():
+        if read(data, name) != text:
+            sys.exit(f"{name} is not what is drawn")
+        compared += 1
+    wanted, of_scripts = wanted_of(data)
+    for line, made in read_entries(crate):
+        expected = wanted(line)
+        if expected not in (None, made):
+            at = next((at for at, pair in enumerate(zip(made, expected)) if pair[0] != pair[1]), "its end")
+            sys.exit(f"what comes of {line[:80]!r} differs at {at}")
+        compared += expected is not None
+        of_scripts.pop(line, None)
+    if of_scripts:
+        sys.exit(f"lines on scripts lack: {list(of_scripts)[:3]}")
+    return compared
+
+
+def write(crate):
+    """Writes all that is drawn, and what comes of each line; lines on scripts that lack are added."""
+    data = os.path.join(crate, "data")
+    for name, text in drawn(data).items():
+        with open(os.path.join(data, name), "w", encoding="utf-8") as file:
+            file.write(text)
+    wanted, of_scripts = wanted_of(data)
+    entries = [(line, wanted(line) or made) for line, made in read_entries(crate)]
+    there = {line for line, _ in entries}
+    has_words = os.path.exists(os.path.join(crate, "args"))
+    for line, made in script_lines.all_lines(read_tables(os.path.join(data, LINES_WITH))):
+        if line not in there:
+            entries.append((line, [made] if line in of_scripts or has_words else []))
+    write_entries(crate, entries)
 
 
 def main(crate, *options):
     """Compares what is stored, or writes it."""
-    stored = Stored(crate)
     if options:
-        stored.write()
+        write(crate)
     else:
-        stored.compare_all()
-        print(f"{stored.compared} parts are what the oracle gives")
+        print(f"{compare(crate)} parts are what the oracle gives")
 
 
 if __name__ == "__main__":
