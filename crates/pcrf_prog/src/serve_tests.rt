@@ -1,6 +1,6 @@
 //! Runs of the command that serves.
 use crate::run::{Host, run};
-use crate::tests::{Ended, Failing, all_words, check, path_of, run_told, run_words};
+use crate::tests::{Ended, Failing, all_words, check, path_of, put_word, run_all, run_words};
 use log::Log;
 use log::sink::{Discard, Locked};
 use std::alloc::{AllocError, Global};
@@ -90,16 +90,6 @@ fn ask<H: Host>(rt: &H, port: u16, request: &[u8]) -> io::Result<Vec<u8>> {
     Ok(answers)
 }
 
-/// A server's words behind the program's name, of which one may be another.
-#[derive(Clone, Copy)]
-struct ServeWords<'a> {
-    tables: &'a str,
-    listen: &'a str,
-    exchange: &'a str,
-    other: (&'a str, &'a str),
-    peers: &'a [&'a str],
-}
-
 /// Each option with its value.
 const OPTIONS: [(&str, &str); 7] = [
     ("--site", "0"),
@@ -111,35 +101,46 @@ const OPTIONS: [(&str, &str); 7] = [
     ("--turns", "0"),
 ];
 
-impl<'a> ServeWords<'a> {
-    /// All words.
-    fn list(&self, alloc: Global) -> Result<Vec<&'a str>, AllocError> {
-        let mut words = Vec::new(alloc);
-        words.push("serve")?;
-        for (option, value) in OPTIONS {
-            words.push(option)?;
-            words.push(if self.other.0 == option {
-                self.other.1
-            } else {
-                value
-            })?;
+/// Sockets that are never asked for.
+const NO_SOCKETS: (&str, &str) = ("none", "none");
+
+/// No option has another value.
+const AS_THEY_ARE: (&str, &str) = ("", "");
+
+/// The words of a server behind the program's name: each option with its value, of which one may be another; the addresses at
+/// which it listens for peers and for sites; the file of its tables, and the sites that it dials.
+fn serve_words(
+    alloc: Global,
+    other: (&str, &str),
+    sockets: (&str, &str),
+    tables: &str,
+    sites: &[&str],
+) -> Result<Vec<String>, AllocError> {
+    let mut words = all_words(alloc, &["serve"])?;
+    for (option, value) in OPTIONS {
+        put_word(alloc, &mut words, option)?;
+        if other.0 == option {
+            put_word(alloc, &mut words, other.1)?;
+        } else {
+            put_word(alloc, &mut words, value)?;
         }
-        words.extend_from_slice(&["--listen", self.listen, "--exchange", self.exchange])?;
-        words.push(self.tables)?;
-        words.extend_from_slice(self.peers)?;
-        Ok(words)
     }
+    put_word(alloc, &mut words, "--listen")?;
+    put_word(alloc, &mut words, sockets.0)?;
+    put_word(alloc, &mut words, "--exchange")?;
+    put_word(alloc, &mut words, sockets.1)?;
+    put_word(alloc, &mut words, tables)?;
+    for site in sites {
+        put_word(alloc, &mut words, site)?;
+    }
+    Ok(words)
+}
 
-    /// Runs the program with them.
-    fn run<H: Host>(&self, rt: &H) -> Result<Ended, AllocError> {
-        self.run_told(rt, &Discard)
-    }
-
-    /// Runs the program with them, and tells that log what happens.
-    fn run_told<H: Host, G: Log + Sync>(&self, rt: &H, log: &G) -> Result<Ended, AllocError> {
-        let words = self.list(rt.alloc())?;
-        run_told(rt, log, words.as_slice(), "")
-    }
+/// How a run with these words ends, and tells that log what happens.
+fn ended_told<H: Host, G: Log + Sync>(rt: &H, log: &G, words: Vec<String>) -> Ended {
+    let ended = run_all(rt, log, words.as_slice(), b"");
+    drop(words);
+    ended
 }
 
 /// A file of the tables.
@@ -170,14 +171,13 @@ fn serve_once<H: Host, G: Log + Sync>(
 ) -> Result<Served, Fail> {
     let port = free_port(rt)?;
     let listen = at_port(rt.alloc(), port)?;
-    let words = ServeWords {
-        tables,
-        listen: listen.as_str(),
-        exchange: "127.0.0.1:0",
-        other: ("", ""),
-        peers: &[],
-    };
-    let (answers, ended) = thread::join(rt, || ask(rt, port, request), || words.run_told(rt, log));
+    let sockets = (listen.as_str(), "127.0.0.1:0");
+    let words = serve_words(rt.alloc(), AS_THEY_ARE, sockets, tables, &[])?;
+    let (answers, ended) = thread::join(
+        rt,
+        || ask(rt, port, request),
+        || run_all(rt, log, words.as_slice(), b""),
+    );
     Ok(Served {
         answers: answers?,
         ended: ended?,
@@ -236,33 +236,17 @@ fn words_that_a_server_cannot_have_are_told(rt: HostRuntime) -> Result<(), Fail>
         ("--connections", "63", peers),
     ];
     for (option, value, peers) in cases {
-        let words = ServeWords {
-            tables: "none",
-            listen: "none",
-            exchange: "none",
-            other: (option, value),
-            peers,
-        };
-        check(
-            &rt,
-            value,
-            &words.run(&rt)?,
-            (2, "", "pcrf: command line\n"),
-        );
+        let words = serve_words(rt.alloc(), (option, value), NO_SOCKETS, "none", peers)?;
+        let ended = ended_told(&rt, &Discard, words);
+        check(&rt, value, &ended, (2, "", "pcrf: command line\n"));
     }
     Ok(())
 }
 
 /// Whether `clap` refuses a value, and names it.
 fn is_refused<H: Host>(rt: &H, option: &str, value: &str) -> Result<bool, AllocError> {
-    let words = ServeWords {
-        tables: "none",
-        listen: "none",
-        exchange: "none",
-        other: (option, value),
-        peers: &[],
-    };
-    let ended = words.run(rt)?;
+    let words = serve_words(rt.alloc(), (option, value), NO_SOCKETS, "none", &[])?;
+    let ended = ended_told(rt, &Discard, words);
     let told = String::from_utf8_lossy(rt.alloc(), ended.told.as_slice())?;
     Ok(ended.status == 2 && ended.printed.is_empty() && told.as_str().contains(option))
 }
@@ -303,15 +287,9 @@ fn options_are_demanded(rt: HostRuntime) -> Result<(), Fail> {
 #[test]
 fn tables_come_before_sockets(rt: HostRuntime) -> Result<(), Fail> {
     let _sockets: (Option<TcpListener>, Option<TcpStream>) = (None, None);
-    let words = ServeWords {
-        tables: "",
-        listen: "none",
-        exchange: "none",
-        other: ("", ""),
-        peers: &[],
-    };
-    let told = "pcrf: tables: unreadable\n";
-    check(&rt, "tables", &words.run(&rt)?, (1, "", told));
+    let words = serve_words(rt.alloc(), AS_THEY_ARE, NO_SOCKETS, "", &[])?;
+    let ended = ended_told(&rt, &Discard, words);
+    check(&rt, "tables", &ended, (1, "", "pcrf: tables: unreadable\n"));
     Ok(())
 }
 
@@ -320,19 +298,27 @@ fn where_tables_of_a_server_are_at_fault_is_told_to_who_asks(rt: HostRuntime) ->
     let _sockets: (Option<TcpListener>, Option<TcpStream>) = (None, None);
     let path = path_of(&rt, "fault")?;
     fs::write(&rt, path.as_str(), "edition = 7\nrtcp_bps = -1\n")?;
-    let words = ServeWords {
-        tables: path.as_str(),
-        listen: "none",
-        exchange: "none",
-        other: ("", ""),
-        peers: &[],
-    };
+    let words = serve_words(rt.alloc(), AS_THEY_ARE, NO_SOCKETS, path.as_str(), &[])?;
     let log = Locked::new(rt, Vec::new(rt.alloc()));
-    let ended = words.run_told(&rt, &log)?;
+    let ended = ended_told(&rt, &log, words);
     fs::remove_file(&rt, path.as_str())?;
     check(&rt, "fault", &ended, (1, "", "pcrf: tables: bad value\n"));
     let logged = b"[ERROR pcrf] operator tables: bad value at rtcp_bps\n";
     assert_eq!(rt; log.into_inner().as_slice(), logged.as_slice());
+    Ok(())
+}
+
+/// Compares that a server can't be made of these sockets and sites.
+fn check_network(
+    rt: &HostRuntime,
+    tables: &str,
+    sockets: (&str, &str),
+    sites: &[&str],
+) -> Result<(), Fail> {
+    let _sockets: (Option<TcpListener>, Option<TcpStream>) = (None, None);
+    let words = serve_words(rt.alloc(), AS_THEY_ARE, sockets, tables, sites)?;
+    let ended = ended_told(rt, &Discard, words);
+    check(rt, sockets.0, &ended, (4, "", "pcrf: network\n"));
     Ok(())
 }
 
@@ -342,59 +328,63 @@ fn sockets_that_cannot_be_made_are_told(rt: HostRuntime) -> Result<(), Fail> {
     let path = table_file(&rt, "network")?;
     let held = TcpListener::bind(&rt, "127.0.0.1:0")?;
     let taken = at_port(rt.alloc(), held.local_addr()?.port())?;
-    let cases: [(&str, &str, &[&str]); 6] = [
+    let cases: [(&str, &str, &[&str]); 5] = [
         ("localhost:1", "127.0.0.1:0", &[]),
         ("127.0.0.1", "127.0.0.1:0", &[]),
         ("127.0.0.1:0", "[::1]:0", &[]),
         ("127.0.0.1:0", "", &[]),
         ("127.0.0.1:0", "127.0.0.1:0", &["peer"]),
-        (taken.as_str(), "127.0.0.1:0", &[]),
     ];
-    for (listen, exchange, peers) in cases {
-        let words = ServeWords {
-            tables: path.as_str(),
-            listen,
-            exchange,
-            other: ("", ""),
-            peers,
-        };
-        check(&rt, listen, &words.run(&rt)?, (4, "", "pcrf: network\n"));
+    for (listen, exchange, sites) in cases {
+        check_network(&rt, path.as_str(), (listen, exchange), sites)?;
     }
+    check_network(&rt, path.as_str(), (taken.as_str(), "127.0.0.1:0"), &[])?;
     fs::remove_file(&rt, path.as_str())?;
     Ok(())
+}
+
+/// What a client of a server is answered, and what a server whose printed line can't be written tells, and its status.
+#[derive(Drop)]
+struct Unprinted {
+    answers: Vec<u8>,
+    told: Vec<u8>,
+    status: u8,
+}
+
+/// Has a server answer a client that asks for nothing, and then fail to print.
+fn serve_unprinted<H: Host>(rt: &H, tables: &str) -> Result<Unprinted, Fail> {
+    let port = free_port(rt)?;
+    let listen = at_port(rt.alloc(), port)?;
+    let sockets = (listen.as_str(), "127.0.0.1:0");
+    let words = serve_words(rt.alloc(), AS_THEY_ARE, sockets, tables, &[])?;
+    let mut told = Vec::new(rt.alloc());
+    let (answers, status) = thread::join(
+        rt,
+        || ask(rt, port, &[]),
+        || run(
+            rt,
+            &Discard,
+            words.as_slice(),
+            b"".as_slice(),
+            Failing,
+            &mut told,
+        ),
+    );
+    Ok(Unprinted {
+        answers: answers?,
+        told,
+        status,
+    })
 }
 
 #[test]
 fn a_line_that_cannot_be_written_is_told(rt: HostRuntime) -> Result<(), Fail> {
     let _sockets: (Option<TcpListener>, Option<TcpStream>) = (None, None);
     let path = table_file(&rt, "output")?;
-    let port = free_port(&rt)?;
-    let listen = at_port(rt.alloc(), port)?;
-    let words = ServeWords {
-        tables: path.as_str(),
-        listen: listen.as_str(),
-        exchange: "127.0.0.1:0",
-        other: ("", ""),
-        peers: &[],
-    };
-    let list = words.list(rt.alloc())?;
-    let all = all_words(rt.alloc(), list.as_slice())?;
-    let mut faults = Vec::new(rt.alloc());
-    let (answers, status) = thread::join(
-        &rt,
-        || ask(&rt, port, &[]),
-        || run(
-            &rt,
-            &Discard,
-            all.as_slice(),
-            b"".as_slice(),
-            Failing,
-            &mut faults,
-        ),
-    );
-    assert!(rt; answers?.is_empty());
-    assert_eq!(rt; status, 3);
-    assert_eq!(rt; faults.as_slice(), b"pcrf: output failed\n".as_slice());
+    let ended = serve_unprinted(&rt, path.as_str())?;
     fs::remove_file(&rt, path.as_str())?;
+    assert!(rt; ended.answers.is_empty());
+    assert_eq!(rt; ended.status, 3);
+    assert_eq!(rt; ended.told.as_slice(), b"pcrf: output failed\n".as_slice());
     Ok(())
 }

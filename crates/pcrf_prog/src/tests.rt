@@ -113,7 +113,7 @@ pub struct Ended {
 }
 
 /// Puts a word behind others.
-fn put_word(alloc: Global, all: &mut Vec<String>, word: &str) -> Result<(), AllocError> {
+pub fn put_word(alloc: Global, all: &mut Vec<String>, word: &str) -> Result<(), AllocError> {
     Ok(all.push(String::from_str(alloc, word)?)?)
 }
 
@@ -128,7 +128,7 @@ pub fn all_words(alloc: Global, words: &[&str]) -> Result<Vec<String>, AllocErro
 }
 
 /// Runs a script with all these words.
-fn run_all<H: Host, G: Log + Sync>(rt: &H, log: &G, words: &[String], script: &[u8]) -> Ended {
+pub fn run_all<H: Host, G: Log + Sync>(rt: &H, log: &G, words: &[String], script: &[u8]) -> Ended {
     let (mut printed, mut told) = (Vec::new(rt.alloc()), Vec::new(rt.alloc()));
     let status = run(rt, log, words, script, &mut printed, &mut told);
     Ended {
@@ -139,7 +139,7 @@ fn run_all<H: Host, G: Log + Sync>(rt: &H, log: &G, words: &[String], script: &[
 }
 
 /// Runs a script with these words behind the program's name, and tells that log what happens.
-pub fn run_told<H: Host, G: Log + Sync>(
+fn run_told<H: Host, G: Log + Sync>(
     rt: &H,
     log: &G,
     words: &[&str],
