@@ -6,6 +6,7 @@ use log::sink::{Discard, Locked};
 use std::alloc::{AllocError, Global};
 use std::io::{self, Read, Write};
 use std::net::{Shutdown, TcpListener, TcpStream};
+use std::process::Abort;
 use std::test::Fail;
 use std::time::Duration;
 use std::{fs, thread};
@@ -180,7 +181,7 @@ fn serve_once<H: Host, G: Log + Sync>(
     );
     Ok(Served {
         answers: answers?,
-        ended: ended?,
+        ended,
     })
 }
 
@@ -309,13 +310,12 @@ fn where_tables_of_a_server_are_at_fault_is_told_to_who_asks(rt: HostRuntime) ->
 }
 
 /// Compares that a server can't be made of these sockets and sites.
-fn check_network(
-    rt: &HostRuntime,
+fn check_network<H: Host + Abort>(
+    rt: &H,
     tables: &str,
     sockets: (&str, &str),
     sites: &[&str],
 ) -> Result<(), Fail> {
-    let _sockets: (Option<TcpListener>, Option<TcpStream>) = (None, None);
     let words = serve_words(rt.alloc(), AS_THEY_ARE, sockets, tables, sites)?;
     let ended = ended_told(rt, &Discard, words);
     check(rt, sockets.0, &ended, (4, "", "pcrf: network\n"));
