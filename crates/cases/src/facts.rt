@@ -23,7 +23,7 @@ fn session_value<const LEAST: u32, const MOST: u32>(
         "host" => Ok(SessionValue::Host(text(alloc, value)?)),
         "realm" => Ok(SessionValue::Realm(text(alloc, value)?)),
         "last" => Ok(SessionValue::Last(bounded(value)?)),
-        _ => Err(Fault::Not("a field of a session")),
+        _ => Err(Fault::NoFieldOfASession),
     }
 }
 
@@ -35,7 +35,7 @@ fn component_value(says: &str) -> Result<ComponentValue, Fault> {
         "status" => Ok(ComponentValue::Status(bounded(value)?)),
         "up" => Ok(ComponentValue::RateUp(number(value)?)),
         "down" => Ok(ComponentValue::RateDown(number(value)?)),
-        _ => Err(Fault::Not("a field of a component")),
+        _ => Err(Fault::NoFieldOfAComponent),
     }
 }
 
@@ -48,7 +48,7 @@ fn flow_value(alloc: Global, says: &str) -> Result<FlowValue, Fault> {
         "status" => Ok(FlowValue::Status(bounded(value)?)),
         "up" => Ok(FlowValue::RateUp(number(value)?)),
         "down" => Ok(FlowValue::RateDown(number(value)?)),
-        _ => Err(Fault::Not("a field of a flow")),
+        _ => Err(Fault::NoFieldOfAFlow),
     }
 }
 

@@ -24,7 +24,7 @@ enum Asked {
 /// What is said of the frame of a line.
 fn put_said(alloc: Global, asked: Asked, digits: &str, out: &mut String) -> Result<(), Fault> {
     let Ok(frame) = hex::decode(alloc, digits) else {
-        return Err(Fault::Not("a frame"));
+        return Err(Fault::NoFrame);
     };
     match asked {
         Asked::Verdict => out.push_str(verdicts::judged(alloc, frame.as_slice()).text())?,

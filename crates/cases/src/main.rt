@@ -82,7 +82,7 @@ fn put_script(alloc: Global, tables: &str, script: &str, out: &mut String) -> Re
     scripts::run(alloc, tables, script, &mut written)?;
     match str::from_utf8(written.as_slice()) {
         Ok(text) => put_behind(text, out),
-        Err(_) => Err(Fault::Not("a script that writes text")),
+        Err(_) => Err(Fault::NoScriptThatWritesText),
     }
 }
 
@@ -100,7 +100,7 @@ fn put_files(rt: &HostRuntime, line: &str, out: &mut String) -> Result<(), Fault
     let (tables, file) = parted(words, ' ')?;
     let (Ok(tables), Ok(lines)) = (fs::read_to_string(rt, tables), fs::read_to_string(rt, file))
     else {
-        return Err(Fault::Not("two files"));
+        return Err(Fault::NoTwoFiles);
     };
     match kind {
         "script" => put_script(rt.alloc(), tables.as_str(), lines.as_str(), out),

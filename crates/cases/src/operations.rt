@@ -34,7 +34,7 @@ fn request_of(word: &str) -> Result<Request, Fault> {
         "af" => Ok(Request::Call("")),
         "call" => Ok(Request::Call("host=af realm=r last=0")),
         "hang-up" => Ok(Request::Call("end")),
-        _ => Err(Fault::Not("a line of the notation")),
+        _ => Err(Fault::NoLineOfTheNotation),
     }
 }
 
@@ -100,6 +100,6 @@ pub fn operation(alloc: Global, line: &str) -> Result<Operation, Fault> {
     let facts = session_facts(alloc, request, id, at, words)?;
     match Operation::of(at.counter, at.site, at.number, facts) {
         Some(made) => Ok(made),
-        None => Err(Fault::Not("an operation")),
+        None => Err(Fault::NoOperation),
     }
 }

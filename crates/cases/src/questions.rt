@@ -112,7 +112,7 @@ fn put_of_state(
         ("bindings", "") => Ok(put_bindings(alloc, state, out)?),
         ("value", "") => Ok(put_value(alloc, tables, state, out)?),
         ("state", "") => Ok(put_state(out, state)?),
-        _ => Err(Fault::Not("a question of the notation")),
+        _ => Err(Fault::NoQuestionOfTheNotation),
     }
 }
 

@@ -32,7 +32,7 @@ trait Shown: Join {
 /// The record of these facts.
 fn gateway_of(alloc: Global, facts: &[GxFact]) -> Result<GxRec, Fault> {
     if !are_gx_facts(facts) {
-        return Err(Fault::Not("facts of a gateway's session"));
+        return Err(Fault::NoFactsOfAGatewaySession);
     }
     Ok(GxRec::of_facts(alloc, facts)?)
 }
@@ -62,7 +62,7 @@ impl Shown for GxRec {
 /// The record of these facts.
 fn call_of(alloc: Global, facts: &[AfFact]) -> Result<AfRec, Fault> {
     if !are_af_facts(facts) {
-        return Err(Fault::Not("facts of a call"));
+        return Err(Fault::NoFactsOfACall);
     }
     Ok(AfRec::of_facts(alloc, facts)?)
 }
@@ -188,6 +188,6 @@ pub fn put_joined(alloc: Global, words: &str, out: &mut String) -> Result<(), Fa
     match parted(words, ' ')? {
         ("gx", facts) => put_shown::<GxRec>(alloc, facts, out),
         ("af", facts) => put_shown::<AfRec>(alloc, facts, out),
-        _ => Err(Fault::Not("a kind of record")),
+        _ => Err(Fault::NoKindOfRecord),
     }
 }

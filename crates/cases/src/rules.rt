@@ -15,7 +15,7 @@ fn within<const LEAST: u32, const MOST: u32>(
 ) -> Result<BoundedNumber<LEAST, MOST>, Fault> {
     match BoundedNumber::of(number) {
         Some(number) => Ok(number),
-        None => Err(Fault::Not("a number of its range")),
+        None => Err(Fault::NoNumberOfItsRange),
     }
 }
 

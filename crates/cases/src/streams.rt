@@ -38,14 +38,14 @@ fn name_of(ended: Ended) -> &'static str {
 fn name(alloc: Global, text: &[u8]) -> Result<DiameterIdentity, Fault> {
     match BoundedText::read(alloc, text)? {
         Some(read) => Ok(read),
-        None => Err(Fault::Not("a name")),
+        None => Err(Fault::NoName),
     }
 }
 
 /// The site `s0` of the realm `r`, which took nothing.
 fn new_site(alloc: Global, tables: &str) -> Result<Site, Fault> {
     let Ok(read) = read_tables(alloc, tables) else {
-        return Err(Fault::Not("operator tables"));
+        return Err(Fault::NoOperatorTables);
     };
     let identity = Identity {
         host: name(alloc, b"s0")?,
@@ -99,7 +99,7 @@ fn put_stream(
     out: &mut String,
 ) -> Result<(), Fault> {
     let Ok(stream) = hex::decode(alloc, digits) else {
-        return Err(Fault::Not("a stream"));
+        return Err(Fault::NoStream);
     };
     put_answered(alloc, tables, stream.as_slice(), most, out)
 }

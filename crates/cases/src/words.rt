@@ -11,7 +11,7 @@ use std::net::Ipv4Addr;
 pub fn number(word: &str) -> Result<u32, Fault> {
     match word.parse::<u32>() {
         Ok(number) => Ok(number),
-        Err(_) => Err(Fault::Not("a number")),
+        Err(_) => Err(Fault::NoNumber),
     }
 }
 
@@ -21,7 +21,7 @@ pub fn bounded<const LEAST: u32, const MOST: u32>(
 ) -> Result<BoundedNumber<LEAST, MOST>, Fault> {
     match BoundedNumber::of(number(word)?) {
         Some(number) => Ok(number),
-        None => Err(Fault::Not("a number of its range")),
+        None => Err(Fault::NoNumberOfItsRange),
     }
 }
 
@@ -29,7 +29,7 @@ pub fn bounded<const LEAST: u32, const MOST: u32>(
 pub fn parted(word: &str, sign: char) -> Result<(&str, &str), Fault> {
     match word.split_once(sign) {
         Some(parts) => Ok(parts),
-        None => Err(Fault::Not("two parts")),
+        None => Err(Fault::NoTwoParts),
     }
 }
 
@@ -43,7 +43,7 @@ fn stamp(word: &str) -> Option<(u64, u8)> {
 /// A tag, as `@NUMBER.COUNTER.SITE`.
 pub fn tag(word: &str) -> Result<Tag, Fault> {
     let Some(rest) = word.strip_prefix("@") else {
-        return Err(Fault::Not("a tag"));
+        return Err(Fault::NoTag);
     };
     let (asked, rest) = parted(rest, '.')?;
     let number = number(asked)?;
@@ -53,7 +53,7 @@ pub fn tag(word: &str) -> Result<Tag, Fault> {
             counter,
             site,
         }),
-        None => Err(Fault::Not("a tag")),
+        None => Err(Fault::NoTag),
     }
 }
 
@@ -61,7 +61,7 @@ pub fn tag(word: &str) -> Result<Tag, Fault> {
 pub fn text<const MOST: usize>(alloc: Global, word: &str) -> Result<BoundedText<MOST>, Fault> {
     match BoundedText::read(alloc, word.as_bytes())? {
         Some(text) => Ok(text),
-        None => Err(Fault::Not("a text")),
+        None => Err(Fault::NoText),
     }
 }
 
@@ -69,7 +69,7 @@ pub fn text<const MOST: usize>(alloc: Global, word: &str) -> Result<BoundedText<
 pub fn address(word: &str) -> Result<Ipv4Addr, Fault> {
     match word.parse::<Ipv4Addr>() {
         Ok(address) => Ok(address),
-        Err(_) => Err(Fault::Not("an address")),
+        Err(_) => Err(Fault::NoAddress),
     }
 }
 
@@ -77,7 +77,7 @@ pub fn address(word: &str) -> Result<Ipv4Addr, Fault> {
 pub fn apn(alloc: Global, word: &str) -> Result<Apn, Fault> {
     match Apn::folded(alloc, word.as_bytes())? {
         Some(name) => Ok(name),
-        None => Err(Fault::Not("an access point name")),
+        None => Err(Fault::NoAccessPointName),
     }
 }
 
@@ -86,7 +86,7 @@ pub fn subscriber(alloc: Global, word: &str) -> Result<Subscriber, Fault> {
     let (kind, name) = parted(word, ':')?;
     match SubscriptionType::from_number(number(kind)?) {
         Some(kind) => Ok(Subscriber::of(kind, text(alloc, name)?)),
-        None => Err(Fault::Not("the type of a subscriber")),
+        None => Err(Fault::NoTypeOfASubscriber),
     }
 }
 
@@ -104,7 +104,7 @@ pub fn subscribers(alloc: Global, words: &str) -> Result<Subscribers, Fault> {
     put_subscribers(alloc, &mut given, words)?;
     match Subscribers::of(alloc, given)? {
         Some(set) => Ok(set),
-        None => Err(Fault::Not("1 to 16 subscribers")),
+        None => Err(Fault::NoSubscribers),
     }
 }
 
@@ -134,6 +134,6 @@ pub fn filters(alloc: Global, words: &str) -> Result<Filters, Fault> {
     }
     match Filters::of(given) {
         Some(filters) => Ok(filters),
-        None => Err(Fault::Not("one or two filters")),
+        None => Err(Fault::NoFilters),
     }
 }
