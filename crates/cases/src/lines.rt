@@ -145,7 +145,7 @@ fn put_made(alloc: Global, tables: Tables, line: &str, out: &mut String) -> Resu
 pub fn put_line(alloc: Global, files: &Files, line: &str, out: &mut String) -> Result<(), Fault> {
     write!(out, "{line}\n> ")?;
     let Ok(tables) = read_tables(alloc, files.named("small")) else {
-        return Err(Fault::Not("operator tables"));
+        return Err(Fault::NoOperatorTables);
     };
     put_made(alloc, tables, line, out)
 }

@@ -90,7 +90,7 @@ fn run_of(
 /// Runs a script in both ways, and puts what it prints and what is said of its run.
 fn put_both(alloc: Global, tables: &Tables, script: &str, out: &mut String) -> Result<(), Fault> {
     let Some(printed) = printed(alloc, tables, script)? else {
-        return Err(Fault::Not("a script that ends"));
+        return Err(Fault::NoScriptThatEnds);
     };
     let said = run_of(alloc, tables, script, printed.as_str())?;
     out.push_str(printed.as_str())?;
@@ -101,7 +101,7 @@ fn put_both(alloc: Global, tables: &Tables, script: &str, out: &mut String) -> R
 /// Runs each script of a file with operator tables, and puts what all print.
 pub fn put_worlds(alloc: Global, tables: &str, file: &str, out: &mut String) -> Result<(), Fault> {
     let Ok(tables) = read_tables(alloc, tables) else {
-        return Err(Fault::Not("operator tables"));
+        return Err(Fault::NoOperatorTables);
     };
     for part in file.split("\nsites ").skip(1) {
         let script = format!(in alloc; "sites {part}\n")?;
