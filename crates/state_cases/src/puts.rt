@@ -6,8 +6,8 @@ ghost use Rattle.pcrf_model.specs.Limits.{last_counter};
 ghost use Rattle.site_join.specs.States.{record_facts};
 
 use crate::building::{
-    call, call_record, check_call_stood, check_gateway_stood, gateway_record, put_call, put_gateway,
-    take, update,
+    call, call_record, check_call_stood, check_gateway_stood, gateway_record, put_call,
+    put_gateway, take, update,
 };
 use af_records::AfRec;
 use gx_records::GxRec;
