@@ -86,7 +86,7 @@ end
 
 /// A reader and a writer that fail at each call.
 #[derive(Drop)]
-pub struct Failing;
+struct Failing;
 
 impl Read for Failing {
     fn read(&mut self, _buf: &mut [u8]) -> io::Result<usize> {
