@@ -1,17 +1,17 @@
 //! Cases that lines hold, with what comes of each.
 //!
-//! The lines of standard input that begin with `> ` are what came of the line before them when it was written: they are passed
-//! over. Every other line is written again, with what comes of it behind ` =` or in lines that begin with `> `. So the input
-//! has its answers in it, where a person reads them, and what is written has to be the input again. They come from the
+//! The lines of standard input that begin with `> ` are what came of the line before them when it was written: they are
+//! passed over. Every other line is written again, with what comes of it behind ` =` or in lines that begin with `> `. So the
+//! input has its answers in it, where a person reads them, and what is written has to be the input again. They come from the
 //! definitions, the profile and `oracle/`, not from the program.
 //!
-//! A line that begins with `# ` says what the lines behind it show, on a state without anything. Operations are taken by lines
-//! (`operations`), and `new-letter` begins a letter of those behind it; questions end with ` =` (`questions`). Other lines are of
-//! requests (`requests`), operator tables (`tables`), scripts (`lines`) or letters as bytes (`frames`), and `script TABLES FILE`,
-//! `worlds TABLES FILE` and `streams TABLES FILE` do with the operator tables of a file what another says: a script is run, the
-//! scripts of worlds are run in two ways (`worlds`), and whole streams are answered. The tables are the examples for operators,
-//! so that they stay as the answers show them; the call from its attach to its end is an example too. What all these have to
-//! print comes from the plain model in `oracle/`, apart from the program.
+//! A line that begins with `# ` says what the lines behind it show, on a state without anything. Operations are taken by
+//! lines (`operations`), and `new-letter` begins a letter of those behind it; questions end with ` =` (`questions`). Other
+//! lines are of requests (`requests`), operator tables (`tables`), scripts (`lines`) or letters as bytes (`frames`), and
+//! `script TABLES FILE`, `worlds TABLES FILE` and `streams TABLES FILE` do with the operator tables of a file what another
+//! says: a script is run, the scripts of worlds are run in two ways (`worlds`), and whole streams are answered. The tables
+//! are the examples for operators, so that they stay as the answers show them; the call from its attach to its end is an
+//! example too. What all these have to print comes from the plain model in `oracle/`, apart from the program.
 //!
 //! A line that is not understood ends the program with a failure, behind a line of standard error that says why.
 #![tactic(auto)]

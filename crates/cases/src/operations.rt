@@ -1,6 +1,6 @@
 //! Operations by lines. `initial`, `update` and `terminate` stand for credit control requests, `call` for an AA request and
-//! `hang-up` for a session termination request; `partial` is an initial request of which the realm is not known, `told`
-//! says that the gateway was told the rule of a word (`rules`), and `gx` and `af` have no facts but those that they name. Behind
+//! `hang-up` for a session termination request; `partial` is an initial request of which the realm is not known, `told` says
+//! that the gateway was told the rule of a word (`rules`), and `gx` and `af` have no facts but those that they name. Behind
 //! that stand the Session-Id, the tag, and what the request gives (`facts`), of a call what regards its parts behind `with`.
 //! The words stand in the order in which an operation has its facts: what is removed, components, flows.
 use crate::facts::{put_call, put_gateway};

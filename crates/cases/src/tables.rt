@@ -1,7 +1,7 @@
 //! Lines on which `op_tables` is tested. `read FILE EDITS` reads the tables of the file with these edits (`edits`), and `text
-//! TEXT` reads the text; in both `\n` ends a line. They write `read`, or the fault and its place. `look FILE WORDS` writes what the look-ups
-//! of the file's tables answer: of a Media-Type at a number, of an access point at another word. What they have to make comes
-//! from the profile of the tables, not from the program.
+//! TEXT` reads the text; in both `\n` ends a line. They write `read`, or the fault and its place. `look FILE WORDS` writes
+//! what the look-ups of the file's tables answer: of a Media-Type at a number, of an access point at another word. What they
+//! have to make comes from the profile of the tables, not from the program.
 use crate::edits::{edited, put_lines};
 use crate::looks::put_tables;
 use op_tables::{read_placed, read_tables};
