@@ -148,8 +148,8 @@ def digits(text):
 class Lines:
     """The lines of scripts, one after another."""
 
-    def __init__(self, heading):
-        self.lines = [f"# {heading} Made by oracle/fixed_worlds.py."]
+    def __init__(self, heading, maker="fixed_worlds"):
+        self.lines = [f"# {heading} Made by oracle/{maker}.py."]
 
     def begin(self, sites, text):
         """A script of so many sites."""

@@ -3,22 +3,28 @@
 
 `stored.py CRATE` reads what the crate's folder has: the files of `data`, and `stdin`, which has the answers to its lines behind
 them. It fails where a file that is drawn or put together by a program of this folder is another one, where a script, the
-scripts of a file of worlds or a stream print something else than the plain model says, or where a line on scripts does. With
-`--write` it writes the files in place of comparing them, and all that `stdin` and `stdout` have of these.
+scripts of a file of worlds or a stream print something else than the plain model says, where a line on scripts does, or where the
+answer that refuses a request of Rx has other bytes. With `--write` it writes the files in place of comparing them, and all that
+`stdin` and `stdout` have of these.
 """
 import contextlib
 import io
 import os
+import re
 import sys
 import tempfile
 
+import fixed_sites
+import fixed_streams
 import fixed_worlds
 import messages
+import plain_answers
 import random_calls
 import random_streams
 import random_worlds
 import script_lines
 from plain_facts import read_tables
+from plain_requests import AAR, RX, STR, read_header
 from plain_run import run_lines
 from plain_site import Site, World, converse, run_script
 
@@ -52,6 +58,41 @@ def streams_print(tables, text):
 KINDS = {"script": script_prints, "worlds": worlds_print, "streams": streams_print}
 
 
+# ---- requests of Rx by the words of their AVPs
+
+COMMANDS = {"aar": AAR, "str": STR}
+REFUSED = "the request is refused with "
+
+
+def value_of(sign, said):
+    """The value that a word says behind its sign."""
+    if sign == "=":
+        return said.replace("_", " ").encode()
+    return b"permit in ".ljust(int(said), b"x") if sign == "*" else int(said or 0).to_bytes(4, "big")
+
+
+def session_of(words):
+    """The Session-Id that an answer repeats: the first that the words say, if it has 1 to 512 bytes."""
+    depth = 0
+    for word in words:
+        depth += word.endswith("(") - (word == ")")
+        said = re.fullmatch(r"(?:0/)?263([=*:])(.*)", word)
+        if said and not depth:
+            value = value_of(*said.groups())
+            return value if 1 <= len(value) <= 512 else None
+    return None
+
+
+def refusal_bytes(line, answers):
+    """What the answer to a request that is refused has to be; None of another line."""
+    kind, *words = line.split(" ")
+    if kind not in COMMANDS or not answers or not answers[0].startswith(REFUSED):
+        return None
+    header = read_header(messages.message(0xC0, COMMANDS[kind], RX, [], 5, 6))
+    code = int(answers[0].split(" ")[-1])
+    return plain_answers.refusal(0, header, code, session_of(words)).hex()
+
+
 # ---- files
 
 def read(*path):
@@ -70,7 +111,8 @@ def drawn(data):
         random_calls.main(os.path.join(data, TABLES), folder, os.devnull)
         random_streams.main(os.path.join(data, TABLES), os.path.join(folder, "random.streams"), os.devnull)
         random_worlds.main(folder)
-        fixed_worlds.main(folder)
+        for fixed in (fixed_worlds, fixed_sites, fixed_streams):
+            fixed.main(folder)
         made = [name for name in sorted(os.listdir(folder)) if name not in tables and not name.endswith(".out")]
         return {name: read(folder, name) for name in made}
 
@@ -114,6 +156,9 @@ class Stored:
             wanted = self.answers(line)
             if wanted is not None:
                 self.compare(line, answers, wanted)
+            refusal = refusal_bytes(line, answers)
+            if refusal is not None:
+                self.compare(line, answers[1:], [refusal])
         wanted = self.on_scripts()
         words = {line for line, _ in wanted}
         self.compare("the lines on scripts", [pair for pair in self.lines if pair[0] in words], wanted)
@@ -127,6 +172,9 @@ class Stored:
         lines = []
         for line, answers in self.lines:
             known = self.answers(line)
+            refusal = refusal_bytes(line, answers)
+            if refusal is not None:
+                answers = [answers[0], refusal]
             lines += [line] + [f"> {answer}" for answer in made.get(line, answers if known is None else known)]
         for name in ("stdin", "stdout"):
             with open(os.path.join(self.crate, name), "w", encoding="utf-8") as file:

@@ -3,8 +3,8 @@
 
 usage: plot_costs.py RUN.. > costs.svg
 
-Each RUN is a file with what `pcrf_bench streams_called 1000 10000 100000` printed, or `streams`. Of several runs each point is the
-median.
+Each RUN is a file with what `pcrf_bench` printed, with times, of the measure `streams_called 1000 10000 100000`, or of
+`streams`. Of several runs each point is the median.
 """
 import math
 import re
@@ -17,14 +17,12 @@ COLOURS = ["#1b6ca8", "#c8553d", "#588157", "#8a5a9e", "#b08900", "#444444"]
 
 def points_of(file):
     """The microseconds of each kind of request by the number of sessions."""
-    found, sessions, kind = {}, None, None
+    found, sessions = {}, None
     for line in open(file, encoding="utf-8"):
-        if match := re.fullmatch(r"streams: (\d+) sessions(?:, as many calls)?\n", line):
+        if match := re.fullmatch(r"streams(?:_called)?: (\d+) sessions\n", line):
             sessions = int(match[1])
-        elif match := re.fullmatch(r"streams: (\D+)\n", line):
-            kind = match[1]
-        elif match := re.fullmatch(r"streams:   all of it: \d+: ([\d.]+) microseconds\n", line):
-            found[kind, sessions] = float(match[1])
+        elif match := re.fullmatch(r"streams(?:_called)?: ([^,:]+): \d+: ([\d.]+) microseconds.*\n", line):
+            found[match[1], sessions] = float(match[2])
     return found
 
 

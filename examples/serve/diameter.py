@@ -1,7 +1,7 @@
 """Diameter messages as a client writes and shows them (RFC 6733, TS 29.212, TS 29.214), apart from the product.
 
 A message is a tuple: the command's name, whether it is a request, and its AVPs as pairs of a name and a value. A value is a number, a
-text, or for a group a list of such pairs.
+text, bytes where a text is none, or for a group a list of such pairs.
 """
 import socket
 import struct
@@ -106,7 +106,7 @@ def write_avps(avps):
         elif kind == "group":
             data = write_avps(value)
         else:
-            data = value.encode()
+            data = value if isinstance(value, bytes) else value.encode()
         vendor_id = struct.pack(">I", vendor) if vendor else b""
         flags = 0xC0 if vendor else 0x40
         length = 8 + len(vendor_id) + len(data)

@@ -18,7 +18,7 @@ use Rattle.pcrf_facts.specs.Places.{FlowField, FlowDescriptions, FlowUsage, Flow
 use Rattle.pcrf_facts.specs.Values.{Value, Entry, Number, Filters}
 use Rattle.pcrf_facts.specs.Facts.{Fact, End, Removed, Field, fact_cmp}
 use Rattle.pcrf_facts.proofs.JoinedLaws.{sorted-In}
-use Rattle.record_levels.specs.Levels.{live_at, entry_by}
+use Rattle.session_records.specs.Levels.{live_at, entry_by}
 use Rattle.af_records.specs.declared.flow.FlowParts.{FlowParts}
 use Rattle.af_records.specs.declared.component.ComponentParts.{ComponentParts}
 use Rattle.af_records.specs.declared.session.SessionParts.{SessionParts}

@@ -15,7 +15,7 @@ use Rattle.lattice_core.specs.Entries as entries
 use Rattle.lattice_core.specs.Tombs.{tombed_valid}
 use Rattle.lattice_core.specs.declared.tombed.Tombed.{Tombed}
 use Rattle.lattice_core.specs.declared.tombed.Tombed.TheVariants.{Live, Ended}
-use Rattle.record_levels.proofs.Ordered.{entries_ascending, nested_ascending, valid_member}
+use Rattle.session_records.proofs.Ordered.{entries_ascending, nested_ascending, valid_member}
 use Rattle.af_records.specs.declared.flow.FlowParts.{FlowParts}
 use Rattle.af_records.specs.declared.component.ComponentParts.{ComponentParts}
 use Rattle.af_records.specs.declared.session.SessionParts.{SessionParts}

@@ -16,12 +16,12 @@ use Rattle.pcrf_facts.specs.Values.{Value, Number, Filters, Entry}
 use Rattle.pcrf_facts.specs.Facts.{Fact, Removed, Field, fact_cmp}
 use Rattle.pcrf_facts.proofs.FactLaws.{fact_ranked}
 use Rattle.pcrf_facts.proofs.JoinedLaws.{sorted-In}
-use Rattle.record_levels.specs.Levels.{entry_by, at_place}
-use Rattle.record_levels.specs.SessionFacts.{session_fields, session_entry}
-use Rattle.record_levels.specs.SessionLists.{field_values}
-use Rattle.record_levels.specs.declared.session.SessionValue.{SessionValue}
-use Rattle.record_levels.proofs.FieldLists.{at_place_is, fields_ascending, fields_rise, value_fact, values_facts}
-use Rattle.record_levels.proofs.Ordered.{append_ascending}
+use Rattle.session_records.specs.Levels.{entry_by, at_place}
+use Rattle.session_records.specs.SessionFacts.{session_fields, session_entry}
+use Rattle.session_records.specs.SessionLists.{field_values}
+use Rattle.session_records.specs.declared.session.SessionValue.{SessionValue}
+use Rattle.session_records.proofs.FieldLists.{at_place_is, fields_ascending, fields_rise, value_fact, values_facts}
+use Rattle.session_records.proofs.Ordered.{append_ascending}
 use Rattle.af_records.specs.declared.fact.AfFact.{AfFact}
 use Rattle.af_records.specs.declared.fact.ComponentValue.{ComponentValue}
 use Rattle.af_records.specs.declared.fact.ComponentValue.TheVariants as component_value

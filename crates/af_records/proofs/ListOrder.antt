@@ -14,9 +14,9 @@ use Rattle.lattice_core.specs.declared.tombed.Tombed.TheVariants.{Live, Ended}
 use Rattle.pcrf_facts.specs.Places.{ComponentField, MediaType, ComponentStatus, ComponentRateUp, ComponentRateDown, FlowField, FlowDescriptions, FlowUsage, FlowStatus, FlowRateUp, FlowRateDown, OfComponent, OfFlow, place_cmp}
 use Rattle.pcrf_facts.specs.Values.{Entry}
 use Rattle.pcrf_facts.specs.Facts.{Fact, Field, fact_cmp}
-use Rattle.record_levels.specs.Levels.{at_place}
-use Rattle.record_levels.proofs.FieldLists.{all_below, at_place_is, place_order, fields_ascending}
-use Rattle.record_levels.proofs.Ordered.{nested_ascending}
+use Rattle.session_records.specs.Levels.{at_place}
+use Rattle.session_records.proofs.FieldLists.{all_below, at_place_is, place_order, fields_ascending}
+use Rattle.session_records.proofs.Ordered.{nested_ascending}
 use Rattle.af_records.specs.declared.flow.FlowParts.{FlowParts}
 use Rattle.af_records.specs.declared.component.ComponentParts.{ComponentParts}
 use Rattle.af_records.specs.declared.session.SessionParts.{SessionParts}

@@ -19,10 +19,10 @@ use Rattle.pcrf_facts.specs.Held.{ends, is_ended, shown}
 use Rattle.pcrf_facts.specs.Live.{af_is_live}
 use Rattle.pcrf_facts.proofs.JoinedLaws.{sorted-In}
 use Rattle.pcrf_facts.proofs.ShownLaws.{shown-Same, is_ended-Same, shown_alone}
-use Rattle.record_levels.specs.Levels.{live_at}
-use Rattle.record_levels.specs.SessionFacts.{session_entry, session_says}
-use Rattle.record_levels.proofs.LevelLaws.{not_the_end, live_valid, lives, place_has, level_made}
-use Rattle.record_levels.proofs.SessionLaws.{address_said}
+use Rattle.session_records.specs.Levels.{live_at}
+use Rattle.session_records.specs.SessionFacts.{session_entry, session_says}
+use Rattle.session_records.proofs.LevelLaws.{not_the_end, live_valid, lives, place_has, level_made}
+use Rattle.session_records.proofs.SessionLaws.{address_said}
 use Rattle.af_records.specs.declared.flow.FlowParts.{FlowParts}
 use Rattle.af_records.specs.declared.component.ComponentParts.{ComponentParts}
 use Rattle.af_records.specs.declared.session.SessionParts.{SessionParts}

@@ -20,9 +20,9 @@ use Rattle.pcrf_facts.proofs.KeyLaws.{number_itself, session_key, session_rises,
 use Rattle.pcrf_model.specs.Sessions.{Af}
 use Rattle.pcrf_model.specs.Forms.{is_record}
 use Rattle.pcrf_model.proofs.RecordForms.{joined_record}
-use Rattle.record_levels.specs.SessionFacts.{session_fields, session_entry}
-use Rattle.record_levels.proofs.LevelLaws.{shaded_strict, entry_joined, nothing_keeps, level_all, IsLevel, level_keeps}
-use Rattle.record_levels.proofs.SessionLaws.{session_complete, session_told, one_field_facts}
+use Rattle.session_records.specs.SessionFacts.{session_fields, session_entry}
+use Rattle.session_records.proofs.LevelLaws.{shaded_strict, entry_joined, nothing_keeps, level_all, IsLevel, level_keeps}
+use Rattle.session_records.proofs.SessionLaws.{session_complete, session_told, one_field_facts}
 use Rattle.af_records.specs.declared.fact.ComponentValue.TheVariants as component_value
 use Rattle.af_records.specs.declared.fact.FlowValue.TheVariants as flow_value
 use Rattle.af_records.specs.declared.fact.AfFact.{AfFact}

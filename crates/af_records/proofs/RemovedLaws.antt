@@ -18,9 +18,9 @@ use Rattle.pcrf_facts.specs.Facts.{Fact, End, Removed, Field, fact_cmp}
 use Rattle.pcrf_facts.specs.Held.{removal, removed}
 use Rattle.pcrf_facts.proofs.FactLaws.{fact_ranked}
 use Rattle.pcrf_facts.proofs.JoinedLaws.{sorted-In}
-use Rattle.record_levels.specs.Levels.{at_place, level}
-use Rattle.record_levels.specs.SessionFacts.{session_fields, session_entry}
-use Rattle.record_levels.proofs.Ordered.{append_ascending, entries_ascending}
+use Rattle.session_records.specs.Levels.{at_place, level}
+use Rattle.session_records.specs.SessionFacts.{session_fields, session_entry}
+use Rattle.session_records.proofs.Ordered.{append_ascending, entries_ascending}
 use Rattle.af_records.specs.declared.removed.RemovedPart.{RemovedPart}
 use Rattle.af_records.specs.declared.removed.RemovedPart.TheVariants.{Component, Flow}
 use Rattle.af_records.specs.declared.flow.FlowParts.{FlowParts}

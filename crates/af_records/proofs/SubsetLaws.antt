@@ -9,11 +9,11 @@ use Rattle.lattice_core.proofs.Subsets.{Tells, tombs_tell}
 use Rattle.pcrf_facts.specs.Places as places
 use Rattle.pcrf_facts.specs.Values.{Number, Filters}
 use Rattle.pcrf_facts.specs.Facts.{End, Removed, fact_cmp}
-use Rattle.record_levels.specs.SessionFacts.{session_entry}
-use Rattle.record_levels.specs.Subsets.{facts_subset, facts_empty}
-use Rattle.record_levels.proofs.LevelLaws.{shaded_strict}
-use Rattle.record_levels.proofs.SubsetLaws as levels
-use Rattle.record_levels.proofs.SubsetLaws.{entry_subset, entry_empty, entries_subset, entries_empty, nothing_tells, level_tells, subset_is, empty_is}
+use Rattle.session_records.specs.SessionFacts.{session_entry}
+use Rattle.session_records.specs.Subsets.{facts_subset, facts_empty}
+use Rattle.session_records.proofs.LevelLaws.{shaded_strict}
+use Rattle.session_records.proofs.SubsetLaws as levels
+use Rattle.session_records.proofs.SubsetLaws.{entry_subset, entry_empty, entries_subset, entries_empty, nothing_tells, level_tells, subset_is, empty_is}
 use Rattle.af_records.specs.declared.flow.FlowParts.{FlowParts}
 use Rattle.af_records.specs.declared.component.ComponentParts.{ComponentParts}
 use Rattle.af_records.specs.declared.session.SessionParts.{SessionParts}

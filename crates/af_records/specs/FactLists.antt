@@ -4,8 +4,8 @@ use Rattle.std.specs.List.{flat_map}
 use Rattle.ranked.specs.declared.tag.Tag.{Tag}
 use Rattle.lattice_core.specs.declared.tombed.Tombed.{Tombed}
 use Rattle.lattice_core.specs.declared.tombed.Tombed.TheVariants.{Live, Ended}
-use Rattle.record_levels.specs.SessionLists.{field_values}
-use Rattle.record_levels.specs.declared.session.SessionValue.{SessionValue}
+use Rattle.session_records.specs.SessionLists.{field_values}
+use Rattle.session_records.specs.declared.session.SessionValue.{SessionValue}
 use Rattle.af_records.specs.declared.fact.AfFact.{AfFact}
 use Rattle.af_records.specs.declared.fact.AfFact.TheVariants.{End, ComponentRemoved, FlowRemoved, Session, Component, Flow}
 use Rattle.af_records.specs.declared.fact.ComponentValue.{ComponentValue}

@@ -1,5 +1,5 @@
 -- The numbers of flows of a record: of those of which a field shows, or of those that are removed.
-use Rattle.std.specs.Prelude.{ℕ, Bool, not, ◌&&◌, ◌||◌, cond, List, [], ◌++◌, Option, Some, None, is_some}
+use Rattle.std.specs.Prelude.{ℕ, Bool, not, ◌&&◌, ◌||◌, if◌then◌else◌, List, [], ◌++◌, Option, Some, None, is_some}
 use Rattle.std.specs.List.{filter_map, flat_map}
 use Rattle.lattice_core.specs.declared.tombed.Tombed.{Tombed}
 use Rattle.lattice_core.specs.declared.tombed.Tombed.TheVariants.{Live, Ended}
@@ -19,7 +19,7 @@ is_listed removed Ended = removed
 
 -- its numbers, if it is
 abbrev pub flow_number : Bool → ℕ → ℕ × Tombed FlowParts → Option (ℕ × ℕ)
-flow_number removed c e = cond (is_listed removed e.1) (Some (c, e.0)) None
+flow_number removed c e = if is_listed removed e.1 then Some (c, e.0) else None
 
 -- of the flows of a component
 abbrev pub component_flows : Bool → ℕ × Tombed ComponentParts → List (ℕ × ℕ)

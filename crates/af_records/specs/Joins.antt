@@ -15,7 +15,7 @@ use Rattle.lattice_core.specs.Tombs.{tombed_joined, tombed_valid}
 use Rattle.lattice_core.specs.laws.Tombs.{tombed_comm, tombed_assoc, tombed_idem, tombed_closed}
 use Rattle.lattice_core.specs.Entries.{IsAscending, AllValues, map_joined}
 use Rattle.lattice_core.specs.laws.Maps.{map_comm, map_assoc, map_idem, map_closed}
-use Rattle.record_levels.specs.SessionJoins.{fields_joined, fields_comm, fields_assoc, fields_idem}
+use Rattle.session_records.specs.SessionJoins.{fields_joined, fields_comm, fields_assoc, fields_idem}
 use Rattle.af_records.specs.declared.rates.Rates.{Rates}
 use Rattle.af_records.specs.declared.flow.FlowParts.{FlowParts}
 use Rattle.af_records.specs.declared.component.ComponentParts.{ComponentParts}

@@ -8,8 +8,8 @@ use Rattle.lattice_core.specs.declared.tombed.Tombed.{Tombed}
 use Rattle.lattice_core.specs.declared.tombed.Tombed.TheVariants.{Live, Ended}
 use Rattle.pcrf_facts.specs.Places.{ComponentField, FlowField}
 use Rattle.pcrf_facts.specs.Values.{Entry}
-use Rattle.record_levels.specs.Levels.{live_at}
-use Rattle.record_levels.specs.declared.session.SessionFields.{SessionFields}
+use Rattle.session_records.specs.Levels.{live_at}
+use Rattle.session_records.specs.declared.session.SessionFields.{SessionFields}
 use Rattle.af_records.specs.declared.flow.FlowParts.{FlowParts}
 use Rattle.af_records.specs.declared.component.ComponentParts.{ComponentParts}
 use Rattle.af_records.specs.declared.session.SessionParts.{SessionParts}

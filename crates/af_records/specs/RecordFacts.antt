@@ -8,8 +8,8 @@ use Rattle.pcrf_facts.specs.Places as places
 use Rattle.pcrf_facts.specs.Values.{Number, Filters, Entry}
 use Rattle.pcrf_facts.specs.Facts.{Fact, Removed, Field}
 use Rattle.pcrf_facts.specs.Facts as facts
-use Rattle.record_levels.specs.Levels.{entry_by, level}
-use Rattle.record_levels.specs.SessionFacts.{session_fact, session_fields, session_entry}
+use Rattle.session_records.specs.Levels.{entry_by, level}
+use Rattle.session_records.specs.SessionFacts.{session_fact, session_fields, session_entry}
 use Rattle.af_records.specs.declared.fact.ComponentValue.TheVariants as component_value
 use Rattle.af_records.specs.declared.fact.FlowValue.TheVariants as flow_value
 use Rattle.af_records.specs.declared.fact.AfFact.{AfFact}

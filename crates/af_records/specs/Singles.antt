@@ -3,8 +3,8 @@ use Rattle.std.specs.Prelude.{ℕ, Some, None, [], ◌∷◌}
 use Rattle.ranked.specs.declared.tag.Tag.{Tag}
 use Rattle.lattice_core.specs.declared.tombed.Tombed.{Tombed}
 use Rattle.lattice_core.specs.declared.tombed.Tombed.TheVariants.{Live, Ended}
-use Rattle.record_levels.specs.declared.session.SessionValue.{SessionValue}
-use Rattle.record_levels.specs.SessionFacts.{no_fields, one_field}
+use Rattle.session_records.specs.declared.session.SessionValue.{SessionValue}
+use Rattle.session_records.specs.SessionFacts.{no_fields, one_field}
 use Rattle.af_records.specs.declared.fact.ComponentValue.{ComponentValue}
 use Rattle.af_records.specs.declared.fact.ComponentValue.TheVariants as component_value
 use Rattle.af_records.specs.declared.fact.FlowValue.{FlowValue}

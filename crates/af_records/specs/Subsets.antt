@@ -3,7 +3,7 @@ use Rattle.std.specs.Prelude.{Bool, ◌&&◌}
 use Rattle.std.specs.Ordering.{nat_cmp}
 use Rattle.lattice_core.specs.declared.tombed.Tombed.{Tombed}
 use Rattle.lattice_core.specs.Subsets.{reg_subset, reg_empty, map_subset, map_empty, tombed_subset, tombed_empty}
-use Rattle.record_levels.specs.Subsets.{fields_subset, fields_empty}
+use Rattle.session_records.specs.Subsets.{fields_subset, fields_empty}
 use Rattle.af_records.specs.declared.rates.Rates.{Rates}
 use Rattle.af_records.specs.declared.flow.FlowParts.{FlowParts}
 use Rattle.af_records.specs.declared.component.ComponentParts.{ComponentParts}

@@ -6,7 +6,7 @@ use crate::fact::{ComponentValue, OpenStatusNumber};
 use crate::flow::FlowParts;
 use crate::rates::Rates;
 use lattice_core::{FactSet, Join, JoinMap, Reg, Tag, Tombed};
-use record_levels::map_of;
+use session_records::map_of;
 use std::alloc::{AllocError, Global};
 
 /// The fields of a component, and its flows.

@@ -3,7 +3,7 @@ ghost use Rattle.std.specs.Prelude.{◌≡◌, IfOk};
 
 use lattice_core::{Ranked, Tag};
 use pcrf_values::{BoundedNumber, Filters};
-use record_levels::SessionValue;
+use session_records::SessionValue;
 use std::alloc::AllocError;
 
 /// The number of a Flow-Status that isn't REMOVED, 0 to 3 (TS 29.214, 5.3.11). Values of one tag are ranked by it.

@@ -18,5 +18,5 @@ pub use fact::{
 pub use flows::Flows;
 pub use rates::GivenRates;
 pub use record::AfRec;
-pub use record_levels::SessionValue;
 pub use removed::{RemovedPart, RemovedParts};
+pub use session_records::SessionValue;

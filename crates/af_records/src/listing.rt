@@ -10,7 +10,7 @@ use crate::flow_listing::add_flows;
 use crate::removed::{RemovedPart, RemovedParts};
 use crate::session::SessionParts;
 use lattice_core::{Reg, Tag, Tombed};
-use record_levels::SessionValue;
+use session_records::SessionValue;
 use std::alloc::{AllocError, Global};
 
 /// The facts of what isn't ended, in order.

@@ -1,5 +1,5 @@
 //! Records of AF sessions.
-ghost use Rattle.std.specs.Prelude.{◌≡◌, [], ◌∷◌, IfOk, OnOk, OnErr, None, cond, map, true};
+ghost use Rattle.std.specs.Prelude.{◌≡◌, [], ◌∷◌, IfOk, OnOk, OnErr, None, if◌then◌else◌, map, true};
 ghost use Rattle.std.proofs.Common.{unwrap_or};
 ghost use Rattle.std.specs.Option.{option_copied};
 ghost use Rattle.pcrf_values.specs.Numbers.{flow_status_number};
@@ -13,8 +13,8 @@ ghost use Rattle.pcrf_facts.specs.Values as values;
 ghost use Rattle.pcrf_facts.specs.Values.{Number, Text};
 ghost use Rattle.pcrf_model.specs.Forms.{is_record};
 ghost use Rattle.pcrf_model.specs.Sessions.{Af};
-ghost use Rattle.record_levels.specs.Levels.{entry_by};
-ghost use Rattle.record_levels.specs.SessionFacts.{address_value, session_says};
+ghost use Rattle.session_records.specs.Levels.{entry_by};
+ghost use Rattle.session_records.specs.SessionFacts.{address_value, session_says};
 ghost use Rattle.af_records.specs.FactLists.{record_listed};
 ghost use Rattle.af_records.specs.RemovedLists.{removable_of};
 ghost use Rattle.af_records.specs.Parts.{fields_at, components_of, component_at, flow_at, component_says, flow_says, held_number};
@@ -32,7 +32,7 @@ use crate::removed::RemovedParts;
 use crate::session::SessionParts;
 use lattice_core::{FactSet, Join, Tag, Tombed};
 use pcrf_values::{Apn, DiameterIdentity, Filters, FlowStatus, Subscribers};
-use record_levels::{SessionFields, join_into};
+use session_records::{SessionFields, join_into};
 use std::alloc::{AllocError, Global};
 use std::marker::Model;
 use std::net::Ipv4Addr;
@@ -109,7 +109,7 @@ impl Join for AfRec {
 }
 
 impl FactSet for AfRec {
-    ghost use Rattle.record_levels.specs.Subsets.{facts_subset, facts_empty};
+    ghost use Rattle.session_records.specs.Subsets.{facts_subset, facts_empty};
 
     ghost subset = { facts_subset };
 
@@ -564,7 +564,7 @@ fn status_of(
 // The rate of a flow in one direction, by what it and its component say.
 fn given_rate(own: Option<&(Tag, u32)>, is_rtcp: bool, whole: Option<&(Tag, u32)>) -> Option<u32>
     ensures { result ≡ words.or_else (held_number (option_copied own.entry))
-        (cond is_rtcp None (held_number (option_copied whole.entry))) }
+        (if is_rtcp then None else held_number (option_copied whole.entry)) }
 {
     match own {
         Some(told) => Some(told.1),

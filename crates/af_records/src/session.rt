@@ -5,7 +5,7 @@ ghost use Rattle.af_records.specs.Singles.{no_session, one_session_field, with_c
 use crate::component::ComponentParts;
 use crate::fact::AfRequestType;
 use lattice_core::{FactSet, Join, JoinMap, Tag, Tombed};
-use record_levels::{SessionFields, SessionValue, map_of};
+use session_records::{SessionFields, SessionValue, map_of};
 use std::alloc::{AllocError, Global};
 
 /// The fields of a session, and its components.

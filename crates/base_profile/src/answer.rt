@@ -1,5 +1,5 @@
 //! Answers of the base protocol.
-ghost use Rattle.std.specs.Prelude.{◌≡◌, ◌≤◌, ◌∷◌, ◌++◌, [], None, Some, cond, length, map, IfOk, OnOk};
+ghost use Rattle.std.specs.Prelude.{◌≡◌, ◌≤◌, ◌∷◌, ◌++◌, [], None, Some, if◌then◌else◌, length, map, IfOk, OnOk};
 ghost use Rattle.dia_codec.specs.Limits.{longest_message};
 ghost use Rattle.std.specs.List.{flat_map, list_any};
 ghost use Rattle.pcrf_values.specs.Results.{no_common_application};
@@ -54,8 +54,8 @@ fn has_common(applications: &[ApplicationId]) -> bool
 
 /// The refusal where none of these applications is one in common.
 fn refusal_among(applications: &[ApplicationId]) -> Option<Refusal>
-    ensures { result ≡ cond (list_any is_common (map number_of applications.now)) None
-        (Some no_common_application) }
+    ensures { result ≡ (if list_any is_common (map number_of applications.now) then None
+        else Some no_common_application) }
 {
     match has_common(applications) {
         true => None,

@@ -1,5 +1,5 @@
 -- The live Gx sessions that have an address, or a subscriber.
-use Rattle.std.specs.Prelude.{ℕ, Bool, ◌&&◌, cond, List, [], ◌∷◌, Option, Some, None}
+use Rattle.std.specs.Prelude.{ℕ, Bool, ◌&&◌, if◌then◌else◌, List, [], ◌∷◌, Option, Some, None}
 use Rattle.std.specs.List.{filter_map}
 use Rattle.std.specs.Net.Addr.{ipv4_octets}
 use Rattle.pcrf_facts.specs.Facts.{Fact}
@@ -27,7 +27,7 @@ shows_asked (HasSubscriber x) shows = meets (Some (Subscribers (x ∷ []))) (val
 
 -- the Session-Id of a live Gx session that shows what is asked
 abbrev pub listed : View → Question → Session → Option (List ℕ)
-listed v q s = cond (is_gx s.kind && is_live v s && shows_asked q (v.shows s)) (Some s.id) None
+listed v q s = if is_gx s.kind && is_live v s && shows_asked q (v.shows s) then Some s.id else None
 
 -- the Session-Ids of all of them, ascending
 abbrev pub live_sessions : View → Question → List (List ℕ)

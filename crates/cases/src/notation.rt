@@ -1,8 +1,11 @@
 //! AVPs by words: `CODE=TEXT` with `_` for a space, `CODE:NUMBER`, `CODE*COUNT` for a filter of so many bytes,
 //! `CODE^BYTE` for a filter that ends with this byte, and `CODE(` and `)` round the AVPs of a group. Codes from 500 to 599
 //! are those of 3GPP; a `VENDOR/` before a code gives it another vendor.
+use dia_codec::{Avp, write_group};
 use std::alloc::{AllocError, Global};
-use test_messages::{Avps, TGPP};
+
+/// The vendor 3GPP (TS 29.230).
+const TGPP: u32 = 10_415;
 
 /// What a filter begins with.
 const FILTER: &[u8] = b"permit in ";
@@ -11,22 +14,40 @@ const FILTER: &[u8] = b"permit in ";
 #[derive(Drop)]
 struct Level {
     code: u32,
-    avps: Avps,
+    avps: Vec<Avp>,
 }
 
-/// Puts an AVP, with the vendor of its code.
-fn put(avps: &mut Avps, code: u32, value: &[u8]) -> Result<(), AllocError> {
+/// The vendor of a code.
+fn vendor_of(code: u32) -> Option<u32> {
     if code >= 500 && code < 600 {
-        return avps.vendor_text(code, TGPP, value);
+        Some(TGPP)
+    } else {
+        None
     }
-    avps.text(code, value)
+}
+
+/// Puts an AVP with the M bit.
+fn put(
+    avps: &mut Vec<Avp>,
+    code: u32,
+    vendor: Option<u32>,
+    value: Vec<u8>,
+) -> Result<(), AllocError> {
+    avps.push(Avp {
+        code,
+        vendor,
+        mandatory: true,
+        protected: false,
+        value,
+    })?;
+    Ok(())
 }
 
 /// Puts an AVP under the code that a word gives, with the vendor before the stroke, or else with that of its code.
-fn put_named(avps: &mut Avps, name: &str, value: &[u8]) -> Result<(), AllocError> {
+fn put_named(avps: &mut Vec<Avp>, name: &str, value: Vec<u8>) -> Result<(), AllocError> {
     match name.split_once('/') {
-        Some((vendor, code)) => avps.vendor_text(number(code), number(vendor), value),
-        None => put(avps, number(name), value),
+        Some((vendor, code)) => put(avps, number(code), Some(number(vendor)), value),
+        None => put(avps, number(name), vendor_of(number(name)), value),
     }
 }
 
@@ -61,48 +82,51 @@ fn ended_filter(alloc: Global, byte: u32) -> Result<Vec<u8>, AllocError> {
     Ok(bytes)
 }
 
-/// Puts an AVP that has a value.
-fn put_value(avps: &mut Avps, code: &str, value: Vec<u8>) -> Result<(), AllocError> {
-    let put = put_named(avps, code, value.as_slice());
-    drop(value);
-    put
-}
-
 /// Puts the AVP that a word says.
-fn put_word(alloc: Global, avps: &mut Avps, word: &str) -> Result<(), AllocError> {
+fn put_word(alloc: Global, avps: &mut Vec<Avp>, word: &str) -> Result<(), AllocError> {
     if let Some((code, text)) = word.split_once('=') {
-        return put_value(avps, code, spaced(alloc, text)?);
+        return put_named(avps, code, spaced(alloc, text)?);
     }
     if let Some((code, count)) = word.split_once('*') {
-        return put_value(avps, code, long_filter(alloc, number(count))?);
+        return put_named(avps, code, long_filter(alloc, number(count))?);
     }
     if let Some((code, byte)) = word.split_once('^') {
-        return put_value(avps, code, ended_filter(alloc, number(byte))?);
+        return put_named(avps, code, ended_filter(alloc, number(byte))?);
     }
     let (code, digits) = word.split_once(':').unwrap_or((word, ""));
-    put_named(avps, code, &number(digits).to_be_bytes())
+    let digits = number(digits).to_be_bytes();
+    put_named(avps, code, Vec::from_slice(alloc, &digits)?)
 }
 
 /// Begins a group.
 fn start_group(alloc: Global, levels: &mut Vec<Level>, code: u32) -> Result<(), AllocError> {
-    let avps = Avps::start(alloc);
+    let avps = Vec::new(alloc);
     levels.push(Level { code, avps })?;
     Ok(())
 }
 
-/// Puts a group that is ended into the one round it.
-fn put_group(levels: &mut [Level], inner: &Level) -> Result<(), AllocError> {
-    match levels.last_mut() {
-        Some(outer) => put(&mut outer.avps, inner.code, inner.avps.as_slice()),
-        None => Ok(()),
+/// The value of a group.
+fn value_of(alloc: Global, group: &[Avp]) -> Result<Vec<u8>, AllocError> {
+    match write_group(alloc, group) {
+        Ok(value) => Ok(value),
+        Err(_) => Err(AllocError),
     }
 }
 
+/// Puts a group that is ended into the one round it.
+fn put_group(alloc: Global, levels: &mut [Level], inner: &Level) -> Result<(), AllocError> {
+    let Some(outer) = levels.last_mut() else {
+        return Ok(());
+    };
+    let value = value_of(alloc, inner.avps.as_slice())?;
+    put(&mut outer.avps, inner.code, vendor_of(inner.code), value)
+}
+
 /// Ends the innermost group.
-fn end_group(levels: &mut Vec<Level>) -> Result<(), AllocError> {
+fn end_group(alloc: Global, levels: &mut Vec<Level>) -> Result<(), AllocError> {
     let inner = levels.pop();
     let put = match &inner {
-        Some(inner) => put_group(levels.as_mut_slice(), inner),
+        Some(inner) => put_group(alloc, levels.as_mut_slice(), inner),
         None => Ok(()),
     };
     drop(inner);
@@ -115,7 +139,7 @@ fn put_next(alloc: Global, levels: &mut Vec<Level>, word: &str) -> Result<(), Al
         return start_group(alloc, levels, number(code));
     }
     if word == ")" {
-        return end_group(levels);
+        return end_group(alloc, levels);
     }
     match levels.last_mut() {
         Some(level) => put_word(alloc, &mut level.avps, word),
@@ -133,13 +157,13 @@ fn put_all(alloc: Global, levels: &mut Vec<Level>, words: &str) -> Result<(), Al
 }
 
 /// The AVPs that the words say.
-pub fn avps_of(alloc: Global, words: &str) -> Result<Avps, AllocError> {
+pub fn avps_of(alloc: Global, words: &str) -> Result<Vec<Avp>, AllocError> {
     let mut levels = Vec::new(alloc);
     put_all(alloc, &mut levels, words)?;
     let whole = levels.pop();
     drop(levels);
     match whole {
         Some(level) => Ok(level.avps),
-        None => Ok(Avps::start(alloc)),
+        None => Ok(Vec::new(alloc)),
     }
 }

@@ -9,7 +9,7 @@ use operator_view::{
 };
 use pcrf_values::{AfSid, GxSid, Rule, RuleName, Subscriber};
 use ranked::Ranked;
-use record_levels::SessionValue;
+use session_records::SessionValue;
 use site_join::State;
 use std::alloc::{AllocError, Global};
 use std::fmt::Write as _;

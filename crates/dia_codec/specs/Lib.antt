@@ -4,4 +4,3 @@ pub mod Spelling
 pub mod Reading
 pub mod Written
 pub mod Stream
-pub mod Counted

@@ -3,12 +3,11 @@
 //! `read_message` and `read_group` read exactly what `specs/Spelling.antt` calls a spelling, and tell the first fault
 //! of anything else. `write_message` writes one spelling of each message, with all padding and with zeros where the
 //! bits are free, so that `read_message` gives the message back (`round_trip`). An `Assembler` cuts a stream into
-//! messages by their length fields, however its bytes come, and `frames_of` does so for a whole stream. `Counted` wraps
-//! a reader or a writer, and remembers whether a call of it has failed, and whether the reader is at its end.
+//! messages by their length fields, however its bytes come, and `frames_of` does so for a whole stream. `Counted`, which
+//! remembers whether a call of a reader or a writer has failed, is that of `watched_io`, handed on.
 #![tactic(auto)]
 
 mod assembling;
-mod counted;
 mod fault;
 mod fields;
 mod message;
@@ -17,10 +16,10 @@ mod stream;
 mod writing;
 
 pub use assembling::Assembler;
-pub use counted::Counted;
 pub use fault::{FrameFault, MsgFault, WriteFault};
 pub use fields::{HEADER_BYTES, read_header};
 pub use message::{Avp, AvpKey, Flags, Header, Message};
 pub use reading::{read_group, read_message, read_message_with};
 pub use stream::{FramedStream, StreamEnd, frames_of, one_cut};
+pub use watched_io::Counted;
 pub use writing::{round_trip, write_group, write_message};

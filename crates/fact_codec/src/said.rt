@@ -12,7 +12,7 @@ use crate::texts::{apn_at, text_at};
 use crate::values::{address_at, filters_at, subscribers_at};
 use af_records::{ComponentValue, FlowUsageNumber, FlowValue, OpenStatusNumber};
 use pcrf_values::BoundedNumber;
-use record_levels::SessionValue;
+use session_records::SessionValue;
 use std::alloc::Global;
 
 /// A value of a field of a session, in whichever kind of session the type of the last request is that.

@@ -12,12 +12,12 @@ use Rattle.lattice_core.specs.declared.tombed.Tombed.TheVariants.{Live, Ended}
 use Rattle.pcrf_facts.specs.Places.{OfSession, OfRuleName}
 use Rattle.pcrf_facts.specs.Facts.{Fact, fact_cmp}
 use Rattle.pcrf_facts.proofs.FactLaws.{fact_ranked}
-use Rattle.record_levels.specs.Levels.{entry_by, at_place}
-use Rattle.record_levels.specs.SessionFacts.{session_fields, session_entry}
-use Rattle.record_levels.specs.SessionLists.{field_values}
-use Rattle.record_levels.specs.declared.session.SessionValue.{SessionValue}
-use Rattle.record_levels.proofs.FieldLists.{at_place_is, at_place_rises, place_order, fields_ascending, fields_rise, value_fact, values_facts}
-use Rattle.record_levels.proofs.Ordered.{append_ascending, nested_ascending}
+use Rattle.session_records.specs.Levels.{entry_by, at_place}
+use Rattle.session_records.specs.SessionFacts.{session_fields, session_entry}
+use Rattle.session_records.specs.SessionLists.{field_values}
+use Rattle.session_records.specs.declared.session.SessionValue.{SessionValue}
+use Rattle.session_records.proofs.FieldLists.{at_place_is, at_place_rises, place_order, fields_ascending, fields_rise, value_fact, values_facts}
+use Rattle.session_records.proofs.Ordered.{append_ascending, nested_ascending}
 use Rattle.gx_records.specs.declared.parts.GxParts.{GxParts}
 use Rattle.gx_records.specs.FactLists.{field_fact, told_facts, record_listed}
 use Rattle.gx_records.specs.GxFacts.{fact_of, told_value, told_at, record_facts}

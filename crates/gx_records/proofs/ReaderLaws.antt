@@ -15,9 +15,9 @@ use Rattle.pcrf_facts.specs.Held.{ends, is_ended, shown}
 use Rattle.pcrf_facts.specs.Live.{gx_is_live}
 use Rattle.pcrf_facts.proofs.JoinedLaws.{sorted-In}
 use Rattle.pcrf_facts.proofs.ShownLaws.{shown-Same, is_ended-Same, shown_alone, fact_there}
-use Rattle.record_levels.specs.SessionFacts.{session_fields, session_entry, session_says, has_all}
-use Rattle.record_levels.proofs.LevelLaws.{place_has, level_made, level_all, not_the_end}
-use Rattle.record_levels.proofs.SessionLaws.{all_said}
+use Rattle.session_records.specs.SessionFacts.{session_fields, session_entry, session_says, has_all}
+use Rattle.session_records.proofs.LevelLaws.{place_has, level_made, level_all, not_the_end}
+use Rattle.session_records.proofs.SessionLaws.{all_said}
 use Rattle.gx_records.specs.declared.parts.GxParts.{GxParts}
 use Rattle.gx_records.specs.GxFacts.{told_at, parts_facts, record_facts, fields_at}
 use Rattle.gx_records.specs.GxJoins.{record_valid}

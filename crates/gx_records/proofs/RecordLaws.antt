@@ -18,10 +18,10 @@ use Rattle.pcrf_facts.proofs.KeyLaws.{key_by, key_rises}
 use Rattle.pcrf_model.specs.Sessions.{Gx}
 use Rattle.pcrf_model.specs.Forms.{is_record}
 use Rattle.pcrf_model.proofs.RecordForms.{joined_record}
-use Rattle.record_levels.specs.SessionFacts.{session_fields, session_entry}
-use Rattle.record_levels.specs.declared.session.SessionValue.TheVariants as session_value
-use Rattle.record_levels.proofs.LevelLaws.{shaded_strict, register_keeps, level_all, IsLevel, level_keeps}
-use Rattle.record_levels.proofs.SessionLaws.{session_complete, session_told}
+use Rattle.session_records.specs.SessionFacts.{session_fields, session_entry}
+use Rattle.session_records.specs.declared.session.SessionValue.TheVariants as session_value
+use Rattle.session_records.proofs.LevelLaws.{shaded_strict, register_keeps, level_all, IsLevel, level_keeps}
+use Rattle.session_records.proofs.SessionLaws.{session_complete, session_told}
 use Rattle.gx_records.specs.declared.fact.GxFact.{GxFact}
 use Rattle.gx_records.specs.declared.fact.GxFact.TheVariants.{End, Field, Told}
 use Rattle.gx_records.specs.declared.parts.GxParts.{GxParts}

@@ -8,10 +8,10 @@ use Rattle.lattice_core.specs.Subsets.{reg_subset, reg_empty, map_subset, map_em
 use Rattle.lattice_core.proofs.Subsets.{Tells, tombs_tell}
 use Rattle.pcrf_facts.specs.Places.{OfRuleName}
 use Rattle.pcrf_facts.specs.Facts.{End, fact_cmp}
-use Rattle.record_levels.specs.SessionFacts.{session_entry}
-use Rattle.record_levels.specs.Subsets.{facts_subset, facts_empty}
-use Rattle.record_levels.proofs.LevelLaws.{shaded_strict}
-use Rattle.record_levels.proofs.SubsetLaws.{register_tells, level_tells, session_subset, session_empty, subset_is, empty_is}
+use Rattle.session_records.specs.SessionFacts.{session_entry}
+use Rattle.session_records.specs.Subsets.{facts_subset, facts_empty}
+use Rattle.session_records.proofs.LevelLaws.{shaded_strict}
+use Rattle.session_records.proofs.SubsetLaws.{register_tells, level_tells, session_subset, session_empty, subset_is, empty_is}
 use Rattle.gx_records.specs.declared.parts.GxParts.{GxParts}
 use Rattle.gx_records.specs.GxFacts.{told_value, told_at, parts_facts, record_facts}
 use Rattle.gx_records.specs.GxJoins.{told_cmp, told_valid, parts_valid, record_valid}

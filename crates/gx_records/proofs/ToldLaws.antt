@@ -24,9 +24,9 @@ use Rattle.pcrf_facts.specs.Facts.{Fact, End, Removed, Field, fact_cmp}
 use Rattle.pcrf_facts.specs.ToldWords.{as_told, named_told, ToldEntry, told_entry, told_entries, told_rule}
 use Rattle.pcrf_facts.proofs.FactLaws.{tag_ranked, rule_ranked, fact_ranked}
 use Rattle.pcrf_facts.proofs.JoinedLaws.{sorted-In}
-use Rattle.record_levels.specs.Levels.{at_place}
-use Rattle.record_levels.specs.SessionFacts.{session_fields, session_entry}
-use Rattle.record_levels.proofs.Ordered.{entries_ascending}
+use Rattle.session_records.specs.Levels.{at_place}
+use Rattle.session_records.specs.SessionFacts.{session_fields, session_entry}
+use Rattle.session_records.proofs.Ordered.{entries_ascending}
 use Rattle.gx_records.specs.declared.parts.GxParts.{GxParts}
 use Rattle.gx_records.specs.GxFacts.{told_value, told_at, record_facts, told_held, rule_under}
 use Rattle.gx_records.specs.GxJoins.{told_cmp, Register, record_valid}

@@ -5,8 +5,8 @@ use Rattle.ranked.specs.declared.tag.Tag.{Tag}
 use Rattle.pcrf_values.specs.RuleValues.{RuleValue}
 use Rattle.lattice_core.specs.declared.tombed.Tombed.{Tombed}
 use Rattle.lattice_core.specs.declared.tombed.Tombed.TheVariants as tombed
-use Rattle.record_levels.specs.SessionLists.{field_values}
-use Rattle.record_levels.specs.declared.session.SessionValue.{SessionValue}
+use Rattle.session_records.specs.SessionLists.{field_values}
+use Rattle.session_records.specs.declared.session.SessionValue.{SessionValue}
 use Rattle.gx_records.specs.declared.fact.GxFact.{GxFact}
 use Rattle.gx_records.specs.declared.fact.GxFact.TheVariants.{End, Field, Told}
 use Rattle.gx_records.specs.declared.parts.GxParts.{GxParts}

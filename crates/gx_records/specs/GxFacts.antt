@@ -11,10 +11,10 @@ use Rattle.pcrf_facts.specs.Values.{Value, Untold}
 use Rattle.pcrf_facts.specs.Values as values
 use Rattle.pcrf_facts.specs.Facts as facts
 use Rattle.pcrf_facts.specs.ToldWords.{ToldEntry}
-use Rattle.record_levels.specs.Levels.{entry_by, at_place, level}
-use Rattle.record_levels.specs.SessionFacts.{session_fact, session_fields, session_entry, no_fields, one_field}
-use Rattle.record_levels.specs.declared.session.SessionValue.{SessionValue}
-use Rattle.record_levels.specs.declared.session.SessionFields.{SessionFields}
+use Rattle.session_records.specs.Levels.{entry_by, at_place, level}
+use Rattle.session_records.specs.SessionFacts.{session_fact, session_fields, session_entry, no_fields, one_field}
+use Rattle.session_records.specs.declared.session.SessionValue.{SessionValue}
+use Rattle.session_records.specs.declared.session.SessionFields.{SessionFields}
 use Rattle.gx_records.specs.declared.fact.GxFact.{GxFact}
 use Rattle.gx_records.specs.declared.fact.GxFact.TheVariants.{End, Field, Told}
 use Rattle.gx_records.specs.declared.parts.GxParts.{GxParts}

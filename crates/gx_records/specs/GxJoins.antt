@@ -18,7 +18,7 @@ use Rattle.lattice_core.specs.laws.Registers.{reg_comm, reg_assoc, reg_idem}
 use Rattle.lattice_core.specs.Tombs.{tombed_joined, tombed_valid}
 use Rattle.lattice_core.specs.Entries.{IsAscending, AllValues, map_joined}
 use Rattle.lattice_core.specs.laws.Maps.{map_comm, map_assoc, map_idem, map_closed}
-use Rattle.record_levels.specs.SessionJoins.{fields_joined, fields_comm, fields_assoc, fields_idem}
+use Rattle.session_records.specs.SessionJoins.{fields_joined, fields_comm, fields_assoc, fields_idem}
 use Rattle.gx_records.specs.declared.parts.GxParts.{GxParts}
 
 -- nothing is below every rule

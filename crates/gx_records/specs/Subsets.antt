@@ -4,7 +4,7 @@ use Rattle.std.specs.Ordering.{nat_cmp}
 use Rattle.ranked.specs.Orders.{text_cmp}
 use Rattle.lattice_core.specs.declared.tombed.Tombed.{Tombed}
 use Rattle.lattice_core.specs.Subsets.{reg_subset, reg_empty, map_subset, map_empty, tombed_subset, tombed_empty}
-use Rattle.record_levels.specs.Subsets.{fields_subset, fields_empty}
+use Rattle.session_records.specs.Subsets.{fields_subset, fields_empty}
 use Rattle.gx_records.specs.declared.parts.GxParts.{GxParts}
 use Rattle.gx_records.specs.GxJoins.{told_cmp}
 

@@ -3,7 +3,7 @@ ghost use Rattle.std.specs.Prelude.{◌≡◌, IfOk};
 
 use lattice_core::{Ranked, Tag};
 use pcrf_values::{BoundedNumber, Rule, RuleName};
-use record_levels::SessionValue;
+use session_records::SessionValue;
 use std::alloc::AllocError;
 
 /// The CC-Request-Type of a request that leaves a session open: INITIAL_REQUEST, 1, or UPDATE_REQUEST, 2 (RFC 8506, 8.3).

@@ -9,5 +9,5 @@ mod told;
 
 pub use fact::{GxFact, OpenRequestType};
 pub use record::GxRec;
-pub use record_levels::SessionValue;
+pub use session_records::SessionValue;
 pub use told::Told;

@@ -7,7 +7,7 @@ use crate::fact::{GxFact, OpenRequestType};
 use crate::parts::GxParts;
 use lattice_core::{Ranked, Reg, Tag};
 use pcrf_values::{Rule, RuleName};
-use record_levels::SessionValue;
+use session_records::SessionValue;
 use std::alloc::{AllocError, Global};
 
 /// The facts of what isn't ended, in order.

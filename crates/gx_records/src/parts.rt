@@ -5,7 +5,7 @@ ghost use Rattle.gx_records.specs.GxFacts.{no_parts, one_field_of, one_told};
 use crate::fact::OpenRequestType;
 use lattice_core::{FactSet, Join, JoinMap, Ranked, Reg, Tag};
 use pcrf_values::{Rule, RuleName};
-use record_levels::{SessionFields, SessionValue, map_of};
+use session_records::{SessionFields, SessionValue, map_of};
 use std::alloc::{AllocError, Global};
 
 /// The fields of a session, and what its gateway was told of rules.

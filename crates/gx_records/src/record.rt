@@ -11,8 +11,8 @@ ghost use Rattle.pcrf_model.specs.Sessions.{Gx};
 ghost use Rattle.pcrf_facts.specs.ToldWords.{told_entries, told};
 ghost use Rattle.pcrf_facts.specs.Values as values;
 ghost use Rattle.pcrf_facts.specs.Values.{Number, Text};
-ghost use Rattle.record_levels.specs.Levels.{entry_by};
-ghost use Rattle.record_levels.specs.SessionFacts.{address_value, session_says};
+ghost use Rattle.session_records.specs.Levels.{entry_by};
+ghost use Rattle.session_records.specs.SessionFacts.{address_value, session_says};
 ghost use Rattle.gx_records.specs.FactLists.{record_listed};
 ghost use Rattle.gx_records.specs.GxFacts.{fact_of, fields_at, known_facts, rule_under, single, told_held};
 
@@ -22,7 +22,7 @@ use crate::parts::GxParts;
 use crate::told::Told;
 use lattice_core::{FactSet, Join, Ranked, Reg, Tag, Tombed};
 use pcrf_values::{Apn, DiameterIdentity, Rule, RuleName, Subscribers};
-use record_levels::{SessionFields, join_into};
+use session_records::{SessionFields, join_into};
 use std::alloc::{AllocError, Global};
 use std::marker::Model;
 use std::net::Ipv4Addr;
@@ -96,7 +96,7 @@ impl Join for GxRec {
 }
 
 impl FactSet for GxRec {
-    ghost use Rattle.record_levels.specs.Subsets.{facts_subset, facts_empty};
+    ghost use Rattle.session_records.specs.Subsets.{facts_subset, facts_empty};
 
     ghost subset = { facts_subset };
 

@@ -3,11 +3,11 @@ ghost use Rattle.std.specs.Prelude.{◌<◌};
 
 use crate::compared::{CALLS, Counts, GATEWAYS, compare_bindings, compare_push, compare_rules};
 use crate::draws::Draws;
-use crate::making::{Given, call, call_end, gateway_end, request, told};
-use crate::tables::tables;
+use crate::making::{address, call, call_end, gateway_end, host, request, told};
 use indexed_state::IndexedState;
 use ranked::{Ranked, Tag};
 use reply_values::PushOut;
+use samples::{Given, telephony};
 use site_join::{Operation, State};
 use std::alloc::AllocGlobal;
 use std::process::Abort;
@@ -34,12 +34,12 @@ fn drawn_request(rt: &(impl AllocGlobal + Abort), draws: &mut Draws, at: Tag) ->
     let place = draws.byte_below(ADDRESSES);
     let given = Given {
         address: if draws.below(2) == 0 {
-            Some(place)
+            Some(address(place))
         } else {
             None
         },
-        is_ims: draws.below(4) > 0,
-        host: number % 3,
+        apn: if draws.below(4) > 0 { "ims" } else { "net" },
+        host: host(number % 3),
         kind: if draws.below(2) == 0 { 1 } else { 2 },
     };
     request(rt, number, at, given)
@@ -137,7 +137,8 @@ fn take_drawn(
 fn three_thousand_operations_leave_what_the_passes_say(rt: HostRuntime) {
     let mut draws = Draws::of(1);
     let mut counts = Counts::default();
-    let mut held = IndexedState::start(rt.alloc(), tables(&rt));
+    let tables = telephony(rt.alloc()).expect(&rt, "tables");
+    let mut held = IndexedState::start(rt.alloc(), tables);
     take_drawn(&rt, &mut draws, &mut held, 3_001, &mut counts);
     drop(held);
     drop(draws);

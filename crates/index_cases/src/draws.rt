@@ -1,16 +1,21 @@
 //! Numbers drawn from a seed.
 ghost use Rattle.std.specs.Prelude.{◌<◌};
 
-/// Pseudo-random numbers, by the method called SplitMix64.
+use rand_core::{Rng, SeedableRng};
+use rand_xoshiro::SplitMix64;
+
+/// Numbers drawn from a seed.
 #[derive(Drop)]
 pub struct Draws {
-    state: u64,
+    source: SplitMix64,
 }
 
 impl Draws {
     /// Those of a seed.
     pub fn of(seed: u64) -> Draws {
-        Draws { state: seed }
+        Draws {
+            source: SplitMix64::seed_from_u64(seed),
+        }
     }
 
     /// The next number below a bound.
@@ -18,10 +23,7 @@ impl Draws {
         requires { 0 < bound }
         ensures { result < bound }
     {
-        self.state = self.state.wrapping_add(0x9e37_79b9_7f4a_7c15);
-        let first = (self.state ^ (self.state >> 30)).wrapping_mul(0xbf58_476d_1ce4_e5b9);
-        let second = (first ^ (first >> 27)).wrapping_mul(0x94d0_49bb_1331_11eb);
-        (second ^ (second >> 31)) % bound
+        self.source.next_u64() % bound
     }
 
     /// The next byte below a bound.

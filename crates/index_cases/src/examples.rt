@@ -1,12 +1,11 @@
-//! Examples of which the answers are known.
-use crate::compared::{Counts, compare_bindings, compare_push, compare_rules};
-use crate::making::{Given, address, call, call_id, gateway_end, gateway_id, request, subscriber};
-use crate::tables::tables;
-use indexed_state::IndexedState;
+//! What an index lists, and which rules are kept, of states of which the answers are known. What comes of a site's index is seen by
+//! what the site answers and pushes (`cases`).
+use crate::making::{address, call, call_id, gateway_id, host, request};
 use kept_rules::Rules;
 use pcc_rules::derive;
 use pcrf_values::{GxSid, Subscriber};
 use ranked::{Ranked, Tag};
+use samples::{Given, subscriber, telephony};
 use session_index::Index;
 use site_join::{Operation, State};
 use std::alloc::AllocGlobal;
@@ -24,70 +23,12 @@ fn at(counter: u64) -> Tag {
 /// An initial request of the first gateway for an address.
 fn initial(rt: &(impl AllocGlobal + Abort), number: u8, counter: u64, place: u8) -> Operation {
     let given = Given {
-        address: Some(place),
-        is_ims: true,
-        host: 0,
+        address: Some(address(place)),
+        apn: "ims",
+        host: host(0),
         kind: 1,
     };
     request(rt, number, at(counter), given)
-}
-
-/// Takes an operation.
-fn take(rt: &impl Abort, held: &mut IndexedState, made: Operation) {
-    held.take(&made).expect(rt, "memory");
-    drop(made);
-}
-
-/// Whether the first call is bound to the gateway's session of this number.
-fn check_bound(rt: &(impl AllocGlobal + Abort), held: &IndexedState, number: u8) {
-    let call = call_id(rt, 1);
-    let session = gateway_id(rt, number);
-    let is_bound = match held.bind(&call) {
-        Some(bound) => bound.cmp(&session).is_eq(),
-        None => false,
-    };
-    drop(session);
-    drop(call);
-    assert!(rt; is_bound);
-}
-
-/// How many rules the gateway's session of a number has, by the indexed state.
-fn count_rules(rt: &(impl AllocGlobal + Abort), held: &IndexedState, number: u8) -> usize {
-    let session = gateway_id(rt, number);
-    let rules = held.rules_of(&session).expect(rt, "memory");
-    let count = rules.len();
-    drop(rules);
-    drop(session);
-    count
-}
-
-// Each has the operator's rule, and the one that the call is bound to that of its flow.
-#[test]
-fn a_binding_moves_back_when_the_later_session_ends(rt: HostRuntime) {
-    let mut held = IndexedState::start(rt.alloc(), tables(&rt));
-    let mut counts = Counts::default();
-    let first = initial(&rt, 1, 1, 1);
-    take(&rt, &mut held, first);
-    let asked = call(&rt, 1, at(2), 1);
-    take(&rt, &mut held, asked);
-    check_bound(&rt, &held, 1);
-    let second = initial(&rt, 2, 3, 1);
-    take(&rt, &mut held, second);
-    check_bound(&rt, &held, 2);
-    assert_eq!(rt; count_rules(&rt, &held, 1), 1);
-    assert_eq!(rt; count_rules(&rt, &held, 2), 2);
-    let ended = gateway_end(&rt, 2, at(4));
-    take(&rt, &mut held, ended);
-    check_bound(&rt, &held, 1);
-    assert_eq!(rt; count_rules(&rt, &held, 1), 2);
-    assert_eq!(rt; count_rules(&rt, &held, 2), 0);
-    compare_bindings(&rt, &held, &mut counts);
-    compare_rules(&rt, &held, &mut counts);
-    drop(compare_push(&rt, &mut held, 0, &mut counts));
-    drop(held);
-    assert_eq!(rt; counts.bound, 1);
-    assert_eq!(rt; counts.rules, 2);
-    assert_eq!(rt; counts.pushes, 1);
 }
 
 /// A state with two gateways' sessions at two addresses, and a call at the first.
@@ -134,26 +75,9 @@ fn an_index_of_a_state_finds_its_bindings(rt: HostRuntime) {
     drop(state);
 }
 
-#[test]
-fn a_whole_state_is_taken_with_its_bindings(rt: HostRuntime) {
-    let state = two_sessions(&rt);
-    let mut held = IndexedState::start(rt.alloc(), tables(&rt));
-    let mut counts = Counts::default();
-    held.take_state(&state).expect(&rt, "memory");
-    drop(state);
-    check_bound(&rt, &held, 1);
-    compare_bindings(&rt, &held, &mut counts);
-    compare_rules(&rt, &held, &mut counts);
-    drop(compare_push(&rt, &mut held, 0, &mut counts));
-    drop(held);
-    assert_eq!(rt; counts.bound, 1);
-    assert_eq!(rt; counts.rules, 3);
-    assert_eq!(rt; counts.pushes, 1);
-}
-
 /// Keeps the rules of a session.
 fn keep(rt: &(impl AllocGlobal + Abort), rules: &mut Rules, state: &State, session: &GxSid) {
-    let tables = tables(rt);
+    let tables = telephony(rt.alloc()).expect(rt, "tables");
     let made = derive(rt.alloc(), &tables, state, session).expect(rt, "memory");
     rules.keep(session, made).expect(rt, "memory");
     drop(tables);
@@ -237,7 +161,7 @@ fn count_under(index: &Index, who: &Subscriber) -> usize {
 
 /// How many it lists under the one subscriber.
 fn count_subscribed(rt: &(impl AllocGlobal + Abort), index: &Index) -> usize {
-    let who = subscriber(rt);
+    let who = subscriber(rt.alloc()).expect(rt, "a subscriber");
     let count = count_under(index, &who);
     drop(who);
     count

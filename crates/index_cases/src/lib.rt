@@ -13,5 +13,3 @@ mod draws;
 mod examples;
 #[cfg(test)]
 mod making;
-#[cfg(test)]
-mod tables;

@@ -1,5 +1,5 @@
 //! Lists of rules that were derived, kept until they may have changed.
-ghost use Rattle.std.specs.Prelude.{◌≡◌, ℕ, List, [], ◌∷◌, Some, None, cond, OnOk, OnErr};
+ghost use Rattle.std.specs.Prelude.{◌≡◌, ℕ, List, [], ◌∷◌, Some, None, if◌then◌else◌, OnOk, OnErr};
 ghost use Rattle.std.specs.Option.{option_copied};
 ghost use Rattle.std.specs.Ordering.{is_eq};
 ghost use Rattle.pcrf_model.specs.Rules.{rules};
@@ -75,7 +75,7 @@ impl Rules {
     /// Keeps the rules of a session, in place of those that were kept of it; a refusal changes nothing.
     pub fn keep(&mut self, session: &GxSid, rules: Vec<Rule>) -> Result<(), AllocError>
         ensures kept { OnOk result ((id : List ℕ) → kept_at self.new id
-            ≡ cond (is_eq (text_cmp session.now id)) (Some rules.items) (kept_at self.old id)) }
+            ≡ (if is_eq (text_cmp session.now id) then Some rules.items else kept_at self.old id)) }
         ensures unchanged { OnErr result (self.new ≡ self.old) }
     {
         let session = session.try_copy()?;

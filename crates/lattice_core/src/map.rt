@@ -78,6 +78,7 @@ impl<K: Ranked, V: Join> JoinMap<K, V> {
                 slot.1.join_in(value)
             }
             Err(at) => {
+                leave_room(&mut self.entries);
                 if let Err(refused) = self.entries.insert(at, (key, value)) {
                     let (_, value) = refused.value;
                     return Err((AllocError, value));
@@ -97,6 +98,15 @@ impl<K: Ranked, V: Join> JoinMap<K, V> {
                 ensures { result ≡ K.cmp pair.now.0 key.entry.now }
             { pair.0.cmp(key) },
         )
+    }
+}
+
+// Leaves room for the first entry alone, since most maps have no other. Where memory is refused, the insertion says so.
+fn leave_room<T: Drop>(entries: &mut Vec<T>)
+    ensures { entries.new.items ≡ entries.old.items }
+{
+    if entries.is_empty() {
+        let _ = entries.reserve_exact(1);
     }
 }
 

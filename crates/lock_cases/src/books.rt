@@ -4,10 +4,10 @@ ghost use Rattle.std.specs.Prelude.{◌≡◌, ◌≤◌};
 ghost use Rattle.site_book.specs.Limits.{most_entries, most_seats};
 
 use crate::sites::{attach, new_site, take_last};
-use gx_profile::GxReply;
+use crate::told::{Told, told_by};
 use site_book::{Seat, SettleFault, Unsettled};
 use site_lock::LockedSite;
-use site_machine::{Event, Reply, Site, StepFault};
+use site_machine::{Event, Site, StepFault};
 use std::alloc::Global;
 use std::marker::Brand;
 use std::process::Abort;
@@ -15,31 +15,6 @@ use std::sync::Wait;
 use std::sync::ledger::{Blank, Ledger};
 use std::test::*;
 use std::thread::{Threads, for_each_mut};
-
-/// What a call was told.
-#[derive(Clone, Copy, Debug, PartialEq, Eq)]
-enum Told {
-    /// A request is granted, and so many rules are installed.
-    Granted(usize),
-    Rejected,
-    /// So many operations were taken.
-    Taken(usize),
-    NothingPushed,
-    Other,
-    Fault(StepFault),
-}
-
-/// What a reply tells.
-fn told_by(reply: &Result<Reply, StepFault>) -> Told {
-    match reply {
-        Ok(Reply::Gx(GxReply::Granted(delta, _))) => Told::Granted(delta.installed().len()),
-        Ok(Reply::Gx(GxReply::Refused(_))) => Told::Rejected,
-        Ok(Reply::Taken(count)) => Told::Taken(*count),
-        Ok(Reply::Pushed(None)) => Told::NothingPushed,
-        Ok(_) => Told::Other,
-        Err(fault) => Told::Fault(*fault),
-    }
-}
 
 /// What a seat is told of an event.
 fn call<L: Ledger, R: Threads + Wait + Sync>(

@@ -1,7 +1,9 @@
-//! What threads ask of a site that they share: drawn by the number of the thread and the turn, on sessions that all of them
-//! ask for at about the same time.
+//! What threads ask of a site that they share: drawn from numbers of the thread's own, on sessions that all of them ask for at
+//! about the same time.
 use crate::requests::{Asking, Kind, request};
 use pcrf_values::DiameterIdentity;
+use rand_core::Rng;
+use rand_xoshiro::SplitMix64;
 use site_machine::Event;
 use std::alloc::Global;
 use std::process::Abort;
@@ -11,15 +13,6 @@ const TURNS: u32 = 1_250;
 
 /// How many gateways' sessions, and how many of application functions, are asked for at a time.
 const SHARED: u32 = 8;
-
-/// A number for each thread and turn, by the method called SplitMix64.
-fn drawn(thread: usize, turn: u32) -> u64 {
-    let seed = ((thread as u64) << 32) | u64::from(turn);
-    let state = seed.wrapping_add(1).wrapping_mul(0x9e37_79b9_7f4a_7c15);
-    let first = (state ^ (state >> 30)).wrapping_mul(0xbf58_476d_1ce4_e5b9);
-    let second = (first ^ (first >> 27)).wrapping_mul(0x94d0_49bb_1331_11eb);
-    second ^ (second >> 31)
-}
 
 /// The place of the session of a draw.
 fn place_at(draw: u64, turn: u32) -> u32 {
@@ -65,8 +58,8 @@ fn push_to_gateway(rt: &impl Abort, alloc: Global) -> Event {
 
 /// What a thread asks at a turn: of 4,096 calls four ask for all that the site holds, 16 for operations that it made, 200 have
 /// it push to any gateway and as many to the one that there is, and the others have it serve a request.
-pub fn event_at(rt: &impl Abort, alloc: Global, thread: usize, turn: u32) -> Event {
-    let draw = drawn(thread, turn);
+pub fn event_at(rt: &impl Abort, alloc: Global, draws: &mut SplitMix64, turn: u32) -> Event {
+    let draw = draws.next_u64();
     let n = draw % 4_096;
     if n < 4 {
         Event::AskWhole

@@ -7,6 +7,8 @@ use crate::drawing::event_at;
 use crate::replaying::{history_of, replayed};
 use crate::sites::new_site;
 use pcrf_world::World;
+use rand_core::SeedableRng;
+use rand_xoshiro::SplitMix64;
 use site_book::Seat;
 use site_join::State;
 use site_lock::LockedSite;
@@ -36,9 +38,10 @@ fn make_call<L: Ledger, R: Threads + Wait + Abort + Sync>(
     alloc: Global,
     site: &LockedSite<L>,
     seat: &mut Seat<L>,
+    draws: &mut SplitMix64,
     turn: u32,
 ) {
-    let event = event_at(rt, alloc, seat.number(), turn);
+    let event = event_at(rt, alloc, draws, turn);
     let reply = site.call(rt, seat, &event);
     let is_replied = reply.is_ok();
     drop(reply);
@@ -53,8 +56,9 @@ fn make_calls<L: Ledger, R: Threads + Wait + Abort + Sync>(
     site: &LockedSite<L>,
     seat: &mut Seat<L>,
 ) {
+    let mut draws = SplitMix64::seed_from_u64(seat.number() as u64);
     for turn in 0..CALLS {
-        make_call(rt, alloc, site, seat, turn);
+        make_call(rt, alloc, site, seat, &mut draws, turn);
     }
 }
 

@@ -1,8 +1,8 @@
 //! The history of a locked site, by the receipts of its seats, played again by a world of one site.
-use crate::sites::tables;
 use exact_values::Exact;
 use pcrf_world::{World, WorldEvent, WorldFault, WorldOutcome};
 use ranked::Ranked;
+use samples::with_rules;
 use site_book::{Receipt, Seat};
 use site_machine::{Event, Reply};
 use std::alloc::Global;
@@ -113,7 +113,8 @@ fn played(
     history: &[Option<&Receipt>],
 ) -> (World, Vec<Answer>) {
     let events = world_events(rt, alloc, history);
-    let ran = World::run(alloc, tables(rt, alloc, rules), 1, events.as_slice());
+    let tables = with_rules(alloc, rules).expect(rt, "tables");
+    let ran = World::run(alloc, tables, 1, events.as_slice());
     drop(events);
     ran.expect(rt, "memory")
 }

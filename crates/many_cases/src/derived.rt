@@ -1,12 +1,12 @@
 //! The rules of many sessions beside those of each.
 use crate::expected::{is_with_call, is_without_call};
 use crate::making::{gateway_id, sessions, state_of};
-use crate::tables::tables;
 use kept_rules::derive_by;
 use many_rules::{derive_many, derive_many_by};
 use op_tables::Tables;
 use pcc_rules::derive;
 use pcrf_values::{GxSid, Rule};
+use samples::telephony;
 use session_index::Index;
 use site_join::State;
 use std::alloc::{AllocError, Global};
@@ -75,7 +75,7 @@ fn many_by_index_are_those_of_each(rt: HostRuntime) {
     let alloc = rt.alloc();
     let state = state_of(&rt, alloc, MANY, 1);
     let index = index_of(&rt, alloc, &state);
-    let tables = tables(&rt, alloc);
+    let tables = telephony(alloc).expect(&rt, "tables");
     let asked = sessions(&rt, alloc, MANY);
     many_by_index(&rt, alloc, &tables, &state, &index, asked.as_slice());
 }
@@ -101,7 +101,7 @@ fn many_by_pass(
 fn many_by_a_pass_are_those_of_each(rt: HostRuntime) {
     let alloc = rt.alloc();
     let state = state_of(&rt, alloc, FEW, STEP);
-    let tables = tables(&rt, alloc);
+    let tables = telephony(alloc).expect(&rt, "tables");
     let asked = sessions(&rt, alloc, FEW);
     many_by_pass(&rt, alloc, &tables, &state, asked.as_slice());
 }
@@ -110,7 +110,7 @@ fn many_by_a_pass_are_those_of_each(rt: HostRuntime) {
 fn none_have_no_lists(rt: HostRuntime) {
     let alloc = rt.alloc();
     let state = state_of(&rt, alloc, 1, 1);
-    let tables = tables(&rt, alloc);
+    let tables = telephony(alloc).expect(&rt, "tables");
     let none: &[GxSid] = &[];
     let made = derive_many(&rt, alloc, &tables, &state, none).expect(&rt, "memory");
     assert!(&rt; made.is_empty());
@@ -120,7 +120,7 @@ fn none_have_no_lists(rt: HostRuntime) {
 fn a_session_that_is_not_there_has_no_rules(rt: HostRuntime) {
     let alloc = rt.alloc();
     let state = state_of(&rt, alloc, 2, 1);
-    let tables = tables(&rt, alloc);
+    let tables = telephony(alloc).expect(&rt, "tables");
     let mut asked = sessions(&rt, alloc, 2);
     asked.push(gateway_id(&rt, alloc, 2)).expect(&rt, "memory");
     let made = derive_many(&rt, alloc, &tables, &state, asked.as_slice()).expect(&rt, "memory");

@@ -13,5 +13,3 @@ mod locked;
 mod making;
 #[cfg(test)]
 mod renewing;
-#[cfg(test)]
-mod tables;

@@ -1,15 +1,13 @@
 //! A site that renews its lists of rules: what it holds stays the same, and a list is kept of each live session.
 use crate::expected::is_with_call;
-use crate::making::{end, gateway_id, second_flow, state_of, text};
-use crate::tables::tables;
-use dia_base::Identity;
+use crate::making::{end, gateway_id, second_flow, state_of};
 use operator_view::{AfSeen, GxSeen, OperatorValue, SessionSeen};
 use pcrf_values::Rule;
 use ranked::Ranked;
+use samples::{names, telephony};
 use site_join::Operation;
 use site_machine::Site;
 use std::alloc::Global;
-use std::net::Ipv4Addr;
 use std::process::Abort;
 use std::test::*;
 use std::thread::Threads;
@@ -22,12 +20,9 @@ const FEW: u16 = 12;
 
 /// A site which took nothing.
 pub fn new_site(rt: &impl Abort, alloc: Global) -> Site {
-    let names = Identity {
-        host: text(rt, alloc, "s"),
-        realm: text(rt, alloc, "r"),
-        address: Ipv4Addr::LOCALHOST,
-    };
-    Site::start(alloc, tables(rt, alloc), names, 0)
+    let tables = telephony(alloc).expect(rt, "tables");
+    let names = names(alloc, b"s").expect(rt, "names");
+    Site::start(alloc, tables, names, 0)
 }
 
 /// A site that took a state of so many sessions.

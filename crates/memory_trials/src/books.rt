@@ -2,16 +2,16 @@
 //! on one book, so that a step that is refused and made again is seen in all that come after it.
 ghost use Rattle.std.specs.Prelude.{◌≡◌};
 
-use crate::bookings::{GRANTED, PUSHED, Step, TAKEN, new_site};
 use crate::calls::try_calls;
-use crate::fingerprint::{EMPTY, Fingerprint, mixed};
+use crate::fingerprint::{EMPTY, mixed};
+use crate::given::Given;
+use crate::steps::{Happening, Step, print_of_reply, print_of_site};
 use crate::tally::Tally;
 use crate::trial::Outcome;
-use gx_profile::GxReply;
 use site_book::{Seat, SiteBook};
 use site_lock::LockedSite;
 use site_machine::{Event, Reply, Site};
-use std::alloc::{AllocError, Global};
+use std::alloc::Global;
 use std::marker::Brand;
 use std::sync::Wait;
 use std::sync::ledger::{Blank, Ledger};
@@ -19,24 +19,6 @@ use std::thread::Threads;
 
 /// How many entries the history has room for.
 const LIMIT: usize = 5;
-
-/// The fingerprint of what a site holds, and of how many operations it made.
-pub fn print_of_site(site: &Site) -> u64 {
-    mixed(site.sessions().fingerprint(), site.logged())
-}
-
-/// The fingerprint of what is replied.
-pub fn print_of_reply(reply: &Reply) -> u64 {
-    match reply {
-        Reply::Gx(GxReply::Granted(delta, _)) => mixed(GRANTED, delta.installed().len() as u64),
-        Reply::Pushed(Some(push)) => mixed(PUSHED, push.delta.installed().len() as u64),
-        Reply::Taken(count) => mixed(TAKEN, *count as u64),
-        Reply::Done => EMPTY,
-        Reply::Own(operations, length) => mixed(operations.len() as u64, *length),
-        Reply::Copy(state, length) => mixed(state.fingerprint(), *length),
-        _ => 0,
-    }
-}
 
 /// The fingerprint of a book and of its seat: the site, how many entries there are, and where the seat's are.
 fn print_of<L: Ledger>(book: &SiteBook<L>, seat: &Seat<L>) -> u64 {
@@ -70,73 +52,66 @@ fn stepped<L: Ledger>(book: &mut SiteBook<L>, seat: &mut Seat<L>, event: &Event)
     print
 }
 
-/// The outcome of a step that has to give what is wanted.
+/// The outcome of a step.
 fn step_outcome<L: Ledger>(
     book: &mut SiteBook<L>,
     seat: &mut Seat<L>,
-    event: &Event,
-    wanted: u64,
+    step: &Happening,
 ) -> Outcome {
+    let wanted = mixed(step.replied, step.left);
     let before = print_of(book, seat);
-    match stepped(book, seat, event) {
+    match stepped(book, seat, &step.event) {
         Some(given) if given == wanted => return Outcome::AtOnce,
         Some(_) => return Outcome::Wrong,
         None => {}
     }
-    if print_of(book, seat) == before && stepped(book, seat, event) == Some(wanted) {
+    if print_of(book, seat) == before && stepped(book, seat, &step.event) == Some(wanted) {
         Outcome::Again
     } else {
         Outcome::Wrong
     }
 }
 
-/// The event of a step, and whether its making was refused once.
-fn event_of(alloc: Global, step: Step) -> Result<(Event, Outcome), AllocError> {
-    match step.event(alloc) {
-        Ok(event) => Ok((event, Outcome::AtOnce)),
-        Err(_) => Ok((step.event(alloc)?, Outcome::Again)),
-    }
-}
-
-/// Makes a step.
+/// Makes a step, and gives the fingerprint that the site has to have then.
 fn try_step<L: Ledger>(
-    alloc: Global,
+    given: &Given,
     book: &mut SiteBook<L>,
     seat: &mut Seat<L>,
     step: Step,
     tally: &mut Tally,
-) {
-    let Ok((event, making)) = event_of(alloc, step) else {
-        return tally.count(Outcome::Wrong, "make", step.name());
+) -> u64 {
+    let Some(made) = step.made_for(given, tally) else {
+        return 0;
     };
-    tally.count(making, "make", step.name());
-    let outcome = step_outcome(book, seat, &event, step.wanted());
-    drop(event);
+    let outcome = step_outcome(book, seat, &made);
+    let left = made.left;
+    drop(made);
     tally.count(outcome, "step of a book", step.name());
+    left
 }
 
-/// Makes all steps.
+/// Makes all steps, and gives the fingerprint that the site has to have then.
 fn try_steps<L: Ledger>(
-    alloc: Global,
+    given: &Given,
     book: &mut SiteBook<L>,
     seats: &mut Vec<Seat<L>>,
     tally: &mut Tally,
-) {
-    let Some(seat) = seats.first_mut() else {
-        return tally.count(Outcome::Wrong, "seat", "book");
-    };
-    for step in Step::ALL {
-        try_step(alloc, book, seat, step, tally);
+) -> u64 {
+    let mut left = 0;
+    if let Some(seat) = seats.first_mut() {
+        for step in Step::OF_BOOK {
+            left = try_step(given, book, seat, step, tally);
+        }
     }
+    left
 }
 
 /// A site, whose making may be refused once.
-pub fn site_for(alloc: Global, tally: &mut Tally) -> Option<Site> {
-    if let Ok(site) = new_site(alloc) {
-        return Some(site);
+pub fn site_for(given: &Given, tally: &mut Tally) -> Option<Site> {
+    match tally.made(given.site(), "site") {
+        Some(site) => Some(site),
+        None => tally.made_again(given.site(), "site"),
     }
-    tally.count(Outcome::Again, "make", "site");
-    new_site(alloc).ok()
 }
 
 /// A book of one seat over a site, opened where it may be refused once: then the site comes back as it was.
@@ -152,7 +127,10 @@ fn opened<L: Ledger>(
 {
     let before = print_of_site(&site);
     let (blank, site) = match SiteBook::<L>::start(alloc, blank, site, 1, LIMIT) {
-        Ok(opened) => return Some(opened),
+        Ok(opened) => {
+            tally.count(Outcome::AtOnce, "open", "book");
+            return Some(opened);
+        }
         Err((_, blank, site)) => (blank, site),
     };
     if print_of_site(&site) != before {
@@ -175,7 +153,10 @@ pub fn opened_locked<L: Ledger>(
 {
     let before = print_of_site(&site);
     let (blank, site) = match LockedSite::<L>::start(alloc, blank, site, 1, LIMIT) {
-        Ok(opened) => return Some(opened),
+        Ok(opened) => {
+            tally.count(Outcome::AtOnce, "open", "locked site");
+            return Some(opened);
+        }
         Err((_, blank, site)) => (blank, site),
     };
     if print_of_site(&site) != before {
@@ -189,7 +170,10 @@ pub fn opened_locked<L: Ledger>(
 fn locked<L: Ledger>(book: SiteBook<L>, tally: &mut Tally) -> Option<LockedSite<L>> {
     let before = print_of_site(book.site());
     let book = match LockedSite::over(book) {
-        Ok(site) => return Some(site),
+        Ok(site) => {
+            tally.count(Outcome::AtOnce, "lock", "book");
+            return Some(site);
+        }
         Err((_, book)) => book,
     };
     if print_of_site(book.site()) != before {
@@ -231,32 +215,32 @@ pub fn count_settled(
 }
 
 /// Opens a book, makes all steps, puts it under a lock, and settles it.
-fn try_book<L: Ledger>(alloc: Global, blank: Blank, tally: &mut Tally)
+fn try_book<L: Ledger>(given: &Given, blank: Blank, tally: &mut Tally)
     requires name { blank.name ≡ L.name }
     requires parts { blank.parts ≡ L.parts }
     requires one { blank.parts ≡ 1 }
 {
-    let Some(site) = site_for(alloc, tally) else {
-        return tally.count(Outcome::Wrong, "make", "site");
+    let Some(site) = site_for(given, tally) else {
+        return;
     };
-    let Some((mut book, mut seats)) = opened::<L>(alloc, blank, site, tally) else {
+    let Some((mut book, mut seats)) = opened::<L>(given.alloc, blank, site, tally) else {
         return tally.count(Outcome::Wrong, "open", "book");
     };
-    try_steps(alloc, &mut book, &mut seats, tally);
-    try_settling(book, seats, tally);
+    let left = try_steps(given, &mut book, &mut seats, tally);
+    try_settling(book, seats, left, tally);
 }
 
 /// Puts a book of all steps under a lock, and settles it.
-fn try_settling<L: Ledger>(book: SiteBook<L>, seats: Vec<Seat<L>>, tally: &mut Tally) {
+fn try_settling<L: Ledger>(book: SiteBook<L>, seats: Vec<Seat<L>>, left: u64, tally: &mut Tally) {
     let Some(site) = locked(book, tally) else {
         return tally.count(Outcome::Wrong, "lock", "book");
     };
     let found = settled(site, seats);
-    count_settled(tally, found, (LIMIT, Step::AskOwn.site()), "book");
+    count_settled(tally, found, (LIMIT, left), "book");
 }
 
 /// Makes all calls of a locked site and of a book.
-pub fn try_books<R: Threads + Wait + Sync>(rt: &R, alloc: Global, tally: &mut Tally) {
-    try_calls::<R, Brand>(rt, alloc, Blank::new(1), tally);
-    try_book::<Brand>(alloc, Blank::new(1), tally);
+pub fn try_books<R: Threads + Wait + Sync>(rt: &R, given: &Given, tally: &mut Tally) {
+    try_calls::<R, Brand>(rt, given, Blank::new(1), tally);
+    try_book::<Brand>(given, Blank::new(1), tally);
 }

@@ -1,13 +1,10 @@
 //! A letter that is written as bytes and read again.
-use crate::fingerprint::{EMPTY, Fingerprint};
-use crate::letters::{put_calls, put_updates, shown_after};
+use crate::fingerprint::{EMPTY, Fingerprint, fingerprint_of, mixed};
+use crate::given::{EDITION, Given};
 use crate::trial::Call;
-use peer_exchange::{Body, Letter, LetterFault, Range, Snapshot, read_letter, write_letter};
+use peer_exchange::{Body, Letter, LetterFault, read_letter, write_letter};
 use site_join::{Operation, State};
 use std::alloc::{AllocError, Global};
-
-/// The edition of the operator tables of who writes and of who reads.
-const EDITION: u32 = 7;
 
 /// What a letter carries.
 #[derive(Clone, Copy, Debug, PartialEq, Eq)]
@@ -29,6 +26,14 @@ impl Carried {
             Carried::Whole => "letter of a whole state",
         }
     }
+
+    /// The word of its line.
+    fn word(self) -> &'static str {
+        match self {
+            Carried::Operations => "operations",
+            Carried::Whole => "after-5",
+        }
+    }
 }
 
 /// A letter.
@@ -38,18 +43,12 @@ pub struct CarryLetter {
     letter: Letter,
 }
 
-/// Takes all operations into a state.
-fn take_all(state: &mut State, operations: &[Operation]) -> Result<(), AllocError> {
-    for operation in operations {
-        state.take(operation)?;
-    }
-    Ok(())
-}
-
 /// What a state shows that took these operations.
 fn shown_by_all(alloc: Global, operations: &[Operation]) -> Result<u64, LetterFault> {
     let mut state = State::start(alloc);
-    take_all(&mut state, operations)?;
+    for operation in operations {
+        state.take(operation)?;
+    }
     Ok(state.fingerprint())
 }
 
@@ -62,52 +61,28 @@ fn shown_by(alloc: Global, letter: &Letter) -> Result<u64, LetterFault> {
     }
 }
 
-/// What a state shows that took what the letter says, once it was written and read.
+/// The bytes of a letter, and what a state shows that took what it says, once it was written and read.
 fn shown_once_carried(alloc: Global, letter: &Letter) -> Result<u64, LetterFault> {
     let frame = write_letter(alloc, letter)?;
     let read = read_letter(alloc, frame.as_slice(), EDITION)?;
-    shown_by(alloc, &read)
-}
-
-/// Five operations.
-fn five(alloc: Global) -> Result<Vec<Operation>, AllocError> {
-    let mut operations = Vec::new(alloc);
-    put_updates(alloc, &mut operations)?;
-    put_calls(alloc, &mut operations)?;
-    Ok(operations)
-}
-
-/// What the letter says.
-fn body(alloc: Global, case: Carried) -> Result<Body, AllocError> {
-    let operations = five(alloc)?;
-    match case {
-        Carried::Operations => Ok(Body::Range(Range {
-            from: 3,
-            operations,
-        })),
-        Carried::Whole => {
-            let mut state = State::start(alloc);
-            take_all(&mut state, operations.as_slice())?;
-            Ok(Body::Snapshot(Snapshot {
-                state,
-                log_length: 5,
-            }))
-        }
-    }
+    let shown = shown_by(alloc, &read)?;
+    Ok(mixed(fingerprint_of(frame.as_slice()), shown))
 }
 
 impl Call for CarryLetter {
     type Case = Carried;
 
-    fn operands(alloc: Global, case: Carried) -> Result<CarryLetter, AllocError> {
-        match Letter::of(EDITION, 0, 1, body(alloc, case)?) {
-            Some(letter) => Ok(CarryLetter { alloc, letter }),
-            None => Err(AllocError),
-        }
+    fn operands(given: &Given, case: Carried) -> Result<CarryLetter, AllocError> {
+        Ok(CarryLetter {
+            alloc: given.alloc,
+            letter: given.letter(case.word())?,
+        })
     }
 
-    fn expected(_alloc: Global, _case: Carried) -> Result<u64, AllocError> {
-        Ok(shown_after(5))
+    fn expected(given: &Given, case: Carried) -> Result<u64, AllocError> {
+        let bytes = given.bytes(case.word())?;
+        let shown = given.state(Carried::Whole.word())?.fingerprint();
+        Ok(mixed(fingerprint_of(bytes.as_slice()), shown))
     }
 
     fn make(self) -> Result<u64, CarryLetter> {

@@ -1,7 +1,9 @@
 //! Fingerprints: numbers that tell values apart by every entry, key, tag and value that they have.
+use af_records::AfRec;
 use lattice_core::{JoinMap, JoinTree, Reg, Tombed};
 use pcrf_values::{Apn, BoundedList, Delta, Rule, Subscriber, Subscribers};
 use ranked::{Listed, Ranked, Tag};
+use site_join::State;
 
 /// The fingerprint of nothing.
 pub const EMPTY: u64 = 0xCBF2_9CE4_8422_2325;
@@ -149,5 +151,38 @@ impl Fingerprint for Delta {
             fingerprint_of(self.removed()),
             fingerprint_of(self.installed()),
         )
+    }
+}
+
+/// The fingerprint of the clock, and of the sessions of gateways with their hosts.
+fn gateways_of(state: &State) -> u64 {
+    let mut print = mixed(EMPTY, state.clock());
+    for (id, record) in state.all_gx() {
+        let host = record.host().map_or(0, |host| host.1.fingerprint());
+        print = mixed(print, mixed(fingerprint_of(id.as_slice()), host));
+    }
+    print
+}
+
+/// The fingerprint of a call's Media-Type, and of its flows with their filters.
+fn call_of(record: &AfRec) -> u64 {
+    let media = record.component_media_type(1);
+    let mut print = media.map_or(0, |media| media.1.fingerprint());
+    for (component, flow) in record.flows() {
+        let number = mixed(u64::from(component), u64::from(flow));
+        let filters = record.flow_descriptions(component, flow);
+        let filters = filters.map_or(0, |filters| filters.1.fingerprint());
+        print = mixed(print, mixed(number, filters));
+    }
+    print
+}
+
+impl Fingerprint for State {
+    fn fingerprint(&self) -> u64 {
+        let mut print = gateways_of(self);
+        for (id, record) in self.all_af() {
+            print = mixed(print, mixed(fingerprint_of(id.as_slice()), call_of(record)));
+        }
+        print
     }
 }

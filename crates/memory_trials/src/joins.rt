@@ -1,8 +1,9 @@
 //! Joins and copies of joined values.
 use crate::fingerprint::{Fingerprint, mixed};
-use crate::samples::Sample;
+use crate::given::Given;
+use crate::samples::{Sample, Which};
 use crate::trial::Call;
-use std::alloc::{AllocError, Global};
+use std::alloc::AllocError;
 
 /// The calls of `Join` that allocate.
 #[derive(Clone, Copy, Debug, PartialEq, Eq)]
@@ -73,16 +74,16 @@ impl<V: Sample> Joining<V> {
 impl<V: Sample> Call for Joining<V> {
     type Case = Form;
 
-    fn operands(alloc: Global, form: Form) -> Result<Joining<V>, AllocError> {
-        let ours = V::ours(alloc)?;
-        let theirs = V::theirs(alloc)?;
+    fn operands(given: &Given, form: Form) -> Result<Joining<V>, AllocError> {
+        let ours = V::made(given.alloc, Which::Ours)?;
+        let theirs = V::made(given.alloc, Which::Theirs)?;
         Ok(Joining { form, ours, theirs })
     }
 
-    fn expected(alloc: Global, form: Form) -> Result<u64, AllocError> {
-        let ours = V::ours(alloc)?.fingerprint();
-        let both = mixed(ours, V::theirs(alloc)?.fingerprint());
-        let joined = V::joined(alloc)?.fingerprint();
+    fn expected(given: &Given, form: Form) -> Result<u64, AllocError> {
+        let ours = V::made(given.alloc, Which::Ours)?.fingerprint();
+        let both = mixed(ours, V::made(given.alloc, Which::Theirs)?.fingerprint());
+        let joined = V::made(given.alloc, Which::Joined)?.fingerprint();
         Ok(match form {
             Form::Join | Form::JoinIn => joined,
             Form::JoinedCopy => mixed(both, joined),

@@ -1,23 +1,21 @@
-//! Tries each call that allocates, where one allocation may be refused.
+//! Tries each call that allocates, where one allocation may be refused (`.ci/refused-memory`).
 //!
-//! A refused call has to leave what it is made of as it was, and, made again, has to give its value. Which allocation is
-//! refused is up to whoever runs the program: standard input has the number of allocations to be made before the first
-//! call. So where the allocation of a fixed place is refused, that number decides which one of the calls' own this is.
+//! A refused call has to leave what it is made of as it was, and, made again, has to give its value.
 #![tactic(auto)]
 
-mod bookings;
 mod books;
 mod calls;
 mod carrying;
 mod fingerprint;
+mod given;
 mod joins;
 mod letters;
 mod makings;
 mod merges;
-mod operations;
 mod places;
 mod renewals;
 mod samples;
+mod steps;
 mod tally;
 mod telling;
 mod trial;
@@ -25,130 +23,111 @@ mod values;
 
 use books::try_books;
 use carrying::{Carried, CarryLetter};
+use given::Given;
 use joins::{Form, Joining};
 use lattice_core::{JoinMap, JoinTree, Reg, Tombed};
 use letters::TakeLetter;
-use makings::{Copy, FoldApn, GatherSubscribers, ReadText};
+use makings::{Copy, Make, Making};
 use merges::MergeStates;
 use pcrf_values::{Apn, Delta, Filters, Rule, RuleName, Subscriber, Subscribers};
 use places::{JoinAt, Place, PlaceAt};
 use ranked::Text;
 use renewals::try_renewals;
 use samples::Sample;
-use std::alloc::Global;
-use std::io::Read;
 use std::process::ExitCode;
-use std::str;
 use std::sync::Wait;
 use std::thread::Threads;
 use tally::Tally;
 use telling::ListTold;
-use trial::{Call, outcome_of};
+use trial::{Call, Outcome, outcome_of};
 use values::Made;
 
-/// The number that a reader gives, if it gives one.
-fn read_number(mut reader: impl Read + Drop) -> Option<u32> {
-    let mut buffer = [0; 16];
-    let Ok(count) = reader.read(&mut buffer) else {
-        return None;
-    };
-    let digits = buffer.get(..count)?;
-    let Ok(text) = str::from_utf8(digits) else {
-        return None;
-    };
-    text.trim_end().parse().ok()
-}
-
-/// Makes so many allocations.
-fn spend(alloc: Global, count: u32) {
-    for _ in 0..count {
-        let _ = Vec::<u8>::with_capacity(alloc, 1);
-    }
-}
-
-fn try_joins<V: Sample>(alloc: Global, tally: &mut Tally, on: &'static str) {
+fn try_joins<V: Sample>(given: &Given, tally: &mut Tally, on: &'static str) {
     for form in Form::ALL {
-        tally.count(outcome_of::<Joining<V>>(alloc, form), form.name(), on);
+        tally.count(outcome_of::<Joining<V>>(given, form), form.name(), on);
     }
 }
 
-fn try_places<C: Call<Case = Place>>(alloc: Global, tally: &mut Tally, call: &'static str) {
+fn try_places<C: Call<Case = Place>>(given: &Given, tally: &mut Tally, call: &'static str) {
     for place in Place::ALL {
-        tally.count(outcome_of::<C>(alloc, place), call, place.name());
+        tally.count(outcome_of::<C>(given, place), call, place.name());
     }
 }
 
-fn try_map<V: Sample>(alloc: Global, tally: &mut Tally) {
-    try_joins::<JoinMap<u32, V>>(alloc, tally, "map");
-    try_places::<JoinAt<JoinMap<u32, V>>>(alloc, tally, "join at a name of a map");
+fn try_map<V: Sample>(given: &Given, tally: &mut Tally) {
+    try_joins::<JoinMap<u32, V>>(given, tally, "map");
+    try_places::<JoinAt<JoinMap<u32, V>>>(given, tally, "join at a name of a map");
 }
 
-fn try_tree<V: Sample>(alloc: Global, tally: &mut Tally) {
-    try_joins::<JoinTree<Text, V>>(alloc, tally, "tree");
-    try_places::<JoinAt<JoinTree<Text, V>>>(alloc, tally, "join at a name of a tree");
-    try_places::<PlaceAt<V>>(alloc, tally, "place at a name of a tree");
+fn try_tree<V: Sample>(given: &Given, tally: &mut Tally) {
+    try_joins::<JoinTree<Text, V>>(given, tally, "tree");
+    try_places::<JoinAt<JoinTree<Text, V>>>(given, tally, "join at a name of a tree");
+    try_places::<PlaceAt<V>>(given, tally, "place at a name of a tree");
 }
 
 /// A record that can end, of registers under numbers, and records under texts.
-fn try_records<V: Sample>(alloc: Global, tally: &mut Tally) {
-    try_joins::<V>(alloc, tally, "register");
-    try_joins::<Tombed<V>>(alloc, tally, "register that can end");
-    try_map::<Tombed<V>>(alloc, tally);
-    try_tree::<JoinMap<u32, V>>(alloc, tally);
+fn try_records<V: Sample>(given: &Given, tally: &mut Tally) {
+    try_joins::<V>(given, tally, "register");
+    try_joins::<Tombed<V>>(given, tally, "register that can end");
+    try_map::<Tombed<V>>(given, tally);
+    try_tree::<JoinMap<u32, V>>(given, tally);
 }
 
-fn try_copy<T: Made>(alloc: Global, tally: &mut Tally) {
-    tally.count(outcome_of::<Copy<T>>(alloc, ()), "copy", T::name());
+fn try_copy<T: Made>(given: &Given, tally: &mut Tally, on: &'static str) {
+    tally.count(outcome_of::<Copy<T>>(given, ()), "copy", on);
 }
 
-fn try_makings(alloc: Global, tally: &mut Tally) {
-    tally.count(outcome_of::<ReadText>(alloc, ()), "read", "text");
-    tally.count(
-        outcome_of::<FoldApn>(alloc, ()),
-        "fold",
-        "access point name",
-    );
-    tally.count(
-        outcome_of::<GatherSubscribers>(alloc, ()),
-        "gather",
-        "subscribers",
-    );
+fn try_copies(given: &Given, tally: &mut Tally) {
+    try_copy::<Text>(given, tally, "text");
+    try_copy::<RuleName>(given, tally, "rule name");
+    try_copy::<(Text, RuleName)>(given, tally, "pair");
+    try_copy::<Apn>(given, tally, "access point name");
+    try_copy::<Subscriber>(given, tally, "subscriber");
+    try_copy::<Subscribers>(given, tally, "subscribers");
+    try_copy::<Filters>(given, tally, "filters");
+    try_copy::<Rule>(given, tally, "rule");
+    try_copy::<Delta>(given, tally, "difference");
 }
 
-fn try_copies(alloc: Global, tally: &mut Tally) {
-    try_copy::<Text>(alloc, tally);
-    try_copy::<RuleName>(alloc, tally);
-    try_copy::<(Text, RuleName)>(alloc, tally);
-    try_copy::<Apn>(alloc, tally);
-    try_copy::<Subscriber>(alloc, tally);
-    try_copy::<Subscribers>(alloc, tally);
-    try_copy::<Filters>(alloc, tally);
-    try_copy::<Rule>(alloc, tally);
-    try_copy::<Delta>(alloc, tally);
-}
-
-fn try_all<R: Threads + Wait + Sync>(rt: &R, alloc: Global) -> Tally {
-    let mut tally = Tally::start();
-    try_records::<Reg<Text>>(alloc, &mut tally);
-    try_makings(alloc, &mut tally);
-    try_copies(alloc, &mut tally);
-    tally.count(outcome_of::<ListTold>(alloc, ()), "list", "told rules");
-    tally.count(outcome_of::<TakeLetter>(alloc, ()), "take", "letter");
-    tally.count(outcome_of::<MergeStates>(alloc, ()), "merge", "states");
-    for case in Carried::ALL {
-        tally.count(outcome_of::<CarryLetter>(alloc, case), "carry", case.name());
+fn try_all<R: Threads + Wait + Sync>(rt: &R, given: &Given, tally: &mut Tally) {
+    try_records::<Reg<Text>>(given, tally);
+    for making in Making::ALL {
+        let (call, on) = making.names();
+        tally.count(outcome_of::<Make>(given, making), call, on);
     }
-    try_books(rt, alloc, &mut tally);
-    try_renewals(rt, alloc, &mut tally);
-    tally
+    try_copies(given, tally);
+    tally.count(outcome_of::<ListTold>(given, ()), "list", "told rules");
+    tally.count(outcome_of::<TakeLetter>(given, ()), "take", "letter");
+    tally.count(outcome_of::<MergeStates>(given, ()), "merge", "states");
+    for case in Carried::ALL {
+        tally.count(outcome_of::<CarryLetter>(given, case), "carry", case.name());
+    }
+    try_books(rt, given, tally);
+    try_renewals(rt, given, tally);
+}
+
+/// The files, whose reading may be refused once.
+fn given_for(rt: &HostRuntime, tally: &mut Tally) -> Option<Given> {
+    match Given::read(rt) {
+        Ok(given) => {
+            tally.count(Outcome::AtOnce, "read", "files");
+            Some(given)
+        }
+        Err(_) => {
+            tally.count(Outcome::Again, "read", "files");
+            Given::read(rt).ok()
+        }
+    }
 }
 
 fn main(rt: HostRuntime) -> ExitCode {
-    let Some(spent) = read_number(rt.stdin()) else {
+    let mut tally = Tally::start();
+    let Some(given) = given_for(&rt, &mut tally) else {
         return ExitCode::FAILURE;
     };
-    spend(rt.alloc(), spent);
-    match try_all(&rt, rt.alloc()).print(&rt) {
+    try_all(&rt, &given, &mut tally);
+    drop(given);
+    match tally.print(&rt) {
         Ok(()) => ExitCode::SUCCESS,
         Err(_) => ExitCode::FAILURE,
     }

@@ -1,5 +1,6 @@
 //! Calls that make and copy values of the value types.
-use crate::fingerprint::{EMPTY, Fingerprint, fingerprint_of, mixed};
+use crate::fingerprint::{Fingerprint, fingerprint_of, mixed};
+use crate::given::Given;
 use crate::trial::Call;
 use crate::values::{Made, subscribers_with};
 use pcrf_values::{Apn, SessionId, Subscriber, Subscribers};
@@ -15,13 +16,13 @@ pub struct Copy<T> {
 impl<T: Made> Call for Copy<T> {
     type Case = ();
 
-    fn operands(alloc: Global, _case: ()) -> Result<Copy<T>, AllocError> {
-        let value = T::made(alloc)?;
+    fn operands(given: &Given, _case: ()) -> Result<Copy<T>, AllocError> {
+        let value = T::made(given.alloc)?;
         Ok(Copy { value })
     }
 
-    fn expected(alloc: Global, _case: ()) -> Result<u64, AllocError> {
-        let print = T::made(alloc)?.fingerprint();
+    fn expected(given: &Given, _case: ()) -> Result<u64, AllocError> {
+        let print = T::made(given.alloc)?.fingerprint();
         Ok(mixed(print, print))
     }
 
@@ -39,103 +40,82 @@ impl<T: Made> Fingerprint for Copy<T> {
     }
 }
 
-/// A text read from bytes.
-#[derive(Drop)]
-pub struct ReadText {
-    alloc: Global,
+/// What is made.
+#[derive(Clone, Copy, Debug, PartialEq, Eq)]
+pub enum Making {
+    /// A text read from bytes.
+    ReadText,
+    /// An access point name, folded.
+    FoldApn,
+    /// A set of subscribers, of whom one is given twice.
+    Gather,
 }
 
-impl Call for ReadText {
-    type Case = ();
+impl Making {
+    /// Each of these.
+    pub const ALL: [Making; 3] = [Making::ReadText, Making::FoldApn, Making::Gather];
 
-    fn operands(alloc: Global, _case: ()) -> Result<ReadText, AllocError> {
-        Ok(ReadText { alloc })
-    }
-
-    fn expected(_alloc: Global, _case: ()) -> Result<u64, AllocError> {
-        Ok(mixed(1, fingerprint_of(b"gw;1;1")))
-    }
-
-    fn make(self) -> Result<u64, ReadText> {
-        match SessionId::read(self.alloc, b"gw;1;1") {
-            Ok(text) => Ok(text.fingerprint()),
-            Err(_) => Err(self),
+    /// What a report calls the call, and what it makes.
+    pub fn names(self) -> (&'static str, &'static str) {
+        match self {
+            Making::ReadText => ("read", "text"),
+            Making::FoldApn => ("fold", "access point name"),
+            Making::Gather => ("gather", "subscribers"),
         }
     }
 }
 
-impl Fingerprint for ReadText {
-    fn fingerprint(&self) -> u64 {
-        EMPTY
-    }
-}
-
-/// An access point name, folded.
+/// What is made, and the subscribers of whom a set is made.
 #[derive(Drop)]
-pub struct FoldApn {
+pub struct Make {
     alloc: Global,
-}
-
-impl Call for FoldApn {
-    type Case = ();
-
-    fn operands(alloc: Global, _case: ()) -> Result<FoldApn, AllocError> {
-        Ok(FoldApn { alloc })
-    }
-
-    fn expected(_alloc: Global, _case: ()) -> Result<u64, AllocError> {
-        Ok(mixed(1, fingerprint_of(b"ims.mnc001")))
-    }
-
-    fn make(self) -> Result<u64, FoldApn> {
-        match Apn::folded(self.alloc, b"IMS.mnc001") {
-            Ok(apn) => Ok(apn.fingerprint()),
-            Err(_) => Err(self),
-        }
-    }
-}
-
-impl Fingerprint for FoldApn {
-    fn fingerprint(&self) -> u64 {
-        EMPTY
-    }
-}
-
-/// A set of subscribers, of whom one is given twice.
-#[derive(Drop)]
-pub struct GatherSubscribers {
-    alloc: Global,
+    making: Making,
     given: Listed<Subscriber>,
 }
 
-impl Call for GatherSubscribers {
-    type Case = ();
+impl Make {
+    /// The fingerprint of what is made.
+    fn made(&self) -> Result<u64, AllocError> {
+        match self.making {
+            Making::ReadText => Ok(SessionId::read(self.alloc, b"gw;1;1")?.fingerprint()),
+            Making::FoldApn => Ok(Apn::folded(self.alloc, b"IMS.mnc001")?.fingerprint()),
+            Making::Gather => {
+                let given = self.given.try_copy()?;
+                Ok(Subscribers::of(self.alloc, given.into_vec())?.fingerprint())
+            }
+        }
+    }
+}
 
-    fn operands(alloc: Global, _case: ()) -> Result<GatherSubscribers, AllocError> {
-        let given = subscribers_with(alloc, &[b"15550002", b"15550001", b"15550002"])?;
-        Ok(GatherSubscribers {
-            alloc,
-            given: Listed::of(given),
+impl Call for Make {
+    type Case = Making;
+
+    fn operands(given: &Given, making: Making) -> Result<Make, AllocError> {
+        let numbers: &[&[u8]] = &[b"15550002", b"15550001", b"15550002"];
+        Ok(Make {
+            alloc: given.alloc,
+            making,
+            given: Listed::of(subscribers_with(given.alloc, numbers)?),
         })
     }
 
-    fn expected(alloc: Global, _case: ()) -> Result<u64, AllocError> {
-        Ok(Some(Subscribers::made(alloc)?).fingerprint())
+    fn expected(given: &Given, making: Making) -> Result<u64, AllocError> {
+        match making {
+            Making::ReadText => Ok(mixed(1, fingerprint_of(b"gw;1;1"))),
+            Making::FoldApn => Ok(mixed(1, fingerprint_of(b"ims.mnc001"))),
+            Making::Gather => Ok(Some(Subscribers::made(given.alloc)?).fingerprint()),
+        }
     }
 
-    // The list is copied, so that it is there for a second call.
-    fn make(self) -> Result<u64, GatherSubscribers> {
-        let Ok(given) = self.given.try_copy() else {
-            return Err(self);
-        };
-        match Subscribers::of(self.alloc, given.into_vec()) {
-            Ok(set) => Ok(set.fingerprint()),
+    fn make(self) -> Result<u64, Make> {
+        match self.made() {
+            Ok(print) => Ok(print),
             Err(_) => Err(self),
         }
     }
 }
 
-impl Fingerprint for GatherSubscribers {
+impl Fingerprint for Make {
     fn fingerprint(&self) -> u64 {
         self.given.fingerprint()
     }

@@ -1,6 +1,7 @@
 //! Joins and exchanges at one name of a map.
 use crate::fingerprint::{Fingerprint, mixed};
-use crate::samples::{Named, Sample, add_to, text};
+use crate::given::Given;
+use crate::samples::{Named, Sample, Which, add_to, text};
 use crate::trial::Call;
 use lattice_core::{Join, JoinTree};
 use ranked::{Ranked, Text};
@@ -42,11 +43,11 @@ impl Place {
         }
     }
 
-    /// A value of the others, of which those that fill a block own no memory.
-    fn other<M: Named>(self, alloc: Global) -> Result<M::Value, AllocError> {
+    /// Which value the others have: those that fill a block own no memory.
+    fn other(self) -> Which {
         match self {
-            Place::Present | Place::First => M::Value::theirs(alloc),
-            Place::FullBlock => Ok(M::Value::light(alloc)),
+            Place::Present | Place::First => Which::Theirs,
+            Place::FullBlock => Which::Light,
         }
     }
 
@@ -54,7 +55,7 @@ impl Place {
     fn rest<M: Named>(self, alloc: Global) -> Result<M, AllocError> {
         let mut map = M::empty(alloc);
         for name in self.others::<M>() {
-            add_to(&mut map, alloc, *name, self.other::<M>(alloc)?)?;
+            add_to(&mut map, alloc, *name, M::Value::made(alloc, self.other())?)?;
         }
         Ok(map)
     }
@@ -63,7 +64,7 @@ impl Place {
     fn map<M: Named>(self, alloc: Global) -> Result<M, AllocError> {
         let mut map = self.rest::<M>(alloc)?;
         if self == Place::Present {
-            add_to(&mut map, alloc, NAME, M::Value::ours(alloc)?)?;
+            add_to(&mut map, alloc, NAME, M::Value::made(alloc, Which::Ours)?)?;
         }
         Ok(map)
     }
@@ -87,19 +88,19 @@ pub struct JoinAt<M: Named> {
 impl<M: Named> Call for JoinAt<M> {
     type Case = Place;
 
-    fn operands(alloc: Global, place: Place) -> Result<JoinAt<M>, AllocError> {
-        let map = place.map::<M>(alloc)?;
-        let key = M::key(alloc, NAME)?;
-        let value = M::Value::theirs(alloc)?;
+    fn operands(given: &Given, place: Place) -> Result<JoinAt<M>, AllocError> {
+        let map = place.map::<M>(given.alloc)?;
+        let key = M::key(given.alloc, NAME)?;
+        let value = M::Value::made(given.alloc, Which::Theirs)?;
         Ok(JoinAt { map, key, value })
     }
 
-    fn expected(alloc: Global, place: Place) -> Result<u64, AllocError> {
+    fn expected(given: &Given, place: Place) -> Result<u64, AllocError> {
         let after = match place {
-            Place::Present => M::Value::joined(alloc)?,
-            Place::First | Place::FullBlock => M::Value::theirs(alloc)?,
+            Place::Present => M::Value::made(given.alloc, Which::Joined)?,
+            Place::First | Place::FullBlock => M::Value::made(given.alloc, Which::Theirs)?,
         };
-        Ok(place.with::<M>(alloc, after)?.fingerprint())
+        Ok(place.with::<M>(given.alloc, after)?.fingerprint())
     }
 
     // The key is copied, so that it is there for a second call.
@@ -140,19 +141,22 @@ pub struct PlaceAt<V: Sample> {
 impl<V: Sample> Call for PlaceAt<V> {
     type Case = Place;
 
-    fn operands(alloc: Global, place: Place) -> Result<PlaceAt<V>, AllocError> {
-        let tree = place.map::<JoinTree<Text, V>>(alloc)?;
-        let key = text(alloc, &[NAME])?;
-        let value = V::theirs(alloc)?;
+    fn operands(given: &Given, place: Place) -> Result<PlaceAt<V>, AllocError> {
+        let tree = place.map::<JoinTree<Text, V>>(given.alloc)?;
+        let key = text(given.alloc, &[NAME])?;
+        let value = V::made(given.alloc, Which::Theirs)?;
         Ok(PlaceAt { tree, key, value })
     }
 
-    fn expected(alloc: Global, place: Place) -> Result<u64, AllocError> {
+    fn expected(given: &Given, place: Place) -> Result<u64, AllocError> {
         let stood = match place {
-            Place::Present => Some(V::ours(alloc)?.fingerprint()),
+            Place::Present => Some(V::made(given.alloc, Which::Ours)?.fingerprint()),
             Place::First | Place::FullBlock => None,
         };
-        let after = place.with::<JoinTree<Text, V>>(alloc, V::theirs(alloc)?)?;
+        let after = place.with::<JoinTree<Text, V>>(
+            given.alloc,
+            V::made(given.alloc, Which::Theirs)?,
+        )?;
         Ok(mixed(after.fingerprint(), fingerprint_if(stood)))
     }
 

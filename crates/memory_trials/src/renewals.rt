@@ -1,53 +1,27 @@
 //! The rules of three sessions, made all at once, and a site that renews the lists that it keeps of them. So few are made in one
 //! thread, and each allocation has the same place in every run.
-use crate::bookings::new_site;
-use crate::books::print_of_site;
 use crate::fingerprint::{EMPTY, Fingerprint, fingerprint_of, mixed};
-use crate::operations::{Said, call_from, connection, gateway_id};
+use crate::given::Given;
+use crate::steps::print_of_site;
 use crate::tally::Tally;
 use crate::trial::Outcome;
 use many_rules::derive_many;
-use pcrf_values::{GxSid, Rule};
-use site_join::Operation;
+use pcrf_values::{GxSid, Rule, SessionId};
 use site_machine::Site;
 use std::alloc::{AllocError, Global};
-use std::net::Ipv4Addr;
 use std::thread::Threads;
 
-/// The sessions, each with the counter of its initial request, which is the last byte of its address too, and the names of its
-/// rules: the second has a call.
-const SESSIONS: [(&[u8], u8, &[&[u8]]); 3] = [
-    (b"gw;1;1", 1, &[]),
-    (b"gw;1;2", 2, &[b"af/af;1;1/1/1"]),
-    (b"gw;1;3", 3, &[]),
+/// The sessions, each with the names of its rules: the second has a call.
+const SESSIONS: [(&[u8], &[&[u8]]); 3] = [
+    (b"gw;1;1", &[]),
+    (b"gw;1;2", &[b"af/af;1;1/1/1"]),
+    (b"gw;1;3", &[]),
 ];
 
-/// What the call says.
-const CALL: Said<'static> = Said {
-    media: 0,
-    flow: 1,
-    filter: b"permit in 17",
-};
-
-/// The address of the session of a counter.
-fn address(counter: u8) -> Ipv4Addr {
-    Ipv4Addr::new(10, 0, 0, counter)
-}
-
-/// The initial requests, and the call.
-fn operations(alloc: Global) -> Result<Vec<Operation>, AllocError> {
-    let mut operations = Vec::new(alloc);
-    for (id, counter, _) in SESSIONS {
-        operations.push(connection(alloc, id, counter, address(counter))?)?;
-    }
-    operations.push(call_from(alloc, 4, CALL, address(2))?)?;
-    Ok(operations)
-}
-
-/// A site that took them.
-fn loaded_site(alloc: Global) -> Result<Site, AllocError> {
-    let operations = operations(alloc)?;
-    let mut site = new_site(alloc)?;
+/// A site that took their initial requests, and the call.
+fn loaded_site(given: &Given) -> Result<Site, AllocError> {
+    let operations = given.operations("sessions")?;
+    let mut site = given.site()?;
     let is_taken = site.take_all(operations.as_slice()).is_ok();
     drop(operations);
     if is_taken {
@@ -60,8 +34,8 @@ fn loaded_site(alloc: Global) -> Result<Site, AllocError> {
 /// The sessions' ids.
 fn ids(alloc: Global) -> Result<Vec<GxSid>, AllocError> {
     let mut ids = Vec::new(alloc);
-    for (id, _, _) in SESSIONS {
-        ids.push(gateway_id(alloc, id)?)?;
+    for (id, _) in SESSIONS {
+        ids.push(GxSid::of(SessionId::read(alloc, id)?.ok_or(AllocError)?))?;
     }
     Ok(ids)
 }
@@ -69,7 +43,7 @@ fn ids(alloc: Global) -> Result<Vec<GxSid>, AllocError> {
 /// The fingerprint of the lists of rules that the sessions have to have.
 fn wanted() -> u64 {
     let mut print = EMPTY;
-    for (_, _, names) in SESSIONS {
+    for (_, names) in SESSIONS {
         let mut list = EMPTY;
         for name in names {
             list = mixed(list, fingerprint_of(name));
@@ -156,42 +130,31 @@ fn renew_outcome<R: Threads + Sync>(rt: &R, site: &mut Site, ids: &[GxSid]) -> O
     }
 }
 
-/// What may be refused once while it is made.
-fn made<T>(made: Result<T, AllocError>, tally: &mut Tally, what: &'static str) -> Option<T> {
-    match made {
-        Ok(made) => Some(made),
-        Err(_) => {
-            tally.count(Outcome::Again, "make", what);
-            None
-        }
-    }
-}
-
 /// The sessions' ids, whose making may be refused once.
 fn ids_for(alloc: Global, tally: &mut Tally) -> Option<Vec<GxSid>> {
-    match made(ids(alloc), tally, "ids") {
+    match tally.made(ids(alloc), "ids") {
         Some(ids) => Some(ids),
-        None => ids(alloc).ok(),
+        None => tally.made_again(ids(alloc), "ids"),
     }
 }
 
 /// The site, whose making may be refused once.
-fn site_for(alloc: Global, tally: &mut Tally) -> Option<Site> {
-    match made(loaded_site(alloc), tally, "site with sessions") {
+fn site_for(given: &Given, tally: &mut Tally) -> Option<Site> {
+    match tally.made(loaded_site(given), "site with sessions") {
         Some(site) => Some(site),
-        None => loaded_site(alloc).ok(),
+        None => tally.made_again(loaded_site(given), "site with sessions"),
     }
 }
 
 /// Makes the lists of the sessions all at once, and has a site renew its lists.
-pub fn try_renewals<R: Threads + Sync>(rt: &R, alloc: Global, tally: &mut Tally) {
-    let Some(ids) = ids_for(alloc, tally) else {
-        return tally.count(Outcome::Wrong, "make", "ids");
+pub fn try_renewals<R: Threads + Sync>(rt: &R, given: &Given, tally: &mut Tally) {
+    let Some(ids) = ids_for(given.alloc, tally) else {
+        return;
     };
-    let Some(mut site) = site_for(alloc, tally) else {
-        return tally.count(Outcome::Wrong, "make", "site with sessions");
+    let Some(mut site) = site_for(given, tally) else {
+        return;
     };
-    let derived = derive_outcome(rt, alloc, &site, ids.as_slice());
+    let derived = derive_outcome(rt, given.alloc, &site, ids.as_slice());
     let renewed = renew_outcome(rt, &mut site, ids.as_slice());
     drop(site);
     drop(ids);

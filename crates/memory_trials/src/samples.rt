@@ -4,19 +4,23 @@ use lattice_core::{Join, JoinMap, JoinTree, Reg, Tombed};
 use ranked::{Listed, Ranked, Tag, Text};
 use std::alloc::{AllocError, Global};
 
-/// Two values, and their join, written out.
-pub trait Sample: Join + Fingerprint {
+/// Which of two values that are joined, and what their join has to be.
+#[derive(Clone, Copy, Debug, PartialEq, Eq)]
+pub enum Which {
     /// The left operand.
-    fn ours(alloc: Global) -> Result<Self, AllocError>;
-
+    Ours,
     /// The right operand.
-    fn theirs(alloc: Global) -> Result<Self, AllocError>;
-
+    Theirs,
     /// What their join has to be.
-    fn joined(alloc: Global) -> Result<Self, AllocError>;
-
+    Joined,
     /// A value that owns no memory, of which many fill a block.
-    fn light(alloc: Global) -> Self;
+    Light,
+}
+
+/// Values, written out.
+pub trait Sample: Join + Fingerprint {
+    /// A value.
+    fn made(alloc: Global, which: Which) -> Result<Self, AllocError>;
 }
 
 /// A map, to which a value is joined under a name of one byte.
@@ -73,20 +77,12 @@ pub fn add_to<M: Named>(
 
 // Equal tags are decided by value.
 impl Sample for Reg<Text> {
-    fn ours(alloc: Global) -> Result<Reg<Text>, AllocError> {
-        held(alloc, 7, b"x")
-    }
-
-    fn theirs(alloc: Global) -> Result<Reg<Text>, AllocError> {
-        held(alloc, 7, b"y")
-    }
-
-    fn joined(alloc: Global) -> Result<Reg<Text>, AllocError> {
-        held(alloc, 7, b"y")
-    }
-
-    fn light(_alloc: Global) -> Reg<Text> {
-        Reg::start()
+    fn made(alloc: Global, which: Which) -> Result<Reg<Text>, AllocError> {
+        match which {
+            Which::Ours => held(alloc, 7, b"x"),
+            Which::Theirs | Which::Joined => held(alloc, 7, b"y"),
+            Which::Light => Ok(Reg::start()),
+        }
     }
 }
 
@@ -134,81 +130,43 @@ impl<V: Sample> Named for JoinTree<Text, V> {
     }
 }
 
-/// The left value stands under `a`, the right one under `b`.
-fn ours_of<M: Named>(alloc: Global) -> Result<M, AllocError> {
-    let mut map = M::empty(alloc);
-    add_to(&mut map, alloc, b'a', M::Value::ours(alloc)?)?;
-    add_to(&mut map, alloc, b'b', M::Value::theirs(alloc)?)?;
-    Ok(map)
+/// The names of a map, each with its value: where both have `a`, the join has the values' join.
+fn entries(which: Which) -> &'static [(u8, Which)] {
+    match which {
+        Which::Ours => &[(b'a', Which::Ours), (b'b', Which::Theirs)],
+        Which::Theirs => &[(b'a', Which::Theirs), (b'c', Which::Theirs)],
+        Which::Joined => &[
+            (b'a', Which::Joined),
+            (b'b', Which::Theirs),
+            (b'c', Which::Theirs),
+        ],
+        Which::Light => &[],
+    }
 }
 
-/// The right value stands under `a` and under `c`.
-fn theirs_of<M: Named>(alloc: Global) -> Result<M, AllocError> {
+/// A map of these names.
+fn map_of<M: Named>(alloc: Global, which: Which) -> Result<M, AllocError> {
     let mut map = M::empty(alloc);
-    add_to(&mut map, alloc, b'a', M::Value::theirs(alloc)?)?;
-    add_to(&mut map, alloc, b'c', M::Value::theirs(alloc)?)?;
-    Ok(map)
-}
-
-/// The join stands under `a`, the right value under `b` and `c`.
-fn joined_of<M: Named>(alloc: Global) -> Result<M, AllocError> {
-    let mut map = M::empty(alloc);
-    add_to(&mut map, alloc, b'a', M::Value::joined(alloc)?)?;
-    add_to(&mut map, alloc, b'b', M::Value::theirs(alloc)?)?;
-    add_to(&mut map, alloc, b'c', M::Value::theirs(alloc)?)?;
+    for (name, value) in entries(which) {
+        add_to(&mut map, alloc, *name, M::Value::made(alloc, *value)?)?;
+    }
     Ok(map)
 }
 
 impl<V: Sample> Sample for JoinMap<u32, V> {
-    fn ours(alloc: Global) -> Result<JoinMap<u32, V>, AllocError> {
-        ours_of::<JoinMap<u32, V>>(alloc)
-    }
-
-    fn theirs(alloc: Global) -> Result<JoinMap<u32, V>, AllocError> {
-        theirs_of::<JoinMap<u32, V>>(alloc)
-    }
-
-    fn joined(alloc: Global) -> Result<JoinMap<u32, V>, AllocError> {
-        joined_of::<JoinMap<u32, V>>(alloc)
-    }
-
-    fn light(alloc: Global) -> JoinMap<u32, V> {
-        JoinMap::start(alloc)
+    fn made(alloc: Global, which: Which) -> Result<JoinMap<u32, V>, AllocError> {
+        map_of::<JoinMap<u32, V>>(alloc, which)
     }
 }
 
 impl<V: Sample> Sample for JoinTree<Text, V> {
-    fn ours(alloc: Global) -> Result<JoinTree<Text, V>, AllocError> {
-        ours_of::<JoinTree<Text, V>>(alloc)
-    }
-
-    fn theirs(alloc: Global) -> Result<JoinTree<Text, V>, AllocError> {
-        theirs_of::<JoinTree<Text, V>>(alloc)
-    }
-
-    fn joined(alloc: Global) -> Result<JoinTree<Text, V>, AllocError> {
-        joined_of::<JoinTree<Text, V>>(alloc)
-    }
-
-    fn light(alloc: Global) -> JoinTree<Text, V> {
-        JoinTree::start(alloc)
+    fn made(alloc: Global, which: Which) -> Result<JoinTree<Text, V>, AllocError> {
+        map_of::<JoinTree<Text, V>>(alloc, which)
     }
 }
 
 impl<V: Sample> Sample for Tombed<V> {
-    fn ours(alloc: Global) -> Result<Tombed<V>, AllocError> {
-        Ok(Tombed::Live(V::ours(alloc)?))
-    }
-
-    fn theirs(alloc: Global) -> Result<Tombed<V>, AllocError> {
-        Ok(Tombed::Live(V::theirs(alloc)?))
-    }
-
-    fn joined(alloc: Global) -> Result<Tombed<V>, AllocError> {
-        Ok(Tombed::Live(V::joined(alloc)?))
-    }
-
-    fn light(alloc: Global) -> Tombed<V> {
-        Tombed::Live(V::light(alloc))
+    fn made(alloc: Global, which: Which) -> Result<Tombed<V>, AllocError> {
+        Ok(Tombed::Live(V::made(alloc, which)?))
     }
 }

@@ -1,5 +1,6 @@
 //! What a gateway was told, listed by its record.
 use crate::fingerprint::{EMPTY, Fingerprint, fingerprint_of, mixed};
+use crate::given::Given;
 use crate::trial::Call;
 use crate::values::Made;
 use gx_records::{GxFact, GxRec};
@@ -29,18 +30,21 @@ fn fact(alloc: Global) -> Result<GxFact, AllocError> {
 impl Call for ListTold {
     type Case = ();
 
-    fn operands(alloc: Global, _case: ()) -> Result<ListTold, AllocError> {
-        let facts = [fact(alloc)?];
+    fn operands(given: &Given, _case: ()) -> Result<ListTold, AllocError> {
+        let facts = [fact(given.alloc)?];
         if !are_gx_facts(&facts) {
             return Err(AllocError);
         }
-        let record = GxRec::of_facts(alloc, &facts)?;
-        Ok(ListTold { alloc, record })
+        let record = GxRec::of_facts(given.alloc, &facts)?;
+        Ok(ListTold {
+            alloc: given.alloc,
+            record,
+        })
     }
 
-    fn expected(alloc: Global, _case: ()) -> Result<u64, AllocError> {
-        let name = RuleName::made(alloc)?;
-        let rule = Rule::made(alloc)?;
+    fn expected(given: &Given, _case: ()) -> Result<u64, AllocError> {
+        let name = RuleName::made(given.alloc)?;
+        let rule = Rule::made(given.alloc)?;
         Ok(mixed(EMPTY, (name, rule).fingerprint()))
     }
 

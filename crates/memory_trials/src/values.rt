@@ -1,4 +1,4 @@
-//! Values of the value types, each with a name for reports.
+//! Values of the value types.
 use crate::fingerprint::Fingerprint;
 use crate::samples::text;
 use pcrf_values::{
@@ -11,38 +11,23 @@ use std::alloc::{AllocError, Global};
 
 /// A value that is made of constants, all within their ranges.
 pub trait Made: Ranked + Fingerprint {
-    /// What a report calls the type.
-    fn name() -> &'static str;
-
     /// The value.
     fn made(alloc: Global) -> Result<Self, AllocError>;
 }
 
 impl Made for Text {
-    fn name() -> &'static str {
-        "text"
-    }
-
     fn made(alloc: Global) -> Result<Text, AllocError> {
         text(alloc, b"gw;1;1")
     }
 }
 
 impl Made for RuleName {
-    fn name() -> &'static str {
-        "rule name"
-    }
-
     fn made(alloc: Global) -> Result<RuleName, AllocError> {
         RuleName::read(alloc, b"op/sip")?.ok_or(AllocError)
     }
 }
 
 impl Made for (Text, RuleName) {
-    fn name() -> &'static str {
-        "pair"
-    }
-
     fn made(alloc: Global) -> Result<(Text, RuleName), AllocError> {
         let first = Text::made(alloc)?;
         let second = RuleName::made(alloc)?;
@@ -51,10 +36,6 @@ impl Made for (Text, RuleName) {
 }
 
 impl Made for Apn {
-    fn name() -> &'static str {
-        "access point name"
-    }
-
     fn made(alloc: Global) -> Result<Apn, AllocError> {
         Apn::folded(alloc, b"ims")?.ok_or(AllocError)
     }
@@ -76,20 +57,12 @@ pub fn subscribers_with(alloc: Global, numbers: &[&[u8]]) -> Result<Vec<Subscrib
 }
 
 impl Made for Subscriber {
-    fn name() -> &'static str {
-        "subscriber"
-    }
-
     fn made(alloc: Global) -> Result<Subscriber, AllocError> {
         subscriber(alloc, b"15550001")
     }
 }
 
 impl Made for Subscribers {
-    fn name() -> &'static str {
-        "subscribers"
-    }
-
     fn made(alloc: Global) -> Result<Subscribers, AllocError> {
         let given = subscribers_with(alloc, &[b"15550001", b"15550002"])?;
         Subscribers::of(alloc, given)?.ok_or(AllocError)
@@ -97,10 +70,6 @@ impl Made for Subscribers {
 }
 
 impl Made for Filters {
-    fn name() -> &'static str {
-        "filters"
-    }
-
     fn made(alloc: Global) -> Result<Filters, AllocError> {
         let mut texts = Vec::new(alloc);
         for bytes in [b"permit in ip from any to any".as_slice(), b"permit out 17"] {
@@ -124,10 +93,6 @@ fn qos() -> Option<RuleQos> {
 }
 
 impl Made for Rule {
-    fn name() -> &'static str {
-        "rule"
-    }
-
     fn made(alloc: Global) -> Result<Rule, AllocError> {
         let name = RuleName::made(alloc)?;
         let filters = Filters::made(alloc)?;
@@ -137,10 +102,6 @@ impl Made for Rule {
 }
 
 impl Made for Delta {
-    fn name() -> &'static str {
-        "difference"
-    }
-
     fn made(alloc: Global) -> Result<Delta, AllocError> {
         let mut removed = Vec::new(alloc);
         removed.push(RuleName::made(alloc)?)?;

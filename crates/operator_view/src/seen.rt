@@ -2,7 +2,7 @@
 use af_records::{AfRequestType, ComponentValue, FlowValue};
 use gx_records::{OpenRequestType, Told};
 use pcrf_values::{AfSid, Apn, DiameterIdentity, GxSid, Rule, Subscribers};
-use record_levels::SessionValue;
+use session_records::SessionValue;
 use std::net::Ipv4Addr;
 
 /// What is seen of a session.

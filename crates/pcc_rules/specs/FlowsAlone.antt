@@ -1,5 +1,5 @@
 -- The rules of flows, session by session. What a flow shows is read of the facts of its session alone.
-use Rattle.std.specs.Prelude.{◌≡◌, ℕ, ◌<◌, ◌^◌, true, cond, List, [], ◌∷◌}
+use Rattle.std.specs.Prelude.{◌≡◌, ℕ, ◌<◌, ◌^◌, true, if◌then◌else◌, List, [], ◌∷◌}
 use Rattle.std.specs.List.{filter_map, flat_map}
 use Rattle.pcrf_values.specs.RuleValues.{RuleValue}
 use Rattle.pcrf_facts.specs.Facts.{Fact}
@@ -38,7 +38,7 @@ rules_of_flows t id facts = rules_among t id facts (flows facts)
 
 -- and of the sessions among these that are bound to s
 abbrev pub rules_of_sessions : Tables → View → Session → List (List ℕ × List Fact) → List RuleValue
-rules_of_sessions t v s = flat_map (λ (e : List ℕ × List Fact). cond (is_bound_to v s (af e.0)) (rules_of_flows t e.0 e.1) [])
+rules_of_sessions t v s = flat_map (λ (e : List ℕ × List Fact). if is_bound_to v s (af e.0) then rules_of_flows t e.0 e.1 else [])
 
 -- ---- the numbers of flows have 32 bits
 

@@ -1,5 +1,5 @@
 //! The rule of one flow of an application function's session (TS 29.213, 6.3).
-ghost use Rattle.std.specs.Prelude.{◌≡◌, IfOk, cond, min};
+ghost use Rattle.std.specs.Prelude.{◌≡◌, IfOk, if◌then◌else◌, min};
 ghost use Rattle.std.proofs.Common.{unwrap_or};
 ghost use Rattle.pcrf_values.specs.Numbers.{preemption_number};
 ghost use Rattle.pcrf_facts.specs.Held.{shown};
@@ -106,7 +106,7 @@ impl Flow<'_> {
 /// The bit rate of a flow in one direction, in bit/s: the one given, else for RTCP the operator's, else the cap, and never
 /// above the cap.
 fn rate(given: Option<u32>, is_rtcp: bool, rtcp: u32, cap: u32) -> u32
-    ensures { result ≡ min (unwrap_or given (cond is_rtcp rtcp cap)) cap }
+    ensures { result ≡ min (unwrap_or given (if is_rtcp then rtcp else cap)) cap }
 {
     let asked = match given {
         Some(rate) => rate,

@@ -1,85 +1,68 @@
-//! The benchmark program: a measure's name and sizes as arguments, and a line for each figure.
+//! The benchmark program: it obeys the lines of standard input, and prints a line for each figure.
 //!
-//! Without an argument it does nothing and prints nothing. Each measure has a module, named as on the command line.
+//! The first argument is a file of operator tables. `oracle/bench_input.py` writes the lines, by a measure's name and sizes
+//! (docs/PERFORMANCE.md). A line of hexadecimal digits is a message of a gateway or of an application function, or a letter of
+//! a site, and such lines in a row are a block; in a block `-` stands for a push to any gateway. A line behind a block says
+//! what is done with it, at a site with the tables and at a state:
+//!
+//! - `site`, `state`: the site, or the state, forgets all
+//! - `ask NAME`: the site answers the messages as one stream
+//! - `part NAME`: the site answers each message: reading, serving and writing apart
+//! - `read COUNT NAME`: the messages are read so often, each time all before what they say is dropped
+//! - `push HOST COUNT due NAME`, `push HOST COUNT none NAME`: the site makes so many pushes to a gateway, each of which is due,
+//!   or none of which is
+//! - `whole HOST NAME`: another site takes the whole state of the site, twice, and then makes a push, where none is due
+//! - `renew NAME`: the rules of all sessions of the site are made, one by one and at once
+//! - `steps COUNT NAME`: a site like this one takes the messages so often
+//! - `calls THREADS COUNT settled NAME`, `calls THREADS COUNT left NAME`: by threads that share a locked site like this one,
+//!   whose history settles then, or doesn't
+//! - `take state NAME`, `take site NAME`: the state, or the site, takes the operations of the letters
+//! - `records COUNT NAME`: records of the facts of two operations of one session are made, and joined, so often
+//! - `merge NAME`: the state is merged with an equal one
+//! - `carry NAME`: the state is copied, and carried by a letter
+//! - `tables COUNT NAME`: the operator tables are read and copied so often
+//! - `look COUNT NAMES..`: these access points are looked up so often
+//! - `print HEADING`: the heading is printed, and each figure since the last one
+//! - `# TEXT`: nothing
+//!
+//! Where a NAME is `-` it makes no figure. Of one NAME all that is done up to `print` is one figure. Without a second
+//! argument, `timed`, a figure tells how often a thing was done, but not how long that took.
 #![tactic(auto)]
 
+mod bench;
 mod book;
-mod calls;
-mod gateway;
-mod letters;
-mod map;
+mod figures;
 mod pushes;
 mod records;
 mod renewals;
-mod report;
-mod requests;
-mod rules;
-mod rx;
-mod sites;
 mod states;
 mod streams;
 mod tables;
-mod whole;
+mod words;
 
-use std::alloc::AllocGlobal;
-use std::env;
-use std::io::{self, Print};
-use std::sync::Wait;
-use std::thread::Threads;
-use std::time::Clock;
+use crate::bench::{Bench, Host};
+use std::io::{self, BufRead, BufReader, Read};
+use std::{env, fs};
 
-/// Makes the measure of a name at a size.
-fn measure<R: AllocGlobal + Clock + Print + Threads + Wait + Sync>(
-    rt: &R,
-    name: &str,
-    size: u32,
-) -> io::Result<()> {
-    match name {
-        "book" => book::measure(rt, size),
-        "book_bare_kept" => book::keep_updates(rt, size, false),
-        "book_pushes_kept" => book::keep_pushes(rt, size),
-        "book_updates_kept" => book::keep_updates(rt, size, true),
-        "letters" => letters::measure(rt, size),
-        "map" => map::measure(rt, size),
-        "pushes" => pushes::measure(rt, size),
-        "records" => records::measure(rt, size),
-        "records_kept" => records::keep(rt, size),
-        "renew" => renewals::measure(rt, size),
-        "rx" => rx::measure(rt, size),
-        "rx_kept" => rx::keep(rt, size),
-        "sites" => sites::measure(rt, size),
-        "states" => states::measure(rt, size),
-        "states_kept" => states::keep(rt, size),
-        "streams" => streams::measure(rt, size),
-        "streams_called" => streams::measure_called(rt, size),
-        "tables" => tables::measure(rt, size),
-        "whole" => whole::measure(rt, size),
-        "whole_site_kept" => whole::keep_site(rt, size),
-        "whole_state_kept" => whole::keep_state(rt, size),
-        _ => Err(io::Error::other("there is no such measure")),
+/// Obeys the lines.
+fn obey_all<R: Read + Drop>(rt: &impl Host, reader: R, bench: &mut Bench) -> io::Result<()> {
+    for line in BufReader::new(rt.alloc(), reader)?.lines(rt.alloc()) {
+        let line = line?;
+        bench.obey(rt, line.as_str())?;
     }
-}
-
-/// Makes the measure of a name at a size, as they are written.
-fn measure_at<R: AllocGlobal + Clock + Print + Threads + Wait + Sync>(
-    rt: &R,
-    name: &str,
-    size: &str,
-) -> io::Result<()> {
-    match size.parse() {
-        Ok(size) => measure(rt, name, size),
-        Err(_) => Err(io::Error::other("a size is no number")),
-    }
+    Ok(())
 }
 
 fn main(rt: HostRuntime) -> io::Result<()> {
     let mut arguments = env::args(&rt)?;
     let _program = arguments.next();
-    let Some(name) = arguments.next() else {
-        return Ok(());
+    let Some(path) = arguments.next() else {
+        return Err(io::Error::other("a file of operator tables is missing"));
     };
-    for size in arguments {
-        measure_at(&rt, name.as_str(), size.as_str())?;
-    }
-    Ok(())
+    let is_timed = matches!(arguments.next(), Some(word) if word.as_str() == "timed");
+    let text = fs::read_to_string(&rt, path.as_str())?;
+    let mut bench = Bench::start(rt.alloc(), text, is_timed)?;
+    let obeyed = obey_all(&rt, rt.stdin(), &mut bench);
+    drop(bench);
+    obeyed
 }

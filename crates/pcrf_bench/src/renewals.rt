@@ -1,60 +1,69 @@
-//! The lists of rules that a site keeps of so many live sessions, each with a call (`Site::renew`), made in as many threads as
-//! the program may use processors: of all, as after a whole state was taken, and of none, since all are kept; beside them the
-//! same lists, made and kept one by one.
-use crate::gateway::session_id;
-use crate::report::print_each;
-use crate::sites::{new_site, take_calls, take_sessions};
+//! The lists of rules that a site keeps of its live sessions (`Site::renew`), made in as many threads as the program may use
+//! processors: of all, as after a whole state was taken, and of none, since all are kept; beside them the same lists, made and
+//! kept one by one.
+use crate::figures::Figures;
 use kept_rules::{Rules, derive_by};
 use op_tables::Tables;
 use session_index::Index;
 use site_core::Site;
 use site_join::State;
 use std::alloc::{AllocError, AllocGlobal, Global};
-use std::io::{self, Print};
-use std::thread::{Threads, available_parallelism};
+use std::io;
+use std::thread::Threads;
 use std::time::{Clock, Duration, Instant};
 
-/// How often each is measured, in turn.
-const ROUNDS: u32 = 5;
-
-/// The rule of the access point, and that of the call.
-const RULES: usize = 2;
-
-/// Makes and keeps the list of each live session, one by one.
+/// Makes and keeps the list of each live session, one by one; how many there are.
 fn keep_each(
     alloc: Global,
     tables: &Tables,
     state: &State,
     index: &Index,
     lists: &mut Rules,
-) -> Result<(), AllocError> {
+) -> Result<usize, AllocError> {
+    let mut count = 0_usize;
     for (session, known) in state.all_gx() {
         if known.live() {
             let made = derive_by(alloc, tables, state, index, session)?;
             lists.keep(session, made)?;
+            count = count.saturating_add(1);
         }
     }
-    Ok(())
+    Ok(count)
 }
 
-/// How long it takes to fill these lists one by one.
+/// How many lists a site keeps of its live sessions.
+fn count_kept(site: &Site) -> usize {
+    let mut count = 0_usize;
+    for (session, known) in site.sessions().all_gx() {
+        if known.live() && site.kept(session).is_some() {
+            count = count.saturating_add(1);
+        }
+    }
+    count
+}
+
+/// How many lists are filled one by one, and how long that takes.
 fn fill_lists(
     rt: &(impl AllocGlobal + Clock),
     site: &Site,
     index: &Index,
     lists: &mut Rules,
-) -> io::Result<Duration> {
+) -> io::Result<(usize, Duration)> {
     let start = Instant::now(rt)?;
-    keep_each(rt.alloc(), site.tables(), site.sessions(), index, lists)?;
-    start.elapsed(rt)
+    let count = keep_each(rt.alloc(), site.tables(), site.sessions(), index, lists)?;
+    Ok((count, start.elapsed(rt)?))
 }
 
-/// How long it takes to make the lists of a site's sessions one by one.
-fn time_each(rt: &(impl AllocGlobal + Clock), site: &Site, index: &Index) -> io::Result<Duration> {
+/// How many lists a site's sessions have, and how long it takes to make them one by one.
+fn time_each(
+    rt: &(impl AllocGlobal + Clock),
+    site: &Site,
+    index: &Index,
+) -> io::Result<(usize, Duration)> {
     let mut lists = Rules::start(rt.alloc());
-    let time = fill_lists(rt, site, index, &mut lists);
+    let filled = fill_lists(rt, site, index, &mut lists);
     drop(lists);
-    time
+    filled
 }
 
 /// How long it takes to renew a site.
@@ -72,40 +81,6 @@ fn make_stale(alloc: Global, site: &mut Site) -> Result<(), AllocError> {
     taken
 }
 
-/// A list is kept of the last session.
-fn check_last(alloc: Global, site: &Site, size: u32) -> io::Result<()> {
-    let last = session_id(alloc, size.saturating_sub(1))?;
-    let count = match site.kept(&last) {
-        Some(list) => list.len(),
-        None => 0,
-    };
-    drop(last);
-    if count == RULES {
-        Ok(())
-    } else {
-        Err(io::Error::other("rules are missing"))
-    }
-}
-
-/// Prints what each takes once. Both ways of making all lists come right after a whole state was taken, since that leaves its
-/// records elsewhere in memory.
-fn measure_once(
-    rt: &(impl AllocGlobal + Clock + Print + Threads + Sync),
-    site: &mut Site,
-    index: &Index,
-    size: u32,
-) -> io::Result<()> {
-    make_stale(rt.alloc(), site)?;
-    let each = time_each(rt, site, index)?;
-    make_stale(rt.alloc(), site)?;
-    let all = time_renewing(rt, site)?;
-    check_last(rt.alloc(), site, size)?;
-    let none = time_renewing(rt, site)?;
-    print_each(rt, "renew: one by one, a session", size, each)?;
-    print_each(rt, "renew: all at once, a session", size, all)?;
-    print_each(rt, "renew: where all are kept, a session", size, none)
-}
-
 /// An index of what a site holds.
 fn index_of(alloc: Global, site: &Site) -> Result<Index, AllocError> {
     let mut index = Index::start(alloc);
@@ -118,30 +93,23 @@ fn index_of(alloc: Global, site: &Site) -> Result<Index, AllocError> {
     }
 }
 
-/// Prints what each takes a session, of a site that takes so many sessions and their calls first.
-fn measure_site(
-    rt: &(impl AllocGlobal + Clock + Print + Threads + Sync),
-    site: &mut Site,
-    size: u32,
-) -> io::Result<()> {
-    take_sessions(rt.alloc(), site, size)?;
-    take_calls(rt.alloc(), site, size)?;
-    let processors = available_parallelism(rt)?;
-    println!(rt; "renew: {size} sessions, {processors} processors")?;
-    let index = index_of(rt.alloc(), site)?;
-    for _ in 0..ROUNDS {
-        measure_once(rt, site, &index, size)?;
-    }
-    Ok(())
-}
-
-/// Prints the microseconds that a list of rules takes where those of so many sessions are made.
+/// Makes all lists in both ways, each right after a whole state was taken, since that leaves the records elsewhere in memory;
+/// and then where all are kept.
 pub fn measure(
-    rt: &(impl AllocGlobal + Clock + Print + Threads + Sync),
-    size: u32,
+    rt: &(impl AllocGlobal + Clock + Threads + Sync),
+    site: &mut Site,
+    name: &str,
+    figures: &mut Figures,
 ) -> io::Result<()> {
-    let mut site = new_site(rt.alloc())?;
-    let measured = measure_site(rt, &mut site, size);
-    drop(site);
-    measured
+    make_stale(rt.alloc(), site)?;
+    let index = index_of(rt.alloc(), site)?;
+    let filled = time_each(rt, site, &index);
+    drop(index);
+    let (count, each) = filled?;
+    figures.add_part(name, "one by one", count, each)?;
+    make_stale(rt.alloc(), site)?;
+    let all = time_renewing(rt, site)?;
+    figures.add_part(name, "all at once", count_kept(site), all)?;
+    let none = time_renewing(rt, site)?;
+    figures.add_part(name, "where all are kept", count_kept(site), none)
 }

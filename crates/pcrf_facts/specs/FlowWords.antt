@@ -1,5 +1,5 @@
 -- The flows of an AF session, and what they show of status and rates (TS 29.214, 4.4.1, 5.3.11 and 5.3.12).
-use Rattle.std.specs.Prelude.{ℕ, Bool, false, cond, ◌==◌, List, Option, Some, None}
+use Rattle.std.specs.Prelude.{ℕ, Bool, false, if◌then◌else◌, ◌==◌, List, Option, Some, None}
 use Rattle.std.proofs.Common.{option_map, option_and_then, unwrap_or}
 use Rattle.std.specs.Ordering.{nat_cmp}
 use Rattle.std.specs.List.{filter_map}
@@ -65,4 +65,4 @@ flow_status shows c n = unwrap_or (or_else (number_at shows (OfFlow c n FlowStat
 
 -- the rate that requests gave it, by the fields of one direction: its own, else, unless it is RTCP, its component's
 abbrev pub given_rate : Shows → ℕ → ℕ → FlowField → ComponentField → Option ℕ
-given_rate shows c n own whole = or_else (number_at shows (OfFlow c n own)) (cond (is_rtcp shows c n) None (number_at shows (OfComponent c whole)))
+given_rate shows c n own whole = or_else (number_at shows (OfFlow c n own)) (if is_rtcp shows c n then None else number_at shows (OfComponent c whole))

@@ -1,5 +1,5 @@
 -- What a set of facts on one session holds, and what it shows.
-use Rattle.std.specs.Prelude.{Bool, true, false, cond, List, ◌++◌, Option, Some, None}
+use Rattle.std.specs.Prelude.{Bool, true, false, if◌then◌else◌, List, ◌++◌, Option, Some, None}
 use Rattle.std.specs.Ordering.{is_eq}
 use Rattle.std.specs.List.{list_any, filter_map}
 use Rattle.ranked.specs.Ascending.{ascending}
@@ -44,7 +44,7 @@ is_gone facts p = list_any (blocks p) facts
 abbrev pub entry_at : Place → Fact → Option Entry
 entry_at p End = None
 entry_at p (Removed r) = None
-entry_at p (Field q t v) = cond (is_eq (place_cmp p q)) (Some (t, v)) None
+entry_at p (Field q t v) = if is_eq (place_cmp p q) then Some (t, v) else None
 
 -- the greatest tag and value at the place, none where there is no fact
 abbrev pub value_at : List Fact → Place → Option Entry
@@ -52,7 +52,7 @@ value_at facts p = greatest entry_cmp (filter_map (entry_at p) facts)
 
 -- what the place shows, with its tag
 abbrev pub shown : List Fact → Place → Option Entry
-shown facts p = cond (is_gone facts p) None (value_at facts p)
+shown facts p = if is_gone facts p then None else value_at facts p
 
 -- what the fact says is removed
 abbrev pub removal : Fact → Option Removable

@@ -1,5 +1,5 @@
 -- Session binding (TS 29.213, 5.2): which Gx session an AF session is bound to.
-use Rattle.std.specs.Prelude.{ℕ, Bool, true, false, cond, not, ◌&&◌, List, Option, Some, None}
+use Rattle.std.specs.Prelude.{ℕ, Bool, true, false, if◌then◌else◌, not, ◌&&◌, List, Option, Some, None}
 use Rattle.std.proofs.Common.{Ordering, option_map, unwrap_or}
 use Rattle.std.specs.Ordering.{is_eq, nat_cmp}
 use Rattle.std.specs.List.{list_any, filter_map}
@@ -51,7 +51,7 @@ standing v s = option_map (λ (e : Entry). (e.0.counter, (e.0.site, s.id))) (v.s
 
 -- how s stands as a match of a, if it is one
 abbrev pub candidate : View → Session → Session → Option Candidate
-candidate v a s = cond (matches v a s) (standing v s) None
+candidate v a s = if matches v a s then standing v s else None
 
 -- the Gx session to which the AF session is bound: the greatest that matches, none where none matches
 unfoldable pub bind : View → Session → Option Session

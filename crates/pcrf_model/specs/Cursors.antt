@@ -1,5 +1,5 @@
 -- Cursors: what a site took of each maker's operations, and what it knows that its peers took of its own (this project's profile).
-use Rattle.std.specs.Prelude.{ℕ, ◌+◌, max, ◌==◌, Bool, true, false, cond, ◌&&◌, List, replicate, length, nat_lt, nat_le, slice_index_or, slice_set, Option, Some, None}
+use Rattle.std.specs.Prelude.{ℕ, ◌+◌, max, ◌==◌, Bool, true, false, if◌then◌else◌, ◌&&◌, List, replicate, length, nat_lt, nat_le, slice_index_or, slice_set, Option, Some, None}
 use Rattle.std.proofs.Common.{option_and_then}
 use Rattle.pcrf_model.specs.Limits.{site_limit}
 use Rattle.pcrf_model.specs.Letters.{AckValue, LetterBody, Range, Snapshot, Acknowledgement, LetterValue, body_from, is_carried}
@@ -39,7 +39,7 @@ peer_entry c peer = slice_index_or c.peers peer None
 -- the whole state where nothing is known to be taken, else the operations past the cursor
 abbrev pub asked_past : Option Cursor → SiteEvent
 asked_past None = AskWhole
-asked_past (Some c) = cond (c.cursor == 0) AskWhole (AskOwn c.cursor)
+asked_past (Some c) = if c.cursor == 0 then AskWhole else AskOwn c.cursor
 
 -- what the site is asked, to make a letter for the peer
 abbrev pub ask : CursorsValue → ℕ → SiteEvent
@@ -51,24 +51,25 @@ letter_saying c edition body = record { edition = edition; site = c.site; epoch 
 
 -- the letter that the site's reply makes, where operations were asked for from that position on, if a letter carries it
 abbrev pub letter_of : CursorsValue → ℕ → ℕ → ReplyValue → Option LetterValue
-letter_of c edition from reply = option_and_then (λ b. cond (is_carried b) (Some (letter_saying c edition b)) None) (body_from from reply)
+letter_of c edition from reply = option_and_then (λ b. if is_carried b then Some (letter_saying c edition b) else None) (body_from from reply)
 
 -- ---- having taken a letter whole
 
 -- the entry in the letter's epoch: an older epoch's gives way
 abbrev pub in_epoch : ℕ → Cursor → Cursor
-in_epoch epoch x = cond (nat_lt x.epoch epoch) (record { epoch = epoch; cursor = 0 }) x
+in_epoch epoch x = if nat_lt x.epoch epoch then record { epoch = epoch; cursor = 0 } else x
 
 -- a snapshot raises the cursor to the length of the log, a range that begins at it or before raises it to its end
 abbrev pub raised_by : LetterBody → ℕ → ℕ
-raised_by (Range from os) cursor = cond (nat_le from cursor) (max cursor (from + length os)) cursor
+raised_by (Range from os) cursor = if nat_le from cursor then max cursor (from + length os) else cursor
 raised_by (Snapshot h n) cursor = max cursor n
 raised_by (Acknowledgement m e n) cursor = cursor
 
 -- a letter of an older epoch changes nothing
 abbrev pub maker_after : LetterValue → Cursor → Cursor
-maker_after l x = cond (nat_lt l.epoch x.epoch) x
-    (let y : Cursor = in_epoch l.epoch x in record { epoch = y.epoch; cursor = raised_by l.body y.cursor })
+maker_after l x =
+    if nat_lt l.epoch x.epoch then x
+    else (let y : Cursor = in_epoch l.epoch x in record { epoch = y.epoch; cursor = raised_by l.body y.cursor })
 
 -- the letter acknowledges, and carries no operation
 abbrev pub is_acknowledgement : LetterBody → Bool
@@ -78,7 +79,7 @@ is_acknowledgement (Acknowledgement m e n) = true
 
 -- an acknowledgement is not of its sender's operations, and changes nothing here
 abbrev pub took : CursorsValue → LetterValue → CursorsValue
-took c l = cond (is_acknowledgement l.body) c (record c { makers = slice_set c.makers l.site (maker_after l (maker_entry c l.site)) })
+took c l = if is_acknowledgement l.body then c else record c { makers = slice_set c.makers l.site (maker_after l (maker_entry c l.site)) }
 
 -- ---- acknowledgements
 
@@ -100,10 +101,11 @@ carried_ack l (Acknowledgement m e n) = Some (record { sender = l.site; sender_e
 abbrev pub peer_after : AckValue → Option Cursor → Option Cursor
 peer_after a None = Some (record { epoch = a.sender_epoch; cursor = a.cursor })
 peer_after a (Some x) =
-    cond (nat_lt x.epoch a.sender_epoch) (Some (record { epoch = a.sender_epoch; cursor = a.cursor }))
-    (cond (x.epoch == a.sender_epoch) (Some (record { epoch = x.epoch; cursor = max x.cursor a.cursor })) (Some x))
+    if nat_lt x.epoch a.sender_epoch then Some (record { epoch = a.sender_epoch; cursor = a.cursor })
+    else (if x.epoch == a.sender_epoch then Some (record { epoch = x.epoch; cursor = max x.cursor a.cursor }) else Some x)
 
 -- at a site that isn't its maker in that epoch it changes nothing
 abbrev pub acked : CursorsValue → AckValue → CursorsValue
-acked c a = cond (a.maker == c.site && a.maker_epoch == c.epoch)
-    (record c { peers = slice_set c.peers a.sender (peer_after a (peer_entry c a.sender)) }) c
+acked c a =
+    if a.maker == c.site && a.maker_epoch == c.epoch
+    then record c { peers = slice_set c.peers a.sender (peer_after a (peer_entry c a.sender)) } else c

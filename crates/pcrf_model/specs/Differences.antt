@@ -1,5 +1,5 @@
 -- What a gateway was told, and how that differs from the rules that hold (TS 29.212, 4.5.2: Charging-Rule-Remove and -Install).
-use Rattle.std.specs.Prelude.{◌≡◌, ℕ, ◌+◌, ◌-◌, ◌==◌, Bool, cond, not, ◌&&◌, List, [], ◌∷◌, ◌++◌, map, take, drop, length, None}
+use Rattle.std.specs.Prelude.{◌≡◌, ℕ, ◌+◌, ◌-◌, ◌==◌, Bool, if◌then◌else◌, not, ◌&&◌, List, [], ◌∷◌, ◌++◌, map, take, drop, length, None}
 use Rattle.std.proofs.Common.{Ordering}
 use Rattle.std.specs.Ordering.{is_eq}
 use Rattle.std.specs.List.{list_any, filter, filter_map}
@@ -17,7 +17,7 @@ told_cmp = pair_cmp text_cmp rule_cmp
 
 -- the names that show a rule, ascending, each with its rule
 unfoldable pub told : View → Session → List ToldRule
-told v s = filter_map (λ (x : Shown). cond (is_eq (session_cmp x.session s)) (told_rule_at x.place x.tag x.value) None) v.all
+told v s = filter_map (λ (x : Shown). if is_eq (session_cmp x.session s) then told_rule_at x.place x.tag x.value else None) v.all
 
 -- the name of a told entry
 abbrev pub told_name_of : ToldRule → List ℕ
@@ -76,7 +76,7 @@ stays d p = not (list_any (λ n. is_eq (text_cmp n p.0)) d.removed) && not (list
 -- the installed rules of which no later one takes the place: the last of each name
 abbrev pub last_of_names : List RuleValue → List RuleValue
 last_of_names [] = []
-last_of_names (r ∷ rs) = cond (list_any (has_name r.name) rs) (last_of_names rs) (r ∷ last_of_names rs)
+last_of_names (r ∷ rs) = if list_any (has_name r.name) rs then last_of_names rs else (r ∷ last_of_names rs)
 
 -- without the removed names, and with each installed rule in the place of what its name had
 abbrev pub apply : List ToldRule → DeltaValue → List ToldRule

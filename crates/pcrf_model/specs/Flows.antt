@@ -1,5 +1,5 @@
 -- What a flow of an AF session shows: its status, its class and its rates (TS 29.214, 4.4.1, 5.3.11 and 5.3.12; TS 29.213, 6.3), and the rule made of them.
-use Rattle.std.specs.Prelude.{ℕ, Bool, cond, List, ◌++◌, min, Option, Some, codes, decimal}
+use Rattle.std.specs.Prelude.{ℕ, Bool, if◌then◌else◌, List, ◌++◌, min, Option, Some, codes, decimal}
 use Rattle.std.proofs.Common.{option_and_then, unwrap_or}
 use Rattle.pcrf_values.specs.RuleValues.{RuleValue}
 use Rattle.pcrf_facts.specs.Places.{ComponentField, MediaType, ComponentRateUp, ComponentRateDown, FlowField, FlowDescriptions, FlowRateUp, FlowRateDown, OfComponent, OfFlow}
@@ -40,7 +40,7 @@ media_type v i = unwrap_or (of_component v i MediaType) 0xFFFFFFFF
 
 -- the class of its service: that of signalling, or that of its media, if it has one
 abbrev pub class_of : Tables → View → FlowId → Option Class
-class_of t v i = cond (is_signalling v i) (Some t.signalling) (media_class t (media_type v i))
+class_of t v i = if is_signalling v i then Some t.signalling else media_class t (media_type v i)
 
 -- towards the network, or from it
 pub data Direction : Type 0 where
@@ -62,7 +62,7 @@ given_rate v i d = words.given_rate (v.shows i.session) i.component i.flow (flow
 
 -- the rate that is asked: the one given, else for RTCP the operator's, else the cap
 abbrev pub asked_rate : Tables → View → FlowId → Direction → ℕ → ℕ
-asked_rate t v i d cap = unwrap_or (given_rate v i d) (cond (is_rtcp v i) t.rtcp_bps cap)
+asked_rate t v i d cap = unwrap_or (given_rate v i d) (if is_rtcp v i then t.rtcp_bps else cap)
 
 -- the lesser of the rate asked and the cap
 abbrev pub flow_rate : Tables → View → FlowId → Direction → ℕ → ℕ

@@ -1,5 +1,5 @@
 -- Holdings: the facts that a site holds, each with its session, and its clock.
-use Rattle.std.specs.Prelude.{ℕ, max, Bool, not, ◌&&◌, cond, List, [], ◌++◌, map, Option, Some, None}
+use Rattle.std.specs.Prelude.{ℕ, max, Bool, not, ◌&&◌, if◌then◌else◌, List, [], ◌++◌, map, Option, Some, None}
 use Rattle.std.proofs.Common.{Ordering}
 use Rattle.std.specs.Ordering.{is_eq}
 use Rattle.std.specs.List.{filter, filter_map}
@@ -31,7 +31,7 @@ under s = map (λ f. (s, f))
 
 -- the fact, if it is on the session
 abbrev pub on_session : Session → SessionFact → Option Fact
-on_session s x = cond (is_eq (session_cmp s x.0)) (Some x.1) None
+on_session s x = if is_eq (session_cmp s x.0) then Some x.1 else None
 
 -- the facts of one session
 abbrev pub facts_on : List SessionFact → Session → List Fact

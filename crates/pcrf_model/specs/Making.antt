@@ -1,5 +1,5 @@
 -- The facts that accepted requests and pushes make.
-use Rattle.std.specs.Prelude.{ℕ, ◌+◌, ◌==◌, Bool, false, cond, List, [], ◌∷◌, ◌++◌, map, Option}
+use Rattle.std.specs.Prelude.{ℕ, ◌+◌, ◌==◌, Bool, false, if◌then◌else◌, List, [], ◌∷◌, ◌++◌, map, Option}
 use Rattle.std.proofs.Common.{option_map, option_to_list, unwrap_or, flat_map}
 use Rattle.ranked.specs.Ascending.{ascending}
 use Rattle.ranked.specs.declared.tag.Tag.{Tag}
@@ -46,9 +46,9 @@ is_removed s = unwrap_or (option_map (λ n. n == flow_status_removed) s) false
 
 -- a flow that is removed makes only the fact that it is
 abbrev pub flow_facts : ℕ → Tag → FlowValue → List Fact
-flow_facts c t f = cond (is_removed f.status)
-    (Removed (Flow c f.number) ∷ [])
-    (given (OfFlow c f.number FlowDescriptions) t Filters f.filters
+flow_facts c t f =
+    if is_removed f.status then Removed (Flow c f.number) ∷ []
+    else (given (OfFlow c f.number FlowDescriptions) t Filters f.filters
     ++ given (OfFlow c f.number FlowUsage) t Number f.usage
     ++ given (OfFlow c f.number FlowStatus) t Number f.status
     ++ given (OfFlow c f.number FlowRateUp) t Number f.rate_up
@@ -56,9 +56,9 @@ flow_facts c t f = cond (is_removed f.status)
 
 -- a component that is removed makes only the fact that it is, whatever flows are described with it
 abbrev pub component_facts : Tag → ComponentValue → List Fact
-component_facts t c = cond (is_removed c.status)
-    (Removed (Component c.number) ∷ [])
-    (given (OfComponent c.number MediaType) t Number c.media
+component_facts t c =
+    if is_removed c.status then Removed (Component c.number) ∷ []
+    else (given (OfComponent c.number MediaType) t Number c.media
     ++ given (OfComponent c.number ComponentStatus) t Number c.status
     ++ given (OfComponent c.number ComponentRateUp) t Number c.rate_up
     ++ given (OfComponent c.number ComponentRateDown) t Number c.rate_down

@@ -1,5 +1,5 @@
 -- What an operator sees of a holding: every session, with its bindings, rules and told entries, and the clock (this project's profile).
-use Rattle.std.specs.Prelude.{ℕ, cond, List, Option, Some, None}
+use Rattle.std.specs.Prelude.{ℕ, if◌then◌else◌, List, Option, Some, None}
 use Rattle.std.proofs.Common.{option_map}
 use Rattle.std.specs.Ordering.{is_eq}
 use Rattle.std.specs.List.{filter_map}
@@ -27,7 +27,7 @@ field_shown p x = Some (p, x)
 
 -- all fields that the session shows, ascending by their places
 abbrev pub fields_shown : View → Session → List FieldShown
-fields_shown v s = filter_map (λ (x : Shown). cond (is_eq (session_cmp x.session s)) (field_shown x.place x.value) None) v.all
+fields_shown v s = filter_map (λ (x : Shown). if is_eq (session_cmp x.session s) then field_shown x.place x.value else None) v.all
 
 -- of a live Gx session: its fields, its home, its rules, and what its gateway was told
 pub record GxShown : Type 0 where
@@ -53,7 +53,7 @@ pub data SessionValue (Seen : Type 0) : Type 0 where
 
 -- what is seen of a session, by what it would show if it is live
 abbrev pub session_value : {Seen : Type 0} → View → Session → Seen → SessionValue Seen
-session_value v s seen = cond (v.ended s) Ended (cond (is_live v s) (Live seen) Partial)
+session_value v s seen = if v.ended s then Ended else (if is_live v s then Live seen else Partial)
 
 -- what a live Gx session shows
 abbrev pub gx_shown : Tables → View → Session → GxShown
@@ -94,7 +94,7 @@ operator_value t h = value_seen t h.clock (view h.facts)
 -- a live AF session by its Session-Id, with its binding
 abbrev pub bound_value : View → Session → Kind → Option (List ℕ × Option (List ℕ))
 bound_value v s Gx = None
-bound_value v s Af = cond (is_live v s) (Some (s.id, binding_id v s)) None
+bound_value v s Af = if is_live v s then Some (s.id, binding_id v s) else None
 
 -- the live AF sessions, ascending by Session-Id, each with its binding
 unfoldable pub bindings_of : View → List (List ℕ × Option (List ℕ))

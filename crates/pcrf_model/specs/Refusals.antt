@@ -1,5 +1,5 @@
 -- The refusals by what a site holds, in order: the first that applies counts.
-use Rattle.std.specs.Prelude.{ℕ, ◌==◌, Bool, false, cond, not, ◌&&◌, ◌||◌, List, [], ◌∷◌, ◌++◌, Option, Some, None, is_none}
+use Rattle.std.specs.Prelude.{ℕ, ◌==◌, Bool, false, if◌then◌else◌, not, ◌&&◌, ◌||◌, List, [], ◌∷◌, ◌++◌, Option, Some, None, is_none}
 use Rattle.std.proofs.Common.{option_map, unwrap_or}
 use Rattle.std.specs.List.{list_any}
 use Rattle.pcrf_values.specs.Applications.{gx_application, rx_application, relay_application}
@@ -20,7 +20,7 @@ use Rattle.pcrf_model.specs.Making.{is_removed, aar_facts, next_tag}
 -- the first refusal whose cause stands
 abbrev pub first_cause : List (Bool × Refusal) → Option Refusal
 first_cause [] = None
-first_cause (x ∷ xs) = cond x.0 (Some x.1) (first_cause xs)
+first_cause (x ∷ xs) = if x.0 then Some x.1 else first_cause xs
 
 -- no counter is left
 abbrev pub is_clock_full : Holding → Bool
@@ -88,6 +88,6 @@ is_common a = a == gx_application || a == rx_application || a == relay_applicati
 
 -- a capabilities exchange has to advertise an application in common (RFC 6733, 5.3)
 abbrev pub base_refusal : BaseKind → Option Refusal
-base_refusal (CapabilitiesExchange applications) = cond (list_any is_common applications) None (Some no_common_application)
+base_refusal (CapabilitiesExchange applications) = if list_any is_common applications then None else Some no_common_application
 base_refusal DeviceWatchdog = None
 base_refusal DisconnectPeer = None

@@ -1,5 +1,5 @@
 -- The PCC rules of a Gx session (TS 23.203, 6.3; TS 29.212, 4.3.1).
-use Rattle.std.specs.Prelude.{cond, List, [], ◌++◌, map, Option, Some, None, codes}
+use Rattle.std.specs.Prelude.{if◌then◌else◌, List, [], ◌++◌, map, Option, Some, None, codes}
 use Rattle.std.proofs.Common.{Ordering, option_map, option_and_then, unwrap_or}
 use Rattle.std.specs.Ordering.{nat_cmp, on}
 use Rattle.std.specs.List.{filter_map}
@@ -26,7 +26,7 @@ rule_of t v i = option_and_then (λ f. option_map (λ c. flow_rule t v i f c) (c
 
 -- the rule of the flow whose filters the place shows, if its session is bound to s
 abbrev pub rule_at : Tables → View → Session → Shown → Option RuleValue
-rule_at t v s x = cond (is_bound_to v s x.session) (option_and_then (rule_of t v) (flow_at x.session x.place)) None
+rule_at t v s x = if is_bound_to v s x.session then option_and_then (rule_of t v) (flow_at x.session x.place) else None
 
 -- the access point of the session, as the tables have it
 abbrev pub apn_of : Tables → View → Session → Option ApnRow
@@ -61,7 +61,7 @@ listed_cmp = on (λ r. (r.precedence, r)) (pair_cmp nat_cmp rule_cmp)
 
 -- the rules of a live session, by precedence and name; a session that is not live has none
 unfoldable pub rules : Tables → View → Session → List RuleValue
-rules t v s = cond (is_live v s) (ascending listed_cmp (operator_rules t v s ++ flow_rules t v s)) []
+rules t v s = if is_live v s then ascending listed_cmp (operator_rules t v s ++ flow_rules t v s) else []
 
 -- the default quality of service of the access point that the session shows
 abbrev pub quality_of : Tables → View → Session → Option DefaultQuality

@@ -1,5 +1,5 @@
 -- Several sites and the letters between them: what each event answers, and what each site took, read from the events and the answers alone.
-use Rattle.std.specs.Prelude.{◌≡◌, ℕ, zero, suc, ◌+◌, ◌<◌, ◌==◌, cond, List, [], ◌∷◌, ◌++◌, take, length, map, slice_get, slice_set, slice_index_or, Option, Some, None, Result, Ok, Err}
+use Rattle.std.specs.Prelude.{◌≡◌, ℕ, zero, suc, ◌+◌, ◌<◌, ◌==◌, if◌then◌else◌, List, [], ◌∷◌, ◌++◌, take, length, map, slice_get, slice_set, slice_index_or, Option, Some, None, Result, Ok, Err}
 use Rattle.std.proofs.Common.{option_to_list, option_map, unwrap_or}
 use Rattle.ranked.specs.Sets.{Same}
 use Rattle.pcrf_model.specs.Limits.{last_epoch}
@@ -89,7 +89,7 @@ at_site (Some s) answer = answer s
 
 -- what was pushed, if a counter is left for it
 abbrev pub push_answer : Setting → Option (List ℕ) → SiteView → WorldAnswer
-push_answer g name s = cond (lacks_counter g.tables s.number s.state.holding name) (Err ClockFull) (outcome (push g.most g.tables s.number s.state.holding name).reply)
+push_answer g name s = if lacks_counter g.tables s.number s.state.holding name then Err ClockFull else outcome (push g.most g.tables s.number s.state.holding name).reply
   where
     outcome : ReplyValue → WorldAnswer
     outcome (Pushed p) = Ok (PushedOut p)
@@ -102,7 +102,7 @@ merge_answer (Some l) = Ok Merged
 
 -- the next epoch, if there is one
 abbrev pub restart_answer : SiteView → WorldAnswer
-restart_answer s = cond (s.epoch == last_epoch) (Err EpochFull) (Ok (Restarted (s.epoch + 1)))
+restart_answer s = if s.epoch == last_epoch then Err EpochFull else Ok (Restarted (s.epoch + 1))
 
 -- the answer where memory is found
 abbrev pub answer_of : Setting → WorldView → WorldEvent → WorldAnswer

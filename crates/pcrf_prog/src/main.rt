@@ -3,11 +3,7 @@
 
 mod operator_tables;
 mod run;
-#[cfg(test)]
-mod serve_tests;
 mod server;
-#[cfg(test)]
-mod tests;
 mod told;
 mod words;
 

@@ -6,8 +6,8 @@ use crate::printing::{put_outcome, put_restart};
 use op_tables::Tables;
 use operator_view::put_value;
 use pcrf_world::{World, WorldEvent};
-use script_lines::{LineFault, Obey};
 use std::alloc::Global;
+use watched_io::{LineFault, Obey};
 
 /// A world that a line starts, and that further lines change and show.
 #[derive(Drop)]

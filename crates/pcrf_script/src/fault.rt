@@ -1,7 +1,7 @@
 //! Why a line is not obeyed.
-use script_lines::LineFault;
 use std::alloc::{AllocError, AllocFailed};
 use thiserror::Error;
+use watched_io::LineFault;
 
 /// Why a line is refused: it fits no form, or not at its place.
 #[derive(Clone, Copy, Debug, PartialEq, Eq, Error)]

@@ -11,4 +11,4 @@ mod script;
 
 pub use fault::BadLine;
 pub use script::{ScriptRun, run_script, run_told};
-pub use script_lines::ScriptEnd;
+pub use watched_io::ScriptEnd;

@@ -1,15 +1,15 @@
 //! Scripts of a world: one command a line, and what it prints.
 ghost use Rattle.std.specs.Prelude.{◌≡◌, ◌≤◌, ◌+◌, ◌⊎◌, min, true, false};
-ghost use Rattle.dia_codec.specs.Counted.{most_calls};
-ghost use Rattle.script_lines.specs.Limits.{read_limit};
+ghost use Rattle.watched_io.specs.Counted.{most_calls};
+ghost use Rattle.watched_io.specs.Limits.{read_limit};
 
 use crate::console::Console;
 use crate::fault::BadLine;
 use dia_codec::Counted;
 use op_tables::Tables;
-use script_lines::{ScriptEnd, run_lines};
 use std::alloc::Global;
 use std::io::{Read, Write};
+use watched_io::{ScriptEnd, run_lines};
 
 /// How a script ended, and why its last line was refused, if it was.
 #[derive(Clone, Copy, Debug, PartialEq, Eq)]

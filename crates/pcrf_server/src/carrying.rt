@@ -17,8 +17,8 @@ const RANGE: u8 = 1;
 const SNAPSHOT: u8 = 2;
 
 /// What a letter brings.
-#[derive(Clone, Copy, Debug, PartialEq, Eq)]
-pub enum Brought {
+#[derive(Clone, Copy)]
+enum Brought {
     /// So many operations that its site made.
     Operations(u32),
     /// All that its site holds.
@@ -29,7 +29,7 @@ pub enum Brought {
 
 impl Brought {
     /// What the bytes of a letter say that it brings.
-    pub fn by(letter: &[u8]) -> Brought {
+    fn by(letter: &[u8]) -> Brought {
         if letter.len() < COUNT + 4 {
             return Brought::Nothing;
         }

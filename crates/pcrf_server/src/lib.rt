@@ -13,8 +13,6 @@ mod printable;
 mod serving;
 mod settings;
 mod sockets;
-#[cfg(test)]
-mod tests;
 
 pub use fault::ServerFault;
 pub use serving::run_server;

@@ -4,10 +4,11 @@ ghost use Rattle.pcrf_values.specs.Texts.{one_to};
 
 use ranked::{Listed, Ranked};
 use std::alloc::{AllocError, Global};
+use std::cmp::Ordering;
 use std::marker::Model;
 
 /// A list of 1 to `MOST` values, which contracts see as that list. Ordered member by member, a prefix first.
-#[derive(Drop, PartialEq, Eq, PartialOrd, Ord)]
+#[derive(Drop, PartialEq, Eq, PartialOrd)]
 pub struct BoundedList<T, const MOST: usize> {
     list: Listed<T>,
 }
@@ -90,6 +91,22 @@ impl<const MOST: usize> BoundedList<u8, MOST> {
         Ok(Some(BoundedList {
             list: Listed::of(copy),
         }))
+    }
+}
+
+impl<T: Ranked, const MOST: usize> Ord for BoundedList<T, MOST> {
+    ghost use Rattle.std.specs.Cmp.Lexicographic.{slice_cmp, lists_agrees, lists_total, lists_ties};
+
+    ghost cmp = { slice_cmp T.cmp };
+
+    ghost total = { lists_total T.total };
+
+    ghost matches_partial_cmp = { lists_agrees T.matches_partial_cmp };
+
+    ghost matches_eq = { lists_ties T.cmp T.matches_eq };
+
+    fn cmp(&self, other: &BoundedList<T, MOST>) -> Ordering {
+        self.list.cmp(&other.list)
     }
 }
 

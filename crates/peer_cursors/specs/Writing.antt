@@ -1,5 +1,5 @@
 -- What a site writes to a peer by its cursors.
-use Rattle.std.specs.Prelude.{ℕ, Option, Some, None, cond}
+use Rattle.std.specs.Prelude.{ℕ, Option, Some, None, if◌then◌else◌}
 use Rattle.pcrf_model.specs.Letters.{LetterValue}
 use Rattle.pcrf_model.specs.Steps.{SiteEvent, AskOwn, AskWhole}
 use Rattle.pcrf_model.specs.Cursors.{CursorsValue, ask, letter_saying}
@@ -22,4 +22,4 @@ letter_made c s peer = letter_saying c s.tables.edition (asked_body (seen_by c s
 
 -- the letter, where its positions and cursors are those that a log may have
 abbrev pub if_placed : LetterValue → Option LetterValue
-if_placed l = cond (is_placed l.body) (Some l) None
+if_placed l = if is_placed l.body then Some l else None

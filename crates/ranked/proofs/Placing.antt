@@ -1,5 +1,6 @@
 -- A value placed among the members of an ascending list, as a loop finds its place.
 use Rattle.std.proofs.Common.{◌≡◌, ℕ, zero, suc, ◌<◌, ◌≤◌, List, [], ◌∷◌, ◌++◌, length, get_or, refl, ap, sym, ◌∙◌, arith}
+use Rattle.std.specs.BTreeSet.{insert_key}
 use Rattle.std.specs.List.{insert}
 use Rattle.std.specs.declared.cmp.Ordering.{Ordering}
 use Rattle.std.specs.declared.cmp.Ordering.TheVariants.{Less, Equal, Greater}
@@ -57,3 +58,12 @@ module _ {A : Type 0} (cmp : A → A → Ordering) where
   pub place_all_none : (xs : List A) → place_all xs [] ≡ ascending cmp xs
   place_all_none [] = refl
   place_all_none (x ∷ xs) = ap (place cmp x) (place_all_none xs)
+
+  -- what a tree inserts is placed
+  pub inserted_is_placed : (x : A) (ys : List A) → insert_key cmp ys x ≡ place cmp x ys
+  inserted_is_placed x [] = refl
+  inserted_is_placed x (y ∷ ys) = elim (cmp x y) as (λ r. cmp x y ≡ r → insert_key cmp (y ∷ ys) x ≡ place cmp x (y ∷ ys)) [
+    | Less ↦ λ e. simp e refl
+    | Equal ↦ λ e. simp e refl
+    | Greater ↦ λ e. simp e (ap (λ l. y ∷ l) (inserted_is_placed x ys))
+  ] refl

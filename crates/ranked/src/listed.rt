@@ -71,7 +71,7 @@ impl<T: PartialOrd> PartialOrd for Listed<T> {
     }
 }
 
-impl<T: Ord> Ord for Listed<T> {
+impl<T: Ranked> Ord for Listed<T> {
     ghost cmp = { slice_cmp T.cmp };
 
     ghost total = { lists_total T.total };
@@ -81,7 +81,7 @@ impl<T: Ord> Ord for Listed<T> {
     ghost matches_eq = { lists_ties T.cmp T.matches_eq };
 
     fn cmp(&self, other: &Listed<T>) -> Ordering {
-        self.as_slice().cmp(&other.as_slice())
+        T::compare_slices(self.as_slice(), other.as_slice())
     }
 }
 

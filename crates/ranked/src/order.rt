@@ -1,9 +1,12 @@
 //! Total orders whose equals are the same value.
 ghost use Rattle.std.specs.Prelude.{◌≡◌, IfOk, refl};
 ghost use Rattle.std.specs.declared.cmp.Ordering.TheVariants.{Equal};
+ghost use Rattle.std.specs.Cmp.Lexicographic.{slice_cmp};
 ghost use Rattle.ranked.specs.laws.Exact.{nat_same, option_same, pair_same};
 
+use crate::bytes::compare_bytes;
 use std::alloc::{AllocError, Global};
+use std::cmp::Ordering;
 use std::net::Ipv4Addr;
 
 /// A total order whose equals are the same value.
@@ -25,6 +28,13 @@ pub trait Ranked: Ord + Drop {
         Ok(copies)
     }
 
+    /// How two lists compare, member by member, a prefix first. Bytes are compared a word at a time.
+    fn compare_slices(left: &[Self], right: &[Self]) -> Ordering
+        ensures { result ≡ slice_cmp Self.cmp left.now right.now }
+    {
+        left.cmp(&right)
+    }
+
     ghost same: { (x y : Self) → Self.cmp x y ≡ Equal → x ≡ y };
 }
 
@@ -37,6 +47,10 @@ impl Ranked for u8 {
 
     fn try_copy_slice(alloc: Global, items: &[u8]) -> Result<Vec<u8>, AllocError> {
         Vec::from_slice(alloc, items)
+    }
+
+    fn compare_slices(left: &[u8], right: &[u8]) -> Ordering {
+        compare_bytes(left, right)
     }
 }
 

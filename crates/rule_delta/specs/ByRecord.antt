@@ -1,5 +1,5 @@
 -- The session that is due, record by record: whether it is asked for, and where its gateway is, is read of its own facts alone.
-use Rattle.std.specs.Prelude.{ℕ, Bool, not, ◌&&◌, cond, List, [], ◌∷◌, Option, Some, None}
+use Rattle.std.specs.Prelude.{ℕ, Bool, not, ◌&&◌, if◌then◌else◌, List, [], ◌∷◌, Option, Some, None}
 use Rattle.pcrf_facts.specs.Facts.{Fact}
 use Rattle.pcrf_facts.specs.FlowWords.{or_else}
 use Rattle.pcrf_facts.specs.Live.{gx_is_live}
@@ -32,7 +32,7 @@ is_asked i name facts = gx_is_live facts && is_at_home i facts && is_at_host nam
 -- the push of the session, if it is due
 abbrev pub push_due : Tables → View → ℕ → Option (List ℕ) → List ℕ → List Fact → Option PushValue
 push_due t v i name id facts =
-    cond (is_asked i name facts && not (is_empty (untold t v (gx id)))) (Some (push_to (alone facts) (gx id) (first delta_limit (untold t v (gx id))))) None
+    if is_asked i name facts && not (is_empty (untold t v (gx id))) then Some (push_to (alone facts) (gx id) (first delta_limit (untold t v (gx id)))) else None
 
 -- that of the first of these that is due
 abbrev pub first_push : Tables → View → ℕ → Option (List ℕ) → List (List ℕ × List Fact) → Option PushValue

@@ -10,8 +10,6 @@ mod frames;
 #[cfg(test)]
 mod gates;
 #[cfg(test)]
-mod messages;
-#[cfg(test)]
 mod notes;
 #[cfg(test)]
 mod outcomes;

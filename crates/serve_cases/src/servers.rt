@@ -3,9 +3,12 @@ ghost use Rattle.std.specs.Prelude.{◌≡◌};
 
 use crate::connections::Input;
 use crate::gates::{AtFirstWrite, InOrder, Leaving, Order, Place, Shut, Writes};
-use crate::messages::{Sent, bytes_of};
 use crate::outcomes::{Outcome, serve};
 use link_ends::Gate;
+use samples::messages::{
+    CALL, DISCONNECT, EXCHANGE, INITIAL, OTHER_EXCHANGE, PUSH_DONE, PUSH_NAMELESS, PUSH_REFUSED,
+    PUSH_UNAVAILABLE, RELEASE, WATCHDOG, WATCHDOG_ANSWER,
+};
 use std::alloc::{AllocError, Global};
 use std::marker::Brand;
 use std::process::Abort;
@@ -14,16 +17,15 @@ use std::sync::ledger::Blank;
 use std::test::*;
 use std::thread::Threads;
 use std::time::Clock;
-use test_messages::GX;
 
 /// The messages of each read of a connection.
-type Sends = &'static [&'static [Sent]];
+type Sends = &'static [&'static [&'static [u8]]];
 
 /// Nothing.
 const QUIET: Sends = &[];
 
 /// A watchdog request.
-const WATCHED: Sends = &[&[Sent::Watchdog]];
+const WATCHED: Sends = &[&[WATCHDOG]];
 
 /// What fails at the first connection, counted from 0.
 #[derive(Clone, Copy)]
@@ -66,6 +68,15 @@ struct Case {
 
 /// The entries that the history of most cases has room for.
 const ROOM: u16 = 30;
+
+/// The bytes of messages, one after another.
+fn bytes_of(alloc: Global, messages: &[&[u8]]) -> Result<Vec<u8>, AllocError> {
+    let mut bytes = Vec::new(alloc);
+    for message in messages {
+        bytes.extend_from_slice(message)?;
+    }
+    Ok(bytes)
+}
 
 /// The input of a connection of which something fails.
 fn input_of(alloc: Global, sends: Sends, fails: Fails) -> Result<Input, AllocError> {
@@ -156,7 +167,7 @@ fn connections_are_served_side_by_side(rt: HostRuntime) {
 }
 
 /// Messages that come by one read.
-const TOGETHER: Sends = &[&[Sent::Watchdog, Sent::Initial, Sent::Watchdog]];
+const TOGETHER: Sends = &[&[WATCHDOG, INITIAL, WATCHDOG]];
 
 #[test]
 fn answers_to_one_read_leave_together(rt: HostRuntime) {
@@ -166,13 +177,13 @@ fn answers_to_one_read_leave_together(rt: HostRuntime) {
 }
 
 /// A length that is below a header's, behind a request and before another.
-const SHORT: Sends = &[&[Sent::Watchdog, Sent::Bytes(&[1, 0, 0, 16]), Sent::Watchdog]];
+const SHORT: Sends = &[&[WATCHDOG, b"\x01\x00\x00\x10", WATCHDOG]];
 
 /// A length that is no multiple of 4.
-const ODD: Sends = &[&[Sent::Bytes(&[1, 0, 0, 22])]];
+const ODD: Sends = &[&[b"\x01\x00\x00\x16"]];
 
 /// A length above the longest message's.
-const LONG: Sends = &[&[Sent::Bytes(&[1, 1, 0, 0])]];
+const LONG: Sends = &[&[b"\x01\x01\x00\x00"]];
 
 #[test]
 fn length_faults_end_their_connection(rt: HostRuntime) {
@@ -182,7 +193,7 @@ fn length_faults_end_their_connection(rt: HostRuntime) {
 }
 
 /// A session is set up, and the next read brings a watchdog request.
-const ATTACHED: Sends = &[&[Sent::Initial], &[Sent::Watchdog]];
+const ATTACHED: Sends = &[&[INITIAL], &[WATCHDOG]];
 
 /// The first connection fails, and the second is served.
 fn failing(fails: Fails, outcome: &'static str) -> Case {
@@ -225,10 +236,7 @@ fn a_writer_that_fails_ends_its_connection_alone(rt: HostRuntime) {
 }
 
 /// A request of each command that is served.
-const EVERY_COMMAND: Sends = &[
-    &[Sent::Exchange(GX), Sent::Initial],
-    &[Sent::Call, Sent::Release, Sent::Watchdog],
-];
+const EVERY_COMMAND: Sends = &[&[EXCHANGE, INITIAL], &[CALL, RELEASE, WATCHDOG]];
 
 #[test]
 fn a_full_history_is_told(rt: HostRuntime) {
@@ -243,7 +251,7 @@ fn a_full_history_is_told(rt: HostRuntime) {
 }
 
 /// A gateway makes itself known, and goes on.
-const KNOWN: Sends = &[&[Sent::Exchange(GX)], &[Sent::Watchdog]];
+const KNOWN: Sends = &[&[EXCHANGE], &[WATCHDOG]];
 
 #[test]
 fn a_push_without_room_ends_no_connection(rt: HostRuntime) {
@@ -257,7 +265,7 @@ fn a_push_without_room_ends_no_connection(rt: HostRuntime) {
 }
 
 /// A call is set up.
-const CALL: Sends = &[&[Sent::Call]];
+const CALLING: Sends = &[&[CALL]];
 
 /// The second connection's call is set up once the first has a session, and the first goes on once it is. The exchange, the
 /// request and the call make an entry each, and each a push behind it, of which the last tells of the call.
@@ -270,7 +278,7 @@ fn with_call(sends: [Sends; 3], fails: Fails, outcome: &'static str) -> Case {
 }
 
 /// A gateway makes itself known and sets up a session, and then asks for the end.
-const GATEWAY: Sends = &[&[Sent::Exchange(GX), Sent::Initial], &[Sent::Disconnect]];
+const GATEWAY: Sends = &[&[EXCHANGE, INITIAL], &[DISCONNECT]];
 
 #[test]
 fn a_gateway_is_told_of_a_call(rt: HostRuntime) {
@@ -280,12 +288,12 @@ fn a_gateway_is_told_of_a_call(rt: HostRuntime) {
     check(
         &rt,
         rt.alloc(),
-        with_call([GATEWAY, CALL, QUIET], Fails::Nothing, outcome),
+        with_call([GATEWAY, CALLING, QUIET], Fails::Nothing, outcome),
     );
 }
 
 /// The same under an application that is not served.
-const REFUSED_GATEWAY: Sends = &[&[Sent::Exchange(4), Sent::Initial], &[Sent::Disconnect]];
+const REFUSED_GATEWAY: Sends = &[&[OTHER_EXCHANGE, INITIAL], &[DISCONNECT]];
 
 #[test]
 fn a_gateway_that_was_refused_is_not_told(rt: HostRuntime) {
@@ -295,7 +303,7 @@ fn a_gateway_that_was_refused_is_not_told(rt: HostRuntime) {
     check(
         &rt,
         rt.alloc(),
-        with_call([REFUSED_GATEWAY, CALL, QUIET], Fails::Nothing, outcome),
+        with_call([REFUSED_GATEWAY, CALLING, QUIET], Fails::Nothing, outcome),
     );
 }
 
@@ -306,15 +314,15 @@ fn a_gateway_that_cannot_be_told_is_reached_no_more(rt: HostRuntime) {
     check(
         &rt,
         rt.alloc(),
-        with_call([GATEWAY, CALL, QUIET], Fails::Write(1), outcome),
+        with_call([GATEWAY, CALLING, QUIET], Fails::Write(1), outcome),
     );
 }
 
 /// The same gateway by a further connection.
-const AGAIN: Sends = &[&[Sent::Exchange(GX)], &[Sent::Disconnect]];
+const AGAIN: Sends = &[&[EXCHANGE], &[DISCONNECT]];
 
 /// A call is set up, and ended.
-const CALL_TO_ITS_END: Sends = &[&[Sent::Call], &[Sent::Release]];
+const CALL_TO_ITS_END: Sends = &[&[CALL], &[RELEASE]];
 
 #[test]
 fn a_gateway_is_told_by_its_last_connection(rt: HostRuntime) {
@@ -336,19 +344,22 @@ fn a_gateway_is_told_by_its_last_connection(rt: HostRuntime) {
     check(&rt, rt.alloc(), again);
 }
 
-/// A gateway answers, once for a failure, and goes on.
+/// A gateway answers, for a failure of each kind and once without saying for which session, and goes on.
 const ANSWERS: Sends = &[&[
-    Sent::Exchange(GX),
-    Sent::PushAnswer(5012),
-    Sent::WatchdogAnswer,
-    Sent::PushAnswer(2001),
-    Sent::Watchdog,
+    EXCHANGE,
+    PUSH_REFUSED,
+    WATCHDOG_ANSWER,
+    PUSH_DONE,
+    PUSH_NAMELESS,
+    PUSH_UNAVAILABLE,
+    WATCHDOG,
 ]];
 
 #[test]
 fn answers_of_a_peer_are_passed_over(rt: HostRuntime) {
     let outcome = "Closed 1: 257=2001 280=2001\nClosed 0:\nClosed 0:\n\
-        4 entries, 4 told, clock 0, 0 reached\ngw r 2001\ngw;1;1 refused 5012\n";
+        4 entries, 4 told, clock 0, 0 reached\ngw r 2001\ngw;1;1 refused 5012\n\
+        gw;1;1 refused 5065\n";
     check(&rt, rt.alloc(), plain([ANSWERS, QUIET, QUIET], outcome));
 }
 
@@ -369,7 +380,7 @@ fn a_gate_that_lets_nothing_go_on_ends_a_connection(rt: HostRuntime) {
 }
 
 /// A gateway makes itself known, and nothing else.
-const EXCHANGED: Sends = &[&[Sent::Exchange(GX)]];
+const EXCHANGED: Sends = &[&[EXCHANGE]];
 
 #[test]
 fn a_gateway_is_reached_before_it_has_its_answer(rt: HostRuntime) {

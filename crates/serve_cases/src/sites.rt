@@ -2,61 +2,19 @@
 ghost use Rattle.std.specs.Prelude.{◌≡◌, ◌≤◌};
 ghost use Rattle.site_book.specs.Limits.{most_entries, most_seats};
 
-use dia_base::Identity;
-use op_tables::{Tables, read_tables};
-use pcrf_values::BoundedText;
+use samples::{names, telephony};
 use site_book::Seat;
 use site_lock::LockedSite;
 use site_machine::Site;
 use std::alloc::{AllocError, Global};
-use std::net::Ipv4Addr;
 use std::process::Abort;
 use std::sync::ledger::{Blank, Ledger};
 
-/// The operator tables of a network with calls.
-const TELEPHONY: &str = r#"
-edition = 7
-rtcp_bps = 5000
-[signalling]
-qci = 5
-priority = 9
-capability = 1
-vulnerability = 0
-max_ul = 32000
-max_dl = 32000
-precedence = 50
-[[media]]
-type = 0
-qci = 1
-priority = 2
-capability = 0
-vulnerability = 1
-max_ul = 64000
-max_dl = 64000
-precedence = 100
-[[apn]]
-name = "ims"
-"#;
-
-/// They are read.
-fn tables(rt: &impl Abort, alloc: Global) -> Tables {
-    read_tables(alloc, TELEPHONY).expect(rt, "tables")
-}
-
-/// A text.
-fn text<const MOST: usize>(rt: &impl Abort, alloc: Global, bytes: &[u8]) -> BoundedText<MOST> {
-    let read = BoundedText::read(alloc, bytes).expect(rt, "memory");
-    read.expect(rt, "a text")
-}
-
-/// A site which took nothing.
+/// A site which took nothing, of a network with calls.
 pub fn new_site(rt: &impl Abort, alloc: Global) -> Site {
-    let names = Identity {
-        host: text(rt, alloc, b"s0"),
-        realm: text(rt, alloc, b"r"),
-        address: Ipv4Addr::LOCALHOST,
-    };
-    Site::start(alloc, tables(rt, alloc), names, 0)
+    let tables = telephony(alloc).expect(rt, "tables");
+    let names = names(alloc, b"s0").expect(rt, "names");
+    Site::start(alloc, tables, names, 0)
 }
 
 /// A site under a lock, whose history has room for so many entries, and its seats.

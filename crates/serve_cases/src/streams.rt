@@ -4,9 +4,9 @@ ghost use Rattle.std.specs.Prelude.{◌≡◌};
 use crate::connections::Input;
 use crate::frames::first_frame;
 use crate::gates::Open;
-use crate::messages::Sent;
 use crate::outcomes::{Outcome, serve};
 use link_ends::LinkEnd;
+use samples::messages::{INITIAL, INITIAL_GRANTED, INITIAL_TOO_BUSY, WATCHDOG};
 use std::alloc::{AllocError, Global};
 use std::marker::Brand;
 use std::process::Abort;
@@ -14,7 +14,6 @@ use std::sync::Wait;
 use std::sync::ledger::Blank;
 use std::test::*;
 use std::thread::Threads;
-use test_messages::{Code, GX, Head, ServedRequest, SiteAnswer};
 
 /// The input of these bytes, by one read.
 fn input(alloc: Global, bytes: &[u8]) -> Result<Input, AllocError> {
@@ -84,20 +83,14 @@ fn check_prefixes<R: Threads + Wait + Abort + Sync>(
 
 #[test]
 fn a_stream_that_ends_within_a_message_is_cut(rt: HostRuntime) {
-    let request = Sent::Initial.bytes(rt.alloc()).expect(&rt, "memory");
-    for third in 0..request.len().div_ceil(3) {
-        check_prefixes(&rt, rt.alloc(), request.as_slice(), third.saturating_mul(3));
+    for third in 0..INITIAL.len().div_ceil(3) {
+        check_prefixes(&rt, rt.alloc(), INITIAL, third.saturating_mul(3));
     }
 }
 
 /// A request one of whose bytes is another, between a stream without a message and one with a watchdog request.
-fn check_altered<R: Threads + Wait + Abort + Sync>(
-    rt: &R,
-    alloc: Global,
-    request: &[u8],
-    watchdog: &[u8],
-) {
-    let outcome = outcome_of(rt, alloc, 9, [request, &[], watchdog]);
+fn check_altered<R: Threads + Wait + Abort + Sync>(rt: &R, alloc: Global, request: &[u8]) {
+    let outcome = outcome_of(rt, alloc, 9, [request, &[], WATCHDOG]);
     let clock = outcome.left.map(|left| left.clock);
     let end = outcome.served.last().map(|served| served.end);
     drop(outcome);
@@ -107,40 +100,18 @@ fn check_altered<R: Threads + Wait + Abort + Sync>(
 
 #[test]
 fn a_request_with_a_byte_altered_is_survived(rt: HostRuntime) {
-    let mut request = Sent::Initial.bytes(rt.alloc()).expect(&rt, "memory");
-    let watchdog = Sent::Watchdog.bytes(rt.alloc()).expect(&rt, "memory");
+    let mut request = Vec::from_slice(rt.alloc(), INITIAL).expect(&rt, "memory");
     for place in 0..request.len() {
         let Some(byte) = request.get_mut(place) else {
             break;
         };
         let before = *byte;
         *byte = 0xff;
-        check_altered(&rt, rt.alloc(), request.as_slice(), watchdog.as_slice());
+        check_altered(&rt, rt.alloc(), request.as_slice());
         if let Some(byte) = request.get_mut(place) {
             *byte = before;
         }
     }
-}
-
-/// The head of the initial request.
-const REQUEST: Head = Head {
-    flags: 0xc0,
-    command: 272,
-    application: GX,
-    hop_id: 1,
-    end_id: 2,
-};
-
-/// The answer of that result to the initial request.
-fn answer(alloc: Global, code: u32) -> Result<Vec<u8>, AllocError> {
-    let answer = SiteAnswer {
-        site: 0,
-        request: REQUEST,
-        session: Some(b"gw;1;1"),
-        code: Code::Base(code),
-        served: Some(ServedRequest { kind: 1, number: 0 }),
-    };
-    answer.bytes(alloc)
 }
 
 /// The first frame that was written to the first connection.
@@ -152,16 +123,19 @@ fn first_answer(alloc: Global, outcome: Outcome) -> Result<Vec<u8>, AllocError> 
 }
 
 /// The initial request is answered by these bytes where the history has room for so many entries.
-fn check_answer<R: Threads + Wait + Abort + Sync>(rt: &R, alloc: Global, limit: u16, code: u32) {
-    let request = Sent::Initial.bytes(alloc).expect(rt, "memory");
-    let outcome = outcome_of(rt, alloc, limit, [request.as_slice(), &[], &[]]);
+fn check_answer<R: Threads + Wait + Abort + Sync>(
+    rt: &R,
+    alloc: Global,
+    limit: u16,
+    wanted: &[u8],
+) {
+    let outcome = outcome_of(rt, alloc, limit, [INITIAL, &[], &[]]);
     let written = first_answer(alloc, outcome).expect(rt, "memory");
-    let wanted = answer(alloc, code).expect(rt, "memory");
-    assert_eq!(rt; written.as_slice(), wanted.as_slice());
+    assert_eq!(rt; written.as_slice(), wanted);
 }
 
 #[test]
 fn an_answer_has_these_bytes(rt: HostRuntime) {
-    check_answer(&rt, rt.alloc(), 1, 2001);
-    check_answer(&rt, rt.alloc(), 0, 3004);
+    check_answer(&rt, rt.alloc(), 1, INITIAL_GRANTED);
+    check_answer(&rt, rt.alloc(), 0, INITIAL_TOO_BUSY);
 }

@@ -5,8 +5,8 @@ use Rattle.pcrf_model.specs.Limits.{delta_limit}
 use Rattle.pcrf_model.specs.Replies.{ReplyValue}
 use Rattle.pcrf_model.specs.Steps.{SiteState, SiteEvent, Replays, left_by}
 use Rattle.pcrf_model.proofs.HistoryLaws.{compose}
-use Rattle.site_machine.specs.Sites.{SiteValue, after_event}
-use Rattle.site_book.specs.Books.{EntryValue, called, entry_of, LeadsTo, SiteMayReply}
+use Rattle.site_machine.specs.Sites.{SiteMayReply, SiteValue, after_event}
+use Rattle.site_book.specs.Books.{EntryValue, called, entry_of, LeadsTo}
 
 -- one entry more
 pub leads_more : (opening : SiteState) (s : SiteValue) (h : List EntryValue) (k : ℕ) (e : SiteEvent) (r : ReplyValue) → LeadsTo opening h s → SiteMayReply s e r → LeadsTo opening (h ++ entry_of k e r ∷ []) (after_event s e r)

@@ -2,7 +2,7 @@
 use Rattle.std.specs.Prelude.{◌≡◌, ℕ, zero, suc, ◌+◌, leb, Bool, not, ◌&&◌, List, [], ◌∷◌, ◌++◌, map, length}
 use Rattle.pcrf_model.specs.Limits.{delta_limit}
 use Rattle.pcrf_model.specs.Replies.{ReplyValue}
-use Rattle.pcrf_model.specs.Steps.{SiteState, SiteEvent, MayReply, Replays}
+use Rattle.pcrf_model.specs.Steps.{SiteState, SiteEvent, Replays}
 use Rattle.site_machine.specs.Sites.{SiteValue, after_event}
 
 -- the number of the seat that called, what happened, and what was replied
@@ -29,10 +29,6 @@ pub record BookValue : Type 0 where
   pub history : List EntryValue
   pub limit : ℕ
   pub seats : ℕ
-
--- the replies that a site may give to an event
-abbrev pub SiteMayReply : SiteValue → SiteEvent → ReplyValue → Type 0
-SiteMayReply s e r = MayReply delta_limit s.tables s.number s.state e r
 
 -- the event of an entry, with its reply
 abbrev pub called : EntryValue → SiteEvent × ReplyValue

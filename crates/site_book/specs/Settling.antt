@@ -1,5 +1,5 @@
 -- When a book settles, and by which fault it does not.
-use Rattle.std.specs.Prelude.{◌≡◌, ℕ, zero, suc, ◌+◌, ◌<◌, ◌==◌, ◌&&◌, ltb, Bool, true, false, cond, ◌⊎◌, List, [], ◌∷◌, ◌++◌, map, length, Option, Some, None, slice_get, Vec}
+use Rattle.std.specs.Prelude.{◌≡◌, ℕ, zero, suc, ◌+◌, ◌<◌, ◌==◌, ◌&&◌, ltb, Bool, true, false, if◌then◌else◌, ◌⊎◌, List, [], ◌∷◌, ◌++◌, map, length, Option, Some, None, slice_get, Vec}
 use Rattle.std.specs.declared.alloc.Global.{Global}
 use Rattle.pcrf_model.specs.Replies.{ReplyValue}
 use Rattle.pcrf_model.specs.Steps.{SiteEvent}
@@ -10,7 +10,7 @@ use Rattle.site_book.specs.declared.fault.SettleFault.TheVariants.{MissingSeat, 
 -- how many of the seats have that number
 abbrev pub times : ℕ → List SeatValue → ℕ
 times k [] = 0
-times k (s ∷ ss) = cond (s.number == k) 1 0 + times k ss
+times k (s ∷ ss) = (if s.number == k then 1 else 0) + times k ss
 
 -- each number below n is that of one seat
 abbrev pub EachOnce : ℕ → List SeatValue → Type 0
@@ -31,7 +31,7 @@ pub record IsComplete (b : BookValue) (ss : List SeatValue) : Type 0 where
 -- the receipts of the seat of that number
 abbrev pub receipts_of : ℕ → List SeatValue → List ReceiptValue
 receipts_of k [] = []
-receipts_of k (s ∷ ss) = cond (s.number == k) s.receipts (receipts_of k ss)
+receipts_of k (s ∷ ss) = if s.number == k then s.receipts else receipts_of k ss
 
 -- those of the seats below n, by their numbers
 abbrev pub receipts_below : ℕ → List SeatValue → List (List ReceiptValue)
@@ -131,7 +131,7 @@ Judged b ss (Some f) = FirstFault b ss f
 -- the place of the first seat of that number
 abbrev pub place_in : ℕ → List SeatValue → ℕ
 place_in k [] = 0
-place_in k (s ∷ ss) = cond (s.number == k) 0 (place_in k ss + 1)
+place_in k (s ∷ ss) = if s.number == k then 0 else (place_in k ss + 1)
 
 -- lists that are owned
 abbrev pub lists_of : List (Vec ReceiptValue Global) → List (List ReceiptValue)

@@ -1,7 +1,8 @@
 //! The book: a site with its history, and the room for what settling it gives.
 ghost use Rattle.std.specs.Prelude.{◌≡◌, ◌≤◌, ◌<◌, length, true, Err, vec_len, vec_capacity, [], IfOk, IfErr, OnErr};
+ghost use Rattle.site_machine.specs.Sites.{SiteMayReply};
 ghost use Rattle.site_machine.specs.Values.{event_value, reply_value, event_lacks_counter};
-ghost use Rattle.site_book.specs.Books.{SiteMayReply, new_book, new_seats, with_entry, with_receipt, is_full, is_short, IsHistoryOf};
+ghost use Rattle.site_book.specs.Books.{new_book, new_seats, with_entry, with_receipt, is_full, is_short, IsHistoryOf};
 ghost use Rattle.site_book.specs.Limits.{most_entries, most_seats};
 
 use crate::entry::Receipt;

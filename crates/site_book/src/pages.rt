@@ -1,7 +1,8 @@
 //! The pages of a book: a site with its history.
 ghost use Rattle.std.specs.Prelude.{◌≡◌, ◌≤◌, ◌<◌, length, true, Err, IfOk, IfErr, OnErr};
+ghost use Rattle.site_machine.specs.Sites.{SiteMayReply};
 ghost use Rattle.site_machine.specs.Values.{event_value, reply_value, event_lacks_counter};
-ghost use Rattle.site_book.specs.Books.{SiteMayReply, with_entry, with_receipt, is_full, IsHistoryOf};
+ghost use Rattle.site_book.specs.Books.{with_entry, with_receipt, is_full, IsHistoryOf};
 
 use crate::entry::{Entry, Receipt};
 use crate::seat::Seat;

@@ -6,7 +6,7 @@ ghost use Rattle.ranked.specs.Tags.{tag_cmp};
 ghost use Rattle.pcrf_facts.specs.Facts.{position};
 ghost use Rattle.pcrf_model.specs.Limits.{site_limit};
 ghost use Rattle.pcrf_model.specs.Forms.{fits_rule_name, is_stamp, is_unsigned};
-ghost use Rattle.record_levels.specs.SessionFacts.{session_fact};
+ghost use Rattle.session_records.specs.SessionFacts.{session_fact};
 ghost use Rattle.gx_records.specs.GxFacts.{told_value};
 ghost use Rattle.af_records.specs.RecordFacts as af_facts;
 ghost use Rattle.af_records.specs.declared.fact.AfFact.TheVariants.{Component, Flow};

@@ -18,7 +18,8 @@ use Rattle.pcrf_model.specs.Steps.{SiteState, SiteEvent, MayReply, Serve, Push, 
 use Rattle.site_machine.specs.declared.event.Reply.{Reply}
 use Rattle.site_machine.specs.declared.fault.StepFault.{StepFault}
 use Rattle.site_machine.specs.Values.{reply_value}
-use Rattle.site_book.specs.Books.{BookValue, SiteMayReply, is_full, is_short}
+use Rattle.site_machine.specs.Sites.{SiteMayReply}
+use Rattle.site_book.specs.Books.{BookValue, is_full, is_short}
 use Rattle.site_lock.specs.Calls.{TellsPast}
 
 -- refused or accepted

@@ -19,7 +19,7 @@ use Rattle.pcrf_model.specs.Replies.{Done, Refused}
 use Rattle.pcrf_model.specs.Serving.{serve_aar, serve_str}
 use Rattle.bind_index.specs.Asking.{HasRecord}
 use Rattle.indexed_state.proofs.PlacedRecord.{facts_on-append, own_under, held-append}
-use Rattle.request_facts.specs.Call.{described}
+use Rattle.fact_making.specs.Call.{described}
 use Rattle.site_machine.specs.Calls.{late_refusal}
 use Rattle.site_machine.specs.Facts.{operation_on_call}
 use Rattle.site_machine.specs.Sites.{SiteValue, aar_served, str_served}

@@ -34,12 +34,12 @@ use Rattle.pcrf_model.proofs.ProvisionLaws.{first_apart}
 use Rattle.pcrf_model.proofs.RecordForms.{holding_up_to}
 use Rattle.pcrf_model.proofs.ServedForms.{ccr_parts, aar_parts, origin_parts, call_makes, fields_in_form, provision_in_form, telling_in_form}
 use Rattle.pcrf_model.proofs.ToldFacts.{IsApart}
-use Rattle.request_facts.specs.Call.{described}
-use Rattle.request_facts.specs.Gateway.{made_facts}
+use Rattle.fact_making.specs.Call.{described}
+use Rattle.fact_making.specs.Gateway.{made_facts}
 use Rattle.site_machine.specs.Facts.{opens, operation_made, operation_told, operation_pushed, operation_on_call}
 use Rattle.site_machine.proofs.Replies.{fields_made}
 use Rattle.site_machine.proofs.Restoring.{restored}
-use Rattle.site_machine.proofs.ToldOrder.{fields_in_order, fields_then_told}
+use Rattle.fact_making.proofs.ToldOrder.{fields_in_order, fields_then_told}
 
 -- ---- stamps
 

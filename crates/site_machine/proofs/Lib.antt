@@ -8,4 +8,3 @@ pub mod Restoring
 pub mod SameFacts
 pub mod Taking
 pub mod Telling
-pub mod ToldOrder

@@ -32,10 +32,10 @@ use Rattle.site_machine.specs.Sites.{SiteValue}
 use Rattle.pcrf_model.proofs.HoldingLaws.{sorted-In}
 use Rattle.pcrf_model.proofs.ViewLaws.{view-Same, view-kept}
 use Rattle.site_machine.specs.Facts.{opens, operation_made, operation_told}
-use Rattle.request_facts.specs.Gateway.{made_facts}
+use Rattle.fact_making.specs.Gateway.{made_facts}
 use Rattle.site_machine.specs.Replies.{told_reply}
 use Rattle.site_machine.specs.Sites.{ccr_served}
-use Rattle.site_machine.proofs.ToldOrder.{fields_then_told, host_is_set}
+use Rattle.fact_making.proofs.ToldOrder.{fields_then_told, host_is_set}
 
 -- ---- refusals
 

@@ -22,7 +22,8 @@ use Rattle.pcrf_model.proofs.RecordForms.{operation_record}
 use Rattle.pcrf_model.proofs.ToldFacts.{told-tells}
 use Rattle.indexed_state.specs.Indexed.{tells}
 use Rattle.indexed_state.proofs.PlacedRecord.{held-append, taken_facts}
-use Rattle.site_machine.specs.Facts.{facts_told, operation_pushed, operation_with}
+use Rattle.fact_making.specs.Told.{facts_told}
+use Rattle.site_machine.specs.Facts.{operation_pushed, operation_with}
 use Rattle.site_machine.proofs.Formed.{pushed_formed}
 
 -- ---- what is told

@@ -1,5 +1,5 @@
 -- Replies as the definitions have them.
-use Rattle.std.specs.Prelude.{Bool, true, false, cond, Option, Some, None}
+use Rattle.std.specs.Prelude.{Bool, true, false, if◌then◌else◌, Option, Some, None}
 use Rattle.pcrf_model.specs.Limits.{delta_limit}
 use Rattle.pcrf_model.specs.Sessions.{Session}
 use Rattle.pcrf_model.specs.Views.{View}
@@ -22,7 +22,7 @@ told_reply t v s = OnGx (Granted (delta_of delta_limit t v s) (quality_of t v s)
 
 -- two more of a reply that is wanted three times
 abbrev pub spares : {A : Type 0} → Bool → A → Option (A × A)
-spares thrice a = cond thrice (Some (a, a)) None
+spares thrice a = if thrice then Some (a, a) else None
 
 -- a reply that takes no memory
 abbrev pub is_plain : Reply → Bool

@@ -9,7 +9,7 @@ use Rattle.pcrf_model.specs.Requests.{CcrValue, AarValue, StrValue, RequestValue
 use Rattle.pcrf_model.specs.Replies.{Outcome, ReplyValue}
 use Rattle.pcrf_model.specs.Serving.{serve, serve_ccr, serve_aar, serve_str}
 use Rattle.pcrf_model.specs.Pushing.{push}
-use Rattle.pcrf_model.specs.Steps.{SiteState, SiteEvent, kept_state, stepped}
+use Rattle.pcrf_model.specs.Steps.{SiteState, SiteEvent, MayReply, kept_state, stepped}
 use Rattle.pcrf_model.specs.Tables.{Tables}
 use Rattle.dia_base.specs.declared.identity.Identity.{Identity}
 
@@ -64,6 +64,10 @@ with_taken s os = record s { state = record { holding = kept_of (union s.state.h
 -- with all that another site holds: what is kept of both is held
 abbrev pub with_state : SiteValue → Holding → SiteValue
 with_state s k = record s { state = record { holding = kept_of (union s.state.holding k); log = s.state.log } }
+
+-- the replies that a site may give to an event
+abbrev pub SiteMayReply : SiteValue → SiteEvent → ReplyValue → Type 0
+SiteMayReply s e r = MayReply delta_limit s.tables s.number s.state e r
 
 -- after an event to which it gave that reply: what is kept is held
 abbrev pub after_event : SiteValue → SiteEvent → ReplyValue → SiteValue

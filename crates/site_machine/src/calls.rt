@@ -3,7 +3,7 @@ ghost use Rattle.std.specs.Prelude.{◌≡◌, ◌<◌, length, ◌+◌, ◌++�
 ghost use Rattle.std.specs.List.{list_any};
 ghost use Rattle.std.specs.Option.{option_copied};
 ghost use Rattle.ranked.specs.Ascending.{ascending};
-ghost use Rattle.pcrf_facts.specs.Facts.{Fact, End, fact_cmp};
+ghost use Rattle.pcrf_facts.specs.Facts.{Fact, fact_cmp};
 ghost use Rattle.pcrf_facts.specs.FlowWords.{or_else};
 ghost use Rattle.pcrf_facts.specs.Held.{held, is_ended, joined};
 ghost use Rattle.pcrf_facts.specs.Live.{af_is_live};
@@ -17,7 +17,7 @@ ghost use Rattle.af_records.specs.RecordFacts.{fact_of};
 ghost use Rattle.site_join.specs.States.{record_facts};
 ghost use Rattle.rx_profile.specs.Requests.{aar_view};
 ghost use Rattle.rx_profile.specs.Terminations.{str_view};
-ghost use Rattle.request_facts.specs.Call.{described};
+ghost use Rattle.fact_making.specs.Call.{described};
 ghost use Rattle.site_machine.specs.Calls.{late_refusal};
 ghost use Rattle.site_machine.specs.Replies.{is_plain};
 ghost use Rattle.site_machine.specs.Values.{reply_value};
@@ -29,11 +29,11 @@ use dia_base::codes::results::{
     MISSING_AVP, SERVICE_NOT_AUTHORIZED, SESSION_NOT_AVAILABLE, UNABLE_TO_COMPLY,
     UNKNOWN_SESSION_ID,
 };
+use fact_making::{call_of, end_facts, ended_call, note_aar, note_str};
 use lattice_core::Join;
 use op_tables::Tables;
 use pcrf_values::{AfSid, Refusal};
 use ranked::Ranked;
-use request_facts::{call_of, note_aar, note_str};
 use rx_profile::{Aar, Component, Str, is_removed};
 use site_join::{Operation, SessionFacts};
 use std::alloc::{AllocError, Global};
@@ -145,7 +145,7 @@ impl Site {
         let Some(counter) = self.next_counter() else {
             return Ok(Reply::Refused(Refusal::base(UNABLE_TO_COMPLY)));
         };
-        let facts = end_of(self.alloc)?;
+        let facts = end_facts(self.alloc)?;
         let ended = ended_call(self.alloc)?;
         note_str(call);
         self.note_number();
@@ -175,22 +175,6 @@ impl Site {
         let operation = Operation::stamped(counter, self.number, 0, facts);
         self.add_to_call(operation, session, known)
     }
-}
-
-/// The end of a session.
-fn end_of(alloc: Global) -> Result<Vec<AfFact>, AllocError>
-    ensures { IfOk result (λ facts. map fact_of facts.items ≡ End ∷ []) }
-{
-    let mut facts = Vec::new(alloc);
-    facts.push(AfFact::End)?;
-    Ok(facts)
-}
-
-/// The record of a session that is ended.
-fn ended_call(alloc: Global) -> Result<AfRec, AllocError>
-    ensures { IfOk result (λ known. known ≡ End ∷ []) }
-{
-    AfRec::of_facts(alloc, &[AfFact::End])
 }
 
 /// The session has ended, as far as is known.

@@ -13,7 +13,6 @@ mod site;
 mod spare;
 mod steps;
 mod thrice;
-mod told;
 
 pub use event::{Event, Reply};
 pub use fault::StepFault;

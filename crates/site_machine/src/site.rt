@@ -1,10 +1,9 @@
 //! One site: what it holds, and the operations that it made itself.
-ghost use Rattle.std.specs.Prelude.{◌≡◌, ◌≢◌, ◌<◌, ◌≤◌, ◌+◌, ◌++◌, [], ◌∷◌, None, Some, false, true, length, map, take, cond, IfOk, OnOk, OnErr, IfErr, IfSome, option_map};
+ghost use Rattle.std.specs.Prelude.{◌≡◌, ◌≢◌, ◌<◌, ◌≤◌, ◌+◌, ◌++◌, [], ◌∷◌, None, Some, false, true, length, map, take, if◌then◌else◌, IfOk, OnOk, OnErr, IfErr, IfSome, option_map};
 ghost use Rattle.std.specs.Option.{option_copied};
 ghost use Rattle.ranked.specs.Sets.{Distinct};
 ghost use Rattle.pcrf_values.specs.Results.{authorization_rejected, unable_to_comply};
 ghost use Rattle.pcrf_values.specs.declared.request_kind.RequestKind.TheVariants.{Termination};
-ghost use Rattle.pcrf_facts.specs.Facts.{End};
 ghost use Rattle.pcrf_facts.specs.Held.{held, is_ended, joined};
 ghost use Rattle.pcrf_facts.specs.Live.{gx_is_live};
 ghost use Rattle.pcrf_model.specs.Limits.{delta_limit, last_counter, site_limit};
@@ -37,12 +36,12 @@ use crate::event::Reply;
 use crate::fault::StepFault;
 use crate::request::Request;
 use crate::spare::{nothing_told, refused, spare_pushes, spare_replies};
-use crate::told::{note_entries, put_told};
 use base_profile::{BaseRequest, base_refusal};
 use dia_base::Identity;
 use dia_base::codes::results::{
     AUTHORIZATION_REJECTED, INITIAL_PARAMETERS, SUCCESS, UNABLE_TO_COMPLY, UNKNOWN_SESSION_ID,
 };
+use fact_making::{ended_gateway, facts_made, note_ccr, note_entries, put_told};
 use gx_profile::Ccr;
 use gx_records::{GxFact, GxRec};
 use indexed_state::IndexedState;
@@ -53,7 +52,6 @@ use pcrf_model::ranges::note_text;
 use pcrf_values::{AfSid, Apn, DefaultQuality, Delta, GxSid, Refusal, RequestKind, Rule};
 use ranked::{Ranked, Tag};
 use reply_values::{FirstEntries, GxReply, PushOut};
-use request_facts::{facts_made, note_ccr};
 use site_join::{LAST_COUNTER, Operation, SessionFacts, State};
 use std::alloc::{AllocError, Global};
 use std::marker::Model;
@@ -91,7 +89,8 @@ impl Model for Site {
 }
 
 impl Site {
-    ghost use Rattle.site_machine.specs.Facts.{facts_told, fields_of, opens, operation_made, operation_pushed, operation_told, operation_with};
+    ghost use Rattle.fact_making.specs.Told.{facts_told};
+    ghost use Rattle.site_machine.specs.Facts.{fields_of, opens, operation_made, operation_pushed, operation_told, operation_with};
     ghost use Rattle.site_machine.specs.Left.{ProvisionLeaves, PushLeaves, ReplyLeaves, RequestLeaves};
     ghost use Rattle.site_machine.specs.Replies.{told_reply};
     ghost use Rattle.site_machine.specs.Sites.{new_site, ccr_served, emptied, pushed, served, with_made, with_one, with_record, with_state, with_taken};
@@ -506,7 +505,7 @@ impl Site {
     fn standing_refusal(&self, ccr: &Ccr) -> Option<Refusal>
         ensures { ccr_refusal self.now.tables self.now.state.holding (ccr_view ccr.now)
             ≡ or_else result
-            (cond (is_clock_full self.now.state.holding) (Some unable_to_comply) None) }
+            (if is_clock_full self.now.state.holding then Some unable_to_comply else None) }
     {
         let known = self.held.gx(&ccr.session);
         match ccr.kind {
@@ -721,13 +720,6 @@ pub(crate) fn reply_to_base(request: &BaseRequest) -> Reply
     }
 }
 
-/// The record of a session that is ended.
-fn ended_gateway(alloc: Global) -> Result<GxRec, AllocError>
-    ensures { IfOk result (λ known. known ≡ End ∷ []) }
-{
-    GxRec::of_facts(alloc, &[GxFact::End])
-}
-
 /// The session has ended, as far as is known.
 fn has_ended(known: Option<&GxRec>) -> bool
     ensures { result ≡ is_ended (record_facts (option_copied known.entry)) }
@@ -750,7 +742,8 @@ fn is_live(known: Option<&GxRec>) -> bool
 
 /// The refusal of a request that names an access point without a row in the tables.
 fn row_refusal(tables: &Tables, apn: &Option<Apn>) -> Option<Refusal>
-    ensures { result ≡ cond (names_no_row tables.now apn.now) (Some authorization_rejected) None }
+    ensures { result
+        ≡ (if names_no_row tables.now apn.now then Some authorization_rejected else None) }
 {
     match apn {
         Some(name) if tables.apn(name).is_none() => Some(Refusal::base(AUTHORIZATION_REJECTED)),

@@ -1,7 +1,6 @@
 //! The steps of a site.
 ghost use Rattle.std.specs.Prelude.{◌≡◌, ◌≢◌, true, IfOk, IfErr, OnErr};
-ghost use Rattle.pcrf_model.specs.Limits.{delta_limit};
-ghost use Rattle.pcrf_model.specs.Steps.{MayReply, Serve, Push, Ops, Whole, AskOwn, AskWhole};
+ghost use Rattle.pcrf_model.specs.Steps.{Serve, Push, Ops, Whole, AskOwn, AskWhole};
 ghost use Rattle.site_machine.specs.Replies.{is_plain};
 ghost use Rattle.site_machine.specs.Values.{event_lacks_counter, event_value, reply_value, request_value};
 
@@ -13,12 +12,12 @@ use pcrf_values::DiameterIdentity;
 use site_join::{Operation, State};
 
 impl Site {
-    ghost use Rattle.site_machine.specs.Sites.{after_event};
+    ghost use Rattle.site_machine.specs.Sites.{SiteMayReply, after_event};
 
     /// Makes an event happen. A fault changes nothing.
     pub fn step(&mut self, event: &Event) -> Result<Reply, StepFault>
-        ensures reply { IfOk result (λ reply. MayReply delta_limit self.old.tables self.old.number
-            self.old.state (event_value event.now) (reply_value reply)) }
+        ensures reply { IfOk result (λ reply. SiteMayReply self.old
+            (event_value event.now) (reply_value reply)) }
         ensures ok { IfOk result (λ reply. self.new
             ≡ after_event self.old (event_value event.now) (reply_value reply)) }
         ensures full { IfErr result (λ fault. fault ≡ StepFault.ClockFull → event_lacks_counter
@@ -38,8 +37,8 @@ impl Site {
 
     /// Serves the request of an event.
     fn step_serve(&mut self, request: &Request) -> Result<Reply, StepFault>
-        ensures reply { IfOk result (λ reply. MayReply delta_limit self.old.tables self.old.number
-            self.old.state (Serve (request_value request.now)) (reply_value reply)) }
+        ensures reply { IfOk result (λ reply. SiteMayReply self.old
+            (Serve (request_value request.now)) (reply_value reply)) }
         ensures ok { IfOk result (λ reply. self.new
             ≡ after_event self.old (Serve (request_value request.now)) (reply_value reply)) }
         ensures memory { IfErr result (λ fault. fault ≡ StepFault.NoMemory) }
@@ -54,8 +53,8 @@ impl Site {
 
     /// Pushes as an event asks for it.
     fn step_push(&mut self, host: &Option<DiameterIdentity>) -> Result<Reply, StepFault>
-        ensures reply { IfOk result (λ reply. MayReply delta_limit self.old.tables self.old.number
-            self.old.state (Push host.now) (reply_value reply)) }
+        ensures reply { IfOk result (λ reply. SiteMayReply self.old
+            (Push host.now) (reply_value reply)) }
         ensures ok { IfOk result (λ reply. self.new
             ≡ after_event self.old (Push host.now) (reply_value reply)) }
         ensures full { IfErr result (λ fault. fault ≡ StepFault.ClockFull → event_lacks_counter
@@ -71,8 +70,7 @@ impl Site {
     /// Takes the operations of an event.
     pub(crate) fn step_take(&mut self, operations: &[Operation]) -> Reply
         ensures plain { is_plain result ≡ true }
-        ensures reply { MayReply delta_limit self.old.tables self.old.number
-            self.old.state (Ops operations.now) (reply_value result) }
+        ensures reply { SiteMayReply self.old (Ops operations.now) (reply_value result) }
         ensures ok { self.new ≡ after_event self.old (Ops operations.now) (reply_value result) }
     {
         match self.take_all(operations) {
@@ -84,8 +82,8 @@ impl Site {
     /// Takes the state of an event.
     pub(crate) fn step_whole(&mut self, state: &State) -> Result<Reply, StepFault>
         ensures plain { IfOk result (λ reply. is_plain reply ≡ true) }
-        ensures reply { IfOk result (λ reply. MayReply delta_limit self.old.tables self.old.number
-            self.old.state (Whole state.now) (reply_value reply)) }
+        ensures reply { IfOk result (λ reply. SiteMayReply self.old
+            (Whole state.now) (reply_value reply)) }
         ensures ok { IfOk result (λ reply. self.new
             ≡ after_event self.old (Whole state.now) (reply_value reply)) }
         ensures memory { IfErr result (λ fault. fault ≡ StepFault.NoMemory) }
@@ -99,8 +97,8 @@ impl Site {
 
     /// Tells the operations that an event asks for.
     pub(crate) fn step_ask_own(&self, from: u64) -> Result<Reply, StepFault>
-        ensures reply { IfOk result (λ reply. MayReply delta_limit self.now.tables self.now.number
-            self.now.state (AskOwn from) (reply_value reply)) }
+        ensures reply { IfOk result (λ reply. SiteMayReply self.now
+            (AskOwn from) (reply_value reply)) }
         ensures ok { IfOk result (λ reply. self.now
             ≡ after_event self.now (AskOwn from) (reply_value reply)) }
         ensures memory { IfErr result (λ fault. fault ≡ StepFault.NoMemory) }
@@ -114,8 +112,7 @@ impl Site {
 
     /// Tells all that the site holds.
     pub(crate) fn step_ask_whole(&self) -> Result<Reply, StepFault>
-        ensures reply { IfOk result (λ reply. MayReply delta_limit self.now.tables self.now.number
-            self.now.state AskWhole (reply_value reply)) }
+        ensures reply { IfOk result (λ reply. SiteMayReply self.now AskWhole (reply_value reply)) }
         ensures ok { IfOk result (λ reply. self.now
             ≡ after_event self.now AskWhole (reply_value reply)) }
         ensures memory { IfErr result (λ fault. fault ≡ StepFault.NoMemory) }

@@ -1,7 +1,6 @@
 //! Events whose reply is told three times.
 ghost use Rattle.std.specs.Prelude.{◌≡◌, ◌≢◌, true, IfOk, OnOk, IfErr, OnErr};
-ghost use Rattle.pcrf_model.specs.Limits.{delta_limit};
-ghost use Rattle.pcrf_model.specs.Steps.{MayReply, Serve, Push};
+ghost use Rattle.pcrf_model.specs.Steps.{Serve, Push};
 ghost use Rattle.site_machine.specs.Replies.{is_plain};
 ghost use Rattle.site_machine.specs.Values.{event_lacks_counter, event_value, reply_value, request_value};
 
@@ -13,13 +12,13 @@ use pcrf_values::DiameterIdentity;
 use std::alloc::AllocError;
 
 impl Site {
-    ghost use Rattle.site_machine.specs.Sites.{after_event, served, with_made};
+    ghost use Rattle.site_machine.specs.Sites.{SiteMayReply, after_event, served, with_made};
 
     /// Makes an event happen as `step` does, and gives the reply three times. Where memory for one of them is refused, the event
     /// does not happen. A fault changes nothing.
     pub fn step_thrice(&mut self, event: &Event) -> Result<(Reply, Reply, Reply), StepFault>
-        ensures reply { IfOk result (λ r. MayReply delta_limit self.old.tables self.old.number
-            self.old.state (event_value event.now) (reply_value r.0)) }
+        ensures reply { IfOk result (λ r. SiteMayReply self.old
+            (event_value event.now) (reply_value r.0)) }
         ensures second { IfOk result (λ r. reply_value r.1 ≡ reply_value r.0) }
         ensures third { IfOk result (λ r. reply_value r.2 ≡ reply_value r.0) }
         ensures ok { IfOk result (λ r. self.new
@@ -41,8 +40,8 @@ impl Site {
 
     /// Serves the request of an event.
     fn step_serve_thrice(&mut self, request: &Request) -> Result<(Reply, Reply, Reply), StepFault>
-        ensures reply { IfOk result (λ r. MayReply delta_limit self.old.tables self.old.number
-            self.old.state (Serve (request_value request.now)) (reply_value r.0)) }
+        ensures reply { IfOk result (λ r. SiteMayReply self.old
+            (Serve (request_value request.now)) (reply_value r.0)) }
         ensures second { IfOk result (λ r. reply_value r.1 ≡ reply_value r.0) }
         ensures third { IfOk result (λ r. reply_value r.2 ≡ reply_value r.0) }
         ensures ok { IfOk result (λ r. self.new
@@ -86,8 +85,7 @@ impl Site {
         &mut self,
         host: &Option<DiameterIdentity>,
     ) -> Result<(Reply, Reply, Reply), StepFault>
-        ensures reply { IfOk result (λ r. MayReply delta_limit self.old.tables self.old.number
-            self.old.state (Push host.now) (reply_value r.0)) }
+        ensures reply { IfOk result (λ r. SiteMayReply self.old (Push host.now) (reply_value r.0)) }
         ensures second { IfOk result (λ r. reply_value r.1 ≡ reply_value r.0) }
         ensures third { IfOk result (λ r. reply_value r.2 ≡ reply_value r.0) }
         ensures ok { IfOk result (λ r. self.new

@@ -1,7 +1,7 @@
 use Rattle.std.proofs.Common.{ap, ◌∙◌}
 use Rattle.pcrf_facts.specs.Places.{MediaType}
 use Rattle.pcrf_facts.specs.Values.{Number}
-use Rattle.record_levels.specs.Levels.{entry_by}
+use Rattle.session_records.specs.Levels.{entry_by}
 use Rattle.af_records.proofs.record.AfRec.component_media_type.Goals as goal
 
 pub returns-in-Some : goal.returns-in-Some

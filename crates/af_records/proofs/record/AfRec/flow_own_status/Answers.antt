@@ -1,7 +1,7 @@
 use Rattle.std.proofs.Common.{ap, ◌∙◌}
 use Rattle.pcrf_facts.specs.Places.{FlowStatus}
 use Rattle.pcrf_facts.specs.Values.{Number}
-use Rattle.record_levels.specs.Levels.{entry_by}
+use Rattle.session_records.specs.Levels.{entry_by}
 use Rattle.af_records.proofs.record.AfRec.flow_own_status.Goals as goal
 
 pub returns-in-Some : goal.returns-in-Some

@@ -5,7 +5,7 @@ use Rattle.pcrf_facts.specs.Held.{held, joined}
 use Rattle.pcrf_model.specs.Sessions.{Af}
 use Rattle.pcrf_model.specs.Forms.{is_record}
 use Rattle.pcrf_model.proofs.RecordForms.{held_record}
-use Rattle.record_levels.proofs.LevelLaws.{held_more}
+use Rattle.session_records.proofs.LevelLaws.{held_more}
 use Rattle.af_records.specs.RecordFacts.{fact_of, known_facts}
 use Rattle.af_records.proofs.record.AfRec.of_facts.Goals as goal
 

@@ -2,7 +2,7 @@ use Rattle.std.proofs.Common.{List, ap, sym, ◌∙◌}
 use Rattle.pcrf_facts.specs.Places.{SessionField, OfSession}
 use Rattle.pcrf_facts.specs.Facts.{Fact}
 use Rattle.pcrf_facts.specs.Held.{shown}
-use Rattle.record_levels.specs.SessionFacts.{session_says}
+use Rattle.session_records.specs.SessionFacts.{session_says}
 use Rattle.gx_records.proofs.ReaderLaws.{field_shows}
 use Rattle.gx_records.proofs.record.GxRec.fields.Goals as goal
 

@@ -1,7 +1,7 @@
 use Rattle.std.proofs.Common.{ap, ◌∙◌}
 use Rattle.pcrf_facts.specs.Places.{OriginRealm}
 use Rattle.pcrf_facts.specs.Values.{Text}
-use Rattle.record_levels.specs.Levels.{entry_by}
+use Rattle.session_records.specs.Levels.{entry_by}
 use Rattle.gx_records.proofs.record.GxRec.realm.Goals as goal
 
 pub returns-in-Some : goal.returns-in-Some

@@ -20,7 +20,7 @@ use Rattle.site_machine.specs.Sites.{SiteValue}
 use Rattle.gx_profile.specs.Requests.{ccr_view}
 use Rattle.site_join.specs.States.{record_facts}
 use Rattle.site_machine.specs.Facts.{operation_made, operation_told}
-use Rattle.request_facts.specs.Gateway.{made_facts}
+use Rattle.fact_making.specs.Gateway.{made_facts}
 use Rattle.site_machine.specs.Replies.{told_reply}
 use Rattle.site_machine.specs.Sites.{with_made, with_one, with_record}
 use Rattle.site_machine.proofs.Replies.{provisioned_is, host_is_made}

@@ -6,7 +6,7 @@ use Rattle.pcrf_facts.specs.FlowWords.{or_else}
 use Rattle.pcrf_model.specs.Replies.{Outcome}
 use Rattle.af_records.specs.RecordFacts.{fact_of}
 use Rattle.rx_profile.specs.Requests.{aar_view}
-use Rattle.request_facts.specs.Call.{described}
+use Rattle.fact_making.specs.Call.{described}
 use Rattle.site_machine.specs.Calls.{late_refusal}
 use Rattle.site_machine.specs.Facts.{operation_on_call}
 use Rattle.site_machine.specs.Sites.{with_made}

@@ -1,0 +1,5 @@
+pub mod Apart
+pub mod GivenFields
+pub mod RequestForms
+pub mod Said
+pub mod ToldOrder

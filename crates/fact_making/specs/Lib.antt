@@ -1,0 +1,4 @@
+pub mod Call
+pub mod Gateway
+pub mod Given
+pub mod Told

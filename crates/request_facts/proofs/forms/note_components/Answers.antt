@@ -1,5 +1,0 @@
-use Rattle.request_facts.proofs.RequestForms.{components_apart}
-use Rattle.request_facts.proofs.forms.note_components.Goals as goal
-
-pub returns-clause-apart : goal.returns-clause-apart
-returns-clause-apart c = components_apart c.args.components.now c.as_slice-component-items.ensures.apart

@@ -1,3 +1,0 @@
-pub mod Call
-pub mod Gateway
-pub mod Given
