@@ -2,7 +2,7 @@
 use Rattle.std.proofs.Common.{◌≡◌, List, [], ◌∷◌, ◌++◌, refl, sym, ap, ◌∙◌, append_assoc, append-nil}
 use Rattle.pcrf_model.specs.Replies.{ReplyValue}
 use Rattle.pcrf_model.specs.Steps.{SiteEvent}
-use Rattle.site_book.specs.Books.{ReceiptValue, SeatValue, receipt_of}
+use Rattle.site_lock.specs.Books.{ReceiptValue, SeatValue, receipt_of}
 use Rattle.site_lock.specs.Calls.{GainsReceipt}
 use Rattle.link_ends.specs.Earlier.{HasEarlier, with_receipts}
 

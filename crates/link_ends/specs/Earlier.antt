@@ -1,6 +1,6 @@
 -- Seats after further calls.
 use Rattle.std.specs.Prelude.{◌≡◌, List, ◌++◌}
-use Rattle.site_book.specs.Books.{ReceiptValue, SeatValue}
+use Rattle.site_lock.specs.Books.{ReceiptValue, SeatValue}
 
 -- the seat with further receipts
 abbrev pub with_receipts : SeatValue → List ReceiptValue → SeatValue

@@ -7,8 +7,8 @@ use Rattle.peer_exchange.specs.declared.fault.FrameFault as stream
 use Rattle.peer_exchange.specs.declared.fault.FrameFault.TheVariants as streams
 use Rattle.peer_exchange.specs.declared.fault.LetterFault.{LetterFault}
 use Rattle.peer_exchange.specs.declared.fault.LetterFault.TheVariants as letter
-use Rattle.site_machine.specs.declared.fault.StepFault.{StepFault}
-use Rattle.site_machine.specs.declared.fault.StepFault.TheVariants as step
+use Rattle.site_lock.specs.StepFault.{StepFault}
+use Rattle.site_lock.specs.StepFault.TheVariants as step
 
 -- that of a stream of messages
 abbrev pub end_of_frame : FrameFault → LinkEnd

@@ -4,7 +4,7 @@ ghost use Rattle.link_ends.specs.declared.end.LinkEnd.TheVariants as ends;
 
 use dia_codec::FrameFault;
 use peer_exchange::LetterFault;
-use site_machine::StepFault;
+use site_lock::StepFault;
 use std::alloc::AllocError;
 
 /// How a connection ended.

@@ -9,3 +9,4 @@ mod pushes;
 pub use end::LinkEnd;
 pub use gate::Gate;
 pub use pushes::Pushes;
+pub use site_lock::{Event, LockedSite, Reply, Request, Seat, Site, StepFault};

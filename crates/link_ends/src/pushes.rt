@@ -2,8 +2,7 @@
 ghost use Rattle.std.specs.Thread.{IsSync};
 ghost use Rattle.link_ends.specs.Earlier.{HasEarlier};
 
-use site_book::Seat;
-use site_lock::LockedSite;
+use site_lock::{LockedSite, Seat};
 use std::alloc::{AllocError, Global};
 use std::sync::Wait;
 use std::sync::ledger::Ledger;

@@ -5,7 +5,7 @@ use Rattle.dia_base.specs.declared.identity.Identity.{Identity}
 use Rattle.pcrf_model.specs.Replies.{ReplyValue}
 use Rattle.pcrf_model.specs.Requests.{RequestValue}
 use Rattle.pcrf_model.specs.Steps.{Serve}
-use Rattle.site_book.specs.Books.{SeatValue}
+use Rattle.link_ends.specs.Books.{SeatValue}
 use Rattle.site_core.specs.Asking.{AskedValue, ToServe, ToRefuse, Nothing}
 use Rattle.site_core.specs.Frames.{Answers, IsServed, Unanswered}
 use Rattle.link_ends.specs.Earlier.{HasEarlier}

@@ -1,7 +1,7 @@
 -- Workers that began with seats give them back.
 use Rattle.std.proofs.Common.{◌≡◌, List, [], ◌∷◌, length, refl, ap, suc}
 use Rattle.std.specs.List.{AllZip}
-use Rattle.site_book.specs.Books.{SeatValue}
+use Rattle.link_ends.specs.Books.{SeatValue}
 use Rattle.pcrf_serve.specs.declared.workers.Begun.{Begun}
 use Rattle.pcrf_serve.specs.Workers.{AllBegun, AllJoin, AllGiveBack}
 

@@ -3,8 +3,8 @@ use Rattle.std.specs.Prelude.{⊤}
 use Rattle.pcrf_model.specs.Replies.{ReplyValue}
 use Rattle.pcrf_model.specs.Requests.{RequestValue}
 use Rattle.pcrf_model.specs.Steps.{SiteEvent, Serve, Push, Ops, Whole, AskOwn, AskWhole}
-use Rattle.site_book.specs.Books.{SeatValue}
-use Rattle.site_lock.specs.Calls.{GainsReceipt}
+use Rattle.link_ends.specs.Books.{SeatValue}
+use Rattle.link_ends.specs.Calls.{GainsReceipt}
 
 -- one more receipt, of that request and that reply
 abbrev pub GainsReply : SeatValue → RequestValue → ReplyValue → SeatValue → Type 0

@@ -1,7 +1,7 @@
 -- Workers: each gives its seat back, with its earlier receipts as a prefix.
 use Rattle.std.specs.Prelude.{◌≡◌, ℕ, ◌≤◌, List, [], vec_capacity}
 use Rattle.std.specs.List.{AllZip}
-use Rattle.site_book.specs.Books.{SeatValue}
+use Rattle.link_ends.specs.Books.{SeatValue}
 use Rattle.link_ends.specs.Earlier.{HasEarlier}
 use Rattle.pcrf_serve.specs.declared.workers.Begun.{Begun}
 use Rattle.pcrf_serve.specs.declared.workers.Room.{Room}

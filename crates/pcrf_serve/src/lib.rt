@@ -11,6 +11,8 @@ mod seat_at_site;
 mod workers;
 
 pub use conversing::serve_connection;
+pub use gateway_links::{Gateways, Observer};
 pub use link::Server;
+pub use link_ends::{Gate, LinkEnd, LockedSite, Pushes, Seat, Site};
 pub use seat_at_site::SeatAtSite;
 pub use workers::{KeepsEarlier, serve_sessions};

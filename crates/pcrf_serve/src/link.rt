@@ -1,8 +1,7 @@
 //! A connection beside its seat.
 use gateway_links::{Gateways, Half, Observer, Outgoing};
-use link_ends::{Gate, LinkEnd};
+use link_ends::{Gate, LinkEnd, LockedSite};
 use pcrf_values::DiameterIdentity;
-use site_lock::LockedSite;
 use std::alloc::{AllocError, Global};
 use std::io::Write;
 use std::sync::ledger::Ledger;

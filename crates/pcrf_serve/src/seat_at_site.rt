@@ -2,17 +2,15 @@
 ghost use Rattle.std.specs.Prelude.{◌≡◌, IfOk, OnErr};
 ghost use Rattle.pcrf_model.specs.Steps.{Serve as ServeEvent};
 ghost use Rattle.pcrf_serve.specs.Serving.{IsServing};
-ghost use Rattle.site_lock.specs.Calls.{GainsReceipt};
-ghost use Rattle.site_machine.specs.Values.{event_value, reply_value, request_value};
+ghost use Rattle.link_ends.specs.Calls.{GainsReceipt};
+ghost use Rattle.link_ends.specs.Values.{event_value, reply_value, request_value};
 
 use base_profile::BaseKind;
 use dia_base::codes::results::SUCCESS;
 use dia_base::{Identity, Origin};
 use gateway_links::{Observer, tell_entries};
-use site_book::Seat;
+use link_ends::{Event, LockedSite, Reply, Request, Seat, StepFault};
 use site_core::{Serve, ServeFault};
-use site_lock::LockedSite;
-use site_machine::{Event, Reply, Request, StepFault};
 use std::alloc::AllocError;
 use std::sync::Wait;
 use std::sync::ledger::Ledger;

@@ -6,9 +6,7 @@ ghost use Rattle.pcrf_serve.specs.Workers.{AllGiveBack, AllBegun, AllJoin, Begun
 use crate::conversing::serve_connection;
 use crate::link::Server;
 use gateway_links::{Gateways, Half, Observer};
-use link_ends::{Gate, LinkEnd};
-use site_book::Seat;
-use site_lock::LockedSite;
+use link_ends::{Gate, LinkEnd, LockedSite, Seat};
 use std::alloc::{AllocError, Global};
 use std::io::{Read, Write};
 use std::snapshot::Snapshot;

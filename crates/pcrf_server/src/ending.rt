@@ -1,5 +1,5 @@
 //! How a connection ended, in words.
-use link_ends::LinkEnd;
+use pcrf_serve::LinkEnd;
 use std::fmt::{self, Display, Formatter, Write};
 
 /// How a connection ended, in words.

@@ -1,5 +1,5 @@
 //! A gate that is always open.
-use link_ends::Gate;
+use pcrf_serve::Gate;
 
 /// Lets every message through.
 #[derive(Drop)]

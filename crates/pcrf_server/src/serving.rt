@@ -1,6 +1,6 @@
 //! A server from its start to its settled history.
 ghost use Rattle.std.specs.Prelude.{◌≡◌, ◌≤◌};
-ghost use Rattle.site_book.specs.Limits.{most_seats};
+ghost use Rattle.pcrf_serve.specs.Limits.{most_seats};
 
 use crate::accepting::{Accepted, Reading, Writing, places};
 use crate::exchanging::{Begun, Exchange, Exchanges, begin, join};
@@ -10,14 +10,9 @@ use crate::open::Open;
 use crate::settings::Settings;
 use crate::sockets::{Sockets, open_sockets};
 use dia_base::Identity;
-use gateway_links::{Gateways, Observer};
-use link_ends::{LinkEnd, Pushes};
 use log::Log;
 use op_tables::Tables;
-use pcrf_serve::serve_sessions;
-use site_book::Seat;
-use site_lock::LockedSite;
-use site_machine::Site;
+use pcrf_serve::{Gateways, LinkEnd, LockedSite, Observer, Pushes, Seat, Site, serve_sessions};
 use std::alloc::{AllocError, Global};
 use std::io::{Read, Write};
 use std::marker::Brand;

@@ -1,7 +1,7 @@
 //! What a server is told.
 ghost use Rattle.std.specs.Prelude.{◌≡◌, ◌≤◌, ◌<◌, ◌+◌, ◌*◌};
 ghost use Rattle.pcrf_model.specs.Limits.{site_limit};
-ghost use Rattle.site_book.specs.Limits.{most_seats};
+ghost use Rattle.pcrf_serve.specs.Limits.{most_seats};
 
 /// How many sites there are at most.
 const SITE_LIMIT: u8 = 16;

@@ -17,6 +17,3 @@ pub use fault::{FrameFault, LetterFault};
 pub use letter::Letter;
 pub use reading::read_letter;
 pub use writing::write_letter;
-
-#[cfg(test)]
-mod tests;

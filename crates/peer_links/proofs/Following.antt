@@ -3,7 +3,7 @@ use Rattle.std.proofs.Common.{◌≡◌, ℕ, Bool, true, false, cond, inl, inr,
 use Rattle.pcrf_model.specs.Letters.{AckValue, LetterValue}
 use Rattle.pcrf_model.specs.Cursors.{Cursor, CursorsValue, acked, took, is_acknowledgement}
 use Rattle.pcrf_model.specs.Steps.{SiteEvent, Serve, Push, Ops, Whole, AskOwn, AskWhole}
-use Rattle.site_book.specs.Books.{ReceiptValue, SeatValue}
+use Rattle.link_ends.specs.Books.{ReceiptValue, SeatValue}
 use Rattle.link_ends.specs.Earlier.{HasEarlier, with_receipts}
 use Rattle.peer_links.specs.Exchanging.{makers_after, body_of, HoldsWhole, MakersFollow, Exchanged, GainsWhole}
 

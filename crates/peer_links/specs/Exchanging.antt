@@ -4,7 +4,7 @@ use Rattle.pcrf_model.specs.Letters.{LetterBody, LetterValue, Range, Snapshot, A
 use Rattle.pcrf_model.specs.Cursors.{Cursor, maker_after, nothing_taken}
 use Rattle.pcrf_model.specs.Replies.{ReplyValue, Done, Taken}
 use Rattle.pcrf_model.specs.Steps.{SiteEvent, Ops, Whole}
-use Rattle.site_book.specs.Books.{ReceiptValue, SeatValue}
+use Rattle.link_ends.specs.Books.{ReceiptValue, SeatValue}
 use Rattle.link_ends.specs.Earlier.{with_receipts}
 
 -- the makers' entries after a letter was taken whole

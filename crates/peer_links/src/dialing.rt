@@ -5,12 +5,9 @@ ghost use Rattle.peer_links.specs.Exchanging.{Exchanged};
 
 use crate::letters::Letters;
 use crate::link::Link;
-use link_ends::{Gate, LinkEnd};
+use link_ends::{Event, Gate, LinkEnd, LockedSite, Reply, Seat, StepFault};
 use peer_cursors::{Ack, Cursors};
 use peer_exchange::{Letter, LetterFault};
-use site_book::Seat;
-use site_lock::LockedSite;
-use site_machine::{Event, Reply, StepFault};
 use std::io::{Read, Write};
 use std::sync::Wait;
 use std::sync::ledger::Ledger;

@@ -1,9 +1,9 @@
 //! A letter opened: what stands on it, and the event that takes in what it brings.
 ghost use Rattle.std.specs.Prelude.{◌≡◌, IfSome};
-ghost use Rattle.site_machine.specs.Values.{event_value};
+ghost use Rattle.link_ends.specs.Values.{event_value};
 
+use link_ends::Event;
 use peer_exchange::{Body, Letter, Range, Snapshot};
-use site_machine::Event;
 
 /// What stands on a letter beside the operations or the state that it brings.
 #[derive(Clone, Copy)]

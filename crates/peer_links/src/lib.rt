@@ -11,3 +11,4 @@ mod listening;
 
 pub use exchange::{Role, exchange_with};
 pub use link_ends::{Gate, LinkEnd, Pushes};
+pub use peer_cursors::Cursors;

@@ -1,6 +1,5 @@
 //! What a connection to a peer shares with all others of its site.
-use link_ends::{Gate, LinkEnd};
-use site_lock::LockedSite;
+use link_ends::{Gate, LinkEnd, LockedSite};
 use std::sync::ledger::Ledger;
 
 /// The site under its lock, whoever reaches its gateways, and the gate of its connections.

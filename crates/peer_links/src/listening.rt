@@ -1,6 +1,6 @@
 //! The side that takes letters, and acknowledges them.
 ghost use Rattle.std.specs.Prelude.{◌≡◌, true, OnOk, OnErr};
-ghost use Rattle.site_machine.specs.Values.{event_value, reply_value};
+ghost use Rattle.link_ends.specs.Values.{event_value, reply_value};
 ghost use Rattle.link_ends.specs.Earlier.{HasEarlier};
 ghost use Rattle.peer_links.specs.Exchanging.{Exchanged, GainsWhole, IsWhole};
 ghost use Rattle.peer_links.specs.Headings.{IsOpened};
@@ -8,12 +8,9 @@ ghost use Rattle.peer_links.specs.Headings.{IsOpened};
 use crate::heading::Heading;
 use crate::letters::Letters;
 use crate::link::Link;
-use link_ends::{Gate, LinkEnd, Pushes};
+use link_ends::{Event, Gate, LinkEnd, LockedSite, Pushes, Reply, Seat};
 use peer_cursors::{Ack, Cursors};
 use peer_exchange::Letter;
-use site_book::Seat;
-use site_lock::LockedSite;
-use site_machine::{Event, Reply};
 use std::alloc::Global;
 use std::io::{Read, Write};
 use std::sync::Wait;

@@ -4,3 +4,5 @@
 mod locked;
 
 pub use locked::LockedSite;
+pub use site_book::Seat;
+pub use site_machine::{Event, Reply, Request, Site, StepFault};

@@ -1,0 +1,12 @@
+//! Tests of connections, of gateways and application functions and of peers, over readers and writers in memory, which stand
+//! apart from the crates that they are about so that the proofs of these are made once, and together so that what a locked site
+//! is made of is proved once for all tests.
+#![tactic(auto)]
+
+#[cfg(test)]
+mod exchanging;
+#[cfg(test)]
+mod serving;
+
+/// Does nothing: what this crate has are tests.
+fn main() {}

@@ -1,0 +1,6 @@
+//! Tests of `peer_cursors`: what a site counts after letters and acknowledgements in any order, and what it asks then for a
+//! letter.
+
+mod acknowledgements;
+mod letters;
+mod makers;

@@ -1,0 +1,8 @@
+//! Tests of `session_index`, `kept_rules`, `waiting_pushes` and `indexed_state`: what sessions are bound to, which rules they
+//! have and what is pushed by an index, beside what the passes over all sessions say.
+
+mod compared;
+mod drawn;
+mod draws;
+mod examples;
+mod making;

@@ -1,0 +1,150 @@
+//! Operations drawn from a seed, after each of which all is as the passes over all sessions say.
+ghost use Rattle.std.specs.Prelude.{◌<◌};
+
+use crate::indexes::compared::{
+    CALLS, Counts, GATEWAYS, compare_bindings, compare_push, compare_rules,
+};
+use crate::indexes::draws::Draws;
+use crate::indexes::making::{address, call, call_end, gateway_end, host, request, told};
+use indexed_state::IndexedState;
+use ranked::{Ranked, Tag};
+use reply_values::PushOut;
+use samples::{Given, telephony};
+use site_join::{Operation, State};
+use std::alloc::AllocGlobal;
+use std::process::Abort;
+
+/// How many addresses sessions share.
+const ADDRESSES: u8 = 7;
+
+/// Of so many operations one comes with a whole state.
+const WHOLE: u64 = 10;
+
+/// A tag of a counter, of a site that is drawn: more often the one that pushes.
+fn tag(draws: &mut Draws, counter: u64) -> Tag {
+    let site = if draws.below(3) > 0 { 0 } else { 1 };
+    Tag {
+        number: 0,
+        counter,
+        site,
+    }
+}
+
+/// A request of a gateway: the first ones give an address, some later ones another.
+fn drawn_request(rt: &(impl AllocGlobal + Abort), draws: &mut Draws, at: Tag) -> Operation {
+    let number = draws.byte_below(GATEWAYS);
+    let place = draws.byte_below(ADDRESSES);
+    let given = Given {
+        address: if draws.below(2) == 0 {
+            Some(address(place))
+        } else {
+            None
+        },
+        apn: if draws.below(4) > 0 { "ims" } else { "net" },
+        host: host(number % 3),
+        kind: if draws.below(2) == 0 { 1 } else { 2 },
+    };
+    request(rt, number, at, given)
+}
+
+/// An operation, whatever it is. Few sessions end.
+fn drawn(rt: &(impl AllocGlobal + Abort), draws: &mut Draws, counter: u64) -> Operation {
+    let at = tag(draws, counter);
+    match draws.below(200) {
+        0 => gateway_end(rt, draws.byte_below(GATEWAYS), at),
+        1 => call_end(rt, draws.byte_below(CALLS), at),
+        2..=79 => call(rt, draws.byte_below(CALLS), at, draws.byte_below(ADDRESSES)),
+        _ => drawn_request(rt, draws, at),
+    }
+}
+
+/// Takes an operation.
+fn take(rt: &impl Abort, held: &mut IndexedState, made: Operation) {
+    held.take(&made).expect(rt, "memory");
+    drop(made);
+}
+
+/// Takes an operation as all that another state holds.
+fn take_whole(rt: &(impl AllocGlobal + Abort), held: &mut IndexedState, made: Operation) {
+    let mut state = State::start(rt.alloc());
+    state.take(&made).expect(rt, "memory");
+    drop(made);
+    held.take_state(&state).expect(rt, "memory");
+    drop(state);
+}
+
+/// Takes that the gateway was told the first entry of a push.
+fn take_push(
+    rt: &(impl AllocGlobal + Abort),
+    held: &mut IndexedState,
+    push: &PushOut,
+    counter: u64,
+) {
+    let at = Tag {
+        number: 0,
+        counter,
+        site: 0,
+    };
+    let id = push.session.try_copy().expect(rt, "memory");
+    let made = match (push.delta.removed().first(), push.delta.installed().first()) {
+        (Some(name), _) => told(rt, id, at, name.try_copy().expect(rt, "memory"), None),
+        (None, Some(rule)) => {
+            let name = rule.name().try_copy().expect(rt, "memory");
+            let rule = rule.try_copy().expect(rt, "memory");
+            told(rt, id, at, name, Some(rule))
+        }
+        (None, None) => panic!(rt; "nothing is pushed"),
+    };
+    take(rt, held, made);
+}
+
+/// Compares the push to a gateway, and takes it if one is due.
+fn push(
+    rt: &(impl AllocGlobal + Abort),
+    held: &mut IndexedState,
+    gateway: u8,
+    counter: u64,
+    counts: &mut Counts,
+) {
+    let found = compare_push(rt, held, gateway, counts);
+    if let Some(due) = &found {
+        take_push(rt, held, due, counter);
+    }
+    drop(found);
+}
+
+/// Takes so many operations that are drawn, and compares all after each.
+fn take_drawn(
+    rt: &(impl AllocGlobal + Abort),
+    draws: &mut Draws,
+    held: &mut IndexedState,
+    most: u64,
+    counts: &mut Counts,
+) {
+    for counter in 1..most {
+        let made = drawn(rt, draws, counter);
+        if counter % WHOLE == 0 {
+            take_whole(rt, held, made);
+        } else {
+            take(rt, held, made);
+        }
+        compare_bindings(rt, held, counts);
+        compare_rules(rt, held, counts);
+        push(rt, held, draws.byte_below(3), counter, counts);
+    }
+}
+
+/// The numbers below say that the draws reach bindings, rules and pushes.
+#[test]
+fn three_thousand_operations_leave_what_the_passes_say(rt: HostRuntime) {
+    let mut draws = Draws::of(1);
+    let mut counts = Counts::default();
+    let tables = telephony(rt.alloc()).expect(&rt, "tables");
+    let mut held = IndexedState::start(rt.alloc(), tables);
+    take_drawn(&rt, &mut draws, &mut held, 3_001, &mut counts);
+    drop(held);
+    drop(draws);
+    assert!(rt; counts.bound >= 10_000, "{counts:?}");
+    assert!(rt; counts.rules >= 10_000, "{counts:?}");
+    assert!(rt; counts.pushes >= 500, "{counts:?}");
+}

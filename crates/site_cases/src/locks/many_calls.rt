@@ -1,0 +1,145 @@
+//! Eight threads that make many calls on one locked site: the history that settles, played again by a world of one site, gives
+//! the same replies and leaves the same state.
+ghost use Rattle.std.specs.Prelude.{◌≡◌};
+
+use crate::locks::books::opened;
+use crate::locks::drawing::event_at;
+use crate::locks::replaying::{history_of, replayed};
+use crate::locks::sites::new_site;
+use pcrf_world::World;
+use rand_core::SeedableRng;
+use rand_xoshiro::SplitMix64;
+use site_book::Seat;
+use site_join::State;
+use site_lock::LockedSite;
+use std::alloc::Global;
+use std::marker::Brand;
+use std::process::Abort;
+use std::sync::Wait;
+use std::sync::ledger::{Blank, Ledger};
+use std::test::*;
+use std::thread::{Threads, for_each_mut};
+
+/// How many calls each of the eight threads makes.
+const CALLS: u32 = 10_000;
+
+/// How many there are in all.
+const ALL_CALLS: usize = 80_000;
+
+/// How many operations the site makes of them at least: each request that is accepted is one.
+const LEAST_MADE: u64 = 20_000;
+
+/// How many rules each session has.
+const RULES: u32 = 2;
+
+/// A thread makes a call.
+fn make_call<L: Ledger, R: Threads + Wait + Abort + Sync>(
+    rt: &R,
+    alloc: Global,
+    site: &LockedSite<L>,
+    seat: &mut Seat<L>,
+    draws: &mut SplitMix64,
+    turn: u32,
+) {
+    let event = event_at(rt, alloc, draws, turn);
+    let reply = site.call(rt, seat, &event);
+    let is_replied = reply.is_ok();
+    drop(reply);
+    drop(event);
+    assert!(rt; is_replied, "a call fails");
+}
+
+/// A thread makes all its calls.
+fn make_calls<L: Ledger, R: Threads + Wait + Abort + Sync>(
+    rt: &R,
+    alloc: Global,
+    site: &LockedSite<L>,
+    seat: &mut Seat<L>,
+) {
+    let mut draws = SplitMix64::seed_from_u64(seat.number() as u64);
+    for turn in 0..CALLS {
+        make_call(rt, alloc, site, seat, &mut draws, turn);
+    }
+}
+
+/// Each of the seats makes all its calls in a thread of its own.
+fn make_calls_at_once<L: Ledger + Send + Sync, R: Threads + Wait + Abort + Sync>(
+    rt: &R,
+    alloc: Global,
+    site: &LockedSite<L>,
+    seats: &mut [Seat<L>],
+) {
+    for_each_mut(
+        rt,
+        seats,
+        8,
+        &|_, seat: &mut Seat<L>| make_calls(rt, alloc, site, seat),
+    );
+}
+
+/// How many entries settle, of a site that then holds this state; nothing where it does not settle, or holds another.
+fn settled_with<L: Ledger>(
+    site: LockedSite<L>,
+    seats: Vec<Seat<L>>,
+    wanted: &State,
+) -> Option<usize> {
+    match site.settle(seats) {
+        Ok(settled) => {
+            let pages = settled.pages();
+            let same = pages.site().sessions().equal(wanted);
+            let count = pages.entries();
+            drop(settled);
+            if same { Some(count) } else { None }
+        }
+        Err(unsettled) => {
+            drop(unsettled);
+            None
+        }
+    }
+}
+
+/// The world that plays the history of the seats' receipts again.
+fn replayed_by<L: Ledger>(rt: &impl Abort, alloc: Global, seats: &[Seat<L>]) -> World {
+    let history = history_of(rt, alloc, seats);
+    let world = replayed(rt, alloc, RULES, history.as_slice());
+    drop(history);
+    world
+}
+
+/// How many entries settle, where the site then holds what the history makes of a world of one site.
+fn settled_as_replayed<L: Ledger>(
+    rt: &impl Abort,
+    alloc: Global,
+    site: LockedSite<L>,
+    seats: Vec<Seat<L>>,
+) -> Option<usize> {
+    let world = replayed_by(rt, alloc, seats.as_slice());
+    let wanted = world.site(0).expect(rt, "a site").sessions();
+    let clock = wanted.clock();
+    let count = settled_with(site, seats, wanted);
+    drop(world);
+    assert!(rt; clock >= LEAST_MADE, "the site made {clock} operations");
+    count
+}
+
+#[test]
+fn eight_threads_make_one_history(rt: HostRuntime) {
+    eight_threads::<Brand, _>(&rt, rt.alloc(), Blank::new(8));
+}
+
+/// Eight threads make their calls on one site, which settles with all of them.
+fn eight_threads<L: Ledger + Send + Sync, R: Threads + Wait + Abort + Sync>(
+    rt: &R,
+    alloc: Global,
+    blank: Blank,
+)
+    requires name { blank.name ≡ L.name }
+    requires parts { blank.parts ≡ L.parts }
+    requires eight { blank.parts ≡ 8 }
+{
+    let site = new_site(rt, alloc, RULES);
+    let (site, mut seats) = opened::<L>(rt, alloc, blank, 8, ALL_CALLS, site);
+    make_calls_at_once(rt, alloc, &site, seats.as_mut_slice());
+    let count = settled_as_replayed(rt, alloc, site, seats);
+    assert_eq!(rt; count, Some(ALL_CALLS));
+}
