@@ -67,7 +67,7 @@ impl<'a> Iterator for Flows<'a> {
     }
 }
 
-// The flow is one of those.
+/// The flow is one of those.
 fn is_listed(removed: bool, flow: &Tombed<FlowParts>) -> bool
     ensures { result ≡ is_listed removed flow.now }
 {

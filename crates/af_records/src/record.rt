@@ -129,7 +129,7 @@ impl FactSet for AfRec {
     }
 }
 
-// The record of one fact.
+/// The record of one fact.
 fn single(alloc: Global, fact: &AfFact) -> Result<Tombed<SessionParts>, AllocError>
     ensures { IfOk result (λ r. r ≡ single fact.now) }
 {
@@ -151,7 +151,7 @@ fn single(alloc: Global, fact: &AfFact) -> Result<Tombed<SessionParts>, AllocErr
     }
 }
 
-// A record of one component.
+/// A record of one component.
 fn with_component(
     alloc: Global,
     number: u32,
@@ -163,7 +163,7 @@ fn with_component(
     Ok(Tombed::Live(session))
 }
 
-// A record of one flow.
+/// A record of one flow.
 fn with_flow(
     alloc: Global,
     component: u32,
@@ -177,7 +177,7 @@ fn with_flow(
     with_component(alloc, component, Tombed::Live(parts))
 }
 
-// The fields, where the session isn't ended.
+/// The fields, where the session isn't ended.
 fn fields_at(parts: &Tombed<SessionParts>) -> Option<&SessionFields<AfRequestType>>
     ensures { option_copied result ≡ fields_at parts.now }
 {
@@ -187,7 +187,7 @@ fn fields_at(parts: &Tombed<SessionParts>) -> Option<&SessionFields<AfRequestTyp
     }
 }
 
-// All components, none of a session that is ended.
+/// All components, none of a session that is ended.
 fn components_of(parts: &Tombed<SessionParts>) -> &[(u32, Tombed<ComponentParts>)]
     ensures { result.now ≡ components_of parts.now }
 {
@@ -197,7 +197,7 @@ fn components_of(parts: &Tombed<SessionParts>) -> &[(u32, Tombed<ComponentParts>
     }
 }
 
-// The component, where it shows.
+/// The component, where it shows.
 fn component_at(parts: &Tombed<SessionParts>, component: u32) -> Option<&ComponentParts>
     ensures { option_copied result ≡ component_at parts.now component }
 {
@@ -210,7 +210,7 @@ fn component_at(parts: &Tombed<SessionParts>, component: u32) -> Option<&Compone
     }
 }
 
-// The flow, where it shows.
+/// The flow, where it shows.
 fn flow_at(parts: &Tombed<SessionParts>, component: u32, flow: u32) -> Option<&FlowParts>
     ensures { option_copied result ≡ flow_at parts.now component flow }
 {
@@ -223,7 +223,7 @@ fn flow_at(parts: &Tombed<SessionParts>, component: u32, flow: u32) -> Option<&F
     }
 }
 
-// Adds a fact; a refusal changes nothing.
+/// Adds a fact; a refusal changes nothing.
 #[tactic(auto, using(crate::proofs::RecordLaws::record_put_is))]
 fn put(alloc: Global, parts: &mut Tombed<SessionParts>, fact: &AfFact) -> Result<(), AllocError>
     ensures ok { OnOk result
@@ -286,7 +286,7 @@ impl AfRec {
         }
     }
 
-    // The fields, where they show.
+    /// The fields, where they show.
     fn fields(&self) -> Option<&SessionFields<AfRequestType>>
         ensures { (f : SessionField) →
             session_says (option_copied result) f ≡ shown self.now (OfSession f) }
@@ -295,7 +295,7 @@ impl AfRec {
         fields_at(&self.parts)
     }
 
-    // The component, whose fields say what shows at its places.
+    /// The component, whose fields say what shows at its places.
     fn component(&self, number: u32) -> Option<&ComponentParts>
         ensures { (f : ComponentField) →
             component_says (option_copied result) f ≡ shown self.now (OfComponent number f) }
@@ -304,7 +304,7 @@ impl AfRec {
         component_at(&self.parts, number)
     }
 
-    // The flow, whose fields say what shows at its places.
+    /// The flow, whose fields say what shows at its places.
     fn flow(&self, component: u32, number: u32) -> Option<&FlowParts>
         ensures { (f : FlowField) →
             flow_says (option_copied result) f ≡ shown self.now (OfFlow component number f) }
@@ -473,7 +473,7 @@ impl AfRec {
         }
     }
 
-    // The flow shows that it is RTCP.
+    /// The flow shows that it is RTCP.
     fn is_rtcp(&self, component: u32, flow: u32) -> bool
         ensures { result ≡ words.is_rtcp (shown self.now) component flow }
     {
@@ -528,7 +528,7 @@ impl AfRec {
     }
 }
 
-// The facts of a record, in order.
+/// The facts of a record, in order.
 fn listed(alloc: Global, parts: &Tombed<SessionParts>) -> Result<Vec<AfFact>, AllocError>
     ensures { IfOk result (λ facts. facts.items ≡ record_listed parts.now) }
 {
@@ -540,7 +540,7 @@ fn listed(alloc: Global, parts: &Tombed<SessionParts>) -> Result<Vec<AfFact>, Al
     facts_of(alloc, session)
 }
 
-// The Flow-Status of a flow, by what it and its component say.
+/// The Flow-Status of a flow, by what it and its component say.
 fn status_of(
     own: Option<&(Tag, OpenStatusNumber)>,
     whole: Option<&(Tag, OpenStatusNumber)>,
@@ -561,7 +561,7 @@ fn status_of(
     }
 }
 
-// The rate of a flow in one direction, by what it and its component say.
+/// The rate of a flow in one direction, by what it and its component say.
 fn given_rate(own: Option<&(Tag, u32)>, is_rtcp: bool, whole: Option<&(Tag, u32)>) -> Option<u32>
     ensures { result ≡ words.or_else (held_number (option_copied own.entry))
         (if is_rtcp then None else held_number (option_copied whole.entry)) }

@@ -32,7 +32,7 @@ fn is_written_again(rt: &(impl AllocGlobal + Abort), bytes: &[u8], written: &[u8
     assert_eq!(rt; again.as_slice(), written);
 }
 
-// Reserved bits and padding are written as zero.
+/// Reserved bits and padding are written as zero.
 #[test]
 fn messages_are_read_and_written_again(rt: HostRuntime) {
     for (bytes, written) in [

@@ -91,7 +91,7 @@ fn ends_behind_two(rt: &impl Abort, stream: &FramedStream, end: StreamEnd) {
     assert_eq!(rt; stream.frames[1].as_slice(), AA_REFUSAL.as_slice());
 }
 
-// Nothing after a bad length is read.
+/// Nothing after a bad length is read.
 #[test]
 fn a_stream_ends_whole_cut_or_bad(rt: HostRuntime) {
     for (third, last, end) in [

@@ -60,7 +60,7 @@ impl GxParts {
     }
 }
 
-// The register of what was told.
+/// The register of what was told.
 fn told_of(tag: Tag, rule: &Option<Rule>) -> Result<Reg<Option<Rule>>, AllocError>
     ensures { IfOk result (λ r. r ≡ Some (tag, rule.now)) }
 {

@@ -116,7 +116,7 @@ impl FactSet for GxRec {
     }
 }
 
-// The record of one fact.
+/// The record of one fact.
 fn single(alloc: Global, fact: &GxFact) -> Result<Tombed<GxParts>, AllocError>
     ensures { IfOk result (λ r. r ≡ single fact.now) }
 {
@@ -129,7 +129,7 @@ fn single(alloc: Global, fact: &GxFact) -> Result<Tombed<GxParts>, AllocError>
     }
 }
 
-// Adds a fact; a refusal changes nothing.
+/// Adds a fact; a refusal changes nothing.
 #[tactic(auto, using(crate::proofs::RecordLaws::record_put_is))]
 fn put(alloc: Global, parts: &mut Tombed<GxParts>, fact: &GxFact) -> Result<(), AllocError>
     ensures ok { OnOk result
@@ -192,7 +192,7 @@ impl GxRec {
         }
     }
 
-    // The fields, where they show.
+    /// The fields, where they show.
     fn fields(&self) -> Option<&SessionFields<OpenRequestType>>
         ensures { (f : SessionField) →
             session_says (option_copied result) f ≡ shown self.now (OfSession f) }
@@ -309,7 +309,7 @@ impl GxRec {
     }
 }
 
-// The facts of a record, in order.
+/// The facts of a record, in order.
 fn listed(alloc: Global, parts: &Tombed<GxParts>) -> Result<Vec<GxFact>, AllocError>
     ensures { IfOk result (λ facts. facts.items ≡ record_listed parts.now) }
 {
@@ -321,7 +321,7 @@ fn listed(alloc: Global, parts: &Tombed<GxParts>) -> Result<Vec<GxFact>, AllocEr
     facts_of(alloc, session)
 }
 
-// The rule that was told, where one was.
+/// The rule that was told, where one was.
 fn rule_under(told: &Reg<Option<Rule>>) -> Option<&Rule>
     ensures { option_copied result ≡ rule_under told.now }
 {
@@ -331,7 +331,7 @@ fn rule_under(told: &Reg<Option<Rule>>) -> Option<&Rule>
     }
 }
 
-// The fields, where the session isn't ended.
+/// The fields, where the session isn't ended.
 fn fields_at(parts: &Tombed<GxParts>) -> Option<&SessionFields<OpenRequestType>>
     ensures { option_copied result ≡ fields_at parts.now }
 {

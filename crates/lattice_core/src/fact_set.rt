@@ -30,7 +30,7 @@ pub fn same_facts<T: FactSet>(ours: &T, theirs: &T) -> bool
     ours.is_subset(theirs) && theirs.is_subset(ours)
 }
 
-// Each fact of a value is one of what may stand at its key.
+/// Each fact of a value is one of what may stand at its key.
 pub(crate) fn is_subset_at<V: FactSet>(value: &V, found: Option<&V>) -> bool
     ensures { result ≡ subset_at V.subset V.empty value.now (option_copied found.entry) }
 {

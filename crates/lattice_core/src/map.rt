@@ -88,7 +88,7 @@ impl<K: Ranked, V: Join> JoinMap<K, V> {
         }
     }
 
-    // Where the key is, or where it would go.
+    /// Where the key is, or where it would go.
     fn place(&self, key: &K) -> Result<usize, usize>
         ensures found { IfOk result (IsAt K.cmp self.now key.now) }
         ensures absent { IfErr result (IsGap K.cmp self.now key.now) }
@@ -101,7 +101,7 @@ impl<K: Ranked, V: Join> JoinMap<K, V> {
     }
 }
 
-// Leaves room for the first entry alone, since most maps have no other. Where memory is refused, the insertion says so.
+/// Leaves room for the first entry alone, since most maps have no other. Where memory is refused, the insertion says so.
 fn leave_room<T: Drop>(entries: &mut Vec<T>)
     ensures { entries.new.items ≡ entries.old.items }
 {
@@ -110,7 +110,7 @@ fn leave_room<T: Drop>(entries: &mut Vec<T>)
     }
 }
 
-// An equal map.
+/// An equal map.
 fn copy_entries<K: Ranked, V: Join>(map: &JoinMap<K, V>) -> Result<JoinMap<K, V>, AllocError>
     ensures { IfOk result (λ m. m ≡ map.now) }
 {
@@ -123,7 +123,7 @@ fn copy_entries<K: Ranked, V: Join>(map: &JoinMap<K, V>) -> Result<JoinMap<K, V>
     Ok(JoinMap { entries })
 }
 
-// Joins a map of one entry into a map, with no copy of that.
+/// Joins a map of one entry into a map, with no copy of that.
 fn join_single<K: Ranked, V: Join>(
     map: &mut JoinMap<K, V>,
     single: JoinMap<K, V>,
@@ -180,7 +180,7 @@ impl<K: Ranked, V: Join> Join for JoinMap<K, V> {
         Ok(both)
     }
 
-    // A map of one entry costs one insertion, any other a copy of the map.
+    /// A map of one entry costs one insertion, any other a copy of the map.
     fn join_in(&mut self, other: JoinMap<K, V>) -> Result<(), (AllocError, JoinMap<K, V>)> {
         if other.entries.len() == 1 {
             return join_single(self, other);

@@ -55,7 +55,7 @@ impl<T: Ranked> Reg<T> {
         self.put_held(other.held);
     }
 
-    // Puts what another register holds.
+    /// Puts what another register holds.
     fn put_held(&mut self, given: Option<(Tag, T)>)
         ensures { self.new ≡ reg_joined T.cmp self.old given }
     {

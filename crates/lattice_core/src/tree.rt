@@ -117,7 +117,7 @@ impl<K: Ranked, V: Join> JoinTree<K, V> {
     }
 }
 
-// An equal map.
+/// An equal map.
 fn copy_tree<K: Ranked, V: Join>(map: &JoinTree<K, V>) -> Result<JoinTree<K, V>, AllocError>
     ensures { IfOk result (λ m. m ≡ map.now) }
 {

@@ -103,7 +103,7 @@ impl<M: Named> Call for JoinAt<M> {
         Ok(place.with::<M>(given.alloc, after)?.fingerprint())
     }
 
-    // The key is copied, so that it is there for a second call.
+    /// The key is copied, so that it is there for a second call.
     fn make(self) -> Result<u64, JoinAt<M>> {
         let Ok(again) = self.key.try_copy() else {
             return Err(self);
@@ -160,7 +160,7 @@ impl<V: Sample> Call for PlaceAt<V> {
         Ok(mixed(after.fingerprint(), fingerprint_if(stood)))
     }
 
-    // The value is copied, so that it is there for a second call.
+    /// The value is copied, so that it is there for a second call.
     fn make(self) -> Result<u64, PlaceAt<V>> {
         let mut call = self;
         let Ok(value) = call.value.try_copy() else {

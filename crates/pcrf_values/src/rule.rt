@@ -189,7 +189,7 @@ impl Rule {
         self.precedence
     }
 
-    // The numbers behind the filters, in the order in which rules are compared.
+    /// The numbers behind the filters, in the order in which rules are compared.
     fn numbers(&self) -> [u32; 7]
         ensures { result ≡ numbers_of self.now }
     {

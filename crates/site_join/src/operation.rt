@@ -44,7 +44,7 @@ impl SessionFacts {
     }
 }
 
-// Equal facts of a gateway's session, in order.
+/// Equal facts of a gateway's session, in order.
 fn copy_gx(facts: &Vec<GxFact>) -> Result<Vec<GxFact>, AllocError>
     ensures { IfOk result (λ r. r.items ≡ facts.now.items) }
 {
@@ -55,7 +55,7 @@ fn copy_gx(facts: &Vec<GxFact>) -> Result<Vec<GxFact>, AllocError>
     Ok(copies)
 }
 
-// Equal facts of an application function's session, in order.
+/// Equal facts of an application function's session, in order.
 fn copy_af(facts: &Vec<AfFact>) -> Result<Vec<AfFact>, AllocError>
     ensures { IfOk result (λ r. r.items ≡ facts.now.items) }
 {
