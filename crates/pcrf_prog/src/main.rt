@@ -4,6 +4,7 @@
 mod operator_tables;
 mod run;
 mod server;
+mod socket_server;
 mod told;
 mod words;
 

@@ -1,6 +1,7 @@
 //! A run of the program over words, a reader and writers that are handed in.
 use crate::operator_tables::{self, TablesFault};
 use crate::server::{Start, serve, start_of};
+use crate::socket_server::ServerFault;
 use crate::told::{tell_line, tell_tables};
 use crate::words::{Asked, ServeWords, read_words};
 use clap::Error;
@@ -10,7 +11,6 @@ use log::sink::Console;
 use log::{LevelFilter, Log, Logged};
 use op_tables::Tables;
 use pcrf_script::{ScriptEnd, ScriptRun, run_told};
-use pcrf_server::ServerFault;
 use std::alloc::Global;
 use std::env;
 use std::io::{self, Eprint, Read, Write};

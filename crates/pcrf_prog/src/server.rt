@@ -1,9 +1,9 @@
 //! A run that serves.
+use crate::socket_server::{Addresses, SeatPlan, ServerFault, Settings, SiteEpoch, run_server};
 use crate::words::{Names, ServeWords};
 use dia_base::Identity;
 use log::Log;
 use op_tables::Tables;
-use pcrf_server::{Addresses, SeatPlan, ServerFault, Settings, SiteEpoch, run_server};
 use pcrf_values::DiameterIdentity;
 use std::alloc::{AllocError, Global};
 use std::net::{Ipv4Addr, Net, TcpListener, TcpStream};

@@ -1,8 +1,8 @@
 //! Exchanges of letters with peer sites, each by a worker of its own.
-use crate::carrying::Carrying;
-use crate::journal::{tell_sending_ended, tell_sent, tell_taken, tell_taking_ended};
-use crate::settings::SiteEpoch;
-use crate::sockets::PeerLink;
+use crate::socket_server::carrying::Carrying;
+use crate::socket_server::journal::{tell_sending_ended, tell_sent, tell_taken, tell_taking_ended};
+use crate::socket_server::settings::SiteEpoch;
+use crate::socket_server::sockets::PeerLink;
 use log::Log;
 use pcrf_serve::{Gate, LinkEnd, LockedSite, Pushes, Seat};
 use peer_links::{Cursors, Role, exchange_with};

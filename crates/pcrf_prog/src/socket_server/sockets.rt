@@ -1,7 +1,7 @@
 //! The sockets of a server.
-use crate::fault::ServerFault;
-use crate::journal::{tell_dialled, tell_dialling, tell_listens};
-use crate::settings::Addresses;
+use crate::socket_server::fault::ServerFault;
+use crate::socket_server::journal::{tell_dialled, tell_dialling, tell_listens};
+use crate::socket_server::settings::Addresses;
 use log::Log;
 use peer_links::Role;
 use std::alloc::Global;

@@ -1,6 +1,6 @@
 //! What an operator is told of a server: a line for each thing, if anybody listens.
-use crate::ending::Ending;
-use crate::printable::Printable;
+use crate::socket_server::ending::Ending;
+use crate::socket_server::printable::Printable;
 use dia_base::Origin;
 use dia_base::codes::results::SUCCESS;
 use log::{Log, error, info, warn};

@@ -1,5 +1,5 @@
 //! A connection to a peer site that tells what the letters bring which are sent on it.
-use crate::journal::{tell_sending, tell_sending_all};
+use crate::socket_server::journal::{tell_sending, tell_sending_all};
 use log::Log;
 use std::io::{self, Read, Write};
 use std::net::{SocketAddr, TcpStream};

@@ -2,13 +2,13 @@
 ghost use Rattle.std.specs.Prelude.{◌≡◌, ◌≤◌};
 ghost use Rattle.pcrf_serve.specs.Limits.{most_seats};
 
-use crate::accepting::{Accepted, Reading, Writing, places};
-use crate::exchanging::{Begun, Exchange, Exchanges, begin, join};
-use crate::fault::ServerFault;
-use crate::journal::Journal;
-use crate::open::Open;
-use crate::settings::Settings;
-use crate::sockets::{Sockets, open_sockets};
+use crate::socket_server::accepting::{Accepted, Reading, Writing, places};
+use crate::socket_server::exchanging::{Begun, Exchange, Exchanges, begin, join};
+use crate::socket_server::fault::ServerFault;
+use crate::socket_server::journal::Journal;
+use crate::socket_server::open::Open;
+use crate::socket_server::settings::Settings;
+use crate::socket_server::sockets::{Sockets, open_sockets};
 use dia_base::Identity;
 use log::Log;
 use op_tables::Tables;

@@ -19,7 +19,7 @@ pub enum ServerFault {
 
 impl From<AllocError> for ServerFault {
     ghost use Rattle.std.specs.Prelude.{◌≡◌};
-    ghost use Rattle.pcrf_server.specs.declared.fault.ServerFault.TheVariants as faults;
+    ghost use Rattle.pcrf_prog.specs.declared.socket_server.fault.ServerFault.TheVariants as faults;
 
     ghost from_gives = { λ _ fault. fault ≡ faults.NoMemory };
 
@@ -30,7 +30,7 @@ impl From<AllocError> for ServerFault {
 
 impl<T: Drop> From<AllocFailed<T>> for ServerFault {
     ghost use Rattle.std.specs.Prelude.{◌≡◌};
-    ghost use Rattle.pcrf_server.specs.declared.fault.ServerFault.TheVariants as faults;
+    ghost use Rattle.pcrf_prog.specs.declared.socket_server.fault.ServerFault.TheVariants as faults;
 
     ghost from_gives = { λ _ fault. fault ≡ faults.NoMemory };
 
@@ -41,7 +41,7 @@ impl<T: Drop> From<AllocFailed<T>> for ServerFault {
 
 impl From<io::Error> for ServerFault {
     ghost use Rattle.std.specs.Prelude.{◌≡◌};
-    ghost use Rattle.pcrf_server.specs.declared.fault.ServerFault.TheVariants as faults;
+    ghost use Rattle.pcrf_prog.specs.declared.socket_server.fault.ServerFault.TheVariants as faults;
 
     ghost from_gives = { λ _ fault. fault ≡ faults.Network };
 

@@ -1,6 +1,6 @@
 //! Connections that are accepted when they are first read, so that those that are there are served while others are awaited.
-use crate::journal::tell_connected;
-use crate::sockets::prepare;
+use crate::socket_server::journal::tell_connected;
+use crate::socket_server::sockets::prepare;
 use log::Log;
 use std::alloc::{AllocError, Global};
 use std::io::{self, ErrorKind, Read, Write};

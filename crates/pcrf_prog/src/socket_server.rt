@@ -1,6 +1,5 @@
 //! A site behind sockets: it serves gateways and application functions, exchanges letters with its peers, and settles its
 //! history when all have gone.
-#![tactic(auto)]
 
 mod accepting;
 mod carrying;
