@@ -17,8 +17,10 @@ pub fn receipts_as_given_are_placed()
 
 /// The first seat's last one, lowered to its first or raised past the history, and the first ones of both seats, exchanged.
 pub fn altered_places_are_refused()
-    ensures lowered { (e : SiteEvent) → (r : ReplyValue) → is_placed_there e r 0 (Some 0) 0 ≡ false }
-    ensures raised { (e : SiteEvent) → (r : ReplyValue) → is_placed_there e r 0 (Some 0) 3 ≡ false }
+    ensures lowered { (e : SiteEvent) → (r : ReplyValue)
+        → is_placed_there e r 0 (Some 0) 0 ≡ false }
+    ensures raised { (e : SiteEvent) → (r : ReplyValue)
+        → is_placed_there e r 0 (Some 0) 3 ≡ false }
     ensures ours { (e : SiteEvent) → (r : ReplyValue) → is_placed_there e r 0 None 1 ≡ false }
     ensures theirs { (e : SiteEvent) → (r : ReplyValue) → is_placed_there e r 1 None 0 ≡ false }
 {}
