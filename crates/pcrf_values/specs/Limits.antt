@@ -1,46 +1,67 @@
--- The greatest lengths and counts of what a request names: this project's own profile.
+-- The limits of this project's profile, as the code has them.
 use Rattle.std.specs.Prelude.{ℕ}
+use Rattle.pcrf_values.specs.declared.limits.TheConstants as limit
 
 -- bytes of a Session-Id (RFC 6733, 8.8)
 abbrev pub session_id_limit : ℕ
-session_id_limit = 512
+session_id_limit = limit.SESSION_ID_LIMIT
 
 -- bytes of an Origin-Host or an Origin-Realm (RFC 6733, 4.3.1: a name of the DNS, RFC 1035, 2.3.4)
 abbrev pub identity_limit : ℕ
-identity_limit = 255
+identity_limit = limit.IDENTITY_LIMIT
 
 -- bytes of an access point name (Called-Station-Id, TS 29.212, 5.3; TS 23.003, 9.1)
 abbrev pub apn_limit : ℕ
-apn_limit = 255
+apn_limit = limit.APN_LIMIT
 
 -- bytes of a Subscription-Id-Data (RFC 8506, 8.48)
 abbrev pub subscription_data_limit : ℕ
-subscription_data_limit = 255
+subscription_data_limit = limit.SUBSCRIPTION_DATA_LIMIT
 
 -- how many Subscription-Ids a request may have
 abbrev pub subscribers_limit : ℕ
-subscribers_limit = 16
+subscribers_limit = limit.SUBSCRIBERS_LIMIT
 
 -- how many media components an AA request may have
 abbrev pub components_limit : ℕ
-components_limit = 64
+components_limit = limit.COMPONENTS_LIMIT
 
 -- how many flows a component of a request may have
 abbrev pub flows_limit : ℕ
-flows_limit = 64
+flows_limit = limit.FLOWS_LIMIT
 
 -- how many filters a flow may have: one for each direction (TS 29.214, 5.3.8)
 abbrev pub filters_limit : ℕ
-filters_limit = 2
+filters_limit = limit.FILTERS_LIMIT
 
 -- bytes of a filter
 abbrev pub filter_limit : ℕ
-filter_limit = 255
+filter_limit = limit.FILTER_LIMIT
 
 -- bytes of a Charging-Rule-Name
 abbrev pub rule_name_limit : ℕ
-rule_name_limit = 600
+rule_name_limit = limit.RULE_NAME_LIMIT
 
 -- bytes of the name that an operator gives a rule
 abbrev pub operator_rule_name_limit : ℕ
-operator_rule_name_limit = 64
+operator_rule_name_limit = limit.OPERATOR_RULE_NAME_LIMIT
+
+-- how many sites there may be, with the numbers below
+abbrev pub site_limit : ℕ
+site_limit = limit.SITE_LIMIT
+
+-- the last counter of an operation, and the last position in a log
+abbrev pub last_counter : ℕ
+last_counter = limit.LAST_COUNTER
+
+-- the last epoch of a site
+abbrev pub last_epoch : ℕ
+last_epoch = limit.LAST_EPOCH
+
+-- how many entries of a difference a message carries
+abbrev pub delta_limit : ℕ
+delta_limit = limit.DELTA_LIMIT
+
+-- how many operations are answered at once
+abbrev pub range_limit : ℕ
+range_limit = limit.RANGE_LIMIT

@@ -6,6 +6,8 @@ use Rattle.pcrf_values.specs.declared.subscriber.SubscriptionType.{SubscriptionT
 use Rattle.pcrf_values.specs.declared.subscriber.SubscriptionType.TheVariants as subscription
 use Rattle.pcrf_values.specs.declared.rule.FlowStatus.{FlowStatus}
 use Rattle.pcrf_values.specs.declared.rule.FlowStatus.TheVariants as flow
+use Rattle.pcrf_values.specs.declared.flow_usage.FlowUsage.{FlowUsage}
+use Rattle.pcrf_values.specs.declared.flow_usage.FlowUsage.TheVariants as usage
 use Rattle.pcrf_values.specs.declared.rule.Preemption.{Preemption}
 use Rattle.pcrf_values.specs.declared.rule.Preemption.TheVariants as preemption
 
@@ -36,6 +38,25 @@ flow_status_number flow.EnabledUplink = 0
 flow_status_number flow.EnabledDownlink = 1
 flow_status_number flow.Enabled = 2
 flow_status_number flow.Disabled = 3
+
+-- the status of a number, of another one DISABLED
+abbrev pub flow_status_of : ℕ → FlowStatus
+flow_status_of n =
+    if n == flow_status_number flow.EnabledUplink then flow.EnabledUplink else
+    if n == flow_status_number flow.EnabledDownlink then flow.EnabledDownlink else
+    if n == flow_status_number flow.Enabled then flow.Enabled else flow.Disabled
+
+-- Flow-Usage (TS 29.214, 5.3.12)
+abbrev pub flow_usage_number : FlowUsage → ℕ
+flow_usage_number usage.NoInformation = 0
+flow_usage_number usage.Rtcp = 1
+flow_usage_number usage.AfSignalling = 2
+
+-- the usage of a number, of another one AF_SIGNALLING
+abbrev pub flow_usage_of : ℕ → FlowUsage
+flow_usage_of n =
+    if n == flow_usage_number usage.NoInformation then usage.NoInformation else
+    if n == flow_usage_number usage.Rtcp then usage.Rtcp else usage.AfSignalling
 
 -- Pre-emption-Capability and Pre-emption-Vulnerability (TS 29.212, 5.3.46 and 5.3.47)
 abbrev pub preemption_number : Preemption → ℕ

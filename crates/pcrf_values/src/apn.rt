@@ -3,12 +3,10 @@ ghost use Rattle.std.specs.Prelude.{◌≡◌, ◌<◌, ◌≤◌, length, IfOk}
 ghost use Rattle.pcrf_values.specs.Limits.{apn_limit};
 ghost use Rattle.pcrf_values.specs.Texts.{one_to, folded};
 
+use crate::limits::APN_LIMIT;
 use ranked::{Listed, Ranked, Text};
 use std::alloc::{AllocError, Global};
 use std::marker::Model;
-
-/// The most bytes of an access point name (TS 23.003, 9.1).
-const APN_LIMIT: usize = 255;
 
 /// An access point name in small letters, of 1 to 255 bytes (Called-Station-Id, TS 29.212; TS 23.003, 9.1).
 ///

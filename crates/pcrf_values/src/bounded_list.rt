@@ -2,6 +2,10 @@
 ghost use Rattle.std.specs.Prelude.{◌≡◌, ◌<◌, ◌≤◌, length, IfOk};
 ghost use Rattle.pcrf_values.specs.Texts.{one_to};
 
+use crate::limits::{
+    FILTER_LIMIT, FILTERS_LIMIT, IDENTITY_LIMIT, RULE_NAME_LIMIT, SESSION_ID_LIMIT,
+    SUBSCRIPTION_DATA_LIMIT,
+};
 use ranked::{Listed, Ranked};
 use std::alloc::{AllocError, Global};
 use std::cmp::Ordering;
@@ -17,23 +21,23 @@ pub struct BoundedList<T, const MOST: usize> {
 pub type BoundedText<const MOST: usize> = BoundedList<u8, MOST>;
 
 /// A Session-Id (RFC 6733, 8.8). Its greatest length is this project's own.
-pub type SessionId = BoundedText<512>;
+pub type SessionId = BoundedText<SESSION_ID_LIMIT>;
 
 /// The name of a Diameter host or realm (RFC 6733, 4.3.1).
-pub type DiameterIdentity = BoundedText<255>;
+pub type DiameterIdentity = BoundedText<IDENTITY_LIMIT>;
 
 /// The number or name of a subscriber, as Subscription-Id-Data gives it (RFC 8506, 8.48).
-pub type SubscriptionData = BoundedText<255>;
+pub type SubscriptionData = BoundedText<SUBSCRIPTION_DATA_LIMIT>;
 
 /// An IPFilterRule as it was given (RFC 6733, 4.3.1).
-pub type FilterText = BoundedText<255>;
+pub type FilterText = BoundedText<FILTER_LIMIT>;
 
 /// The one or two filters of a flow, in the order given (Flow-Description, TS 29.214, 5.3.8).
-pub type Filters = BoundedList<FilterText, 2>;
+pub type Filters = BoundedList<FilterText, FILTERS_LIMIT>;
 
 /// The name of a rule, as Charging-Rule-Name gives it (TS 29.212, 5.3.6). Its greatest length is this project's own: it has
 /// room for a Session-Id and two numbers.
-pub type RuleName = BoundedText<600>;
+pub type RuleName = BoundedText<RULE_NAME_LIMIT>;
 
 impl<T, const MOST: usize> Model for BoundedList<T, MOST> {
     ghost use Rattle.std.specs.Prelude.{List, ◌<◌, ◌≤◌, length};

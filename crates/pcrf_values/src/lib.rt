@@ -6,6 +6,9 @@ mod bounded_list;
 mod bounded_number;
 mod default_quality;
 mod delta;
+mod enumerated;
+mod flow_usage;
+pub mod limits;
 mod permit_filter;
 mod refusal;
 mod request_kind;
@@ -22,6 +25,8 @@ pub use bounded_list::{
 pub use bounded_number::{BoundedNumber, PriorityLevel, QosClass};
 pub use default_quality::{DefaultClass, DefaultQuality};
 pub use delta::Delta;
+pub use enumerated::{Enumerated, Enumeration};
+pub use flow_usage::FlowUsage;
 pub use permit_filter::{PermitFilter, PermitFilters, texts_of};
 pub use refusal::Refusal;
 pub use request_kind::RequestKind;

@@ -4,12 +4,10 @@ ghost use Rattle.std.specs.List.{list_all};
 ghost use Rattle.pcrf_values.specs.Filters.{begins_as_filter, filter_of, is_filter, is_printable};
 
 use crate::bounded_list::{BoundedList, FilterText, Filters};
+use crate::limits::{FILTER_LIMIT, FILTERS_LIMIT};
 use ranked::{Ranked, Text};
 use std::alloc::{AllocError, Global};
 use std::marker::Model;
-
-/// How many bytes a filter may have.
-const MOST_BYTES: usize = 255;
 
 /// An IPFilterRule (RFC 6733, 4.3.1) that permits, in one direction, which contracts see as its text. What it says behind
 /// the direction isn't looked at, but that its bytes are printable.
@@ -19,7 +17,7 @@ pub struct PermitFilter {
 }
 
 /// One or two filters that permit, in the order given.
-pub type PermitFilters = BoundedList<PermitFilter, 2>;
+pub type PermitFilters = BoundedList<PermitFilter, FILTERS_LIMIT>;
 
 impl Model for PermitFilter {
     ghost use Rattle.std.specs.Prelude.{◌≡◌, ℕ, List, true};
@@ -59,7 +57,7 @@ fn are_printable(bytes: &[u8]) -> bool
 fn is_filter(bytes: &[u8]) -> bool
     ensures { result ≡ is_filter bytes.now }
 {
-    bytes.len() <= MOST_BYTES && begins_as_filter(bytes) && are_printable(bytes)
+    bytes.len() <= FILTER_LIMIT && begins_as_filter(bytes) && are_printable(bytes)
 }
 
 impl PermitFilter {

@@ -6,6 +6,7 @@ ghost use Rattle.pcrf_values.specs.RuleViews.{rule_value, numbers_of};
 
 use crate::bounded_list::{Filters, RuleName};
 use crate::bounded_number::{PriorityLevel, QosClass};
+use crate::enumerated::Enumeration;
 use ranked::Ranked;
 use std::alloc::AllocError;
 use std::cmp::Ordering;
@@ -50,6 +51,28 @@ impl FlowStatus {
             FlowStatus::Enabled => 2,
             FlowStatus::Disabled => 3,
         }
+    }
+}
+
+impl Enumeration for FlowStatus {
+    ghost use Rattle.pcrf_values.specs.Numbers.{flow_status_number, flow_status_of};
+    ghost use Rattle.pcrf_values.specs.laws.Numbers.{status_of_its_number};
+
+    const LEAST: u32 = 0;
+    const MOST: u32 = 3;
+
+    ghost LEAST = { 0 };
+    ghost MOST = { 3 };
+    ghost number_of = { flow_status_number };
+    ghost value_of = { flow_status_of };
+    ghost of_its_number = { status_of_its_number };
+
+    fn from_number(number: u32) -> Option<FlowStatus> {
+        FlowStatus::from_number(number)
+    }
+
+    fn number(self) -> u32 {
+        FlowStatus::number(self)
     }
 }
 

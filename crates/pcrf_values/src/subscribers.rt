@@ -5,13 +5,11 @@ ghost use Rattle.pcrf_values.specs.Limits.{subscribers_limit};
 ghost use Rattle.pcrf_values.specs.Subscribers.{subscriber_cmp};
 ghost use Rattle.pcrf_values.specs.Texts.{one_to};
 
+use crate::limits::SUBSCRIBERS_LIMIT;
 use crate::subscriber::Subscriber;
 use ranked::{Listed, Ranked, ascending_of};
 use std::alloc::{AllocError, Global};
 use std::marker::Model;
-
-/// How many subscribers a session may have; this project's own.
-const SUBSCRIBERS_LIMIT: usize = 16;
 
 /// A set of 1 to 16 subscribers, which contracts see as its one ascending list. Ordered as these lists, member by member, a prefix first.
 #[derive(Drop, PartialEq, Eq, PartialOrd, Ord)]
