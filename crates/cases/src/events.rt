@@ -1,6 +1,6 @@
 //! The events that the lines of a script make in a world.
 ghost use Rattle.std.specs.Prelude.{◌<◌, ◌≤◌};
-ghost use Rattle.pcrf_model.specs.Limits.{site_limit};
+ghost use Rattle.pcrf_values.specs.Limits.{site_limit};
 
 use dia_codec::{HEADER_BYTES, frames_of};
 use pcrf_values::DiameterIdentity;

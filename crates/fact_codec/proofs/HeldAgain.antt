@@ -9,7 +9,7 @@ use Rattle.ranked.proofs.Plain.{both}
 use Rattle.pcrf_facts.specs.Places.{Place, OfSession, OfComponent, OfFlow, OfRuleName}
 use Rattle.pcrf_facts.specs.Values.{Value}
 use Rattle.pcrf_facts.specs.Facts.{Fact, End, Removed, Field}
-use Rattle.pcrf_model.specs.Limits.{last_counter}
+use Rattle.pcrf_values.specs.Limits.{last_counter}
 use Rattle.pcrf_model.specs.Sessions.{Kind, Gx, Af}
 use Rattle.pcrf_model.specs.Forms.{fits, is_counted, is_stamp, is_unsigned, is_tagged, number_at}
 use Rattle.pcrf_model.proofs.FormLaws.{within_most}

@@ -5,7 +5,7 @@ use Rattle.std.proofs.lemmas.List.{length-append, length-take, map_more, take_al
 use Rattle.std.proofs.lemmas.List.Concat.{flat_map-cons}
 use Rattle.std.proofs.lemmas.List.Sums.{sum_by-cons, sum_by-append, sum_by_push}
 use Rattle.pcrf_values.specs.RuleValues.{RuleValue, DeltaValue}
-use Rattle.pcrf_model.specs.Limits.{delta_limit}
+use Rattle.pcrf_values.specs.Limits.{delta_limit}
 use Rattle.dia_codec.specs.Fields.{AvpValue, padding}
 use Rattle.dia_codec.specs.Limits.{longest_message}
 use Rattle.dia_codec.specs.Written.{word_bytes, written_avp, written_own, own_len, padded_len}

@@ -1,7 +1,7 @@
 -- How many bytes the AVPs of rules take at most, headers and padding counted. The greatest lengths of names and filters, and how many filters a
 -- rule has, are this project's own (pcrf_values).
 use Rattle.std.specs.Prelude.{ℕ, ◌+◌, ◌*◌}
-use Rattle.pcrf_model.specs.Limits.{delta_limit}
+use Rattle.pcrf_values.specs.Limits.{delta_limit}
 use Rattle.dia_codec.specs.Limits.{vendor_avp_header_bytes}
 
 -- the Flow-Information of a filter and its Flow-Description: two headers, and 255 bytes with one of padding

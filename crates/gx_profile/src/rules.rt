@@ -1,7 +1,7 @@
 //! Rules and differences of rules in messages to a gateway (TS 29.212, 5.3.2 to 5.3.4).
 ghost use Rattle.std.specs.Prelude.{◌≡◌, ◌≤◌, ◌+◌, ◌*◌, ◌++◌, ◌∷◌, [], length, map, IfOk, OnOk};
 ghost use Rattle.std.specs.List.{flat_map, sum_by};
-ghost use Rattle.pcrf_model.specs.Limits.{delta_limit};
+ghost use Rattle.pcrf_values.specs.Limits.{delta_limit};
 ghost use Rattle.dia_codec.specs.Limits.{vendor_avp_header_bytes};
 ghost use Rattle.dia_codec.specs.Written.{padded_len, written_avp};
 ghost use Rattle.gx_profile.specs.Lengths.{filter_room, name_room, rule_room, definition_room, delta_room};

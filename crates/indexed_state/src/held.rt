@@ -3,7 +3,7 @@ ghost use Rattle.std.specs.Prelude.{◌≡◌, ◌≤◌, true};
 ghost use Rattle.std.specs.Option.{option_copied};
 ghost use Rattle.pcrf_model.specs.Forms.{is_holding};
 ghost use Rattle.pcrf_model.specs.Holdings.{facts_on, kept_of};
-ghost use Rattle.pcrf_model.specs.Limits.{last_counter};
+ghost use Rattle.pcrf_values.specs.Limits.{last_counter};
 ghost use Rattle.pcrf_model.specs.Sessions.{gx, af};
 ghost use Rattle.pcrf_model.specs.ToldTags.{ToldUpTo};
 ghost use Rattle.site_join.specs.States.{record_facts};

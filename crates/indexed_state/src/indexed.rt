@@ -7,7 +7,7 @@ ghost use Rattle.pcrf_model.specs.Bindings.{bind};
 ghost use Rattle.pcrf_model.specs.Differences.{rule_name_of};
 ghost use Rattle.pcrf_model.specs.Forms.{are_up_to};
 ghost use Rattle.pcrf_model.specs.Holdings.{SessionFact, facts_on, kept_of, nothing_held, replaced, union};
-ghost use Rattle.pcrf_model.specs.Limits.{last_counter};
+ghost use Rattle.pcrf_values.specs.Limits.{last_counter};
 ghost use Rattle.pcrf_model.specs.OperatorValues.{bindings_of};
 ghost use Rattle.pcrf_model.specs.Operations.{with_operation};
 ghost use Rattle.pcrf_model.specs.Pushing.{due};

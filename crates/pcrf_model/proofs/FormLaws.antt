@@ -16,7 +16,7 @@ use Rattle.pcrf_facts.specs.Places.{Place, OfSession, OfComponent, OfFlow, OfRul
 use Rattle.pcrf_facts.specs.Values.{entry_cmp}
 use Rattle.pcrf_facts.specs.Facts.{Fact, End, Removed, Field, position, entry, fact_cmp}
 use Rattle.pcrf_facts.proofs.FactLaws.{tag_ranked}
-use Rattle.pcrf_model.specs.Limits.{last_counter}
+use Rattle.pcrf_values.specs.Limits.{last_counter}
 use Rattle.pcrf_model.specs.Sessions.{Kind, Gx, Af, Session}
 use Rattle.pcrf_model.specs.Holdings.{SessionFact, session_fact_cmp, kept_facts, under, Holding, union, kept_of}
 use Rattle.pcrf_model.specs.Operations.{Operation, with_operation, holding_of}

@@ -16,7 +16,7 @@ use Rattle.pcrf_facts.specs.Facts.{Field}
 use Rattle.pcrf_model.specs.Sessions.{Kind, Gx, Af, Session}
 use Rattle.pcrf_model.specs.Holdings.{SessionFact, session_fact_cmp, Holding}
 use Rattle.pcrf_model.specs.Tables.{OperatorRule, ApnRow, Apns, Tables, row_among, apn_row}
-use Rattle.pcrf_model.specs.Limits.{last_counter}
+use Rattle.pcrf_values.specs.Limits.{last_counter}
 use Rattle.pcrf_model.specs.Forms.{is_rising, fits, is_counted, is_session, is_unsigned, fits_flow_field, is_stamp, is_held, is_holding, are_names_apart, is_operator_rule, is_apn_row, are_apns, are_tables}
 
 -- what all members pass, each passes

@@ -16,7 +16,7 @@ use Rattle.pcrf_facts.specs.Values.{Subscriber, Value, Number, Text, Address, Su
 use Rattle.pcrf_facts.specs.Facts.{Fact, End, Field, position, entry, fact_cmp, is_shaded_by}
 use Rattle.pcrf_facts.proofs.FactLaws.{place_ranked, position_ranked, fact_ranked, shaded_irr, same_place}
 use Rattle.pcrf_facts.proofs.JoinedLaws.{sorted-In}
-use Rattle.pcrf_model.specs.Limits.{last_counter, site_limit}
+use Rattle.pcrf_values.specs.Limits.{last_counter, site_limit}
 use Rattle.pcrf_model.specs.Sessions.{Kind, Session}
 use Rattle.pcrf_model.specs.Holdings.{Holding}
 use Rattle.pcrf_model.specs.Making.{given, session_fields, next_operation}

@@ -14,7 +14,7 @@ use Rattle.pcrf_facts.specs.Facts.{Fact, End, Removed, Field, is_shaded_by}
 use Rattle.pcrf_facts.specs.Held.{kept, held, joined}
 use Rattle.pcrf_facts.proofs.FactLaws.{tag_ranked, shaded_irr, shaded_trans}
 use Rattle.pcrf_facts.proofs.JoinedLaws.{kept-In, sorted-In}
-use Rattle.pcrf_model.specs.Limits.{last_counter, site_limit}
+use Rattle.pcrf_values.specs.Limits.{last_counter, site_limit}
 use Rattle.pcrf_model.specs.Sessions.{Kind, Session, session_cmp}
 use Rattle.pcrf_model.specs.Holdings.{SessionFact, session_fact_cmp, under, Holding, replaced}
 use Rattle.pcrf_model.specs.Operations.{Operation}

@@ -9,7 +9,7 @@ use Rattle.ranked.specs.Sets.{In}
 use Rattle.ranked.specs.declared.tag.Tag.{Tag}
 use Rattle.ranked.proofs.Plain.{clash, some_same, some_is, not_true}
 use Rattle.ranked.proofs.SetLaws.{Same-itself, Same-through, Same-append, map-Same}
-use Rattle.pcrf_values.specs.Limits.{session_id_limit}
+use Rattle.pcrf_values.specs.Limits.{session_id_limit, last_counter, site_limit}
 use Rattle.pcrf_values.specs.RuleValues.{DeltaValue}
 use Rattle.pcrf_values.specs.Numbers.{request_kind_number}
 use Rattle.pcrf_values.specs.Results.{unknown_session_id, unable_to_comply}
@@ -20,7 +20,6 @@ use Rattle.pcrf_facts.specs.Places.{SessionField, RequestType, address}
 use Rattle.pcrf_facts.specs.Values.{Value, Number}
 use Rattle.pcrf_facts.specs.Facts.{Fact, Field, fact_cmp}
 use Rattle.pcrf_facts.proofs.JoinedLaws as facts
-use Rattle.pcrf_model.specs.Limits.{last_counter, site_limit}
 use Rattle.pcrf_model.specs.Sessions.{Kind, Gx, Af, Session, gx, af, is_gx}
 use Rattle.pcrf_model.specs.Holdings.{SessionFact, under, Holding}
 use Rattle.pcrf_model.specs.Operations.{Operation, with_operation}

@@ -1,7 +1,7 @@
 -- Cursors: what a site took of each maker's operations, and what it knows that its peers took of its own (this project's profile).
 use Rattle.std.specs.Prelude.{ℕ, ◌+◌, max, ◌==◌, Bool, true, false, if◌then◌else◌, ◌&&◌, List, replicate, length, nat_lt, nat_le, slice_index_or, slice_set, Option, Some, None}
 use Rattle.std.proofs.Common.{option_and_then}
-use Rattle.pcrf_model.specs.Limits.{site_limit}
+use Rattle.pcrf_values.specs.Limits.{site_limit}
 use Rattle.pcrf_model.specs.Letters.{AckValue, LetterBody, Range, Snapshot, Acknowledgement, LetterValue, body_from, is_carried}
 use Rattle.pcrf_model.specs.Replies.{ReplyValue}
 use Rattle.pcrf_model.specs.Steps.{SiteEvent, AskOwn, AskWhole}

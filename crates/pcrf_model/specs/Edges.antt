@@ -5,7 +5,7 @@ use Rattle.pcrf_values.specs.declared.request_kind.RequestKind.TheVariants.{Init
 use Rattle.pcrf_facts.specs.Places.{OfRuleName}
 use Rattle.pcrf_facts.specs.Values.{Value}
 use Rattle.pcrf_facts.specs.Facts.{Field}
-use Rattle.pcrf_model.specs.Limits.{delta_limit}
+use Rattle.pcrf_values.specs.Limits.{delta_limit}
 use Rattle.pcrf_model.specs.Holdings.{SessionFact}
 use Rattle.pcrf_model.specs.Requests.{ComponentValue, RequestValue, Ccr, Aar}
 use Rattle.pcrf_model.specs.Replies.{ReplyValue, Own, Pushed, Done}

@@ -6,14 +6,13 @@ use Rattle.std.specs.Ordering.{is_eq, is_lt}
 use Rattle.std.specs.List.{list_any, list_all}
 use Rattle.ranked.specs.Orders.{text_cmp}
 use Rattle.ranked.specs.Tags.{tag_cmp}
-use Rattle.pcrf_values.specs.Limits.{session_id_limit, identity_limit, apn_limit, subscription_data_limit, subscribers_limit, filters_limit, filter_limit, rule_name_limit, operator_rule_name_limit}
+use Rattle.pcrf_values.specs.Limits.{session_id_limit, identity_limit, apn_limit, subscription_data_limit, subscribers_limit, filters_limit, filter_limit, rule_name_limit, operator_rule_name_limit, last_counter, site_limit}
 use Rattle.pcrf_values.specs.RuleValues.{RuleValue}
 use Rattle.pcrf_values.specs.Subscribers.{subscriber_cmp}
 use Rattle.pcrf_values.specs.Texts.{folded}
 use Rattle.pcrf_facts.specs.Places.{SessionField, FramedIpAddress, CalledStationId, SubscriptionIds, OriginHost, OriginRealm, RequestType, ComponentField, ComponentStatus, FlowField, FlowDescriptions, FlowUsage, FlowStatus, FlowRateUp, FlowRateDown, Place, OfSession, OfComponent, OfFlow, OfRuleName, Removable, Component, Flow, position_cmp}
 use Rattle.pcrf_facts.specs.Values.{Subscriber, Value, Number, Text, Address, Subscribers, Filters, Untold, Told}
 use Rattle.pcrf_facts.specs.Facts.{Fact, End, Removed, Field, position, is_shaded_by}
-use Rattle.pcrf_model.specs.Limits.{last_counter, site_limit}
 use Rattle.pcrf_model.specs.Sessions.{Kind, Gx, Af, Session}
 use Rattle.pcrf_model.specs.Holdings.{SessionFact, session_fact_cmp, Holding}
 use Rattle.pcrf_model.specs.Operations.{Operation}

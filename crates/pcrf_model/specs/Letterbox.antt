@@ -1,7 +1,7 @@
 -- Letters and worlds of the worked examples.
 use Rattle.std.specs.Prelude.{ℕ, List, [], ◌∷◌, Option, None, Ok, Err, take, length, slice_get}
 use Rattle.std.proofs.Common.{option_map}
-use Rattle.pcrf_model.specs.Limits.{delta_limit, last_epoch}
+use Rattle.pcrf_values.specs.Limits.{delta_limit, last_epoch}
 use Rattle.pcrf_model.specs.Holdings.{Holding, nothing_held}
 use Rattle.pcrf_model.specs.Replies.{ReplyValue}
 use Rattle.pcrf_model.specs.Steps.{SiteEvent, Serve}

@@ -3,7 +3,7 @@ use Rattle.std.specs.Prelude.{ℕ, ◌+◌, Bool, ◌&&◌, List, [], length, na
 use Rattle.pcrf_model.specs.Holdings.{Holding}
 use Rattle.pcrf_model.specs.Operations.{Operation}
 use Rattle.pcrf_model.specs.Replies.{ReplyValue, Own, Copy}
-use Rattle.pcrf_model.specs.Limits.{last_counter, range_limit}
+use Rattle.pcrf_values.specs.Limits.{last_counter, range_limit}
 
 -- a maker, its epoch, and how many of its operations of that epoch the sender took; the sender and its epoch stand on the letter
 pub record AckValue : Type 0 where

@@ -9,7 +9,6 @@ pub mod Holdings
 pub mod Laws
 pub mod Letterbox
 pub mod Letters
-pub mod Limits
 pub mod Live
 pub mod Making
 pub mod Malformed

@@ -4,11 +4,10 @@ use Rattle.std.proofs.Common.{option_map, option_to_list, unwrap_or, flat_map}
 use Rattle.ranked.specs.Ascending.{ascending}
 use Rattle.ranked.specs.declared.tag.Tag.{Tag}
 use Rattle.pcrf_values.specs.RuleValues.{RuleValue, DeltaValue}
-use Rattle.pcrf_values.specs.Numbers.{request_kind_number}
+use Rattle.pcrf_values.specs.Numbers.{request_kind_number, flow_status_removed}
 use Rattle.pcrf_facts.specs.Places.{MediaType, ComponentStatus, ComponentRateUp, ComponentRateDown, FlowDescriptions, FlowUsage, FlowStatus, FlowRateUp, FlowRateDown, Place, OfComponent, OfFlow, OfRuleName, Component, Flow, address, apn, subscribers, host, realm, last}
 use Rattle.pcrf_facts.specs.Values.{Value, Number, Text, Address, Subscribers, Filters, Untold, Told, Subscriber}
 use Rattle.pcrf_facts.specs.Facts.{Fact, End, Removed, Field, fact_cmp}
-use Rattle.pcrf_model.specs.Limits.{flow_status_removed}
 use Rattle.pcrf_model.specs.Sessions.{Session}
 use Rattle.pcrf_model.specs.Holdings.{Holding}
 use Rattle.pcrf_model.specs.Operations.{Operation}

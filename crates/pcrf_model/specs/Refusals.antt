@@ -7,7 +7,7 @@ use Rattle.pcrf_values.specs.Results.{unknown_session_id, authorization_rejected
 use Rattle.pcrf_values.specs.declared.refusal.Refusal.{Refusal}
 use Rattle.pcrf_values.specs.declared.request_kind.RequestKind.{RequestKind}
 use Rattle.pcrf_values.specs.declared.request_kind.RequestKind.TheVariants.{Initial, Update, Termination}
-use Rattle.pcrf_model.specs.Limits.{last_counter}
+use Rattle.pcrf_values.specs.Limits.{last_counter}
 use Rattle.pcrf_model.specs.Sessions.{gx, af}
 use Rattle.pcrf_model.specs.Holdings.{Holding, under}
 use Rattle.pcrf_model.specs.Views.{View, view}

@@ -4,7 +4,7 @@ use Rattle.std.proofs.Common.{option_map}
 use Rattle.ranked.specs.declared.tag.Tag.{Tag}
 use Rattle.pcrf_values.specs.declared.refusal.Refusal.{Refusal}
 use Rattle.pcrf_values.specs.RuleValues.{DeltaValue}
-use Rattle.pcrf_model.specs.Limits.{last_counter, delta_limit}
+use Rattle.pcrf_values.specs.Limits.{last_counter, delta_limit}
 use Rattle.pcrf_facts.specs.Places.{FramedIpAddress, CalledStationId, SubscriptionIds, OriginHost, OriginRealm, RequestType, MediaType, ComponentRateUp, ComponentRateDown, FlowDescriptions, FlowUsage, FlowStatus, OfSession, OfComponent, OfFlow, address}
 use Rattle.pcrf_facts.specs.Values.{Number, Text, Subscribers, Filters, Address}
 use Rattle.pcrf_facts.specs.Facts.{Field}

@@ -1,6 +1,6 @@
 -- The step of a site for every event, and the replay of a history.
 use Rattle.std.specs.Prelude.{◌≡◌, ℕ, ◌≤◌, false, List, [], ◌∷◌, ◌++◌, take, drop, length, Option, Some, None}
-use Rattle.pcrf_model.specs.Limits.{range_limit}
+use Rattle.pcrf_values.specs.Limits.{range_limit}
 use Rattle.pcrf_model.specs.Holdings.{Holding, union, kept_of}
 use Rattle.pcrf_model.specs.Operations.{Operation, holding_of}
 use Rattle.pcrf_model.specs.Tables.{Tables}

@@ -3,7 +3,7 @@
 ghost use Rattle.std.specs.Prelude.{◌≡◌, ℕ, List, [], ◌∷◌, Some, None, codes, true, false, drop};
 ghost use Rattle.pcrf_facts.specs.Places.{address, apn, subscribers};
 ghost use Rattle.pcrf_facts.specs.Values.{Text, Address, Subscribers};
-ghost use Rattle.pcrf_model.specs.Limits.{last_counter, delta_limit};
+ghost use Rattle.pcrf_values.specs.Limits.{last_counter, delta_limit};
 ghost use Rattle.pcrf_model.specs.Holdings.{nothing_held, kept_of, union};
 ghost use Rattle.pcrf_model.specs.Views.{value};
 ghost use Rattle.pcrf_model.specs.Live.{is_live, home};

@@ -3,7 +3,7 @@
 ghost use Rattle.std.specs.Prelude.{◌≡◌, [], ◌∷◌, Some, None, true, false, codes};
 ghost use Rattle.std.proofs.Common.{option_map};
 ghost use Rattle.pcrf_facts.specs.Facts.{End};
-ghost use Rattle.pcrf_model.specs.Limits.{delta_limit};
+ghost use Rattle.pcrf_values.specs.Limits.{delta_limit};
 ghost use Rattle.pcrf_model.specs.Pushing.{push};
 ghost use Rattle.pcrf_model.specs.Forms.{is_request, are_tables, is_operation, is_holding};
 ghost use Rattle.pcrf_model.specs.Samples.{operator, first_session, host_address, initial, update, termination, call, hang_up, audio, no_media};

@@ -46,6 +46,10 @@ flow_status_of n =
     if n == flow_status_number flow.EnabledDownlink then flow.EnabledDownlink else
     if n == flow_status_number flow.Enabled then flow.Enabled else flow.Disabled
 
+-- the Flow-Status that removes a component or a flow (TS 29.214, 5.3.11)
+abbrev pub flow_status_removed : ℕ
+flow_status_removed = 4
+
 -- Flow-Usage (TS 29.214, 5.3.12)
 abbrev pub flow_usage_number : FlowUsage → ℕ
 flow_usage_number usage.NoInformation = 0

@@ -6,6 +6,7 @@ ghost use Rattle.pcrf_values.specs.Texts.{one_to, folded};
 use crate::limits::APN_LIMIT;
 use ranked::{Listed, Ranked, Text};
 use std::alloc::{AllocError, Global};
+use std::fmt::{self, Debug, Formatter, Write};
 use std::marker::Model;
 
 /// An access point name in small letters, of 1 to 255 bytes (Called-Station-Id, TS 29.212; TS 23.003, 9.1).
@@ -14,6 +15,12 @@ use std::marker::Model;
 #[derive(Drop, PartialEq, Eq, PartialOrd, Ord)]
 pub struct Apn {
     text: Text,
+}
+
+impl Debug for Apn {
+    fn fmt<W: Write>(&self, f: &mut Formatter<W>) -> fmt::Result {
+        write!(f, "\"{}\"", self.as_slice().escape_ascii())
+    }
 }
 
 impl Model for Apn {

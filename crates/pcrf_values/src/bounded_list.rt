@@ -9,6 +9,7 @@ use crate::limits::{
 use ranked::{Listed, Ranked};
 use std::alloc::{AllocError, Global};
 use std::cmp::Ordering;
+use std::fmt::{self, Debug, Formatter, Write};
 use std::marker::Model;
 
 /// A list of 1 to `MOST` values, which contracts see as that list. Ordered member by member, a prefix first.
@@ -49,6 +50,12 @@ impl<T, const MOST: usize> Model for BoundedList<T, MOST> {
     ghost inverse = { λ list. record { list = list } };
 
     ghost invariant = { λ b. (0 < length b.list) × (length b.list ≤ MOST) };
+}
+
+impl<T: Debug, const MOST: usize> Debug for BoundedList<T, MOST> {
+    fn fmt<W: Write>(&self, f: &mut Formatter<W>) -> fmt::Result {
+        write!(f, "{:?}", self.list)
+    }
 }
 
 impl<T: Drop, const MOST: usize> BoundedList<T, MOST> {

@@ -9,7 +9,7 @@ use std::marker::Model;
 
 /// What a gateway is to remove, by name, and what it is to install (Charging-Rule-Remove and Charging-Rule-Install,
 /// TS 29.212, 5.3.3 and 5.3.2). Contracts see it as a `DeltaValue`.
-#[derive(Drop, PartialEq, Eq, PartialOrd, Ord)]
+#[derive(Debug, Drop, PartialEq, Eq, PartialOrd, Ord)]
 pub struct Delta {
     removed: Listed<RuleName>,
     installed: Listed<Rule>,

@@ -11,9 +11,13 @@ use std::marker::Model;
 /// The values that an AVP of type Enumerated may have (RFC 6733, 4.3.1), each with its number.
 pub trait Enumeration: Copy + Debug {
     ghost LEAST: { ℕ };
+
     ghost MOST: { ℕ };
+
     ghost number_of: { Self → ℕ };
+
     ghost value_of: { ℕ → Self };
+
     ghost of_its_number: { (x : Self) → value_of (number_of x) ≡ x };
 
     /// The least of their numbers.

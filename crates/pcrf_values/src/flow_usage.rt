@@ -47,12 +47,17 @@ impl Enumeration for FlowUsage {
     ghost use Rattle.pcrf_values.specs.laws.Numbers.{usage_of_its_number};
 
     const LEAST: u32 = 0;
+
     const MOST: u32 = 2;
 
     ghost LEAST = { 0 };
+
     ghost MOST = { 2 };
+
     ghost number_of = { flow_usage_number };
+
     ghost value_of = { flow_usage_of };
+
     ghost of_its_number = { usage_of_its_number };
 
     fn from_number(number: u32) -> Option<FlowUsage> {

@@ -7,6 +7,7 @@ use crate::bounded_list::{BoundedList, FilterText, Filters};
 use crate::limits::{FILTER_LIMIT, FILTERS_LIMIT};
 use ranked::{Ranked, Text};
 use std::alloc::{AllocError, Global};
+use std::fmt::{self, Debug, Formatter, Write};
 use std::marker::Model;
 
 /// An IPFilterRule (RFC 6733, 4.3.1) that permits, in one direction, which contracts see as its text. What it says behind
@@ -18,6 +19,12 @@ pub struct PermitFilter {
 
 /// One or two filters that permit, in the order given.
 pub type PermitFilters = BoundedList<PermitFilter, FILTERS_LIMIT>;
+
+impl Debug for PermitFilter {
+    fn fmt<W: Write>(&self, f: &mut Formatter<W>) -> fmt::Result {
+        write!(f, "\"{}\"", self.text.as_slice().escape_ascii())
+    }
+}
 
 impl Model for PermitFilter {
     ghost use Rattle.std.specs.Prelude.{◌≡◌, ℕ, List, true};

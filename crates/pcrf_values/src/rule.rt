@@ -59,12 +59,17 @@ impl Enumeration for FlowStatus {
     ghost use Rattle.pcrf_values.specs.laws.Numbers.{status_of_its_number};
 
     const LEAST: u32 = 0;
+
     const MOST: u32 = 3;
 
     ghost LEAST = { 0 };
+
     ghost MOST = { 3 };
+
     ghost number_of = { flow_status_number };
+
     ghost value_of = { flow_status_of };
+
     ghost of_its_number = { status_of_its_number };
 
     fn from_number(number: u32) -> Option<FlowStatus> {
@@ -122,7 +127,7 @@ pub struct RetentionPriority {
 }
 
 /// The quality of service of a rule (QoS-Information, TS 29.212, 5.3.16).
-#[derive(Clone, Copy)]
+#[derive(Clone, Copy, Debug)]
 pub struct RuleQos {
     pub class: QosClass,
     pub priority: RetentionPriority,
@@ -133,7 +138,7 @@ pub struct RuleQos {
 }
 
 /// A PCC rule (Charging-Rule-Definition, TS 29.212, 5.3.4), which contracts see as a `RuleValue`. Ordered field by field.
-#[derive(Drop)]
+#[derive(Debug, Drop)]
 pub struct Rule {
     name: RuleName,
     status: FlowStatus,

@@ -6,6 +6,7 @@ use crate::bounded_list::SessionId;
 use ranked::{Ranked, compare_bytes, equal_bytes};
 use std::alloc::AllocError;
 use std::cmp::Ordering;
+use std::fmt::{self, Debug, Formatter, Write};
 use std::marker::Model;
 
 /// The Session-Id of a gateway's session (Gx, TS 29.212, 4a.5.1), which contracts see as its bytes.
@@ -20,6 +21,12 @@ pub struct AfSid {
     id: SessionId,
 }
 
+impl Debug for GxSid {
+    fn fmt<W: Write>(&self, f: &mut Formatter<W>) -> fmt::Result {
+        write!(f, "\"{}\"", self.as_slice().escape_ascii())
+    }
+}
+
 impl Model for GxSid {
     ghost use Rattle.std.specs.Prelude.{ℕ, List};
 
@@ -28,6 +35,12 @@ impl Model for GxSid {
     ghost view = { λ s. s.id };
 
     ghost inverse = { λ id. record { id = id } };
+}
+
+impl Debug for AfSid {
+    fn fmt<W: Write>(&self, f: &mut Formatter<W>) -> fmt::Result {
+        write!(f, "\"{}\"", self.as_slice().escape_ascii())
+    }
 }
 
 impl Model for AfSid {

@@ -56,7 +56,7 @@ impl SubscriptionType {
 }
 
 /// A subscriber, which contracts see as the number of the type and the bytes of the name. Ordered by type, and then by name.
-#[derive(Drop)]
+#[derive(Debug, Drop)]
 pub struct Subscriber {
     kind: SubscriptionType,
     name: SubscriptionData,

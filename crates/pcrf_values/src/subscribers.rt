@@ -12,7 +12,7 @@ use std::alloc::{AllocError, Global};
 use std::marker::Model;
 
 /// A set of 1 to 16 subscribers, which contracts see as its one ascending list. Ordered as these lists, member by member, a prefix first.
-#[derive(Drop, PartialEq, Eq, PartialOrd, Ord)]
+#[derive(Debug, Drop, PartialEq, Eq, PartialOrd, Ord)]
 pub struct Subscribers {
     list: Listed<Subscriber>,
 }

@@ -10,7 +10,7 @@ use Rattle.pcrf_model.specs.Tables.{Tables}
 use Rattle.pcrf_model.specs.Worlds.{SiteView, WorldView}
 use Rattle.site_machine.specs.Sites.{SiteValue, emptied, with_made, with_state}
 use Rattle.pcrf_world.specs.Identities.{identity_of}
-use Rattle.pcrf_model.specs.Limits.{site_limit}
+use Rattle.pcrf_values.specs.Limits.{site_limit}
 use Rattle.pcrf_world.specs.Members.{AreMembers, AreSites, IsMember, new_member, seen_of, site_seen, started_again, with_site}
 use Rattle.pcrf_world.specs.declared.site.Member.{Member}
 

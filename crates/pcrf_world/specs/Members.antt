@@ -1,6 +1,6 @@
 -- The sites of a world: each with its cursors; all have the world's operator tables, and the names that their numbers give.
 use Rattle.std.specs.Prelude.{◌≡◌, ℕ, ◌+◌, ◌≤◌, length, List, [], ◌∷◌}
-use Rattle.pcrf_model.specs.Limits.{site_limit}
+use Rattle.pcrf_values.specs.Limits.{site_limit}
 use Rattle.pcrf_model.specs.Cursors.{start_cursors}
 use Rattle.pcrf_model.specs.Tables.{Tables}
 use Rattle.pcrf_model.specs.Worlds.{SiteView}

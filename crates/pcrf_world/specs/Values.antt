@@ -1,7 +1,7 @@
 -- What happens in a world and what it answers, as the definitions have them.
 use Rattle.std.specs.Prelude.{Result, Ok, Err, List, map}
 use Rattle.std.proofs.Common.{option_map}
-use Rattle.pcrf_model.specs.Limits.{delta_limit}
+use Rattle.pcrf_values.specs.Limits.{delta_limit}
 use Rattle.pcrf_model.specs.Tables.{Tables}
 use Rattle.pcrf_model.specs.Worlds as model
 use Rattle.pcrf_model.specs.Worlds.{WorldView, Setting, by_cursors, WorldAnswer}

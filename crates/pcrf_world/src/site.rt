@@ -1,7 +1,7 @@
 //! One site of a world.
 ghost use Rattle.std.specs.Prelude.{◌≡◌, ◌<◌, ◌+◌, None, IfOk, IfErr, IfSome, OnOk};
 ghost use Rattle.pcrf_model.specs.Cursors.{ack_letter, ack_of};
-ghost use Rattle.pcrf_model.specs.Limits.{last_epoch, site_limit};
+ghost use Rattle.pcrf_values.specs.Limits.{last_epoch, site_limit};
 ghost use Rattle.pcrf_model.specs.Operations.{holding_of};
 ghost use Rattle.pcrf_model.specs.Seen.{brought, view_in_part, view_merged};
 ghost use Rattle.pcrf_model.specs.Tables as tables;

@@ -3,7 +3,7 @@ ghost use Rattle.std.specs.Prelude.{◌≡◌, ◌<◌, ◌≤◌, slice_get, If
 ghost use Rattle.std.specs.Option.{option_copied};
 ghost use Rattle.pcrf_model.specs.CursorLaws.{LeavesNoGap, MakersAreTaken, PeersTook};
 ghost use Rattle.pcrf_model.specs.Worlds.{SiteView, start, world_view, after_all, GivesAll, HoldAlike};
-ghost use Rattle.pcrf_model.specs.Limits.{site_limit};
+ghost use Rattle.pcrf_values.specs.Limits.{site_limit};
 ghost use Rattle.pcrf_world.specs.Happening.{HappensIn};
 ghost use Rattle.pcrf_world.specs.Members.{site_seen};
 ghost use Rattle.pcrf_world.specs.Values.{event_value, answer_value, events_value, answers_value, setting};

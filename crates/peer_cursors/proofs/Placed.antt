@@ -7,7 +7,7 @@ use Rattle.pcrf_model.proofs.FormLaws.{le_passes}
 use Rattle.pcrf_model.specs.Forms.{is_holding}
 use Rattle.pcrf_model.specs.Holdings.{Holding}
 use Rattle.pcrf_model.specs.Letters.{Range, Snapshot, is_carried}
-use Rattle.pcrf_model.specs.Limits.{last_counter, range_limit}
+use Rattle.pcrf_values.specs.Limits.{last_counter, range_limit}
 use Rattle.pcrf_model.specs.Operations.{Operation}
 use Rattle.pcrf_model.specs.Steps.{own_from}
 use Rattle.peer_exchange.specs.Form.{is_placed}

@@ -1,6 +1,6 @@
 -- Cursors and acknowledgements as the definitions have them.
 use Rattle.std.specs.Prelude.{◌≡◌, ℕ, ◌<◌, ◌≤◌, List, length, Option}
-use Rattle.pcrf_model.specs.Limits.{last_counter, site_limit}
+use Rattle.pcrf_values.specs.Limits.{last_counter, site_limit}
 use Rattle.pcrf_model.specs.Letters.{AckValue}
 use Rattle.pcrf_model.specs.Cursors.{Cursor, CursorsValue}
 

@@ -1,7 +1,7 @@
 //! What a site tells another that it took of it.
 ghost use Rattle.std.specs.Prelude.{◌≡◌, ◌≤◌, ◌<◌};
 ghost use Rattle.pcrf_model.specs.Cursors.{ack_letter, carried_ack};
-ghost use Rattle.pcrf_model.specs.Limits.{last_counter, site_limit};
+ghost use Rattle.pcrf_values.specs.Limits.{last_counter, site_limit};
 ghost use Rattle.peer_cursors.specs.Values.{ack_saying};
 
 use crate::cursor::Cursor;

@@ -1,7 +1,7 @@
 //! How far one site took the operations of another.
 ghost use Rattle.std.specs.Prelude.{◌≡◌, ◌≤◌, Some};
 ghost use Rattle.pcrf_model.specs.Cursors.{maker_after, peer_after, raised_by};
-ghost use Rattle.pcrf_model.specs.Limits.{last_counter};
+ghost use Rattle.pcrf_values.specs.Limits.{last_counter};
 ghost use Rattle.peer_cursors.specs.Values.{cursor_at};
 
 use crate::ack::Ack;
@@ -19,7 +19,7 @@ pub struct Cursor {
 impl Model for Cursor {
     ghost use Rattle.std.specs.Prelude.{◌≤◌};
     ghost use Rattle.pcrf_model.specs.Cursors as model;
-    ghost use Rattle.pcrf_model.specs.Limits.{last_counter};
+    ghost use Rattle.pcrf_values.specs.Limits.{last_counter};
     ghost use Rattle.peer_cursors.specs.Values.{cursor_at};
 
     ghost Value = { model.Cursor };

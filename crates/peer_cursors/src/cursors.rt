@@ -2,7 +2,7 @@
 ghost use Rattle.std.specs.Prelude.{◌≡◌, ◌≤◌, ◌<◌};
 ghost use Rattle.pcrf_model.specs.Cursors.{ack_of, acked, letter_saying, maker_entry, peer_entry, start_cursors, took};
 ghost use Rattle.peer_exchange.specs.Values.{body_value};
-ghost use Rattle.pcrf_model.specs.Limits.{site_limit};
+ghost use Rattle.pcrf_values.specs.Limits.{site_limit};
 ghost use Rattle.pcrf_model.specs.Worlds.{ByCursors, cursors_after};
 ghost use Rattle.peer_cursors.specs.Writing.{if_placed};
 

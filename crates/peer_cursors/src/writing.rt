@@ -3,7 +3,7 @@ ghost use Rattle.std.specs.Prelude.{◌≡◌, ◌≤◌, ◌<◌, ℕ, length, 
 ghost use Rattle.pcrf_model.specs.Cursors.{ask, letter_of};
 ghost use Rattle.pcrf_model.specs.Letters as model;
 ghost use Rattle.pcrf_model.specs.Letters.{is_carried};
-ghost use Rattle.pcrf_model.specs.Limits.{last_counter, site_limit};
+ghost use Rattle.pcrf_values.specs.Limits.{last_counter, site_limit};
 ghost use Rattle.pcrf_model.specs.Steps.{own_from};
 ghost use Rattle.pcrf_model.specs.Worlds.{asked_body};
 ghost use Rattle.peer_exchange.specs.Form.{is_placed};

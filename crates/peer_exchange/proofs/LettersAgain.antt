@@ -6,9 +6,8 @@ use Rattle.std.proofs.lemmas.Bool.{eq-eqb}
 use Rattle.std.proofs.lemmas.Bool.Decides.{nat_tests}
 use Rattle.std.proofs.lemmas.List.{append-nil}
 use Rattle.ranked.proofs.Plain.{both}
-use Rattle.pcrf_values.specs.Limits.{session_id_limit}
+use Rattle.pcrf_values.specs.Limits.{session_id_limit, last_counter, last_epoch, range_limit}
 use Rattle.pcrf_facts.specs.Facts.{Fact}
-use Rattle.pcrf_model.specs.Limits.{last_counter, last_epoch, range_limit}
 use Rattle.pcrf_model.specs.Sessions.{Kind, Gx, Af}
 use Rattle.pcrf_model.specs.Operations.{Operation}
 use Rattle.pcrf_model.specs.Forms.{is_within, is_unsigned, is_text, is_stamp, is_session, is_request_number, stand_together, fits, is_operation}

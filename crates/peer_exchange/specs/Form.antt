@@ -1,7 +1,7 @@
 -- Which letters have a spelling (this project's profile).
 use Rattle.std.specs.Prelude.{◌≡◌, ℕ, ◌+◌, ◌^◌, Bool, true, false, ◌&&◌, nat_lt, nat_le, length, Option, Some, None, if◌then◌else◌}
 use Rattle.std.specs.List.{list_all}
-use Rattle.pcrf_model.specs.Limits.{last_counter, last_epoch, range_limit, site_limit}
+use Rattle.pcrf_values.specs.Limits.{last_counter, last_epoch, range_limit, site_limit}
 use Rattle.pcrf_model.specs.Forms.{is_within, is_unsigned, is_operation}
 use Rattle.pcrf_model.specs.Letters.{LetterBody, Range, Snapshot, Acknowledgement, LetterValue}
 use Rattle.site_join.specs.Groups.{are_groups, grouped}

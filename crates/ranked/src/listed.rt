@@ -6,6 +6,7 @@ ghost use Rattle.ranked.specs.laws.Exact.{list_same};
 use crate::order::Ranked;
 use std::alloc::AllocError;
 use std::cmp::Ordering;
+use std::fmt::{self, Debug, Formatter, Write};
 use std::marker::Model;
 
 /// A list of values, which contracts see as that list.
@@ -44,6 +45,12 @@ impl<T> Listed<T> {
     {
         let Listed { items } = self;
         items
+    }
+}
+
+impl<T: Debug> Debug for Listed<T> {
+    fn fmt<W: Write>(&self, f: &mut Formatter<W>) -> fmt::Result {
+        write!(f, "{:?}", self.items)
     }
 }
 

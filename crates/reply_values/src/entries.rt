@@ -1,7 +1,7 @@
 //! How much of a difference one message carries.
 ghost use Rattle.std.specs.Prelude.{◌≡◌, ◌↔◌, ◌+◌, ◌≤◌, IfOk, IsTrue, length};
 ghost use Rattle.pcrf_model.specs.Differences.{first};
-ghost use Rattle.pcrf_model.specs.Limits.{delta_limit};
+ghost use Rattle.pcrf_values.specs.Limits.{delta_limit};
 ghost use Rattle.pcrf_model.specs.Serving.{empty_delta};
 
 use exact_values::{Exact, same};
@@ -22,7 +22,7 @@ pub struct FirstEntries {
 impl Model for FirstEntries {
     ghost use Rattle.std.specs.Prelude.{◌+◌, ◌≤◌, length};
     ghost use Rattle.pcrf_values.specs.RuleValues.{DeltaValue};
-    ghost use Rattle.pcrf_model.specs.Limits.{delta_limit};
+    ghost use Rattle.pcrf_values.specs.Limits.{delta_limit};
 
     ghost Value = { DeltaValue };
 

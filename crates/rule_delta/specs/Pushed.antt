@@ -1,6 +1,6 @@
 -- What a gateway is still to be told of a session, and what is pushed of it (TS 29.212, 4.5.2).
 use Rattle.pcrf_values.specs.RuleValues.{DeltaValue}
-use Rattle.pcrf_model.specs.Limits.{delta_limit}
+use Rattle.pcrf_values.specs.Limits.{delta_limit}
 use Rattle.pcrf_model.specs.Sessions.{Session}
 use Rattle.pcrf_model.specs.Views.{View}
 use Rattle.pcrf_model.specs.Tables.{Tables}

@@ -1,6 +1,6 @@
 -- What the entries of a history added.
 use Rattle.std.proofs.Common.{◌≡◌, ℕ, List, [], ◌∷◌, map, Option, Some, None, refl, sym, ◌∙◌, ap}
-use Rattle.pcrf_model.specs.Limits.{delta_limit}
+use Rattle.pcrf_values.specs.Limits.{delta_limit}
 use Rattle.pcrf_model.specs.Tables.{Tables}
 use Rattle.pcrf_model.specs.Holdings.{Holding, nothing_held, union, kept_of}
 use Rattle.pcrf_model.specs.Operations.{Operation}

@@ -1,6 +1,6 @@
 -- A book: a site with its opening and its history; seats with receipts.
 use Rattle.std.specs.Prelude.{◌≡◌, ℕ, zero, suc, ◌+◌, leb, Bool, not, ◌&&◌, List, [], ◌∷◌, ◌++◌, map, length}
-use Rattle.pcrf_model.specs.Limits.{delta_limit}
+use Rattle.pcrf_values.specs.Limits.{delta_limit}
 use Rattle.pcrf_model.specs.Replies.{ReplyValue}
 use Rattle.pcrf_model.specs.Steps.{SiteState, SiteEvent, Replays}
 use Rattle.site_machine.specs.Sites.{SiteValue, after_event}

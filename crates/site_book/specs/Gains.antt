@@ -1,6 +1,6 @@
 -- What the entries of a history added to what the site held.
 use Rattle.std.specs.Prelude.{◌≡◌, ℕ, List, [], ◌∷◌, map, take, Option, Some, None}
-use Rattle.pcrf_model.specs.Limits.{delta_limit}
+use Rattle.pcrf_values.specs.Limits.{delta_limit}
 use Rattle.pcrf_model.specs.Tables.{Tables}
 use Rattle.pcrf_model.specs.Holdings.{Holding, nothing_held, union, kept_of, under}
 use Rattle.pcrf_model.specs.Operations.{Operation, holding_of}

@@ -12,7 +12,7 @@ use Rattle.ranked.proofs.SetLaws.{In-left, In-map, map-In, any-none}
 use Rattle.pcrf_facts.specs.Places.{OfSession, OfComponent, OfFlow, OfRuleName, Component, Flow, position_cmp}
 use Rattle.pcrf_facts.specs.Values.{entry_cmp}
 use Rattle.pcrf_facts.specs.Facts.{Fact, End, Removed, Field, position, entry, fact_cmp, is_shaded_by}
-use Rattle.pcrf_model.specs.Limits.{last_counter}
+use Rattle.pcrf_values.specs.Limits.{last_counter}
 use Rattle.pcrf_model.specs.Sessions.{Session, session_cmp}
 use Rattle.pcrf_model.specs.Holdings.{SessionFact, session_fact_cmp, is_shaded_there_by, kept_facts, under, Holding, kept_of}
 use Rattle.pcrf_model.specs.Forms.{is_session, is_rising, stand_together, fits, is_counted, is_held, is_holding}

@@ -12,7 +12,7 @@ use Rattle.ranked.proofs.AscendingLaws.{ascending-itself}
 use Rattle.pcrf_facts.specs.Places.{position_cmp}
 use Rattle.pcrf_facts.specs.Values.{entry_cmp}
 use Rattle.pcrf_facts.specs.Facts.{Fact, End, Removed, Field, position, entry, fact_cmp, is_shaded_by}
-use Rattle.pcrf_model.specs.Limits.{last_counter, site_limit}
+use Rattle.pcrf_values.specs.Limits.{last_counter, site_limit}
 use Rattle.pcrf_model.specs.Sessions.{Kind, Session, session_cmp}
 use Rattle.pcrf_model.specs.Holdings.{SessionFact, session_fact_cmp, is_shaded_there_by, kept_facts, under, Holding, kept_of}
 use Rattle.pcrf_model.specs.Operations.{Operation}

@@ -3,7 +3,7 @@ use Rattle.std.specs.Prelude.{ℕ, Bool, ◌&&◌, nat_le, List, [], ◌∷◌, 
 use Rattle.std.specs.Ordering.{is_eq}
 use Rattle.std.specs.List.{flat_map, list_all}
 use Rattle.pcrf_facts.specs.Facts.{Fact}
-use Rattle.pcrf_model.specs.Limits.{last_counter}
+use Rattle.pcrf_values.specs.Limits.{last_counter}
 use Rattle.pcrf_model.specs.Sessions.{Session, session_cmp}
 use Rattle.pcrf_model.specs.Holdings.{SessionFact, under, Holding}
 use Rattle.pcrf_model.specs.Forms.{fits, is_counted, is_rising, is_session, stand_together}

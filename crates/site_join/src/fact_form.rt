@@ -4,7 +4,7 @@ ghost use Rattle.std.specs.Ordering.{is_eq};
 ghost use Rattle.ranked.specs.declared.tag.Tag.{Tag};
 ghost use Rattle.ranked.specs.Tags.{tag_cmp};
 ghost use Rattle.pcrf_facts.specs.Facts.{position};
-ghost use Rattle.pcrf_model.specs.Limits.{site_limit};
+ghost use Rattle.pcrf_values.specs.Limits.{site_limit};
 ghost use Rattle.pcrf_model.specs.Forms.{fits_rule_name, is_stamp, is_unsigned};
 ghost use Rattle.session_records.specs.SessionFacts.{session_fact};
 ghost use Rattle.gx_records.specs.GxFacts.{told_value};

@@ -1,6 +1,6 @@
 //! Operations: what accepted requests and pushes make, and what sites send each other.
 ghost use Rattle.std.specs.Prelude.{◌≡◌, ◌≤◌, IfOk, map, true};
-ghost use Rattle.pcrf_model.specs.Limits.{last_counter};
+ghost use Rattle.pcrf_values.specs.Limits.{last_counter};
 ghost use Rattle.pcrf_model.specs.Forms.{is_operation, is_record};
 ghost use Rattle.pcrf_model.specs.Sessions.{Gx, Af};
 ghost use Rattle.gx_records.specs.GxFacts as gx_facts;

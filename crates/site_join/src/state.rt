@@ -2,7 +2,7 @@
 ghost use Rattle.std.specs.Prelude.{◌≡◌, ℕ, List, ◌≤◌, ◌↔◌, [], map, true, IsTrue, IfOk, IfErr, OnOk, OnErr, IsSome};
 ghost use Rattle.std.specs.List.{list_all};
 ghost use Rattle.std.specs.Option.{option_copied};
-ghost use Rattle.pcrf_model.specs.Limits.{last_counter};
+ghost use Rattle.pcrf_values.specs.Limits.{last_counter};
 ghost use Rattle.pcrf_model.specs.Sessions.{Gx, Af, gx, af};
 ghost use Rattle.pcrf_model.specs.Holdings.{nothing_held, facts_on, union, kept_of, replaced};
 ghost use Rattle.pcrf_model.specs.Operations.{with_operation};

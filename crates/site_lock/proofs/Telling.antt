@@ -4,7 +4,7 @@ use Rattle.std.proofs.lemmas.Bool.{leb-false}
 use Rattle.pcrf_values.specs.declared.refusal.Refusal.{Refusal}
 use Rattle.pcrf_values.specs.declared.request_kind.RequestKind.{RequestKind}
 use Rattle.pcrf_values.specs.declared.request_kind.RequestKind.TheVariants.{Initial, Update, Termination}
-use Rattle.pcrf_model.specs.Limits.{delta_limit}
+use Rattle.pcrf_values.specs.Limits.{delta_limit}
 use Rattle.pcrf_model.specs.Tables.{Tables}
 use Rattle.pcrf_model.specs.Holdings.{Holding}
 use Rattle.pcrf_model.specs.Sessions.{Session}

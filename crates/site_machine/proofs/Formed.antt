@@ -6,7 +6,7 @@ use Rattle.ranked.specs.Ascending.{ascending}
 use Rattle.ranked.specs.Sets.{Distinct}
 use Rattle.ranked.specs.declared.tag.Tag.{Tag}
 use Rattle.ranked.proofs.Plain.{both, clash}
-use Rattle.pcrf_values.specs.Limits.{session_id_limit, rule_name_limit}
+use Rattle.pcrf_values.specs.Limits.{session_id_limit, rule_name_limit, last_counter, site_limit, delta_limit}
 use Rattle.pcrf_values.specs.Numbers.{request_kind_number}
 use Rattle.pcrf_values.specs.RuleValues.{RuleValue, DeltaValue}
 use Rattle.pcrf_values.specs.declared.request_kind.RequestKind.{RequestKind}
@@ -14,7 +14,6 @@ use Rattle.pcrf_values.specs.declared.request_kind.RequestKind.TheVariants.{Init
 use Rattle.pcrf_facts.specs.Facts.{Fact, End, fact_cmp}
 use Rattle.pcrf_facts.specs.Places.{RequestType}
 use Rattle.pcrf_facts.specs.Values.{Number}
-use Rattle.pcrf_model.specs.Limits.{last_counter, site_limit, delta_limit}
 use Rattle.pcrf_model.specs.Sessions.{Gx, gx, af}
 use Rattle.pcrf_model.specs.Holdings.{SessionFact, Holding, facts_on, kept_of, replaced}
 use Rattle.pcrf_model.specs.Operations.{Operation, with_operation}

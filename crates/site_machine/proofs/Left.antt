@@ -8,7 +8,7 @@ use Rattle.pcrf_values.specs.declared.refusal.Refusal.{Refusal}
 use Rattle.pcrf_values.specs.declared.request_kind.RequestKind.{RequestKind}
 use Rattle.pcrf_values.specs.declared.request_kind.RequestKind.TheVariants.{Initial, Update, Termination}
 use Rattle.pcrf_facts.specs.Facts.{Fact}
-use Rattle.pcrf_model.specs.Limits.{delta_limit}
+use Rattle.pcrf_values.specs.Limits.{delta_limit}
 use Rattle.pcrf_model.specs.Sessions.{Session, gx}
 use Rattle.pcrf_model.specs.Holdings.{Holding, under, kept_of}
 use Rattle.pcrf_model.specs.Operations.{Operation, with_operation}

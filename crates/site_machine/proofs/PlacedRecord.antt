@@ -2,7 +2,7 @@
 use Rattle.std.proofs.Common.{◌≡◌, ℕ, ◌+◌, ◌<◌, ◌≤◌, max, true, List, sym, ap, ◌∙◌, subst, arith}
 use Rattle.pcrf_facts.specs.Facts.{Fact}
 use Rattle.pcrf_facts.specs.Held.{held, joined}
-use Rattle.pcrf_model.specs.Limits.{last_counter, site_limit}
+use Rattle.pcrf_values.specs.Limits.{last_counter, site_limit}
 use Rattle.pcrf_model.specs.Sessions.{Gx, gx}
 use Rattle.pcrf_model.specs.Holdings.{Holding, facts_on, kept_of, replaced}
 use Rattle.pcrf_model.specs.Operations.{Operation, with_operation}

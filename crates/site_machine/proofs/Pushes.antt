@@ -3,7 +3,7 @@ use Rattle.std.proofs.Common.{◌≡◌, ℕ, ◌+◌, ◌&&◌, true, false, Li
 use Rattle.std.specs.Cmp.{first_so}
 use Rattle.ranked.proofs.Plain.{none_some, some_same}
 use Rattle.pcrf_values.specs.RuleValues.{DeltaValue}
-use Rattle.pcrf_model.specs.Limits.{delta_limit}
+use Rattle.pcrf_values.specs.Limits.{delta_limit}
 use Rattle.pcrf_model.specs.Serving.{delta_of}
 use Rattle.pcrf_model.specs.Sessions.{Session, gx, is_gx}
 use Rattle.pcrf_model.specs.Holdings.{Holding}

@@ -15,7 +15,7 @@ use Rattle.pcrf_facts.specs.Live.{gx_is_live}
 use Rattle.pcrf_facts.specs.Places.{apn, host}
 use Rattle.pcrf_facts.specs.Values.{Text}
 use Rattle.pcrf_facts.specs.FlowWords.{or_else}
-use Rattle.pcrf_model.specs.Limits.{delta_limit}
+use Rattle.pcrf_values.specs.Limits.{delta_limit}
 use Rattle.pcrf_model.specs.Sessions.{Session, gx}
 use Rattle.pcrf_model.specs.Holdings.{SessionFact, session_fact_cmp, under, facts_on, kept_facts, kept_of, Holding}
 use Rattle.pcrf_model.specs.Operations.{Operation, with_operation}

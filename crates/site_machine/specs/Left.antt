@@ -1,6 +1,6 @@
 -- What the gateway of a session still lacks after a request of its was granted: what the first entries of the difference left (TS 29.212, 4.5.2).
 use Rattle.std.specs.Prelude.{◌≡◌, ℕ, true, List, ◌++◌}
-use Rattle.pcrf_model.specs.Limits.{delta_limit}
+use Rattle.pcrf_values.specs.Limits.{delta_limit}
 use Rattle.pcrf_model.specs.Sessions.{Session, gx}
 use Rattle.pcrf_model.specs.Holdings.{SessionFact, under, Holding}
 use Rattle.pcrf_model.specs.Views.{view}

@@ -1,7 +1,7 @@
 -- What is seen of a site, and what serving, pushes and letters make of it.
 use Rattle.std.specs.Prelude.{ℕ, ◌+◌, List, [], ◌∷◌, ◌++◌, Option, Some, None}
 use Rattle.pcrf_facts.specs.Facts.{Fact}
-use Rattle.pcrf_model.specs.Limits.{delta_limit}
+use Rattle.pcrf_values.specs.Limits.{delta_limit}
 use Rattle.pcrf_model.specs.Sessions.{Session}
 use Rattle.pcrf_model.specs.Holdings.{Holding, nothing_held, union, kept_of, replaced}
 use Rattle.pcrf_model.specs.Operations.{Operation, with_operation, holding_of}

@@ -6,7 +6,7 @@ ghost use Rattle.pcrf_values.specs.Results.{authorization_rejected, unable_to_co
 ghost use Rattle.pcrf_values.specs.declared.request_kind.RequestKind.TheVariants.{Termination};
 ghost use Rattle.pcrf_facts.specs.Held.{held, is_ended, joined};
 ghost use Rattle.pcrf_facts.specs.Live.{gx_is_live};
-ghost use Rattle.pcrf_model.specs.Limits.{delta_limit, last_counter, site_limit};
+ghost use Rattle.pcrf_values.specs.Limits.{delta_limit, last_counter, site_limit};
 ghost use Rattle.pcrf_model.specs.Holdings.{facts_on, kept_of, replaced};
 ghost use Rattle.pcrf_model.specs.Pushing.{due, lacks_counter};
 ghost use Rattle.pcrf_model.specs.Replies.{OnGx, Granted, Pushed};
@@ -72,7 +72,7 @@ pub struct Site {
 
 impl Model for Site {
     ghost use Rattle.std.specs.Prelude.{◌<◌, ◌≤◌, length};
-    ghost use Rattle.pcrf_model.specs.Limits.{site_limit};
+    ghost use Rattle.pcrf_values.specs.Limits.{site_limit};
     ghost use Rattle.site_machine.specs.Sites.{SiteValue};
 
     ghost Value = { SiteValue };

@@ -1,6 +1,6 @@
 //! Sites, and what happens at them.
 ghost use Rattle.std.specs.Prelude.{◌<◌};
-ghost use Rattle.pcrf_model.specs.Limits.{site_limit};
+ghost use Rattle.pcrf_values.specs.Limits.{site_limit};
 
 use samples::{initial_of, last_end, names, with_rules};
 use site_machine::{Event, Request, Site};

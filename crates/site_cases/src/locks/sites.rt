@@ -1,6 +1,6 @@
 //! Sites and events for them.
 ghost use Rattle.std.specs.Prelude.{◌<◌};
-ghost use Rattle.pcrf_model.specs.Limits.{site_limit};
+ghost use Rattle.pcrf_values.specs.Limits.{site_limit};
 
 use samples::{SampleFault, initial_of, last_end, names, text, with_rules};
 use site_machine::{Event, Request, Site};

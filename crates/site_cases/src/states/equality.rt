@@ -1,6 +1,6 @@
 //! Which states are equal.
 ghost use Rattle.std.specs.Prelude.{◌≤◌};
-ghost use Rattle.pcrf_model.specs.Limits.{last_counter};
+ghost use Rattle.pcrf_values.specs.Limits.{last_counter};
 
 use crate::states::building::{
     call, call_fact, check_gateway_stood, gateway_fact, put_gateway, take, told_nothing, update,

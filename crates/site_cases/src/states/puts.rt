@@ -2,7 +2,7 @@
 ghost use Rattle.std.specs.Prelude.{◌≡◌, ◌≤◌, true};
 ghost use Rattle.std.specs.List.{list_all};
 ghost use Rattle.pcrf_model.specs.Forms.{is_up_to};
-ghost use Rattle.pcrf_model.specs.Limits.{last_counter};
+ghost use Rattle.pcrf_values.specs.Limits.{last_counter};
 ghost use Rattle.site_join.specs.States.{record_facts};
 
 use crate::states::building::{

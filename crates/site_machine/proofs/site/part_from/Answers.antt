@@ -1,6 +1,6 @@
 use Rattle.std.proofs.Common.{rules, ◌≡◌, ◌≤◌, length, drop, sym, ◌∙◌}
 use Rattle.std.proofs.lemmas.List.{take_all}
-use Rattle.pcrf_model.specs.Limits.{range_limit}
+use Rattle.pcrf_values.specs.Limits.{range_limit}
 use Rattle.site_machine.proofs.site.part_from.Goals as goal
 
 pub returns-then-left-le-RANGE_LIMIT : goal.returns-then-left-le-RANGE_LIMIT

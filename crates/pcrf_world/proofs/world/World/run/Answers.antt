@@ -4,7 +4,7 @@ use Rattle.pcrf_model.specs.Tables.{Tables}
 use Rattle.pcrf_model.specs.Worlds.{WorldTook, WorldView, start, world_view, after_all, Gives, HoldAlike}
 use Rattle.pcrf_model.specs.Seen.{seen_after}
 use Rattle.pcrf_world.specs.Values.{setting, event_value, answer_value, events_value, answers_value}
-use Rattle.pcrf_model.specs.Limits.{delta_limit}
+use Rattle.pcrf_values.specs.Limits.{delta_limit}
 use Rattle.pcrf_model.proofs.CursorGaps.{ranges_leave_no_gap}
 use Rattle.pcrf_model.proofs.CursorRuns.{entries_are_taken, peers_said}
 use Rattle.pcrf_model.proofs.CursorSnapshots.{snapshots_hold}

@@ -1,4 +1,4 @@
-use Rattle.pcrf_model.specs.Limits.{delta_limit}
+use Rattle.pcrf_values.specs.Limits.{delta_limit}
 use Rattle.reply_values.proofs.Firsts.{first_is_short}
 use Rattle.reply_values.proofs.entries.FirstEntries.of.Goals as goal
 

@@ -5,7 +5,7 @@ use Rattle.ranked.specs.declared.tag.Tag.{Tag}
 use Rattle.ranked.proofs.SetLaws.{In-left}
 use Rattle.pcrf_values.specs.RuleValues.{DeltaValue}
 use Rattle.pcrf_facts.specs.Facts.{Fact, fact_cmp}
-use Rattle.pcrf_model.specs.Limits.{delta_limit}
+use Rattle.pcrf_values.specs.Limits.{delta_limit}
 use Rattle.pcrf_model.specs.Sessions.{gx}
 use Rattle.pcrf_model.specs.Holdings.{Holding, facts_on, kept_of}
 use Rattle.pcrf_model.specs.Operations.{Operation, with_operation}

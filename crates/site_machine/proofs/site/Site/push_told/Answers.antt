@@ -2,9 +2,8 @@ use Rattle.std.proofs.Common.{rules, ◌≡◌, ◌≤◌, ℕ, true, map, lengt
 use Rattle.std.specs.Option.{option_copied}
 use Rattle.ranked.specs.Sets.{Distinct}
 use Rattle.ranked.specs.declared.tag.Tag.{Tag}
-use Rattle.pcrf_values.specs.Limits.{session_id_limit}
+use Rattle.pcrf_values.specs.Limits.{session_id_limit, delta_limit}
 use Rattle.pcrf_values.specs.RuleValues.{DeltaValue}
-use Rattle.pcrf_model.specs.Limits.{delta_limit}
 use Rattle.pcrf_model.specs.Forms.{is_text}
 use Rattle.pcrf_model.specs.Making.{told_facts}
 use Rattle.pcrf_model.proofs.DueLaws.{first_due}

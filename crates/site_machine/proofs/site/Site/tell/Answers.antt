@@ -2,7 +2,7 @@ use Rattle.std.proofs.Common.{◌≡◌, true, List, ◌++◌, map, Some, ap, sy
 use Rattle.pcrf_values.specs.RuleValues.{DeltaValue}
 use Rattle.pcrf_facts.specs.Facts.{Fact}
 use Rattle.pcrf_facts.specs.Held.{held, joined}
-use Rattle.pcrf_model.specs.Limits.{delta_limit}
+use Rattle.pcrf_values.specs.Limits.{delta_limit}
 use Rattle.pcrf_model.specs.Forms.{is_operation, is_record}
 use Rattle.pcrf_model.specs.Holdings.{facts_on, kept_of}
 use Rattle.pcrf_model.specs.Operations.{Operation, with_operation}
