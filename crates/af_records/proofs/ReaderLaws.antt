@@ -15,7 +15,7 @@ use Rattle.pcrf_facts.specs.Places.{SessionField, ComponentField, FlowField, OfS
 use Rattle.pcrf_facts.specs.Places as places
 use Rattle.pcrf_facts.specs.Values.{Entry}
 use Rattle.pcrf_facts.specs.Facts.{Fact, End, Removed, Field, fact_cmp}
-use Rattle.pcrf_facts.specs.Held.{ends, is_ended, shown}
+use Rattle.pcrf_facts.specs.Held.{ends, is_ended, entry_shown}
 use Rattle.pcrf_facts.specs.Live.{af_is_live}
 use Rattle.pcrf_facts.proofs.JoinedLaws.{sorted-In}
 use Rattle.pcrf_facts.proofs.ShownLaws.{shown-Same, is_ended-Same, shown_alone}
@@ -40,7 +40,7 @@ field_has (Live s) v f e = through
     (place_has (OfSession f) (session_entry s.fields f) e)
 
 -- what the fields say shows
-pub field_shows : (x : Tombed SessionParts) (f : SessionField) → record_valid x → shown (ascending fact_cmp (record_facts x)) (OfSession f) ≡ session_says (fields_at x) f
+pub field_shows : (x : Tombed SessionParts) (f : SessionField) → record_valid x → entry_shown (ascending fact_cmp (record_facts x)) (OfSession f) ≡ session_says (fields_at x) f
 field_shows x f v =
     shown-Same (ascending fact_cmp (record_facts x)) (record_facts x) (OfSession f) (sorted-In (record_facts x))
     ∙ shown_alone (record_facts x) (OfSession f) (session_says (fields_at x) f) (record_keeps.own x v) (record {
@@ -103,7 +103,7 @@ component_has x v c f e =
         (place_has (OfComponent c f) (component_entry s f) e)
 
 -- what a component that shows has at a field shows there
-pub component_shows : (x : Tombed SessionParts) (c : ℕ) (f : ComponentField) → record_valid x → shown (ascending fact_cmp (record_facts x)) (OfComponent c f) ≡ component_says (component_at x c) f
+pub component_shows : (x : Tombed SessionParts) (c : ℕ) (f : ComponentField) → record_valid x → entry_shown (ascending fact_cmp (record_facts x)) (OfComponent c f) ≡ component_says (component_at x c) f
 component_shows x c f v =
     shown-Same (ascending fact_cmp (record_facts x)) (record_facts x) (OfComponent c f) (sorted-In (record_facts x))
     ∙ shown_alone (record_facts x) (OfComponent c f) (component_says (component_at x c) f) (record_keeps.own x v) (record {
@@ -122,7 +122,7 @@ flow_has x v c n f e =
     (in_flow c n f e (flow_at x c n))))
 
 -- what a flow that shows has at a field shows there
-pub flow_shows : (x : Tombed SessionParts) (c n : ℕ) (f : FlowField) → record_valid x → shown (ascending fact_cmp (record_facts x)) (OfFlow c n f) ≡ flow_says (flow_at x c n) f
+pub flow_shows : (x : Tombed SessionParts) (c n : ℕ) (f : FlowField) → record_valid x → entry_shown (ascending fact_cmp (record_facts x)) (OfFlow c n f) ≡ flow_says (flow_at x c n) f
 flow_shows x c n f v =
     shown-Same (ascending fact_cmp (record_facts x)) (record_facts x) (OfFlow c n f) (sorted-In (record_facts x))
     ∙ shown_alone (record_facts x) (OfFlow c n f) (flow_says (flow_at x c n) f) (record_keeps.own x v) (record {
@@ -152,4 +152,4 @@ parts_live Ended = false
 pub live_is : (x : Tombed SessionParts) → record_valid x → af_is_live (ascending fact_cmp (record_facts x)) ≡ parts_live x
 live_is Ended v = refl
 live_is (Live s) v = λ i.
-    not (ended_is (Live s) i) && address_said s.fields (shown (ascending fact_cmp (record_facts (Live s)))) (λ f. field_shows (Live s) f v) i
+    not (ended_is (Live s) i) && address_said s.fields (entry_shown (ascending fact_cmp (record_facts (Live s)))) (λ f. field_shows (Live s) f v) i

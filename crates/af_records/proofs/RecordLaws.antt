@@ -14,7 +14,7 @@ use Rattle.pcrf_facts.specs.Places.{ComponentField, MediaType, ComponentStatus, 
 use Rattle.pcrf_facts.specs.Places as places
 use Rattle.pcrf_facts.specs.Values.{Number, Filters, value_cmp, Entry}
 use Rattle.pcrf_facts.specs.Facts.{Fact, End, Removed, Field, fact_cmp, is_shaded_by}
-use Rattle.pcrf_facts.specs.Held.{held, joined}
+use Rattle.pcrf_facts.specs.Held.{kept_list, join_of}
 use Rattle.pcrf_facts.proofs.JoinedLaws.{joined_is, held_is}
 use Rattle.pcrf_facts.proofs.KeyLaws.{number_itself, session_key, session_rises, component_key, component_rises, flow_key, flow_rises}
 use Rattle.pcrf_model.specs.Sessions.{Af}
@@ -141,7 +141,7 @@ pub record_keeps : Keeps is_shaded_by record_valid record_joined record_facts
 record_keeps = tombs_keep shaded_strict End session_gone session_keeps
 
 -- the facts of a join, in order
-pub record_joined_is : (x y : Tombed SessionParts) → record_valid x → record_valid y → ascending fact_cmp (record_facts (record_joined x y)) ≡ joined (ascending fact_cmp (record_facts x)) (ascending fact_cmp (record_facts y))
+pub record_joined_is : (x y : Tombed SessionParts) → record_valid x → record_valid y → ascending fact_cmp (record_facts (record_joined x y)) ≡ join_of (ascending fact_cmp (record_facts x)) (ascending fact_cmp (record_facts y))
 record_joined_is x y v w = joined_is (record_facts x) (record_facts y) (record_facts (record_joined x y)) (record_keeps.both x y v w)
 
 -- so they are facts of operations where both parts' are
@@ -149,7 +149,7 @@ pub joined_known : (x y : Tombed SessionParts) → record_valid x → record_val
 joined_known x y v w p q = ap (is_record Af) (record_joined_is x y v w) ∙ joined_record Af (known_facts x) (known_facts y) p q
 
 -- a record's facts are all kept
-pub record_held : (x : Tombed SessionParts) → record_valid x → held (ascending fact_cmp (record_facts x)) ≡ ascending fact_cmp (record_facts x)
+pub record_held : (x : Tombed SessionParts) → record_valid x → kept_list (ascending fact_cmp (record_facts x)) ≡ ascending fact_cmp (record_facts x)
 record_held x v = held_is (record_facts x) (record_keeps.own x v)
 
 -- ---- one fact
@@ -190,5 +190,5 @@ single_valid (fact.Component c t (component_value.RateDown x)) = one_component c
 single_valid (fact.Flow c n t x) = one_component c (Live (with_flow n (Live (one_flow_field t x)))) (one_flow n (Live (one_flow_field t x)) tt)
 
 -- one fact more, in order
-pub record_put_is : (x : Tombed SessionParts) (f : AfFact) → record_valid x → ascending fact_cmp (record_facts (record_joined x (single f))) ≡ joined (ascending fact_cmp (record_facts x)) (fact_of f ∷ [])
-record_put_is x f v = record_joined_is x (single f) v (single_valid f) ∙ ap (λ (l : List Fact). joined (ascending fact_cmp (record_facts x)) (ascending fact_cmp l)) (single_facts f)
+pub record_put_is : (x : Tombed SessionParts) (f : AfFact) → record_valid x → ascending fact_cmp (record_facts (record_joined x (single f))) ≡ join_of (ascending fact_cmp (record_facts x)) (fact_of f ∷ [])
+record_put_is x f v = record_joined_is x (single f) v (single_valid f) ∙ ap (λ (l : List Fact). join_of (ascending fact_cmp (record_facts x)) (ascending fact_cmp l)) (single_facts f)

@@ -15,7 +15,7 @@ use Rattle.pcrf_facts.specs.Places.{Place, Position, position_cmp, removed_posit
 use Rattle.pcrf_facts.specs.Places as places
 use Rattle.pcrf_facts.specs.Values.{Entry}
 use Rattle.pcrf_facts.specs.Facts.{Fact, End, Removed, Field, fact_cmp}
-use Rattle.pcrf_facts.specs.Held.{removal, removed}
+use Rattle.pcrf_facts.specs.Held.{removal, removed_parts}
 use Rattle.pcrf_facts.proofs.FactLaws.{fact_ranked}
 use Rattle.pcrf_facts.proofs.JoinedLaws.{sorted-In}
 use Rattle.session_records.specs.Levels.{at_place, level}
@@ -196,7 +196,7 @@ facts_in_order xs s = filter_map-ascending fact_cmp removable_cmp removal xs
     ∙ l) s
 
 -- a record lists what is removed
-pub removed_is : (x : Tombed SessionParts) → record_valid x → map removable_of (record_removed x) ≡ removed (ascending fact_cmp (record_facts x))
+pub removed_is : (x : Tombed SessionParts) → record_valid x → map removable_of (record_removed x) ≡ removed_parts (ascending fact_cmp (record_facts x))
 removed_is x v =
     let all = ascending fact_cmp (record_facts x) in
     same_ascending removable_cmp removable_ranked (map removable_of (record_removed x)) (filter_map removal all)

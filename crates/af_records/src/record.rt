@@ -4,7 +4,7 @@ ghost use Rattle.std.proofs.Common.{unwrap_or};
 ghost use Rattle.std.specs.Option.{option_copied};
 ghost use Rattle.pcrf_values.specs.Numbers.{flow_status_number};
 ghost use Rattle.pcrf_facts.specs.FlowWords as words;
-ghost use Rattle.pcrf_facts.specs.Held.{held, joined, is_ended, shown};
+ghost use Rattle.pcrf_facts.specs.Held.{kept_list, join_of, is_ended, entry_shown};
 ghost use Rattle.pcrf_facts.specs.Held as held_words;
 ghost use Rattle.pcrf_facts.specs.Live.{af_is_live};
 ghost use Rattle.pcrf_facts.specs.Places as places;
@@ -63,12 +63,12 @@ impl Model for AfRec {
 
 impl Join for AfRec {
     ghost use Rattle.std.specs.Prelude.{◌++◌};
-    ghost use Rattle.pcrf_facts.specs.Held.{held, joined};
+    ghost use Rattle.pcrf_facts.specs.Held.{kept_list, join_of};
     ghost use Rattle.pcrf_facts.proofs.JoinedLaws.{joined_comm, joined_assoc, joined_idem, held_twice};
 
-    ghost joined = { joined };
+    ghost joined = { join_of };
 
-    ghost valid = { λ facts. held facts ≡ facts };
+    ghost valid = { λ facts. kept_list facts ≡ facts };
 
     ghost commutative = { joined_comm };
 
@@ -227,7 +227,7 @@ fn flow_at(parts: &Tombed<SessionParts>, component: u32, flow: u32) -> Option<&F
 #[tactic(auto, using(crate::proofs::RecordLaws::record_put_is))]
 fn put(alloc: Global, parts: &mut Tombed<SessionParts>, fact: &AfFact) -> Result<(), AllocError>
     ensures ok { OnOk result
-        (known_facts parts.new ≡ joined (known_facts parts.old) (fact_of fact.now ∷ [])) }
+        (known_facts parts.new ≡ join_of (known_facts parts.old) (fact_of fact.now ∷ [])) }
     ensures err { OnErr result (parts.new ≡ parts.old) }
 {
     parts.note_valid();
@@ -239,7 +239,7 @@ impl AfRec {
     /// The record of these facts, which are those of operations, of one or of more.
     pub fn of_facts(alloc: Global, facts: &[AfFact]) -> Result<AfRec, AllocError>
         requires { is_record Af (map fact_of facts.now) ≡ true }
-        ensures { IfOk result (λ r. r ≡ held (map fact_of facts.now)) }
+        ensures { IfOk result (λ r. r ≡ kept_list (map fact_of facts.now)) }
     {
         let mut parts = Tombed::Live(SessionParts::start(alloc));
         for fact in facts {
@@ -289,7 +289,7 @@ impl AfRec {
     /// The fields, where they show.
     fn fields(&self) -> Option<&SessionFields<AfRequestType>>
         ensures { (f : SessionField) →
-            session_says (option_copied result) f ≡ shown self.now (OfSession f) }
+            session_says (option_copied result) f ≡ entry_shown self.now (OfSession f) }
     {
         self.parts.note_valid();
         fields_at(&self.parts)
@@ -298,7 +298,7 @@ impl AfRec {
     /// The component, whose fields say what shows at its places.
     fn component(&self, number: u32) -> Option<&ComponentParts>
         ensures { (f : ComponentField) →
-            component_says (option_copied result) f ≡ shown self.now (OfComponent number f) }
+            component_says (option_copied result) f ≡ entry_shown self.now (OfComponent number f) }
     {
         self.parts.note_valid();
         component_at(&self.parts, number)
@@ -307,7 +307,7 @@ impl AfRec {
     /// The flow, whose fields say what shows at its places.
     fn flow(&self, component: u32, number: u32) -> Option<&FlowParts>
         ensures { (f : FlowField) →
-            flow_says (option_copied result) f ≡ shown self.now (OfFlow component number f) }
+            flow_says (option_copied result) f ≡ entry_shown self.now (OfFlow component number f) }
     {
         self.parts.note_valid();
         flow_at(&self.parts, component, number)
@@ -315,7 +315,8 @@ impl AfRec {
 
     /// The Framed-IP-Address of the user, with its tag.
     pub fn address(&self) -> Option<&(Tag, Ipv4Addr)>
-        ensures { entry_by address_value (option_copied result) ≡ shown self.now places.address }
+        ensures { entry_by address_value (option_copied result)
+            ≡ entry_shown self.now places.address }
     {
         match self.fields() {
             Some(found) => found.user.address.get(),
@@ -325,7 +326,7 @@ impl AfRec {
 
     /// The Called-Station-Id, with its tag.
     pub fn apn(&self) -> Option<&(Tag, Apn)>
-        ensures { entry_by Text (option_copied result) ≡ shown self.now places.apn }
+        ensures { entry_by Text (option_copied result) ≡ entry_shown self.now places.apn }
     {
         match self.fields() {
             Some(found) => found.user.apn.get(),
@@ -336,7 +337,7 @@ impl AfRec {
     /// The subscribers, with its tag.
     pub fn subscribers(&self) -> Option<&(Tag, Subscribers)>
         ensures { entry_by values.Subscribers (option_copied result)
-            ≡ shown self.now places.subscribers }
+            ≡ entry_shown self.now places.subscribers }
     {
         match self.fields() {
             Some(found) => found.user.subscribers.get(),
@@ -346,7 +347,7 @@ impl AfRec {
 
     /// The Origin-Host of the application function, with its tag.
     pub fn host(&self) -> Option<&(Tag, DiameterIdentity)>
-        ensures { entry_by Text (option_copied result) ≡ shown self.now places.host }
+        ensures { entry_by Text (option_copied result) ≡ entry_shown self.now places.host }
     {
         match self.fields() {
             Some(found) => found.client.host.get(),
@@ -356,7 +357,7 @@ impl AfRec {
 
     /// The Origin-Realm of the application function, with its tag.
     pub fn realm(&self) -> Option<&(Tag, DiameterIdentity)>
-        ensures { entry_by Text (option_copied result) ≡ shown self.now places.realm }
+        ensures { entry_by Text (option_copied result) ≡ entry_shown self.now places.realm }
     {
         match self.fields() {
             Some(found) => found.client.realm.get(),
@@ -366,7 +367,7 @@ impl AfRec {
 
     /// What stands for the type of the last request, with its tag.
     pub fn last(&self) -> Option<&(Tag, AfRequestType)>
-        ensures { entry_by Number (option_copied result) ≡ shown self.now places.last }
+        ensures { entry_by Number (option_copied result) ≡ entry_shown self.now places.last }
     {
         match self.fields() {
             Some(found) => found.client.last.get(),
@@ -377,7 +378,7 @@ impl AfRec {
     /// The Media-Type of a component, with its tag.
     pub fn component_media_type(&self, component: u32) -> Option<&(Tag, u32)>
         ensures { entry_by Number (option_copied result)
-            ≡ shown self.now (OfComponent component places.MediaType) }
+            ≡ entry_shown self.now (OfComponent component places.MediaType) }
     {
         match self.component(component) {
             Some(found) => found.media_type.get(),
@@ -388,7 +389,7 @@ impl AfRec {
     /// The Flow-Status of a component, with its tag.
     pub fn component_status(&self, component: u32) -> Option<&(Tag, OpenStatusNumber)>
         ensures { entry_by Number (option_copied result)
-            ≡ shown self.now (OfComponent component places.ComponentStatus) }
+            ≡ entry_shown self.now (OfComponent component places.ComponentStatus) }
     {
         match self.component(component) {
             Some(found) => found.status.get(),
@@ -399,7 +400,7 @@ impl AfRec {
     /// The Max-Requested-Bandwidth-UL of a component, with its tag.
     pub fn component_rate_up(&self, component: u32) -> Option<&(Tag, u32)>
         ensures { entry_by Number (option_copied result)
-            ≡ shown self.now (OfComponent component places.ComponentRateUp) }
+            ≡ entry_shown self.now (OfComponent component places.ComponentRateUp) }
     {
         match self.component(component) {
             Some(found) => found.rates.up.get(),
@@ -410,7 +411,7 @@ impl AfRec {
     /// The Max-Requested-Bandwidth-DL of a component, with its tag.
     pub fn component_rate_down(&self, component: u32) -> Option<&(Tag, u32)>
         ensures { entry_by Number (option_copied result)
-            ≡ shown self.now (OfComponent component places.ComponentRateDown) }
+            ≡ entry_shown self.now (OfComponent component places.ComponentRateDown) }
     {
         match self.component(component) {
             Some(found) => found.rates.down.get(),
@@ -421,7 +422,7 @@ impl AfRec {
     /// The Flow-Description of a flow, with its tag.
     pub fn flow_descriptions(&self, component: u32, flow: u32) -> Option<&(Tag, Filters)>
         ensures { entry_by values.Filters (option_copied result)
-            ≡ shown self.now (OfFlow component flow places.FlowDescriptions) }
+            ≡ entry_shown self.now (OfFlow component flow places.FlowDescriptions) }
     {
         match self.flow(component, flow) {
             Some(found) => found.descriptions.get(),
@@ -432,7 +433,7 @@ impl AfRec {
     /// The Flow-Usage of a flow, with its tag.
     pub fn flow_usage(&self, component: u32, flow: u32) -> Option<&(Tag, FlowUsageNumber)>
         ensures { entry_by Number (option_copied result)
-            ≡ shown self.now (OfFlow component flow places.FlowUsage) }
+            ≡ entry_shown self.now (OfFlow component flow places.FlowUsage) }
     {
         match self.flow(component, flow) {
             Some(found) => found.usage.get(),
@@ -443,7 +444,7 @@ impl AfRec {
     /// The Flow-Status of a flow itself, with its tag.
     pub fn flow_own_status(&self, component: u32, flow: u32) -> Option<&(Tag, OpenStatusNumber)>
         ensures { entry_by Number (option_copied result)
-            ≡ shown self.now (OfFlow component flow places.FlowStatus) }
+            ≡ entry_shown self.now (OfFlow component flow places.FlowStatus) }
     {
         match self.flow(component, flow) {
             Some(found) => found.status.get(),
@@ -454,7 +455,7 @@ impl AfRec {
     /// The Max-Requested-Bandwidth-UL of a flow, with its tag.
     pub fn flow_rate_up(&self, component: u32, flow: u32) -> Option<&(Tag, u32)>
         ensures { entry_by Number (option_copied result)
-            ≡ shown self.now (OfFlow component flow places.FlowRateUp) }
+            ≡ entry_shown self.now (OfFlow component flow places.FlowRateUp) }
     {
         match self.flow(component, flow) {
             Some(found) => found.rates.up.get(),
@@ -465,7 +466,7 @@ impl AfRec {
     /// The Max-Requested-Bandwidth-DL of a flow, with its tag.
     pub fn flow_rate_down(&self, component: u32, flow: u32) -> Option<&(Tag, u32)>
         ensures { entry_by Number (option_copied result)
-            ≡ shown self.now (OfFlow component flow places.FlowRateDown) }
+            ≡ entry_shown self.now (OfFlow component flow places.FlowRateDown) }
     {
         match self.flow(component, flow) {
             Some(found) => found.rates.down.get(),
@@ -475,7 +476,7 @@ impl AfRec {
 
     /// The flow shows that it is RTCP.
     fn is_rtcp(&self, component: u32, flow: u32) -> bool
-        ensures { result ≡ words.is_rtcp (shown self.now) component flow }
+        ensures { result ≡ words.is_rtcp (entry_shown self.now) component flow }
     {
         match self.flow_usage(component, flow) {
             Some(told) => told.1.get() == RTCP,
@@ -485,7 +486,8 @@ impl AfRec {
 
     /// The Flow-Status of a flow: its own, else its component's, else ENABLED.
     pub fn flow_status(&self, component: u32, flow: u32) -> FlowStatus
-        ensures { flow_status_number result ≡ words.flow_status (shown self.now) component flow }
+        ensures { flow_status_number result
+            ≡ words.flow_status (entry_shown self.now) component flow }
     {
         let own = self.flow_own_status(component, flow);
         status_of(own, self.component_status(component))
@@ -494,10 +496,10 @@ impl AfRec {
     /// The bit rates that requests gave a flow: in each direction its own, else, unless it is RTCP, its component's.
     pub fn flow_rates(&self, component: u32, flow: u32) -> GivenRates
         ensures up { result.up
-            ≡ words.given_rate (shown self.now) component flow
+            ≡ words.given_rate (entry_shown self.now) component flow
             places.FlowRateUp places.ComponentRateUp }
         ensures down { result.down
-            ≡ words.given_rate (shown self.now) component flow
+            ≡ words.given_rate (entry_shown self.now) component flow
             places.FlowRateDown places.ComponentRateDown }
     {
         let is_rtcp = self.is_rtcp(component, flow);
@@ -521,7 +523,7 @@ impl AfRec {
     /// The components and flows that are removed, as far as that is kept, components first.
     #[tactic(auto, using(crate::proofs::RemovedLaws::removed_is))]
     pub fn removed(&self) -> RemovedParts<'_>
-        ensures { map removable_of result ≡ held_words.removed self.now }
+        ensures { map removable_of result ≡ held_words.removed_parts self.now }
     {
         self.parts.note_valid();
         RemovedParts::of(components_of(&self.parts))

@@ -7,7 +7,7 @@ use Rattle.ranked.proofs.OrderLaws.{text_ranked}
 use Rattle.lattice_core.specs.Entries.{IsAscending, value_at}
 use Rattle.lattice_core.proofs.MapParts.{entry_found, found_entry}
 use Rattle.pcrf_facts.specs.Facts.{Fact}
-use Rattle.pcrf_facts.specs.Held.{shown}
+use Rattle.pcrf_facts.specs.Held.{entry_shown}
 use Rattle.pcrf_facts.specs.Places.{Place}
 use Rattle.pcrf_facts.specs.Values.{Entry}
 use Rattle.pcrf_model.specs.Holdings.{SessionFact, facts_on}
@@ -34,12 +34,12 @@ module _ {kind : List ℕ → Session} (facts : List SessionFact) (es : Records)
       by_record : (o : Option (List Fact)) → value_at text_cmp es id ≡ o → In (id, facts_on facts (kind id)) es
       by_record None e =
           let nothing : [] ≡ facts_on facts (kind id) = sym (ap record_facts e) ∙ r.reads id in
-          none_some x (ap (λ (fs : List Fact). shown fs p) nothing ∙ h)
+          none_some x (ap (λ (fs : List Fact). entry_shown fs p) nothing ∙ h)
       by_record (Some fs) e =
           let its : fs ≡ facts_on facts (kind id) = sym (ap record_facts e) ∙ r.reads id in
           subst (λ (z : List Fact). In (id, z) es) its (found_entry text_ranked id fs es e)
 
   -- and is known
-  pub is_there : (id : List ℕ) (p : Place) (x : Entry) → shown (facts_on facts (kind id)) p ≡ Some x → In (kind id) (view facts).sessions
+  pub is_there : (id : List ℕ) (p : Place) (x : Entry) → entry_shown (facts_on facts (kind id)) p ≡ Some x → In (kind id) (view facts).sessions
   unfolding view
   is_there id p x h = shows-known facts (kind id) p x h

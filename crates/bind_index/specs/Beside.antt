@@ -2,7 +2,7 @@
 -- AF session's flows, once it is bound.
 use Rattle.std.specs.Prelude.{List, []}
 use Rattle.pcrf_facts.specs.Facts.{Fact}
-use Rattle.pcrf_facts.specs.Held.{shown, removed, is_ended}
+use Rattle.pcrf_facts.specs.Held.{entry_shown, removed_parts, is_ended}
 use Rattle.pcrf_model.specs.Sessions.{Kind, Gx, Af}
 use Rattle.pcrf_model.specs.Views.{View}
 
@@ -14,9 +14,9 @@ of_kind Af gxs afs = afs
 -- what is read of a Gx session of the first facts beside an AF session of the second
 abbrev pub beside : List Fact → List Fact → View
 beside gxs afs = record {
-  shows = λ s. shown (of_kind s.kind gxs afs);
+  shows = λ s. entry_shown (of_kind s.kind gxs afs);
   ended = λ s. is_ended (of_kind s.kind gxs afs);
-  removals = λ s. removed (of_kind s.kind gxs afs);
+  removals = λ s. removed_parts (of_kind s.kind gxs afs);
   all = [];
   sessions = [];
 }

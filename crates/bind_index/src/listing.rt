@@ -2,7 +2,7 @@
 ghost use Rattle.std.specs.Prelude.{◌≡◌, IfOk};
 ghost use Rattle.std.specs.Net.Addr.{ipv4_octets};
 ghost use Rattle.pcrf_model.specs.Views.{view};
-ghost use Rattle.pcrf_facts.specs.Held.{shown};
+ghost use Rattle.pcrf_facts.specs.Held.{entry_shown};
 ghost use Rattle.bind_index.specs.Listings.{asked_value, listed_among, sessions_at, sessions_of, shows_asked};
 
 use crate::matching::is_among;
@@ -67,7 +67,7 @@ fn list(
 
 /// The session shows what is asked.
 fn has(gateway: &GxRec, asked: &Asked<'_>) -> bool
-    ensures { result ≡ shows_asked (asked_value asked.now) (shown gateway.now) }
+    ensures { result ≡ shows_asked (asked_value asked.now) (entry_shown gateway.now) }
 {
     match asked {
         Asked::Address(wanted) => match gateway.address() {

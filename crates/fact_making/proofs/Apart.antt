@@ -9,7 +9,7 @@ use Rattle.ranked.proofs.SetLaws.{In-any}
 use Rattle.pcrf_values.specs.declared.refusal.Refusal.{Refusal}
 use Rattle.pcrf_values.specs.Results.{invalid_service_information}
 use Rattle.pcrf_facts.specs.Facts.{fact_cmp}
-use Rattle.pcrf_facts.specs.Held.{held}
+use Rattle.pcrf_facts.specs.Held.{kept_list}
 use Rattle.pcrf_model.specs.Requests.{ComponentValue, AarValue}
 use Rattle.pcrf_model.proofs.FunctionForms.{component_number, flow_number, described_is_held}
 use Rattle.dia_base.specs.Rows.{or_else, refusal_among}
@@ -56,7 +56,7 @@ flows_apart (d ∷ cs) h c i =
     ]
 
 -- what a request describes is held whole
-pub call_is_whole : (q : AarValue) (site counter : ℕ) → numbers_refusal q.components ≡ None → held (described site counter q) ≡ ascending fact_cmp (described site counter q)
+pub call_is_whole : (q : AarValue) (site counter : ℕ) → numbers_refusal q.components ≡ None → kept_list (described site counter q) ≡ ascending fact_cmp (described site counter q)
 call_is_whole q site counter h =
     let both = neither_refuses (repeat_refusal (component_numbers q.components)) (refusal_among flow_numbers_refusal q.components) h in
     described_is_held q counter site (granted_apart (component_numbers q.components) both.0) (flows_apart q.components both.1)

@@ -19,7 +19,7 @@ use Rattle.pcrf_facts.specs.Places.{OfSession, OfRuleName, address, apn, subscri
 use Rattle.pcrf_facts.specs.Values.{Subscriber, Number, Text, Address, Subscribers, value_cmp}
 use Rattle.pcrf_facts.proofs.FactLaws.{tag_ranked, rule_ranked, fact_ranked}
 use Rattle.gx_records.specs.GxFacts.{told_value}
-use Rattle.pcrf_model.specs.Making.{given, session_fields, ccr_fields, told_facts}
+use Rattle.pcrf_model.specs.Making.{given_fact, session_fields, ccr_fields, told_facts}
 use Rattle.pcrf_model.specs.Requests.{CcrValue}
 use Rattle.pcrf_model.proofs.ProvisionLaws.{IsField, of_request}
 use Rattle.pcrf_model.proofs.ToldFacts.{Tells, told-tells}
@@ -132,5 +132,5 @@ module _ (q : CcrValue) (t g : Tag) (d : DeltaValue) where
 pub host_is_set : (q : CcrValue) (t : Tag) → In (Field host t (Text q.host)) (ccr_fields q t)
 host_is_set q t =
     let own : Fact = Field host t (Text q.host) in
-    In-right own (given address t Address q.address ++ given apn t Text q.apn ++ given subscribers t Subscribers q.subscribers)
+    In-right own (given_fact address t Address q.address ++ given_fact apn t Text q.apn ++ given_fact subscribers t Subscribers q.subscribers)
     (own ∷ Field realm t (Text q.realm) ∷ Field last t (Number (request_kind_number q.kind)) ∷ []) (inl refl)

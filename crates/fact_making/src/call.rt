@@ -2,7 +2,7 @@
 ghost use Rattle.std.specs.Prelude.{◌≡◌, ◌∷◌, [], ◌<◌, ◌≤◌, IfOk, map};
 ghost use Rattle.ranked.specs.Ascending.{ascending};
 ghost use Rattle.pcrf_facts.specs.Facts.{End, fact_cmp};
-ghost use Rattle.pcrf_facts.specs.Held.{held};
+ghost use Rattle.pcrf_facts.specs.Held.{kept_list};
 ghost use Rattle.pcrf_values.specs.Limits.{site_limit};
 ghost use Rattle.session_records.specs.SessionFacts.{session_fact};
 ghost use Rattle.af_records.specs.RecordFacts.{fact_of};
@@ -50,7 +50,8 @@ fn fields_of(alloc: Global, aar: &Aar, tag: Tag) -> Result<Vec<AfFact>, AllocErr
 pub fn call_of(alloc: Global, aar: &Aar, counter: u64, site: u8) -> Result<AfRec, AllocError>
     requires first { 1 ≤ counter }
     requires within { site < site_limit }
-    ensures held { IfOk result (λ call. call ≡ held (described site counter (aar_view aar.now))) }
+    ensures held { IfOk result (λ call. call
+        ≡ kept_list (described site counter (aar_view aar.now))) }
     ensures all { IfOk result (λ call.
         call ≡ ascending fact_cmp (described site counter (aar_view aar.now))) }
 {

@@ -11,7 +11,7 @@ use Rattle.lattice_core.specs.declared.tombed.Tombed.TheVariants.{Live, Ended}
 use Rattle.pcrf_facts.specs.Places.{SessionField, Place, OfSession}
 use Rattle.pcrf_facts.specs.Values.{Entry}
 use Rattle.pcrf_facts.specs.Facts.{Fact, Field, fact_cmp}
-use Rattle.pcrf_facts.specs.Held.{ends, is_ended, shown}
+use Rattle.pcrf_facts.specs.Held.{ends, is_ended, entry_shown}
 use Rattle.pcrf_facts.specs.Live.{gx_is_live}
 use Rattle.pcrf_facts.proofs.JoinedLaws.{sorted-In}
 use Rattle.pcrf_facts.proofs.ShownLaws.{shown-Same, is_ended-Same, shown_alone, fact_there}
@@ -31,7 +31,7 @@ field_has (Live s) v f e = through
     (place_has (OfSession f) (session_entry s.fields f) e)
 
 -- what the fields say shows
-pub field_shows : (x : Tombed GxParts) (f : SessionField) → record_valid x → shown (ascending fact_cmp (record_facts x)) (OfSession f) ≡ session_says (fields_at x) f
+pub field_shows : (x : Tombed GxParts) (f : SessionField) → record_valid x → entry_shown (ascending fact_cmp (record_facts x)) (OfSession f) ≡ session_says (fields_at x) f
 field_shows x f v =
     shown-Same (ascending fact_cmp (record_facts x)) (record_facts x) (OfSession f) (sorted-In (record_facts x))
     ∙ shown_alone (record_facts x) (OfSession f) (session_says (fields_at x) f) (record_keeps.own x v) (record {
@@ -61,7 +61,7 @@ parts_live Ended = false
 pub live_is : (x : Tombed GxParts) → record_valid x → gx_is_live (ascending fact_cmp (record_facts x)) ≡ parts_live x
 live_is Ended v = refl
 live_is (Live s) v = λ i.
-    not (ended_is (Live s) i) && all_said s.fields (shown (ascending fact_cmp (record_facts (Live s)))) (λ f. field_shows (Live s) f v) i
+    not (ended_is (Live s) i) && all_said s.fields (entry_shown (ascending fact_cmp (record_facts (Live s)))) (λ f. field_shows (Live s) f v) i
 
 -- no fact of a record stands elsewhere
 not_elsewhere : (x : Tombed GxParts) (p : Place) (e : Entry) → gx_place p ≡ None → In (Field p e.0 e.1) (record_facts x) → ⊥
@@ -74,9 +74,9 @@ not_elsewhere (Live s) p e h i =
     (Field p e.0 e.1) i h
 
 -- so nothing shows there
-pub elsewhere : (x : Tombed GxParts) (p : Place) → gx_place p ≡ None → None ≡ shown (ascending fact_cmp (record_facts x)) p
-elsewhere x p h = by_shown (shown (ascending fact_cmp (record_facts x)) p) refl
+pub elsewhere : (x : Tombed GxParts) (p : Place) → gx_place p ≡ None → None ≡ entry_shown (ascending fact_cmp (record_facts x)) p
+elsewhere x p h = by_shown (entry_shown (ascending fact_cmp (record_facts x)) p) refl
   where
-    by_shown : (o : Option Entry) → shown (ascending fact_cmp (record_facts x)) p ≡ o → None ≡ o
+    by_shown : (o : Option Entry) → entry_shown (ascending fact_cmp (record_facts x)) p ≡ o → None ≡ o
     by_shown None q = refl
     by_shown (Some e) q = absurd (not_elsewhere x p e h ((sorted-In (record_facts x) (Field p e.0 e.1)).0 (fact_there (ascending fact_cmp (record_facts x)) p e q)))

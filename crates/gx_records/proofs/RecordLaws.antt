@@ -12,7 +12,7 @@ use Rattle.pcrf_facts.specs.Places.{SessionField, Place, OfSession, OfComponent,
 use Rattle.pcrf_facts.specs.Values.{value_cmp, Entry}
 use Rattle.pcrf_facts.specs.Facts.{Fact, fact_cmp, is_shaded_by}
 use Rattle.pcrf_facts.specs.Facts as facts
-use Rattle.pcrf_facts.specs.Held.{held, joined}
+use Rattle.pcrf_facts.specs.Held.{kept_list, join_of}
 use Rattle.pcrf_facts.proofs.JoinedLaws.{joined_is, held_is}
 use Rattle.pcrf_facts.proofs.KeyLaws.{key_by, key_rises}
 use Rattle.pcrf_model.specs.Sessions.{Gx}
@@ -90,7 +90,7 @@ pub record_keeps : Keeps is_shaded_by record_valid record_joined record_facts
 record_keeps = tombs_keep shaded_strict facts.End parts_gone parts_keep
 
 -- the facts of a join, in order
-pub record_joined_is : (x y : Tombed GxParts) → record_valid x → record_valid y → ascending fact_cmp (record_facts (record_joined x y)) ≡ joined (ascending fact_cmp (record_facts x)) (ascending fact_cmp (record_facts y))
+pub record_joined_is : (x y : Tombed GxParts) → record_valid x → record_valid y → ascending fact_cmp (record_facts (record_joined x y)) ≡ join_of (ascending fact_cmp (record_facts x)) (ascending fact_cmp (record_facts y))
 record_joined_is x y v w = joined_is (record_facts x) (record_facts y) (record_facts (record_joined x y)) (record_keeps.both x y v w)
 
 -- so they are facts of operations where both parts' are
@@ -98,7 +98,7 @@ pub joined_known : (x y : Tombed GxParts) → record_valid x → record_valid y 
 joined_known x y v w p q = ap (is_record Gx) (record_joined_is x y v w) ∙ joined_record Gx (known_facts x) (known_facts y) p q
 
 -- a record's facts are all kept
-pub record_held : (x : Tombed GxParts) → record_valid x → held (ascending fact_cmp (record_facts x)) ≡ ascending fact_cmp (record_facts x)
+pub record_held : (x : Tombed GxParts) → record_valid x → kept_list (ascending fact_cmp (record_facts x)) ≡ ascending fact_cmp (record_facts x)
 record_held x v = held_is (record_facts x) (record_keeps.own x v)
 
 -- ---- one fact
@@ -120,5 +120,5 @@ single_valid (Field t x) = (tt, tt)
 single_valid (Told t name r) = ((tt, tt), (tt, tt))
 
 -- one fact more, in order
-pub record_put_is : (x : Tombed GxParts) (f : GxFact) → record_valid x → ascending fact_cmp (record_facts (record_joined x (single f))) ≡ joined (ascending fact_cmp (record_facts x)) (fact_of f ∷ [])
-record_put_is x f v = record_joined_is x (single f) v (single_valid f) ∙ ap (λ (l : List Fact). joined (ascending fact_cmp (record_facts x)) (ascending fact_cmp l)) (single_facts f)
+pub record_put_is : (x : Tombed GxParts) (f : GxFact) → record_valid x → ascending fact_cmp (record_facts (record_joined x (single f))) ≡ join_of (ascending fact_cmp (record_facts x)) (fact_of f ∷ [])
+record_put_is x f v = record_joined_is x (single f) v (single_valid f) ∙ ap (λ (l : List Fact). join_of (ascending fact_cmp (record_facts x)) (ascending fact_cmp l)) (single_facts f)

@@ -21,7 +21,7 @@ use Rattle.lattice_core.specs.Entries as entries
 use Rattle.pcrf_facts.specs.Places.{SessionField, OfSession, OfComponent, OfFlow, OfRuleName}
 use Rattle.pcrf_facts.specs.Values.{Value, Number, Text, Address, Subscribers, Filters, Untold, Told, Entry}
 use Rattle.pcrf_facts.specs.Facts.{Fact, End, Removed, Field, fact_cmp}
-use Rattle.pcrf_facts.specs.ToldWords.{as_told, named_told, ToldEntry, told_entry, told_entries, told_rule}
+use Rattle.pcrf_facts.specs.ToldWords.{as_told, named_entry, ToldEntry, told_entry, told_entries, told_rule}
 use Rattle.pcrf_facts.proofs.FactLaws.{tag_ranked, rule_ranked, fact_ranked}
 use Rattle.pcrf_facts.proofs.JoinedLaws.{sorted-In}
 use Rattle.session_records.specs.Levels.{at_place}
@@ -99,7 +99,7 @@ abbrev pub told_fact : ToldEntry → Fact
 told_fact q = Field (OfRuleName q.0) q.1.0 (told_value q.1.1)
 
 -- by what the value tells
-named_is : (name : List ℕ) (t : Tag) (v : Value) (q : ToldEntry) (o : Option (Option RuleValue)) → as_told v ≡ o → named_told name t o ≡ Some q → Field (OfRuleName name) t v ≡ told_fact q
+named_is : (name : List ℕ) (t : Tag) (v : Value) (q : ToldEntry) (o : Option (Option RuleValue)) → as_told v ≡ o → named_entry name t o ≡ Some q → Field (OfRuleName name) t v ≡ told_fact q
 named_is name t v q None h e = none_some q e
 named_is name t v q (Some r) h e = ap (Field (OfRuleName name) t) (told_is v r h) ∙ ap told_fact (some_same (name, (t, r)) q e)
 

@@ -2,13 +2,13 @@
 ghost use Rattle.std.specs.Prelude.{◌≡◌, ℕ, [], ◌∷◌, IfOk, OnOk, OnErr, None, map, true};
 ghost use Rattle.std.specs.List.{filter_map};
 ghost use Rattle.std.specs.Option.{option_copied};
-ghost use Rattle.pcrf_facts.specs.Held.{held, joined, is_ended, shown};
+ghost use Rattle.pcrf_facts.specs.Held.{kept_list, join_of, is_ended, entry_shown};
 ghost use Rattle.pcrf_facts.specs.Live.{gx_is_live, home};
 ghost use Rattle.pcrf_facts.specs.Places as places;
 ghost use Rattle.pcrf_facts.specs.Places.{SessionField, ComponentField, FlowField, OfSession, OfComponent, OfFlow};
 ghost use Rattle.pcrf_model.specs.Forms.{is_record};
 ghost use Rattle.pcrf_model.specs.Sessions.{Gx};
-ghost use Rattle.pcrf_facts.specs.ToldWords.{told_entries, told};
+ghost use Rattle.pcrf_facts.specs.ToldWords.{told_entries, told_rules};
 ghost use Rattle.pcrf_facts.specs.Values as values;
 ghost use Rattle.pcrf_facts.specs.Values.{Number, Text};
 ghost use Rattle.session_records.specs.Levels.{entry_by};
@@ -50,12 +50,12 @@ impl Model for GxRec {
 
 impl Join for GxRec {
     ghost use Rattle.std.specs.Prelude.{◌++◌};
-    ghost use Rattle.pcrf_facts.specs.Held.{held, joined};
+    ghost use Rattle.pcrf_facts.specs.Held.{kept_list, join_of};
     ghost use Rattle.pcrf_facts.proofs.JoinedLaws.{joined_comm, joined_assoc, joined_idem, held_twice};
 
-    ghost joined = { joined };
+    ghost joined = { join_of };
 
-    ghost valid = { λ facts. held facts ≡ facts };
+    ghost valid = { λ facts. kept_list facts ≡ facts };
 
     ghost commutative = { joined_comm };
 
@@ -133,7 +133,7 @@ fn single(alloc: Global, fact: &GxFact) -> Result<Tombed<GxParts>, AllocError>
 #[tactic(auto, using(crate::proofs::RecordLaws::record_put_is))]
 fn put(alloc: Global, parts: &mut Tombed<GxParts>, fact: &GxFact) -> Result<(), AllocError>
     ensures ok { OnOk result
-        (known_facts parts.new ≡ joined (known_facts parts.old) (fact_of fact.now ∷ [])) }
+        (known_facts parts.new ≡ join_of (known_facts parts.old) (fact_of fact.now ∷ [])) }
     ensures err { OnErr result (parts.new ≡ parts.old) }
 {
     parts.note_valid();
@@ -145,7 +145,7 @@ impl GxRec {
     /// The record of these facts, which are those of operations, of one or of more.
     pub fn of_facts(alloc: Global, facts: &[GxFact]) -> Result<GxRec, AllocError>
         requires { is_record Gx (map fact_of facts.now) ≡ true }
-        ensures { IfOk result (λ r. r ≡ held (map fact_of facts.now)) }
+        ensures { IfOk result (λ r. r ≡ kept_list (map fact_of facts.now)) }
     {
         let mut parts = Tombed::Live(GxParts::start(alloc));
         for fact in facts {
@@ -195,7 +195,7 @@ impl GxRec {
     /// The fields, where they show.
     fn fields(&self) -> Option<&SessionFields<OpenRequestType>>
         ensures { (f : SessionField) →
-            session_says (option_copied result) f ≡ shown self.now (OfSession f) }
+            session_says (option_copied result) f ≡ entry_shown self.now (OfSession f) }
     {
         self.parts.note_valid();
         fields_at(&self.parts)
@@ -204,15 +204,16 @@ impl GxRec {
     /// Does nothing: its contract tells a proof that no component and no flow shows anything.
     pub fn note_places(&self)
         ensures components { (c : ℕ) (f : ComponentField)
-            → None ≡ shown self.now (OfComponent c f) }
-        ensures flows { (c n : ℕ) (f : FlowField) → None ≡ shown self.now (OfFlow c n f) }
+            → None ≡ entry_shown self.now (OfComponent c f) }
+        ensures flows { (c n : ℕ) (f : FlowField) → None ≡ entry_shown self.now (OfFlow c n f) }
     {
         self.parts.note_valid();
     }
 
     /// The Framed-IP-Address, with its tag.
     pub fn address(&self) -> Option<&(Tag, Ipv4Addr)>
-        ensures { entry_by address_value (option_copied result) ≡ shown self.now places.address }
+        ensures { entry_by address_value (option_copied result)
+            ≡ entry_shown self.now places.address }
     {
         match self.fields() {
             Some(found) => found.user.address.get(),
@@ -222,7 +223,7 @@ impl GxRec {
 
     /// The Called-Station-Id, with its tag.
     pub fn apn(&self) -> Option<&(Tag, Apn)>
-        ensures { entry_by Text (option_copied result) ≡ shown self.now places.apn }
+        ensures { entry_by Text (option_copied result) ≡ entry_shown self.now places.apn }
     {
         match self.fields() {
             Some(found) => found.user.apn.get(),
@@ -233,7 +234,7 @@ impl GxRec {
     /// The subscribers, with their tag.
     pub fn subscribers(&self) -> Option<&(Tag, Subscribers)>
         ensures { entry_by values.Subscribers (option_copied result)
-            ≡ shown self.now places.subscribers }
+            ≡ entry_shown self.now places.subscribers }
     {
         match self.fields() {
             Some(found) => found.user.subscribers.get(),
@@ -243,7 +244,7 @@ impl GxRec {
 
     /// The Origin-Host of the gateway, with its tag.
     pub fn host(&self) -> Option<&(Tag, DiameterIdentity)>
-        ensures { entry_by Text (option_copied result) ≡ shown self.now places.host }
+        ensures { entry_by Text (option_copied result) ≡ entry_shown self.now places.host }
     {
         match self.fields() {
             Some(found) => found.client.host.get(),
@@ -253,7 +254,7 @@ impl GxRec {
 
     /// The Origin-Realm of the gateway, with its tag.
     pub fn realm(&self) -> Option<&(Tag, DiameterIdentity)>
-        ensures { entry_by Text (option_copied result) ≡ shown self.now places.realm }
+        ensures { entry_by Text (option_copied result) ≡ entry_shown self.now places.realm }
     {
         match self.fields() {
             Some(found) => found.client.realm.get(),
@@ -263,7 +264,7 @@ impl GxRec {
 
     /// The CC-Request-Type of the last request, with its tag.
     pub fn last(&self) -> Option<&(Tag, OpenRequestType)>
-        ensures { entry_by Number (option_copied result) ≡ shown self.now places.last }
+        ensures { entry_by Number (option_copied result) ≡ entry_shown self.now places.last }
     {
         match self.fields() {
             Some(found) => found.client.last.get(),
@@ -295,7 +296,7 @@ impl GxRec {
 
     /// The names that show a rule, each with its rule.
     pub fn told(&self, alloc: Global) -> Result<Told, AllocError>
-        ensures { IfOk result (λ t. t ≡ told self.now) }
+        ensures { IfOk result (λ t. t ≡ told_rules self.now) }
     {
         let mut pairs = Vec::new(alloc);
         for entry in self.told_facts() {

@@ -11,7 +11,7 @@ use Rattle.pcrf_facts.specs.Facts.{Fact}
 use Rattle.pcrf_facts.specs.Places.{Place, address, subscribers}
 use Rattle.pcrf_facts.specs.Values.{Value, Entry, Subscriber, Subscribers}
 use Rattle.pcrf_facts.proofs.ShownLaws.{members_show_the_same}
-use Rattle.pcrf_model.specs.Holdings.{Holding, SessionFact, facts_on, kept_of, replaced}
+use Rattle.pcrf_model.specs.Holdings.{Holding, SessionFact, facts_on, kept_of, with_facts_of}
 use Rattle.pcrf_model.specs.Laws.{DifferInOne, HasAddress, NeverMeet}
 use Rattle.pcrf_model.specs.Operations.{Operation, with_operation}
 use Rattle.pcrf_model.specs.Sessions.{Kind, Gx, Af, Session, gx, is_gx, session_cmp}
@@ -165,9 +165,9 @@ module _ (h k : Holding) (o : Operation) (old new : IndexValue) (is : k ≡ kept
 -- ---- a record that was put in its place
 
 -- one session differs
-pub placed_differs : (h k : Holding) (s : Session) (facts : List Fact) (clock : ℕ) → k ≡ replaced h s facts clock → DifferInOne h.facts k.facts s
+pub placed_differs : (h k : Holding) (s : Session) (facts : List Fact) (clock : ℕ) → k ≡ with_facts_of h s facts clock → DifferInOne h.facts k.facts s
 placed_differs h k s facts clock is = subst (λ (m : Holding). DifferInOne h.facts m.facts s) (sym is)
-    (record { elsewhere = λ r n. Same-back (facts_on (replaced h s facts clock).facts r) (facts_on h.facts r) ((replaces_one h s facts clock).elsewhere r n) })
+    (record { elsewhere = λ r n. Same-back (facts_on (with_facts_of h s facts clock).facts r) (facts_on h.facts r) ((replaces_one h s facts clock).elsewhere r n) })
 
 module _ (xs ys : List SessionFact) (id : List ℕ) (index : IndexValue) (differs : DifferInOne xs ys (gx id)) where
   -- another session shows the same

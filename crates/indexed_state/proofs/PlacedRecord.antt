@@ -10,12 +10,12 @@ use Rattle.ranked.proofs.AscendingLaws.{ascending-ascending, same_ascending, fil
 use Rattle.ranked.proofs.OrderLaws.{eq_is, eq_itself}
 use Rattle.ranked.proofs.SetLaws.{Same-back, Same-through}
 use Rattle.pcrf_facts.specs.Facts.{Fact, fact_cmp}
-use Rattle.pcrf_facts.specs.Held.{held, joined, kept}
+use Rattle.pcrf_facts.specs.Held.{kept_list, join_of, kept_set}
 use Rattle.pcrf_facts.proofs.FactLaws.{fact_ranked}
 use Rattle.pcrf_facts.proofs.JoinedLaws.{kept-Same, joined_comm, joined-held}
 use Rattle.pcrf_facts.proofs.JoinedLaws as facts
 use Rattle.pcrf_model.specs.Sessions.{Session, session_cmp}
-use Rattle.pcrf_model.specs.Holdings.{Holding, SessionFact, session_fact_cmp, on_session, under, facts_on, kept_facts, kept_of, replaced}
+use Rattle.pcrf_model.specs.Holdings.{Holding, SessionFact, session_fact_cmp, on_session, under, facts_on, kept_facts, kept_of, with_facts_of}
 use Rattle.pcrf_model.specs.Operations.{Operation, with_operation}
 use Rattle.pcrf_model.specs.Forms.{are_up_to, is_holding, is_operation}
 use Rattle.pcrf_model.proofs.FormLaws.{kept_in_form, with_operation_form}
@@ -45,8 +45,8 @@ facts_on_rise facts s r = filter_map-ascending session_fact_cmp fact_cmp (on_ses
     r
 
 -- a record joined with the kept facts of a request has what is kept of them all
-pub held-append : (ks fs : List Fact) → joined ks (held fs) ≡ held (ks ++ fs)
-held-append ks fs = joined_comm ks (held fs) ∙ joined-held fs ks ∙ joined_comm fs ks
+pub held-append : (ks fs : List Fact) → join_of ks (kept_list fs) ≡ kept_list (ks ++ fs)
+held-append ks fs = joined_comm ks (kept_list fs) ∙ joined-held fs ks ∙ joined_comm fs ks
 
 -- ---- a record in its place
 
@@ -57,11 +57,11 @@ module _ (h : Holding) (o : Operation) (is_kept : kept_of h ≡ h) (clock : ℕ)
 
   -- the facts of both, as they are joined
   abbrev both : List Fact
-  both = joined (facts_on h.facts s) (held o.facts)
+  both = join_of (facts_on h.facts s) (kept_list o.facts)
 
   -- what is held with the record of these
   abbrev placed : Holding
-  placed = replaced h s both clock
+  placed = with_facts_of h s both clock
 
   -- what is held with the operation
   abbrev taken : Holding
@@ -81,10 +81,10 @@ module _ (h : Holding) (o : Operation) (is_kept : kept_of h ≡ h) (clock : ℕ)
   here_ : Same (facts_on taken.facts s) both
   here_ =
       let mine : List Fact = facts_on h.facts s ++ o.facts in
-      let to_kept = Same-through (facts_on taken.facts s) (facts_on (kept_facts all) s) (kept (facts_on all s))
+      let to_kept = Same-through (facts_on taken.facts s) (facts_on (kept_facts all) s) (kept_set (facts_on all s))
       (facts_on-Same taken.facts (kept_facts all) s (sorted-In (kept_facts all))) (facts_on-kept all s) in
-      let to_mine = Same-through (facts_on taken.facts s) (kept (facts_on all s)) (kept mine) to_kept (kept-Same (facts_on all s) mine alls) in
-      let to_held = Same-through (facts_on taken.facts s) (kept mine) (held mine) to_mine (Same-back (held mine) (kept mine) (facts.sorted-In (kept mine))) in
+      let to_mine = Same-through (facts_on taken.facts s) (kept_set (facts_on all s)) (kept_set mine) to_kept (kept-Same (facts_on all s) mine alls) in
+      let to_held = Same-through (facts_on taken.facts s) (kept_set mine) (kept_list mine) to_mine (Same-back (kept_list mine) (kept_set mine) (facts.sorted-In (kept_set mine))) in
       subst (Same (facts_on taken.facts s)) (sym (held-append (facts_on h.facts s) o.facts)) to_held
 
   -- a fact of the session
@@ -132,7 +132,7 @@ module _ (h : Holding) (o : Operation) (is_kept : kept_of h ≡ h) (clock : ℕ)
   pub taken_facts : facts_on taken.facts s ≡ both
   taken_facts = same_ascending fact_cmp fact_ranked (facts_on taken.facts s) both
       (facts_on_rise taken.facts s (ascending-ascending session_fact_cmp session_fact_ranked (kept_facts all)))
-      (ascending-ascending fact_cmp fact_ranked (kept (facts_on h.facts s ++ held o.facts))) here_
+      (ascending-ascending fact_cmp fact_ranked (kept_set (facts_on h.facts s ++ kept_list o.facts))) here_
 
   -- and no tag is above the clock
   placed_up_to : is_holding h ≡ true → is_operation o ≡ true → are_up_to clock placed.facts ≡ true
@@ -142,21 +142,21 @@ module _ (h : Holding) (o : Operation) (is_kept : kept_of h ≡ h) (clock : ℕ)
 
 -- ---- the record that is known of a session with an operation
 
-module _ (h : Holding) (o : Operation) (is_kept : kept_of h ≡ h) (clock : ℕ) (counter : max h.clock o.counter ≡ clock) (s : Session) (session : o.session ≡ s) (known : List Fact) (joins : known ≡ joined (facts_on h.facts s) (held o.facts)) where
+module _ (h : Holding) (o : Operation) (is_kept : kept_of h ≡ h) (clock : ℕ) (counter : max h.clock o.counter ≡ clock) (s : Session) (session : o.session ≡ s) (known : List Fact) (joins : known ≡ join_of (facts_on h.facts s) (kept_list o.facts)) where
   -- what is put there
-  put_there : replaced h s known clock ≡ replaced h o.session (joined (facts_on h.facts o.session) (held o.facts)) clock
-  put_there = ap (λ (b : List Fact). replaced h s b clock) joins ∙ ap (λ (r : Session). replaced h r (joined (facts_on h.facts r) (held o.facts)) clock) (sym session)
+  put_there : with_facts_of h s known clock ≡ with_facts_of h o.session (join_of (facts_on h.facts o.session) (kept_list o.facts)) clock
+  put_there = ap (λ (b : List Fact). with_facts_of h s b clock) joins ∙ ap (λ (r : Session). with_facts_of h r (join_of (facts_on h.facts r) (kept_list o.facts)) clock) (sym session)
 
   -- in its place, the operation is taken
-  pub put_is_taken : replaced h s known clock ≡ kept_of (with_operation h o)
+  pub put_is_taken : with_facts_of h s known clock ≡ kept_of (with_operation h o)
   put_is_taken = put_there ∙ placed_is_taken h o is_kept clock counter
 
   -- the session's facts are its facts then
   pub put_known : known ≡ facts_on (kept_of (with_operation h o)).facts s
   put_known =
       joins
-      ∙ sym (subst (λ (r : Session). facts_on (kept_of (with_operation h o)).facts r ≡ joined (facts_on h.facts r) (held o.facts)) session (taken_facts h o is_kept clock counter))
+      ∙ sym (subst (λ (r : Session). facts_on (kept_of (with_operation h o)).facts r ≡ join_of (facts_on h.facts r) (kept_list o.facts)) session (taken_facts h o is_kept clock counter))
 
   -- and no tag is above the clock
-  pub put_up_to : is_holding h ≡ true → is_operation o ≡ true → are_up_to clock (replaced h s known clock).facts ≡ true
+  pub put_up_to : is_holding h ≡ true → is_operation o ≡ true → are_up_to clock (with_facts_of h s known clock).facts ≡ true
   put_up_to form formed = subst (λ (k : Holding). are_up_to clock k.facts ≡ true) (sym put_there) (placed_up_to h o is_kept clock counter form formed)

@@ -6,7 +6,7 @@ use Rattle.ranked.specs.Sets.{In}
 use Rattle.ranked.proofs.Plain.{none_some, some_same}
 use Rattle.pcrf_values.specs.RuleValues.{RuleValue}
 use Rattle.pcrf_facts.specs.Facts.{Fact}
-use Rattle.pcrf_facts.specs.Held.{shown}
+use Rattle.pcrf_facts.specs.Held.{entry_shown}
 use Rattle.pcrf_facts.specs.Places.{address}
 use Rattle.pcrf_facts.specs.Values.{Value, Address, Entry}
 use Rattle.pcrf_model.specs.Holdings.{SessionFact, facts_on}
@@ -18,10 +18,10 @@ use Rattle.kept_rules.specs.Kept.{RulesValue, kept_at, AreStale}
 use Rattle.indexed_state.specs.Indexed.{address_value, IsAddressOf, TouchesAt}
 
 -- what a record shows as its address is what the view has
-pub address_shown : (facts : List SessionFact) (s : Session) (known : List Fact) (o : Option Entry) → known ≡ facts_on facts s → o ≡ shown known address
+pub address_shown : (facts : List SessionFact) (s : Session) (known : List Fact) (o : Option Entry) → known ≡ facts_on facts s → o ≡ entry_shown known address
     → option_map (λ (e : Entry). e.1) o ≡ value (view facts) s address
 unfolding view
-address_shown facts s known o k e = ap (option_map (λ (d : Entry). d.1)) (e ∙ ap (λ (fs : List Fact). shown fs address) k)
+address_shown facts s known o k e = ap (option_map (λ (d : Entry). d.1)) (e ∙ ap (λ (fs : List Fact). entry_shown fs address) k)
 
 -- what is mapped from something was there
 pub mapped : {A B : Type 0} (f : A → B) (o : Option A) (y : B) → option_map f o ≡ Some y → (x : A) × (o ≡ Some x) × (f x ≡ y)

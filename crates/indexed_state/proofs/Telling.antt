@@ -3,7 +3,7 @@ use Rattle.std.proofs.Common.{◌≡◌, ℕ, Bool, true, false, not, ◌&&◌, 
 use Rattle.ranked.specs.Sets.{In}
 use Rattle.ranked.proofs.Plain.{clash}
 use Rattle.pcrf_facts.specs.Facts.{Fact, End, Removed, Field}
-use Rattle.pcrf_facts.specs.Held.{held, is_ended, shown}
+use Rattle.pcrf_facts.specs.Held.{kept_list, is_ended, entry_shown}
 use Rattle.pcrf_facts.specs.Places.{Place, OfSession, OfComponent, OfFlow, OfRuleName, address, apn, subscribers, host, realm, last}
 use Rattle.pcrf_facts.specs.Values.{Entry}
 use Rattle.pcrf_facts.proofs.ShownLaws.{shown-held, is_ended-held}
@@ -40,12 +40,12 @@ module _ (h k : Holding) (id : List ℕ) (known : List Fact) (told : IsTold h (g
   each_tells f i = its_name f (told.each f i)
 
   -- those after are what is kept of these and of what is told
-  now_is : facts_on k.facts (gx id) ≡ held (own ++ told.told)
+  now_is : facts_on k.facts (gx id) ≡ kept_list (own ++ told.told)
   now_is = sym there ∙ told.joins ∙ held-append own told.told
 
   -- so a place that is no rule's name shows what it showed
-  shows_on : (p : Place) → is_told p ≡ false → shown own p ≡ shown (facts_on k.facts (gx id)) p
-  shows_on p n = sym (ap (λ (fs : List Fact). shown fs p) now_is ∙ shown-held (own ++ told.told) p ∙ field_shows own told.told each_tells p n)
+  shows_on : (p : Place) → is_told p ≡ false → entry_shown own p ≡ entry_shown (facts_on k.facts (gx id)) p
+  shows_on p n = sym (ap (λ (fs : List Fact). entry_shown fs p) now_is ∙ shown-held (own ++ told.told) p ∙ field_shows own told.told each_tells p n)
 
   -- and the session is ended just where it was
   ended_on : is_ended own ≡ is_ended (facts_on k.facts (gx id))

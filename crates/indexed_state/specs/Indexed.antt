@@ -6,7 +6,7 @@ use Rattle.std.specs.declared.net.ipv4_addr.Ipv4Addr.{Ipv4Addr}
 use Rattle.ranked.specs.Sets.{In}
 use Rattle.pcrf_values.specs.RuleValues.{RuleValue}
 use Rattle.pcrf_facts.specs.Facts.{Fact, Field}
-use Rattle.pcrf_facts.specs.Held.{held, joined}
+use Rattle.pcrf_facts.specs.Held.{kept_list, join_of}
 use Rattle.pcrf_facts.specs.Places.{OfRuleName, address}
 use Rattle.pcrf_facts.specs.Values.{Value, Address}
 use Rattle.pcrf_model.specs.Holdings.{Holding, facts_on}
@@ -54,4 +54,4 @@ tells f = false
 pub record IsTold (h : Holding) (s : Session) (known : List Fact) : Type 0 where
   pub told : List Fact
   pub each : (f : Fact) → In f told → tells f ≡ true
-  pub joins : known ≡ joined (facts_on h.facts s) (held told)
+  pub joins : known ≡ join_of (facts_on h.facts s) (kept_list told)

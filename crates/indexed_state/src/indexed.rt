@@ -6,11 +6,11 @@ ghost use Rattle.reply_values.specs.Replies.{push_view};
 ghost use Rattle.pcrf_model.specs.Bindings.{bind};
 ghost use Rattle.pcrf_model.specs.Differences.{rule_name_of};
 ghost use Rattle.pcrf_model.specs.Forms.{are_up_to};
-ghost use Rattle.pcrf_model.specs.Holdings.{SessionFact, facts_on, kept_of, nothing_held, replaced, union};
+ghost use Rattle.pcrf_model.specs.Holdings.{SessionFact, facts_on, kept_of, nothing_held, with_facts_of, union};
 ghost use Rattle.pcrf_values.specs.Limits.{last_counter};
 ghost use Rattle.pcrf_model.specs.OperatorValues.{bindings_of};
 ghost use Rattle.pcrf_model.specs.Operations.{with_operation};
-ghost use Rattle.pcrf_model.specs.Pushing.{due};
+ghost use Rattle.pcrf_model.specs.Pushing.{due_session};
 ghost use Rattle.pcrf_model.specs.Rules.{rules};
 ghost use Rattle.pcrf_model.specs.Sessions.{gx, af};
 ghost use Rattle.pcrf_model.specs.Tables.{Tables as TablesValue};
@@ -161,11 +161,11 @@ impl IndexedState {
     ) -> Result<Option<GxRec>, AllocError>
         requires within { clock ≤ last_counter }
         requires counted { are_up_to clock
-            (replaced self.old.holding (gx id.now) (record_facts given) clock).facts ≡ true }
+            (with_facts_of self.old.holding (gx id.now) (record_facts given) clock).facts ≡ true }
         ensures stood { IfOk result (λ stood.
             record_facts stood ≡ facts_on self.old.holding.facts (gx id.now)) }
         ensures placed { OnOk result (self.new ≡ with_holding self.old
-            (replaced self.old.holding (gx id.now) (record_facts given) clock)) }
+            (with_facts_of self.old.holding (gx id.now) (record_facts given) clock)) }
         ensures unchanged { OnErr result (self.new ≡ self.old) }
         ensures refused_record { OnErr result (IsSome given) }
         ensures refused_new { OnErr result (facts_on self.old.holding.facts (gx id.now) ≡ []) }
@@ -260,7 +260,8 @@ impl IndexedState {
     ) -> Result<Option<PushOut>, AllocError>
         ensures push { IfOk result (λ push. option_map push_view push
             ≡ option_map (push_of self.old.tables (view self.old.holding.facts))
-            (due self.old.tables site (view self.old.holding.facts) (option_copied host.entry))) }
+            (due_session self.old.tables site (view self.old.holding.facts)
+            (option_copied host.entry))) }
         ensures names { IfOk result (λ push. IfSome push (λ p. Distinct (map rule_name_of
             (rules self.old.tables (view self.old.holding.facts) (gx p.session))))) }
         ensures same { self.new ≡ self.old }
@@ -279,7 +280,7 @@ impl IndexedState {
     ) -> Result<Option<PushOut>, AllocError>
         ensures push { IfOk result (λ push. option_map push_view push
             ≡ option_map (push_of self.old.tables (view self.old.holding.facts))
-            (due self.old.tables site (view self.old.holding.facts) (Some host.now))) }
+            (due_session self.old.tables site (view self.old.holding.facts) (Some host.now))) }
         ensures names { IfOk result (λ push. IfSome push (λ p. Distinct (map rule_name_of
             (rules self.old.tables (view self.old.holding.facts) (gx p.session))))) }
         ensures same { self.new ≡ self.old }

@@ -1,6 +1,6 @@
 //! Operations that are taken by the record that is then known of their session.
 ghost use Rattle.std.specs.Prelude.{◌≡◌, OnOk, OnErr};
-ghost use Rattle.pcrf_facts.specs.Held.{held, joined};
+ghost use Rattle.pcrf_facts.specs.Held.{kept_list, join_of};
 ghost use Rattle.pcrf_model.specs.Holdings.{facts_on, kept_of};
 ghost use Rattle.pcrf_model.specs.Operations.{with_operation};
 ghost use Rattle.pcrf_model.specs.Sessions.{gx, af};
@@ -30,8 +30,8 @@ impl IndexedState {
         known: GxRec,
     ) -> Result<(), AllocError>
         requires session { operation.now.session ≡ gx id.now }
-        requires joins { known ≡ joined
-            (facts_on self.old.holding.facts (gx id.now)) (held operation.now.facts) }
+        requires joins { known ≡ join_of
+            (facts_on self.old.holding.facts (gx id.now)) (kept_list operation.now.facts) }
         ensures ok { OnOk result (self.new ≡ with_holding self.old
             (kept_of (with_operation self.old.holding operation.now))) }
         ensures err { OnErr result (self.new ≡ self.old) }
@@ -61,8 +61,8 @@ impl IndexedState {
         known: GxRec,
     ) -> Result<(), AllocError>
         requires session { operation.now.session ≡ gx id.now }
-        requires joins { known ≡ joined
-            (facts_on self.old.holding.facts (gx id.now)) (held operation.now.facts) }
+        requires joins { known ≡ join_of
+            (facts_on self.old.holding.facts (gx id.now)) (kept_list operation.now.facts) }
         requires told { IsTold self.old.holding (gx id.now) known }
         ensures ok { OnOk result (self.new ≡ with_holding self.old
             (kept_of (with_operation self.old.holding operation.now))) }
@@ -85,8 +85,8 @@ impl IndexedState {
         known: AfRec,
     ) -> Result<(), AllocError>
         requires session { operation.now.session ≡ af id.now }
-        requires joins { known ≡ joined
-            (facts_on self.old.holding.facts (af id.now)) (held operation.now.facts) }
+        requires joins { known ≡ join_of
+            (facts_on self.old.holding.facts (af id.now)) (kept_list operation.now.facts) }
         ensures ok { OnOk result (self.new ≡ with_holding self.old
             (kept_of (with_operation self.old.holding operation.now))) }
         ensures err { OnErr result (self.new ≡ self.old) }

@@ -11,7 +11,7 @@ use Rattle.ranked.proofs.Plain.{clash, none_some, some_same}
 use Rattle.ranked.proofs.SetLaws.{In-map, map-In}
 use Rattle.pcrf_facts.specs.Facts.{Fact}
 use Rattle.pcrf_facts.specs.FlowWords.{flows}
-use Rattle.pcrf_facts.specs.Held.{shown}
+use Rattle.pcrf_facts.specs.Held.{entry_shown}
 use Rattle.pcrf_facts.specs.Places.{address}
 use Rattle.pcrf_facts.specs.Values.{Value, Address, Entry}
 use Rattle.pcrf_model.specs.Bindings.{bind, is_bound_to}
@@ -72,12 +72,12 @@ module _ (t : Tables) (facts : List SessionFact) (id : List ℕ) (known : List F
   v = view facts
 
   -- what a session's record says of its address
-  own_address : value_of (shown known address) ≡ value v (gx id) address
+  own_address : value_of (entry_shown known address) ≡ value v (gx id) address
   unfolding view
-  own_address = ap (λ (fs : List Fact). value_of (shown fs address)) its
+  own_address = ap (λ (fs : List Fact). value_of (entry_shown fs address)) its
 
   -- a session that is bound shows the same address
-  same_address : (a : List ℕ) → is_bound_to v (gx id) (af a) ≡ true → (x : Value) × (value v (af a) address ≡ Some x) × (value_of (shown known address) ≡ Some x)
+  same_address : (a : List ℕ) → is_bound_to v (gx id) (af a) ≡ true → (x : Value) × (value v (af a) address ≡ Some x) × (value_of (entry_shown known address) ≡ Some x)
   same_address a b =
       let bound : bind v (af a) ≡ Some (gx id) = is_one (gx id) (bind v (af a)) b in
       let w = both_show v (af a) (gx id) ((bind-greatest facts (af a) (gx id)).0 bound).fits in
@@ -88,14 +88,14 @@ module _ (t : Tables) (facts : List SessionFact) (id : List ℕ) (known : List F
   none_added found = record { items = sym (append-nil found); low = tt }
 
   -- without an address it has no calls
-  pub without_address : (found : Keyed) → shown known address ≡ None → AddsCalled t facts (gx id) found found
+  pub without_address : (found : Keyed) → entry_shown known address ≡ None → AddsCalled t facts (gx id) found found
   without_address found none = record {
     among = [];
     bound = record { own = λ e i. absurd i; has = λ a p x b h. let w = same_address a b in none_some w.0 (sym (ap value_of none) ∙ w.2) };
     adds = none_added found;
   }
 
-  module _ (i : IndexValue) (all : Covers v i) (tag : Tag) (at : Ipv4Addr) (shows : Some (tag, Address (ipv4_octets at)) ≡ shown known address) where
+  module _ (i : IndexValue) (all : Covers v i) (tag : Tag) (at : Ipv4Addr) (shows : Some (tag, Address (ipv4_octets at)) ≡ entry_shown known address) where
     -- a call that is bound is listed under the address
     listed : (a : List ℕ) → is_bound_to v (gx id) (af a) ≡ true → In a (listed_at i Af at)
     listed a b =

@@ -14,13 +14,13 @@ use Rattle.ranked.proofs.AscendingLaws.{filter_map-ascending, ascending-ascendin
 use Rattle.pcrf_facts.specs.Places.{Place, place_cmp, OfSession, OfComponent, OfFlow, OfRuleName}
 use Rattle.pcrf_facts.specs.Values.{Value, value_cmp, Entry, entry_cmp}
 use Rattle.pcrf_facts.specs.Facts.{Fact, End, Removed, Field, fact_cmp}
-use Rattle.pcrf_facts.specs.Held.{kept, held, shown}
+use Rattle.pcrf_facts.specs.Held.{kept_set, kept_list, entry_shown}
 use Rattle.pcrf_facts.proofs.FactLaws.{place_ranked, tag_ranked, value_ranked, fact_ranked}
 use Rattle.pcrf_facts.proofs.ShownLaws.{shown-held, fact_there}
 use Rattle.pcrf_model.specs.Holdings.{SessionFact, facts_on}
 use Rattle.pcrf_model.specs.OperatorValues.{FieldShown, field_shown, fields_shown}
 use Rattle.pcrf_model.specs.Sessions.{Session, session_cmp}
-use Rattle.pcrf_model.specs.Views.{View, Shown, shown_cmp, shown_as, shown_on, showing, view}
+use Rattle.pcrf_model.specs.Views.{View, Shown, shown_cmp, shown_of, entry_shown_on, shown_by_fact, view}
 use Rattle.pcrf_model.proofs.HoldingLaws.{session_ranked}
 use Rattle.pcrf_model.proofs.ViewLaws.{shown_ranked, sessions_alone, all-shows, In-all}
 use Rattle.rule_delta.proofs.ToldAlone.{kept_shows}
@@ -59,34 +59,34 @@ by_place p q x y r l same = (elim (place_cmp p q) as (λ o. place_cmp p q ≡ o 
 
 module _ (facts : List Fact) where
   -- equal places have equal facts
-  one_fact : (u w : FieldShown) (t g : Tag) → In (Field u.0 t u.1) (held facts) → In (Field w.0 g w.1) (held facts) → u.0 ≡ w.0 → Field u.0 t u.1 ≡ Field w.0 g w.1
+  one_fact : (u w : FieldShown) (t g : Tag) → In (Field u.0 t u.1) (kept_list facts) → In (Field w.0 g w.1) (kept_list facts) → u.0 ≡ w.0 → Field u.0 t u.1 ≡ Field w.0 g w.1
   one_fact u w t g i j e =
-      let same : (t, u.1) ≡ (g, w.1) = some_same _ _ (sym (kept_shows facts u.0 (t, u.1) i) ∙ ap (shown facts) e ∙ kept_shows facts w.0 (g, w.1) j) in
+      let same : (t, u.1) ≡ (g, w.1) = some_same _ _ (sym (kept_shows facts u.0 (t, u.1) i) ∙ ap (entry_shown facts) e ∙ kept_shows facts w.0 (g, w.1) j) in
       λ k. Field (e k) (same k).0 (same k).1
 
   -- fields stand in the order of their facts
   pub facts_rise : Rises field_cmp (fields_of facts)
-  facts_rise = filter_map-ascending fact_cmp field_cmp field_of (held facts)
+  facts_rise = filter_map-ascending fact_cmp field_cmp field_of (kept_list facts)
       (λ f d u w i j l p o.
       let a = fact_is f u p in
       let b = fact_is d w o in
-      let here = subst (λ (z : Fact). In z (held facts)) a.1 i in
-      let there = subst (λ (z : Fact). In z (held facts)) b.1 j in
+      let here = subst (λ (z : Fact). In z (kept_list facts)) a.1 i in
+      let there = subst (λ (z : Fact). In z (kept_list facts)) b.1 j in
       by_place u.0 w.0 u.1 w.1 (entry_cmp (a.0, u.1) (b.0, w.1))
       ((λ k. fact_cmp (sym a.1 k) (sym b.1 k)) ∙ l)
       (λ e. ap (fact_cmp (Field u.0 a.0 u.1)) (sym (one_fact u w a.0 b.0 here there e)) ∙ tied_itself fact_ranked.total (Field u.0 a.0 u.1)))
-      (ascending-ascending fact_cmp fact_ranked (kept facts))
+      (ascending-ascending fact_cmp fact_ranked (kept_set facts))
 
   -- a field among them shows
-  pub field_shows : (u : FieldShown) → In u (fields_of facts) → (t : Tag) × (shown facts u.0 ≡ Some (t, u.1)) × (field_shown u.0 u.1 ≡ Some u)
+  pub field_shows : (u : FieldShown) → In u (fields_of facts) → (t : Tag) × (entry_shown facts u.0 ≡ Some (t, u.1)) × (field_shown u.0 u.1 ≡ Some u)
   field_shows u i =
-      let r = filter_map-In field_of u (held facts) i in
+      let r = filter_map-In field_of u (kept_list facts) i in
       let a = fact_is r.0 u r.2 in
-      (a.0, kept_shows facts u.0 (a.0, u.1) (subst (λ (z : Fact). In z (held facts)) a.1 r.1), a.2)
+      (a.0, kept_shows facts u.0 (a.0, u.1) (subst (λ (z : Fact). In z (kept_list facts)) a.1 r.1), a.2)
 
   -- and what shows is among them
-  pub shows_field : (u : FieldShown) (t : Tag) → shown facts u.0 ≡ Some (t, u.1) → field_shown u.0 u.1 ≡ Some u → In u (fields_of facts)
-  shows_field u t h k = In-filter_map field_of (Field u.0 t u.1) u (held facts) (fact_there (held facts) u.0 (t, u.1) (shown-held facts u.0 ∙ h)) k
+  pub shows_field : (u : FieldShown) (t : Tag) → entry_shown facts u.0 ≡ Some (t, u.1) → field_shown u.0 u.1 ≡ Some u → In u (fields_of facts)
+  shows_field u t h k = In-filter_map field_of (Field u.0 t u.1) u (kept_list facts) (fact_there (kept_list facts) u.0 (t, u.1) (shown-held facts u.0 ∙ h)) k
 
 module _ (facts : List SessionFact) (s : Session) where
   -- what is read of the facts
@@ -130,7 +130,7 @@ module _ (facts : List SessionFact) (s : Session) where
   -- all that shows is in order
   all_ascending : Rises shown_cmp v.all
   unfolding view
-  all_ascending = ascending-ascending shown_cmp shown_ranked (filter_map (λ (x : SessionFact). showing (shown_on facts) x.0 x.1) facts)
+  all_ascending = ascending-ascending shown_cmp shown_ranked (filter_map (λ (x : SessionFact). shown_by_fact (entry_shown_on facts) x.0 x.1) facts)
 
   -- and so are the fields of the session
   shown_rise : Rises field_cmp (fields_shown v s)
@@ -154,7 +154,7 @@ module _ (facts : List SessionFact) (s : Session) where
     λ i.
         let r = field_shows (facts_on facts s) u i in
         let there = In-all facts s u.0 (r.0, u.1) ((sessions_alone facts s).shows u.0 ∙ r.1) in
-        In-filter_map entry (shown_as s u.0 (r.0, u.1)) u v.all there (ap (λ b. cond b (field_shown u.0 u.1) None) (eq_itself session_ranked s) ∙ r.2),
+        In-filter_map entry (shown_of s u.0 (r.0, u.1)) u v.all there (ap (λ b. cond b (field_shown u.0 u.1) None) (eq_itself session_ranked s) ∙ r.2),
     λ i.
         let r = filter_map-In entry u v.all i in
         let a = is_at r.0 u r.2 in

@@ -4,7 +4,7 @@ use Rattle.std.specs.List.{filter_map}
 use Rattle.pcrf_facts.specs.Facts.{Fact}
 use Rattle.pcrf_facts.specs.Held.{is_ended}
 use Rattle.pcrf_facts.specs.Live.{gx_is_live, af_is_live, home}
-use Rattle.pcrf_facts.specs.ToldWords.{told}
+use Rattle.pcrf_facts.specs.ToldWords.{told_rules}
 use Rattle.pcrf_model.specs.OperatorValues.{GxShown, AfShown, SessionValue, Ended, Partial, Live, binding_id}
 use Rattle.pcrf_model.specs.Rules.{rules}
 use Rattle.pcrf_model.specs.Sessions.{gx, af}
@@ -27,7 +27,7 @@ bindings_among v = filter_map (live_binding v)
 
 -- what a live Gx session of these facts shows
 abbrev pub gx_live : Tables → View → List ℕ → List Fact → GxShown
-gx_live t v id facts = record { fields = fields_of facts; home = home facts; rules = rules t v (gx id); told = told facts }
+gx_live t v id facts = record { fields = fields_of facts; home = home facts; rules = rules t v (gx id); told = told_rules facts }
 
 -- what is seen of one of these facts
 abbrev pub gx_seen : Tables → View → List ℕ → List Fact → SessionValue GxShown

@@ -6,7 +6,7 @@ use Rattle.pcrf_facts.specs.Places.{SessionField, FramedIpAddress, CalledStation
 use Rattle.pcrf_facts.specs.Values.{Entry}
 use Rattle.pcrf_facts.specs.Facts as facts
 use Rattle.pcrf_facts.specs.Facts.{Fact}
-use Rattle.pcrf_facts.specs.Held.{held}
+use Rattle.pcrf_facts.specs.Held.{kept_list}
 use Rattle.pcrf_facts.specs.Live.{Shows}
 use Rattle.pcrf_model.specs.OperatorValues.{FieldShown, field_shown}
 use Rattle.af_records.specs.declared.fact.AfFact.{AfFact}
@@ -22,7 +22,7 @@ field_of (facts.Field p t x) = field_shown p x
 
 -- those that are kept, ascending by their places
 abbrev pub fields_of : List Fact → List FieldShown
-fields_of facts = filter_map field_of (held facts)
+fields_of facts = filter_map field_of (kept_list facts)
 
 -- ---- fields of the session
 

@@ -1,6 +1,6 @@
 //! The sessions of gateways.
 ghost use Rattle.std.specs.Prelude.{◌≡◌, true, IfOk, Some, map};
-ghost use Rattle.pcrf_facts.specs.Held.{shown};
+ghost use Rattle.pcrf_facts.specs.Held.{entry_shown};
 ghost use Rattle.pcrf_facts.specs.Live.{gx_is_live, home};
 ghost use Rattle.pcrf_model.specs.Views.{view};
 ghost use Rattle.operator_view.specs.ByRecord.{gx_among, gx_seen, gx_live};
@@ -101,9 +101,9 @@ fn home_of(known: &GxRec) -> u8
 fn fields_of(known: &GxRec) -> Result<(GxUser, GxClient), AllocError>
     requires { gx_is_live known.now ≡ true }
     ensures user { IfOk result (λ fields. user_fields fields.0
-        ≡ shown_at (shown known.now) user_places) }
+        ≡ shown_at (entry_shown known.now) user_places) }
     ensures client { IfOk result (λ fields. client_fields fields.1
-        ≡ shown_at (shown known.now) client_places) }
+        ≡ shown_at (entry_shown known.now) client_places) }
 {
     let user = user_of(known)?;
     let client = client_of(known)?;
@@ -113,7 +113,8 @@ fn fields_of(known: &GxRec) -> Result<(GxUser, GxClient), AllocError>
 /// The user of a live one.
 fn user_of(known: &GxRec) -> Result<GxUser, AllocError>
     requires { gx_is_live known.now ≡ true }
-    ensures { IfOk result (λ user. user_fields user ≡ shown_at (shown known.now) user_places) }
+    ensures { IfOk result (λ user. user_fields user
+        ≡ shown_at (entry_shown known.now) user_places) }
 {
     let Some((_, address)) = known.address() else {
         unreachable!()
@@ -138,7 +139,7 @@ fn user_of(known: &GxRec) -> Result<GxUser, AllocError>
 fn client_of(known: &GxRec) -> Result<GxClient, AllocError>
     requires { gx_is_live known.now ≡ true }
     ensures { IfOk result (λ client. client_fields client
-        ≡ shown_at (shown known.now) client_places) }
+        ≡ shown_at (entry_shown known.now) client_places) }
 {
     let Some((_, host)) = known.host() else {
         unreachable!()

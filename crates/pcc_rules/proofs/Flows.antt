@@ -12,13 +12,13 @@ use Rattle.ranked.proofs.AscendingLaws.{ascending-In}
 use Rattle.pcrf_values.specs.RuleValues.{RuleValue}
 use Rattle.pcrf_facts.specs.Facts.{Fact, Field}
 use Rattle.pcrf_facts.specs.FlowWords as words
-use Rattle.pcrf_facts.specs.Held.{shown, held}
+use Rattle.pcrf_facts.specs.Held.{entry_shown, kept_list}
 use Rattle.pcrf_facts.specs.Places.{Place, FlowField, FlowDescriptions, OfFlow}
 use Rattle.pcrf_facts.specs.Values.{Entry}
 use Rattle.pcrf_facts.proofs.ShownLaws.{held_shows_the_same, fact_there}
 use Rattle.pcrf_model.specs.Holdings.{SessionFact, facts_on}
 use Rattle.pcrf_model.specs.Sessions.{Session, Af, af}
-use Rattle.pcrf_model.specs.Views.{View, Shown, view, value, shown_as, as_filters}
+use Rattle.pcrf_model.specs.Views.{View, Shown, view, value, shown_of, as_filters}
 use Rattle.pcrf_model.specs.Bindings.{is_bound_to}
 use Rattle.pcrf_model.specs.Tables.{Tables}
 use Rattle.pcrf_model.specs.Flows.{FlowId, filters}
@@ -36,11 +36,11 @@ af_is : (a : Session) → a.kind ≡ Af → af a.id ≡ a
 af_is a h = λ i. record { kind = sym h i; id = a.id }
 
 -- a flow of which a field shows is listed
-flow_listed : (fs : List Fact) (c n : ℕ) (f : FlowField) (e : Entry) → shown fs (OfFlow c n f) ≡ Some e → In (c, n) (words.flows fs)
+flow_listed : (fs : List Fact) (c n : ℕ) (f : FlowField) (e : Entry) → entry_shown fs (OfFlow c n f) ≡ Some e → In (c, n) (words.flows fs)
 flow_listed fs c n f e h =
-    let there = fact_there (held fs) (OfFlow c n f) e ((held_shows_the_same fs).shows (OfFlow c n f) ∙ h) in
-    (ascending-In (pair_cmp nat_cmp nat_cmp) (pair_ranked nat_ranked nat_ranked) (filter_map words.flow_of (held fs)) (c, n)).1
-    (In-filter_map words.flow_of (Field (OfFlow c n f) e.0 e.1) (c, n) (held fs) there refl)
+    let there = fact_there (kept_list fs) (OfFlow c n f) e ((held_shows_the_same fs).shows (OfFlow c n f) ∙ h) in
+    (ascending-In (pair_cmp nat_cmp nat_cmp) (pair_ranked nat_ranked nat_ranked) (filter_map words.flow_of (kept_list fs)) (c, n)).1
+    (In-filter_map words.flow_of (Field (OfFlow c n f) e.0 e.1) (c, n) (kept_list fs) there refl)
 
 -- what holds of each flow holds of one
 low_member : (x : ℕ × ℕ) (fs : List (ℕ × ℕ)) → AreLow fs → In x fs → IsLow x
@@ -111,7 +111,7 @@ module _ (t : Tables) (facts : List SessionFact) (s : Session) (es : Records) (r
   of_flow id c n x b h =
       let f = and_then _ (filters v (flow_of id c n)) x h in
       let e = filters_show (flow_of id c n) f.0 f.1 in
-      In-filter_map (rule_at t v s) (shown_as (af id) (OfFlow c n FlowDescriptions) e.0) x v.all (In-all facts (af id) (OfFlow c n FlowDescriptions) e.0 e.1)
+      In-filter_map (rule_at t v s) (shown_of (af id) (OfFlow c n FlowDescriptions) e.0) x v.all (In-all facts (af id) (OfFlow c n FlowDescriptions) e.0 e.1)
       (ap (λ (y : Bool). cond y (rule_of t v (flow_of id c n)) None) b ∙ h)
 
   -- and each of a record is a rule of a flow

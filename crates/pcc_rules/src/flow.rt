@@ -2,7 +2,7 @@
 ghost use Rattle.std.specs.Prelude.{◌≡◌, IfOk, if◌then◌else◌, min};
 ghost use Rattle.std.proofs.Common.{unwrap_or};
 ghost use Rattle.pcrf_values.specs.Numbers.{preemption_number};
-ghost use Rattle.pcrf_facts.specs.Held.{shown};
+ghost use Rattle.pcrf_facts.specs.Held.{entry_shown};
 ghost use Rattle.pcrf_facts.specs.FlowWords.{has_usage};
 ghost use Rattle.pcrf_model.specs.Flows.{class_of, flow_rate, Uplink, Downlink};
 ghost use Rattle.pcrf_model.specs.Rules.{rule_of};
@@ -71,7 +71,8 @@ impl Flow<'_> {
     /// The flow shows this Flow-Usage.
     fn has_usage(&self, usage: u32) -> bool
         ensures { result
-            ≡ has_usage (shown (flow_facts self.now)) self.now.component self.now.number usage }
+            ≡ has_usage (entry_shown (flow_facts self.now))
+            self.now.component self.now.number usage }
     {
         match self.known.flow_usage(self.component, self.number) {
             Some((_, told)) => told.get() == usage,

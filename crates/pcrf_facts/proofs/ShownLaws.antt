@@ -11,7 +11,7 @@ use Rattle.pcrf_facts.specs.Facts.{Fact, End, Removed, Field, is_shaded_by}
 use Rattle.pcrf_facts.specs.Laws.{ShowTheSame, IsGreatestAt}
 use Rattle.ranked.specs.declared.tag.Tag.{Tag}
 use Rattle.ranked.proofs.Greatest.{greatest_is, greatest_some}
-use Rattle.pcrf_facts.specs.Held.{kept, held, removal, ends, is_ended, blocks, is_gone, entry_at, value_at, shown}
+use Rattle.pcrf_facts.specs.Held.{kept_set, kept_list, removal, ends, is_ended, blocks, is_gone, entry_at, value_at, entry_shown}
 use Rattle.ranked.proofs.SetLaws.{In-any, any-In, any-Same, top_of, any-maximal, greatest_reached, greatest-Same, In-filter_map, filter_map-In, filter_map-Same}
 use Rattle.ranked.proofs.OrderLaws.{eq_is, eq_itself}
 use Rattle.pcrf_facts.proofs.FactLaws.{place_ranked, entry_ranked, covers_more, same_place, shaded_irr, shaded_trans}
@@ -44,11 +44,11 @@ field_blocked p e (Removed r) b = b
 field_blocked p e (Field q u w) b = clash false b refl
 
 -- what is gone is so by what is kept
-pub is_gone-kept : (facts : List Fact) (p : Place) → is_gone (kept facts) p ≡ is_gone facts p
+pub is_gone-kept : (facts : List Fact) (p : Place) → is_gone (kept_set facts) p ≡ is_gone facts p
 is_gone-kept facts p = any-maximal is_shaded_by shaded_irr shaded_trans (blocks p) (blocks_up p) facts
 
 -- and so is the end
-pub is_ended-kept : (facts : List Fact) → is_ended (kept facts) ≡ is_ended facts
+pub is_ended-kept : (facts : List Fact) → is_ended (kept_set facts) ≡ is_ended facts
 is_ended-kept facts = any-maximal is_shaded_by shaded_irr shaded_trans ends ends_up facts
 
 -- the end is told by the members alone
@@ -60,7 +60,7 @@ pub value_at-Same : (xs ys : List Fact) (p : Place) → Same xs ys → value_at 
 value_at-Same xs ys p s = sym (greatest-Same entry_cmp entry_ranked.total entry_ranked.same (filter_map (entry_at p) xs) (filter_map (entry_at p) ys) (filter_map-Same (entry_at p) xs ys s))
 
 -- and so does what shows
-pub shown-Same : (xs ys : List Fact) (p : Place) → Same xs ys → shown xs p ≡ shown ys p
+pub shown-Same : (xs ys : List Fact) (p : Place) → Same xs ys → entry_shown xs p ≡ entry_shown ys p
 shown-Same xs ys p s = λ i. cond (any-Same (blocks p) xs ys s i) None (value_at-Same xs ys p s i)
 
 -- an entry at a place is that of a field there
@@ -87,38 +87,38 @@ module _ (facts : List Fact) (p : Place) (open_ : is_gone facts p ≡ false) whe
   none_blocks g i = is_false (blocks p g) (λ t. clash (is_gone facts p) (In-any (blocks p) g facts i t) open_)
 
   -- an entry is reached by what is kept on top of its fact
-  reached : (m : Fact) (e : Entry) → In m (kept facts) → (Field p e.0 e.1 ≡ m) ⊎ (is_shaded_by (Field p e.0 e.1) m ≡ true)
-      → (d : Entry) × In d (filter_map (entry_at p) (kept facts)) × ((e ≡ d) ⊎ (is_lt (entry_cmp e d) ≡ true))
-  reached m e j (inl q) = (e, In-filter_map (entry_at p) m e (kept facts) j (ap (entry_at p) (sym q) ∙ field_entry p e), inl refl)
+  reached : (m : Fact) (e : Entry) → In m (kept_set facts) → (Field p e.0 e.1 ≡ m) ⊎ (is_shaded_by (Field p e.0 e.1) m ≡ true)
+      → (d : Entry) × In d (filter_map (entry_at p) (kept_set facts)) × ((e ≡ d) ⊎ (is_lt (entry_cmp e d) ≡ true))
+  reached m e j (inl q) = (e, In-filter_map (entry_at p) m e (kept_set facts) j (ap (entry_at p) (sym q) ∙ field_entry p e), inl refl)
   reached m e j (inr s) =
       let r = blocks_field p e m s (none_blocks m (kept-In m facts j).0) in
-      (r.0, In-filter_map (entry_at p) m r.0 (kept facts) j (ap (entry_at p) r.1 ∙ field_entry p r.0), inr r.2)
+      (r.0, In-filter_map (entry_at p) m r.0 (kept_set facts) j (ap (entry_at p) r.1 ∙ field_entry p r.0), inr r.2)
 
   -- the value is that of what is kept
-  value_at-kept : value_at (kept facts) p ≡ value_at facts p
+  value_at-kept : value_at (kept_set facts) p ≡ value_at facts p
   value_at-kept = greatest_reached entry_cmp entry_ranked.total entry_ranked.same _ _
-      (λ e i. let r = filter_map-In (entry_at p) e (kept facts) i in In-filter_map (entry_at p) r.0 e facts (kept-In r.0 facts r.1).0 r.2)
+      (λ e i. let r = filter_map-In (entry_at p) e (kept_set facts) i in In-filter_map (entry_at p) r.0 e facts (kept-In r.0 facts r.1).0 r.2)
       (λ e i.
       let r = filter_map-In (entry_at p) e facts i in
       let t = top_of is_shaded_by shaded_irr shaded_trans r.0 facts r.1 in
       reached t.0 e t.1 (subst (λ (f : Fact). (f ≡ t.0) ⊎ (is_shaded_by f t.0 ≡ true)) (entry_field p r.0 e r.2) t.2))
 
 -- what shows is the same on what is kept
-pub shown-kept : (facts : List Fact) (p : Place) → shown (kept facts) p ≡ shown facts p
+pub shown-kept : (facts : List Fact) (p : Place) → entry_shown (kept_set facts) p ≡ entry_shown facts p
 shown-kept facts p =
-    ap (λ b. cond b None (value_at (kept facts) p)) (is_gone-kept facts p)
-    ∙ (elim (is_gone facts p) as (λ b. is_gone facts p ≡ b → cond b None (value_at (kept facts) p) ≡ cond b None (value_at facts p)) [
+    ap (λ b. cond b None (value_at (kept_set facts) p)) (is_gone-kept facts p)
+    ∙ (elim (is_gone facts p) as (λ b. is_gone facts p ≡ b → cond b None (value_at (kept_set facts) p) ≡ cond b None (value_at facts p)) [
       | true ↦ λ _. refl
       | false ↦ λ f. value_at-kept facts p f
     ]) refl
 
 -- and on that in order
-pub shown-held : (facts : List Fact) (p : Place) → shown (held facts) p ≡ shown facts p
-shown-held facts p = shown-Same (held facts) (kept facts) p (sorted-In (kept facts)) ∙ shown-kept facts p
+pub shown-held : (facts : List Fact) (p : Place) → entry_shown (kept_list facts) p ≡ entry_shown facts p
+shown-held facts p = shown-Same (kept_list facts) (kept_set facts) p (sorted-In (kept_set facts)) ∙ shown-kept facts p
 
 -- and the end too
-pub is_ended-held : (facts : List Fact) → is_ended (held facts) ≡ is_ended facts
-is_ended-held facts = is_ended-Same (held facts) (kept facts) (sorted-In (kept facts)) ∙ is_ended-kept facts
+pub is_ended-held : (facts : List Fact) → is_ended (kept_list facts) ≡ is_ended facts
+is_ended-held facts = is_ended-Same (kept_list facts) (kept_set facts) (sorted-In (kept_set facts)) ∙ is_ended-kept facts
 
 -- ---- what shows where all facts are kept
 -- one entry is the greatest
@@ -145,7 +145,7 @@ either_way true = refl
 either_way false = refl
 
 -- where all facts are kept, what stands at a place shows
-pub shown_alone : (facts : List Fact) (p : Place) (o : Option Entry) → Same facts (kept facts) → StandsAlone facts p o → shown facts p ≡ o
+pub shown_alone : (facts : List Fact) (p : Place) (o : Option Entry) → Same facts (kept_set facts) → StandsAlone facts p o → entry_shown facts p ≡ o
 shown_alone facts p (Some e) s a =
     let here = a.stands e refl in
     let open_ : is_gone facts p ≡ false = is_false (is_gone facts p) (λ t. let r = any-In (blocks p) facts t in clash (is_shaded_by (Field p e.0 e.1) r.0) (field_blocked p e r.0 r.2) ((kept-In (Field p e.0 e.1) facts ((s (Field p e.0 e.1)).0 here)).1 r.0 r.1)) in
@@ -167,7 +167,7 @@ members_show_the_same xs ys s = record {
 }
 
 -- what is kept shows the same
-pub held_shows_the_same : (facts : List Fact) → ShowTheSame (held facts) facts
+pub held_shows_the_same : (facts : List Fact) → ShowTheSame (kept_list facts) facts
 held_shows_the_same facts = record {
   shows = λ p. shown-held facts p;
   ended = is_ended-held facts;
@@ -194,5 +194,5 @@ not_gone true x e h = absurd (cc)
 not_gone false x e h = (refl, h)
 
 -- where a place shows, a fact stands
-pub fact_there : (facts : List Fact) (p : Place) (e : Entry) → shown facts p ≡ Some e → In (Field p e.0 e.1) facts
+pub fact_there : (facts : List Fact) (p : Place) (e : Entry) → entry_shown facts p ≡ Some e → In (Field p e.0 e.1) facts
 fact_there facts p e h = (value_is_greatest facts p e (not_gone (is_gone facts p) (value_at facts p) e h).1).there

@@ -8,7 +8,7 @@ use Rattle.ranked.specs.Ascending.{ascending}
 use Rattle.pcrf_facts.specs.Places.{ComponentField, ComponentStatus, FlowField, FlowUsage, FlowStatus, Place, OfSession, OfComponent, OfFlow, OfRuleName}
 use Rattle.pcrf_facts.specs.Values.{Value, Number, Text, Address, Subscribers, Filters, Untold, Told, Entry}
 use Rattle.pcrf_facts.specs.Facts.{Fact, End, Removed, Field}
-use Rattle.pcrf_facts.specs.Held.{held}
+use Rattle.pcrf_facts.specs.Held.{kept_list}
 use Rattle.pcrf_facts.specs.Live.{Shows}
 
 -- the component and the flow of which the place is a field
@@ -26,7 +26,7 @@ flow_of (Field p t v) = flow_of_place p
 
 -- the flows of which a field shows, each once, ascending by component and flow
 abbrev pub flows : List Fact → List (ℕ × ℕ)
-flows facts = ascending (pair_cmp nat_cmp nat_cmp) (filter_map flow_of (held facts))
+flows facts = ascending (pair_cmp nat_cmp nat_cmp) (filter_map flow_of (kept_list facts))
 
 -- the value as a number, if it is one
 abbrev pub as_number : Value → Option ℕ

@@ -9,16 +9,16 @@ use Rattle.pcrf_facts.specs.Values.{Entry, entry_cmp}
 use Rattle.pcrf_facts.specs.Facts.{Fact, End, Removed, Field, fact_cmp, is_shaded_by}
 
 -- the facts that none overshadows
-abbrev pub kept : List Fact → List Fact
-kept = maximal is_shaded_by
+abbrev pub kept_set : List Fact → List Fact
+kept_set = maximal is_shaded_by
 
 -- what is kept, as its one ascending list
-abbrev pub held : List Fact → List Fact
-held facts = ascending fact_cmp (kept facts)
+abbrev pub kept_list : List Fact → List Fact
+kept_list facts = ascending fact_cmp (kept_set facts)
 
 -- what is kept of the facts of both
-abbrev pub joined : List Fact → List Fact → List Fact
-joined xs ys = held (xs ++ ys)
+abbrev pub join_of : List Fact → List Fact → List Fact
+join_of xs ys = kept_list (xs ++ ys)
 
 -- the fact is the end
 abbrev pub ends : Fact → Bool
@@ -51,8 +51,8 @@ abbrev pub value_at : List Fact → Place → Option Entry
 value_at facts p = greatest entry_cmp (filter_map (entry_at p) facts)
 
 -- what the place shows, with its tag
-abbrev pub shown : List Fact → Place → Option Entry
-shown facts p = if is_gone facts p then None else value_at facts p
+abbrev pub entry_shown : List Fact → Place → Option Entry
+entry_shown facts p = if is_gone facts p then None else value_at facts p
 
 -- what the fact says is removed
 abbrev pub removal : Fact → Option Removable
@@ -61,5 +61,5 @@ removal (Removed r) = Some r
 removal (Field p t v) = None
 
 -- the components and flows that are removed, as far as that is kept, components first
-abbrev pub removed : List Fact → List Removable
-removed facts = filter_map removal (held facts)
+abbrev pub removed_parts : List Fact → List Removable
+removed_parts facts = filter_map removal (kept_list facts)

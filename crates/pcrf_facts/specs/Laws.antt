@@ -9,25 +9,25 @@ use Rattle.pcrf_facts.specs.Places.{Place, ComponentField, FlowField}
 use Rattle.pcrf_facts.specs.ToldWords.{told_entries}
 use Rattle.pcrf_facts.specs.Values.{Value, Entry, entry_cmp}
 use Rattle.pcrf_facts.specs.Facts.{Fact, Field}
-use Rattle.pcrf_facts.specs.Held.{held, joined, is_ended, value_at, shown, removed}
+use Rattle.pcrf_facts.specs.Held.{kept_list, join_of, is_ended, value_at, entry_shown, removed_parts}
 
 -- What is kept of a union: in either order, of three either way, of a union with itself, and of parts that were kept before.
 pub record JoinsHeld : Type 0 where
-  pub commutative : (xs ys : List Fact) → joined xs ys ≡ joined ys xs
-  pub associative : (xs ys zs : List Fact) → joined (joined xs ys) zs ≡ joined xs (joined ys zs)
-  pub idempotent : (xs : List Fact) → held xs ≡ xs → joined xs xs ≡ xs
-  pub held_first : (xs ys : List Fact) → joined (held xs) ys ≡ joined xs ys
-  pub held_once : (xs : List Fact) → held (held xs) ≡ held xs
+  pub commutative : (xs ys : List Fact) → join_of xs ys ≡ join_of ys xs
+  pub associative : (xs ys zs : List Fact) → join_of (join_of xs ys) zs ≡ join_of xs (join_of ys zs)
+  pub idempotent : (xs : List Fact) → kept_list xs ≡ xs → join_of xs xs ≡ xs
+  pub held_first : (xs ys : List Fact) → join_of (kept_list xs) ys ≡ join_of xs ys
+  pub held_once : (xs : List Fact) → kept_list (kept_list xs) ≡ kept_list xs
 
 -- two lists of facts show the same, are both ended or neither, and have the same removed
 pub record ShowTheSame (xs ys : List Fact) : Type 0 where
-  pub shows : (p : Place) → shown xs p ≡ shown ys p
+  pub shows : (p : Place) → entry_shown xs p ≡ entry_shown ys p
   pub ended : is_ended xs ≡ is_ended ys
-  pub removals : removed xs ≡ removed ys
+  pub removals : removed_parts xs ≡ removed_parts ys
 
 -- so what is kept
 abbrev pub HeldShowsTheSame : Type 0
-HeldShowsTheSame = (facts : List Fact) → ShowTheSame (held facts) facts
+HeldShowsTheSame = (facts : List Fact) → ShowTheSame (kept_list facts) facts
 
 -- and so lists with the same members
 abbrev pub MembersShowTheSame : Type 0
@@ -48,10 +48,10 @@ FactGivesAValue = (facts : List Fact) (p : Place) (t : Tag) (x : Value) → In (
 
 -- what is said of live sessions, flows and told rules is the same on what is kept
 pub record HeldSaysTheSame : Type 0 where
-  pub gx_live : (facts : List Fact) → gx_is_live (held facts) ≡ gx_is_live facts
-  pub af_live : (facts : List Fact) → af_is_live (held facts) ≡ af_is_live facts
-  pub homes : (facts : List Fact) → home (held facts) ≡ home facts
-  pub flow_numbers : (facts : List Fact) → flows (held facts) ≡ flows facts
-  pub statuses : (facts : List Fact) (c n : ℕ) → flow_status (shown (held facts)) c n ≡ flow_status (shown facts) c n
-  pub rates : (facts : List Fact) (c n : ℕ) (own : FlowField) (whole : ComponentField) → given_rate (shown (held facts)) c n own whole ≡ given_rate (shown facts) c n own whole
-  pub told_names : (facts : List Fact) → told_entries (held facts) ≡ told_entries facts
+  pub gx_live : (facts : List Fact) → gx_is_live (kept_list facts) ≡ gx_is_live facts
+  pub af_live : (facts : List Fact) → af_is_live (kept_list facts) ≡ af_is_live facts
+  pub homes : (facts : List Fact) → home (kept_list facts) ≡ home facts
+  pub flow_numbers : (facts : List Fact) → flows (kept_list facts) ≡ flows facts
+  pub statuses : (facts : List Fact) (c n : ℕ) → flow_status (entry_shown (kept_list facts)) c n ≡ flow_status (entry_shown facts) c n
+  pub rates : (facts : List Fact) (c n : ℕ) (own : FlowField) (whole : ComponentField) → given_rate (entry_shown (kept_list facts)) c n own whole ≡ given_rate (entry_shown facts) c n own whole
+  pub told_names : (facts : List Fact) → told_entries (kept_list facts) ≡ told_entries facts

@@ -4,7 +4,7 @@ use Rattle.std.proofs.Common.{option_map}
 use Rattle.pcrf_facts.specs.Places.{Place, address, apn, subscribers, host, realm, last}
 use Rattle.pcrf_facts.specs.Values.{Entry}
 use Rattle.pcrf_facts.specs.Facts.{Fact}
-use Rattle.pcrf_facts.specs.Held.{is_ended, shown}
+use Rattle.pcrf_facts.specs.Held.{is_ended, entry_shown}
 
 -- what shows at each place of a session
 abbrev pub Shows : Type 0
@@ -26,12 +26,12 @@ home_by shows = option_map (λ (e : Entry). e.0.site) (shows last)
 
 -- a Gx session of these facts is not ended, and shows what its kind needs
 abbrev pub gx_is_live : List Fact → Bool
-gx_is_live facts = not (is_ended facts) && gx_has_what_it_needs (shown facts)
+gx_is_live facts = not (is_ended facts) && gx_has_what_it_needs (entry_shown facts)
 
 -- and so an AF session
 abbrev pub af_is_live : List Fact → Bool
-af_is_live facts = not (is_ended facts) && af_has_what_it_needs (shown facts)
+af_is_live facts = not (is_ended facts) && af_has_what_it_needs (entry_shown facts)
 
 -- the home of a session of these facts
 abbrev pub home : List Fact → Option ℕ
-home facts = home_by (shown facts)
+home facts = home_by (entry_shown facts)

@@ -7,7 +7,7 @@ use Rattle.ranked.specs.declared.tag.Tag.{Tag}
 use Rattle.pcrf_facts.specs.Places.{Place, OfSession, OfComponent, OfFlow, OfRuleName}
 use Rattle.pcrf_facts.specs.Values.{Value, Number, Text, Address, Subscribers, Filters, Untold, Told}
 use Rattle.pcrf_facts.specs.Facts.{Fact, End, Removed, Field}
-use Rattle.pcrf_facts.specs.Held.{held}
+use Rattle.pcrf_facts.specs.Held.{kept_list}
 
 -- the rule that the value is, or nothing where the gateway was told to remove it
 abbrev pub as_told : Value → Option (Option RuleValue)
@@ -24,16 +24,16 @@ abbrev pub ToldEntry : Type 0
 ToldEntry = List ℕ × (Tag × Option RuleValue)
 
 -- under that name
-abbrev pub named_told : List ℕ → Tag → Option (Option RuleValue) → Option ToldEntry
-named_told name t None = None
-named_told name t (Some r) = Some (name, (t, r))
+abbrev pub named_entry : List ℕ → Tag → Option (Option RuleValue) → Option ToldEntry
+named_entry name t None = None
+named_entry name t (Some r) = Some (name, (t, r))
 
 -- at the place of a name
 abbrev pub told_at_place : Place → Tag → Value → Option ToldEntry
 told_at_place (OfSession f) t v = None
 told_at_place (OfComponent c f) t v = None
 told_at_place (OfFlow c n f) t v = None
-told_at_place (OfRuleName name) t v = named_told name t (as_told v)
+told_at_place (OfRuleName name) t v = named_entry name t (as_told v)
 
 -- what the fact tells of a rule
 abbrev pub told_entry : Fact → Option ToldEntry
@@ -43,7 +43,7 @@ told_entry (Field p t v) = told_at_place p t v
 
 -- each name that shows a rule or nothing, with that and its tag, ascending by name
 abbrev pub told_entries : List Fact → List ToldEntry
-told_entries facts = filter_map told_entry (held facts)
+told_entries facts = filter_map told_entry (kept_list facts)
 
 -- a name, and the rule that was told under it
 abbrev pub ToldRule : Type 0
@@ -59,5 +59,5 @@ abbrev pub told_rule_at : Place → Tag → Value → Option ToldRule
 told_rule_at p t v = option_and_then told_rule (told_at_place p t v)
 
 -- the names that show a rule, each with its rule, ascending by name
-abbrev pub told : List Fact → List ToldRule
-told facts = filter_map told_rule (told_entries facts)
+abbrev pub told_rules : List Fact → List ToldRule
+told_rules facts = filter_map told_rule (told_entries facts)

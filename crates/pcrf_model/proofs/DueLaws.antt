@@ -15,7 +15,7 @@ use Rattle.pcrf_model.specs.Views.{view}
 use Rattle.pcrf_model.specs.Live.{is_live}
 use Rattle.pcrf_model.specs.Tables.{Tables}
 use Rattle.pcrf_model.specs.Differences.{first}
-use Rattle.pcrf_model.specs.Pushing.{is_due, due}
+use Rattle.pcrf_model.specs.Pushing.{is_due, due_session}
 use Rattle.pcrf_model.specs.Laws.{IsFirstDue}
 use Rattle.pcrf_model.proofs.HoldingLaws.{session_ranked}
 use Rattle.pcrf_model.proofs.ViewLaws.{shows-known, its_session}
@@ -86,15 +86,15 @@ unfolding view
 sessions_rise facts = ascending-ascending session_cmp session_ranked (map its_session facts)
 
 -- the one that is pushed is the first that is due
-pub first_due : (t : Tables) (i : ℕ) (facts : List SessionFact) (name : Option (List ℕ)) (s : Session) → due t i (view facts) name ≡ Some s → IsFirstDue t i facts name s
-unfolding due
+pub first_due : (t : Tables) (i : ℕ) (facts : List SessionFact) (name : Option (List ℕ)) (s : Session) → due_session t i (view facts) name ≡ Some s → IsFirstDue t i facts name s
+unfolding due_session
 first_due t i facts name s h =
     let f = found_first session_cmp session_ranked (is_due t i (view facts) name) (view facts).sessions s (sessions_rise facts) h in
     record { is_one = f.0; none_before = λ r u l. f.1 r (due_known t i facts name r u) u l }
 
 -- and none is where none is found
-pub none_due : (t : Tables) (i : ℕ) (facts : List SessionFact) (name : Option (List ℕ)) → due t i (view facts) name ≡ None → (s : Session) → is_due t i (view facts) name s ≡ false
-unfolding due
+pub none_due : (t : Tables) (i : ℕ) (facts : List SessionFact) (name : Option (List ℕ)) → due_session t i (view facts) name ≡ None → (s : Session) → is_due t i (view facts) name s ≡ false
+unfolding due_session
 none_due t i facts name h s = elim (is_due t i (view facts) name s) as (λ b. is_due t i (view facts) name s ≡ b → b ≡ false) [
   | true ↦ λ u. absurd (found_none session_cmp session_ranked (is_due t i (view facts) name) (view facts).sessions h s (due_known t i facts name s u) u)
   | false ↦ λ _. refl

@@ -13,7 +13,7 @@ use Rattle.ranked.proofs.DistinctLaws.{one_of_key}
 use Rattle.pcrf_facts.specs.Places.{SessionField, ComponentField, MediaType, ComponentStatus, ComponentRateUp, ComponentRateDown, FlowField, FlowDescriptions, FlowUsage, FlowStatus, FlowRateUp, FlowRateDown, OfSession, OfComponent, OfFlow, Component, Flow, Position}
 use Rattle.pcrf_facts.specs.Values.{Value, Number, Filters}
 use Rattle.pcrf_facts.specs.Facts.{Fact, Removed, Field, position, fact_cmp, is_shaded_by}
-use Rattle.pcrf_facts.specs.Held.{kept, held}
+use Rattle.pcrf_facts.specs.Held.{kept_set, kept_list}
 use Rattle.pcrf_facts.proofs.FactLaws.{tag_ranked}
 use Rattle.pcrf_facts.proofs.JoinedLaws.{kept-In, In-kept, sorted-Same}
 use Rattle.pcrf_facts.proofs.KeyLaws.{number_is}
@@ -272,8 +272,8 @@ module _ (k i : ℕ) (says : SessionField → Option Value) (cs : List Component
 
 -- where its numbers differ, each of its facts is kept
 pub described_is_held : (q : AarValue) (k i : ℕ) → Distinct (map component_number q.components) → ((c : ComponentValue) → In c q.components → Distinct (map flow_number c.flows))
-    → held (aar_facts q (tag k i)) ≡ ascending fact_cmp (aar_facts q (tag k i))
-described_is_held q k i differ flows_differ = sorted-Same (kept facts) facts (λ f. (λ m. (kept-In f facts m).0, is_kept f))
+    → kept_list (aar_facts q (tag k i)) ≡ ascending fact_cmp (aar_facts q (tag k i))
+described_is_held q k i differ flows_differ = sorted-Same (kept_set facts) facts (λ f. (λ m. (kept-In f facts m).0, is_kept f))
   where
     says : SessionField → Option Value
     says = session_value q.address q.apn q.subscribers q.host q.realm 0
@@ -284,5 +284,5 @@ described_is_held q k i differ flows_differ = sorted-Same (kept facts) facts (λ
     all : Each (IsOfFunction k i says q.components) facts
     all = session_each q.address q.apn q.subscribers q.host q.realm 0 (tag k i) at_session and components_each k i says q.components
 
-    is_kept : (f : Fact) → In f facts → In f (kept facts)
+    is_kept : (f : Fact) → In f facts → In f (kept_set facts)
     is_kept f m = In-kept f facts m (λ g n. clear k i says q.components differ flows_differ f g (all.so f m) (all.so g n))

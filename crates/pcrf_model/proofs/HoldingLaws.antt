@@ -11,11 +11,11 @@ use Rattle.ranked.proofs.SetLaws.{In-left, In-right, In-cases, In-map, map-In, I
 use Rattle.ranked.proofs.AscendingLaws.{ascending-In, ascending-Same}
 use Rattle.ranked.proofs.PartLaws.{IsStrict}
 use Rattle.pcrf_facts.specs.Facts.{Fact, is_shaded_by}
-use Rattle.pcrf_facts.specs.Held.{kept}
+use Rattle.pcrf_facts.specs.Held.{kept_set}
 use Rattle.pcrf_facts.proofs.FactLaws.{fact_ranked, shaded_irr, shaded_trans}
 use Rattle.pcrf_facts.proofs.JoinedLaws.{kept-In, In-kept}
 use Rattle.pcrf_model.specs.Sessions.{Kind, Gx, Af, Session, kind_number, session_cmp}
-use Rattle.pcrf_model.specs.Holdings.{SessionFact, session_fact_cmp, is_shaded_there_by, kept_facts, under, on_session, facts_on, Holding, replaced}
+use Rattle.pcrf_model.specs.Holdings.{SessionFact, session_fact_cmp, is_shaded_there_by, kept_facts, under, on_session, facts_on, Holding, with_facts_of}
 use Rattle.pcrf_model.specs.Laws.{ReplacesOne}
 
 -- the kind of that number
@@ -128,16 +128,16 @@ under-In s x facts i =
     (ap (λ (y : SessionFact). y.0) r.2, subst (λ (f : Fact). In f facts) (sym (ap (λ (y : SessionFact). y.1) r.2)) r.1)
 
 -- what is kept of each session is kept of its facts
-pub facts_on-kept : (facts : List SessionFact) (s : Session) → Same (facts_on (kept_facts facts) s) (kept (facts_on facts s))
+pub facts_on-kept : (facts : List SessionFact) (s : Session) → Same (facts_on (kept_facts facts) s) (kept_set (facts_on facts s))
 facts_on-kept facts s f = (there, back)
   where
-    there : In f (facts_on (kept_facts facts) s) → In f (kept (facts_on facts s))
+    there : In f (facts_on (kept_facts facts) s) → In f (kept_set (facts_on facts s))
     there i =
         let k = kept_facts-In (s, f) facts (facts_on-In (kept_facts facts) s f i) in
         In-kept f (facts_on facts s) (In-facts_on facts s f k.0) (λ g j. is_false (is_shaded_by f g) (λ t.
         clash (is_shaded_there_by (s, f) (s, g)) (shades_there s f g t) (k.1 (s, g) (facts_on-In facts s g j))))
 
-    back : In f (kept (facts_on facts s)) → In f (facts_on (kept_facts facts) s)
+    back : In f (kept_set (facts_on facts s)) → In f (facts_on (kept_facts facts) s)
     back i =
         let k = kept-In f (facts_on facts s) i in
         In-facts_on (kept_facts facts) s f (In-kept_facts (s, f) facts (facts_on-In facts s f k.0) (λ y j. is_false (is_shaded_there_by (s, f) y) (λ t.
@@ -173,14 +173,14 @@ module _ (h : Holding) (s : Session) (facts : List Fact) where
 pub replaces_one : (h : Holding) (s : Session) (facts : List Fact) (clock : ℕ) → ReplacesOne h s facts clock
 replaces_one h s facts clock = record { there = there; elsewhere = elsewhere_ }
   where
-    there : Same (facts_on (replaced h s facts clock).facts s) facts
+    there : Same (facts_on (with_facts_of h s facts clock).facts s) facts
     there f = (
-      λ i. new_there h s facts f ((sorted-In (others h s ++ under s facts) (s, f)).0 (facts_on-In (replaced h s facts clock).facts s f i)),
-      λ i. In-facts_on (replaced h s facts clock).facts s f ((sorted-In (others h s ++ under s facts) (s, f)).1 (In-right (s, f) (others h s) (under s facts) (In-under s f facts i))),
+      λ i. new_there h s facts f ((sorted-In (others h s ++ under s facts) (s, f)).0 (facts_on-In (with_facts_of h s facts clock).facts s f i)),
+      λ i. In-facts_on (with_facts_of h s facts clock).facts s f ((sorted-In (others h s ++ under s facts) (s, f)).1 (In-right (s, f) (others h s) (under s facts) (In-under s f facts i))),
     )
 
-    elsewhere_ : (r : Session) → (r ≡ s → ⊥) → Same (facts_on (replaced h s facts clock).facts r) (facts_on h.facts r)
+    elsewhere_ : (r : Session) → (r ≡ s → ⊥) → Same (facts_on (with_facts_of h s facts clock).facts r) (facts_on h.facts r)
     elsewhere_ r n f = (
-      λ i. In-facts_on h.facts r f (old_there h s facts r n f ((sorted-In (others h s ++ under s facts) (r, f)).0 (facts_on-In (replaced h s facts clock).facts r f i))),
-      λ i. In-facts_on (replaced h s facts clock).facts r f ((sorted-In (others h s ++ under s facts) (r, f)).1 (old_stays h s facts r n f (facts_on-In h.facts r f i))),
+      λ i. In-facts_on h.facts r f (old_there h s facts r n f ((sorted-In (others h s ++ under s facts) (r, f)).0 (facts_on-In (with_facts_of h s facts clock).facts r f i))),
+      λ i. In-facts_on (with_facts_of h s facts clock).facts r f ((sorted-In (others h s ++ under s facts) (r, f)).1 (old_stays h s facts r n f (facts_on-In h.facts r f i))),
     )

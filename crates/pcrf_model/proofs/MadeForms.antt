@@ -19,7 +19,7 @@ use Rattle.pcrf_facts.proofs.JoinedLaws.{sorted-In}
 use Rattle.pcrf_values.specs.Limits.{last_counter, site_limit}
 use Rattle.pcrf_model.specs.Sessions.{Kind, Session}
 use Rattle.pcrf_model.specs.Holdings.{Holding}
-use Rattle.pcrf_model.specs.Making.{given, session_fields, next_operation}
+use Rattle.pcrf_model.specs.Making.{given_fact, session_fields, next_operation}
 use Rattle.pcrf_model.specs.Forms.{is_tagged, is_session, is_request_number, is_none_or, is_address, is_apn, is_identity, are_subscribers, is_user, is_stamp, fits_session_field, stand_together, fits, is_operation}
 use Rattle.pcrf_model.proofs.FormLaws.{test_by_rises, le_passes, test_by_formed}
 
@@ -174,7 +174,7 @@ module _ {P : Fact → Type 0} where
   all_map make (x ∷ xs) h = more (h x (inl refl)) (all_map make xs (λ y i. h y (inr i)))
 
   -- of what may be given
-  pub all_given : {A : Type 0} (p : Place) (t : Tag) (as_value : A → Value) (x : Option A) → ((v : Value) → option_map as_value x ≡ Some v → P (Field p t v)) → Each P (given p t as_value x)
+  pub all_given : {A : Type 0} (p : Place) (t : Tag) (as_value : A → Value) (x : Option A) → ((v : Value) → option_map as_value x ≡ Some v → P (Field p t v)) → Each P (given_fact p t as_value x)
   all_given p t as_value None h = none
   all_given p t as_value (Some y) h = more (h (as_value y) refl) none
 
@@ -208,7 +208,7 @@ module _ (a n : Option (List ℕ)) (ids : Option (List Subscriber)) (of_host of_
 
   -- one of them is there
   pub session_some : (t : Tag) → (f : Fact) × In f (session_fields t a n ids of_host of_realm kind)
-  session_some t = (Field host t (Text of_host), In-right _ (given address t Address a ++ given apn t Text n ++ given subscribers t Subscribers ids) _ (inl refl))
+  session_some t = (Field host t (Text of_host), In-right _ (given_fact address t Address a ++ given_fact apn t Text n ++ given_fact subscribers t Subscribers ids) _ (inl refl))
 
   -- and what it says fits
   pub session_fits : (k : Kind) → is_user a n ids ≡ true → is_identity of_host ≡ true → is_identity of_realm ≡ true → fits_session_field k RequestType (Number kind) ≡ true

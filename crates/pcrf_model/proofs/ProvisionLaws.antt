@@ -26,11 +26,11 @@ use Rattle.pcrf_model.specs.Views.{View, view}
 use Rattle.pcrf_model.specs.Live.{is_live}
 use Rattle.pcrf_model.specs.Tables.{Tables}
 use Rattle.pcrf_model.specs.Rules.{rules}
-use Rattle.pcrf_model.specs.Differences.{told_cmp, told, rule_name_of, difference, as_told, apply}
+use Rattle.pcrf_model.specs.Differences.{told_cmp, told_rules_of, rule_name_of, difference, as_told, apply}
 use Rattle.pcrf_model.specs.Requests.{CcrValue}
-use Rattle.pcrf_model.specs.Making.{given, ccr_fields, told_facts, next_tag, next_operation}
-use Rattle.pcrf_model.specs.Serving.{delta_of, provisioned, with_added}
-use Rattle.pcrf_model.specs.Pushing.{is_due, due, telling, nothing_pushed, push}
+use Rattle.pcrf_model.specs.Making.{given_fact, ccr_fields, told_facts, next_tag, next_operation}
+use Rattle.pcrf_model.specs.Serving.{delta_of, provision_outcome, with_added}
+use Rattle.pcrf_model.specs.Pushing.{is_due, due_session, push_outcome, nothing_pushed, push}
 use Rattle.pcrf_model.specs.Forms.{are_tables, is_holding}
 use Rattle.pcrf_model.specs.Laws.{TellsTheFirst}
 use Rattle.pcrf_model.proofs.HoldingLaws.{session_ranked, session_fact_ranked, facts_on-In, In-under, under-In}
@@ -58,18 +58,18 @@ module _ (most : ℕ) (t : Tables) (xs : List SessionFact) (s : Session) (names 
   d = delta_of most t v s
 
   -- what is installed now is of the difference
-  in_difference : (r : RuleValue) → In r d.installed → In r (difference (told v s) (rules t v s)).installed
-  in_difference r i = take-In _ r (difference (told v s) (rules t v s)).installed i
+  in_difference : (r : RuleValue) → In r d.installed → In r (difference (told_rules_of v s) (rules t v s)).installed
+  in_difference r i = take-In _ r (difference (told_rules_of v s) (rules t v s)).installed i
 
   -- the first entries are apart
   pub first_apart : IsApart (delta_of most t (view xs) s)
   first_apart = record {
     one_each = λ a b i j e. one_of_key rule_name_of (rules t v s) names a b
-        (installed-In (told v s) (rules t v s) a (in_difference a i)).0 (installed-In (told v s) (rules t v s) b (in_difference b j)).0 e;
+        (installed-In (told_rules_of v s) (rules t v s) a (in_difference a i)).0 (installed-In (told_rules_of v s) (rules t v s) b (in_difference b j)).0 e;
     not_both = λ n i j.
         let r = map-In rule_name_of n d.installed j in
-        no_name_twice (told v s) (rules t v s) n (take-In most n (difference (told v s) (rules t v s)).removed i)
-        (subst (λ (m : List ℕ). In m (map rule_name_of (difference (told v s) (rules t v s)).installed)) (sym r.2) (In-map rule_name_of r.0 (difference (told v s) (rules t v s)).installed (in_difference r.0 r.1)));
+        no_name_twice (told_rules_of v s) (rules t v s) n (take-In most n (difference (told_rules_of v s) (rules t v s)).removed i)
+        (subst (λ (m : List ℕ). In m (map rule_name_of (difference (told_rules_of v s) (rules t v s)).installed)) (sym r.2) (In-map rule_name_of r.0 (difference (told_rules_of v s) (rules t v s)).installed (in_difference r.0 r.1)));
   }
 
   module _ (g : Tag) (known : In s (map its_session xs))
@@ -83,10 +83,10 @@ module _ (most : ℕ) (t : Tables) (xs : List SessionFact) (s : Session) (names 
         record {
           rules_stay = stay;
           told_next = next;
-          left = (λ i. difference (next i) (stay i)) ∙ difference-first most (told v s) (rules t v s) (told_is_told xs s) names;
+          left = (λ i. difference (next i) (stay i)) ∙ difference-first most (told_rules_of v s) (rules t v s) (told_is_told xs s) names;
           all_told = λ few.
-              next ∙ ap (apply (told v s)) (first_is_all most (difference (told v s) (rules t v s)) few)
-              ∙ apply-difference (told v s) (rules t v s) (told_is_told xs s).one_each names
+              next ∙ ap (apply (told_rules_of v s)) (first_is_all most (difference (told_rules_of v s) (rules t v s)) few)
+              ∙ apply-difference (told_rules_of v s) (rules t v s) (told_is_told xs s).one_each names
               ∙ ap (λ (rs : List RuleValue). ascending told_cmp (map as_told rs)) (sym stay);
         }
 
@@ -118,7 +118,7 @@ pub record IsField (f : Fact) : Type 0 where
   pub is : f ≡ Field (OfSession name) tag value
 
 -- a field that may be given
-given_field : {A : Type 0} (n : SessionField) (t : Tag) (as_value : A → Value) (x : Option A) (f : Fact) → In f (given (OfSession n) t as_value x) → IsField f
+given_field : {A : Type 0} (n : SessionField) (t : Tag) (as_value : A → Value) (x : Option A) (f : Fact) → In f (given_fact (OfSession n) t as_value x) → IsField f
 given_field n t as_value None f i = absurd i
 given_field n t as_value (Some y) f (inl e) = record { name = n; tag = t; value = as_value y; is = e }
 given_field n t as_value (Some y) f (inr i) = absurd i
@@ -126,9 +126,9 @@ given_field n t as_value (Some y) f (inr i) = absurd i
 -- every fact that a request's fields make is one
 pub of_request : (q : CcrValue) (t : Tag) (f : Fact) → In f (ccr_fields q t) → IsField f
 of_request q t f i =
-    let a : List Fact = given address t Address q.address in
-    let b : List Fact = given apn t Text q.apn in
-    let c : List Fact = given subscribers t Subscribers q.subscribers in
+    let a : List Fact = given_fact address t Address q.address in
+    let b : List Fact = given_fact apn t Text q.apn in
+    let c : List Fact = given_fact subscribers t Subscribers q.subscribers in
     let d : List Fact = Field host t (Text q.host) ∷ Field realm t (Text q.realm) ∷ Field last t (Number (request_kind_number q.kind)) ∷ [] in
     elim (In-cases f (a ++ b ++ c) d i) [
       | inl j ↦ elim (In-cases f (a ++ b) c j) [
@@ -219,8 +219,8 @@ with_fields i h q = h.facts ++ under (gx q.session) (ccr_fields q (next_tag i h 
 -- an initial request or an update tells the first entries, where the names of the rules differ and what was told is up to the clock
 pub provisioning-tells_up_to : (most : ℕ) (t : Tables) (i : ℕ) (h : Holding) (q : CcrValue) → ToldUpTo h.clock h.facts → Distinct (map rule_name_of (rules t (view (with_fields i h q)) (gx q.session))) →
     (view h.facts).ended (gx q.session) ≡ false →
-    TellsTheFirst most t (view (h.facts ++ under (gx q.session) (ccr_fields q (next_tag i h q.number)))) (view (with_added h (provisioned most t i h q).added).facts) (gx q.session)
-unfolding provisioned
+    TellsTheFirst most t (view (h.facts ++ under (gx q.session) (ccr_fields q (next_tag i h q.number)))) (view (with_added h (provision_outcome most t i h q).added).facts) (gx q.session)
+unfolding provision_outcome
 provisioning-tells_up_to most t i h q told_up_to names alive =
     let s : Session = gx q.session in
     let fs : List Fact = ccr_fields q (next_tag i h q.number) in
@@ -230,7 +230,7 @@ provisioning-tells_up_to most t i h q told_up_to names alive =
     let open_ : is_ended (facts_on xs s) ≡ false = ended_with h s fs fields (sym (sessions_alone h.facts s).ended ∙ alive) in
     let own : Fact = Field host (next_tag i h q.number) (Text q.host) in
     let there : In (s, own) xs = In-right (s, own) h.facts (under s fs) (In-under s own fs (In-right own
-    (given address (next_tag i h q.number) Address q.address ++ given apn (next_tag i h q.number) Text q.apn ++ given subscribers (next_tag i h q.number) Subscribers q.subscribers)
+    (given_fact address (next_tag i h q.number) Address q.address ++ given_fact apn (next_tag i h q.number) Text q.apn ++ given_fact subscribers (next_tag i h q.number) Subscribers q.subscribers)
     (own ∷ Field realm (next_tag i h q.number) (Text q.realm) ∷ Field last (next_tag i h q.number) (Number (request_kind_number q.kind)) ∷ []) (inl refl))) in
     let new : List Fact = told_facts g (delta_of most t (view xs) s) in
     let told_so : TellsTheFirst most t (view xs) (view (xs ++ under s new)) s =
@@ -241,7 +241,7 @@ provisioning-tells_up_to most t i h q told_up_to names alive =
 
 -- so it does by tables and on a holding of the form
 pub provisioning-tells : (most : ℕ) (t : Tables) (i : ℕ) (h : Holding) (q : CcrValue) → are_tables t ≡ true → is_holding h ≡ true → (view h.facts).ended (gx q.session) ≡ false →
-    TellsTheFirst most t (view (with_fields i h q)) (view (with_added h (provisioned most t i h q).added).facts) (gx q.session)
+    TellsTheFirst most t (view (with_fields i h q)) (view (with_added h (provision_outcome most t i h q).added).facts) (gx q.session)
 provisioning-tells most t i h q rows form =
     let s : Session = gx q.session in
     let fs : List Fact = ccr_fields q (next_tag i h q.number) in
@@ -250,14 +250,14 @@ provisioning-tells most t i h q rows form =
 
 -- what is added where something is due
 added_due : (most : ℕ) (t : Tables) (i : ℕ) (h : Holding) (v : View) (o : Option Session) (s : Session) → o ≡ Some s
-    → (unwrap_or (option_map (telling most t i h v) o) nothing_pushed).added ≡ Some (next_operation i h 0 s (told_facts (next_tag i h 0) (delta_of most t v s)))
-added_due most t i h v o s is = ap (λ (x : Option Session). (unwrap_or (option_map (telling most t i h v) x) nothing_pushed).added) is
+    → (unwrap_or (option_map (push_outcome most t i h v) o) nothing_pushed).added ≡ Some (next_operation i h 0 s (told_facts (next_tag i h 0) (delta_of most t v s)))
+added_due most t i h v o s is = ap (λ (x : Option Session). (unwrap_or (option_map (push_outcome most t i h v) x) nothing_pushed).added) is
 
 -- a push tells the first entries, where the names of the rules differ and what was told is up to the clock
 pub pushing-tells_up_to : (most : ℕ) (t : Tables) (i : ℕ) (h : Holding) (name : Option (List ℕ)) (s : Session) → ToldUpTo h.clock h.facts → Distinct (map rule_name_of (rules t (view h.facts) s)) →
-    due t i (view h.facts) name ≡ Some s →
+    due_session t i (view h.facts) name ≡ Some s →
     TellsTheFirst most t (view h.facts) (view (with_added h (push most t i h name).added).facts) s
-unfolding push due
+unfolding push due_session
 pushing-tells_up_to most t i h name s told_up_to names is =
     let v : View = view h.facts in
     let g : Tag = next_tag i h 0 in
@@ -268,12 +268,12 @@ pushing-tells_up_to most t i h name s told_up_to names is =
     let told_so : TellsTheFirst most t v (view (h.facts ++ under s new)) s =
     tells_the_first most t h.facts s names g (sessions_are h.facts s r.0) (above_all h i told_up_to s)
     (λ n. told_not_gone (facts_on h.facts s) n open_) in
-    let added = added_due most t i h v (due t i v name) s is in
+    let added = added_due most t i h v (due_session t i v name) s is in
     subst (λ (w : View). TellsTheFirst most t v w s)
     (sym (view-Same _ _ (one_list h.facts s new)) ∙ ap (λ (o : Option Operation). view (with_added h o).facts) (sym added))
     told_so
 
 -- so it does by tables and on a holding of the form
-pub pushing-tells : (most : ℕ) (t : Tables) (i : ℕ) (h : Holding) (name : Option (List ℕ)) (s : Session) → are_tables t ≡ true → is_holding h ≡ true → due t i (view h.facts) name ≡ Some s →
+pub pushing-tells : (most : ℕ) (t : Tables) (i : ℕ) (h : Holding) (name : Option (List ℕ)) (s : Session) → are_tables t ≡ true → is_holding h ≡ true → due_session t i (view h.facts) name ≡ Some s →
     TellsTheFirst most t (view h.facts) (view (with_added h (push most t i h name).added).facts) s
 pushing-tells most t i h name s rows form = pushing-tells_up_to most t i h name s (told_holding h form) (rules-names_differ t h.facts s rows (flows_fit h form))

@@ -10,12 +10,12 @@ use Rattle.pcrf_model.specs.Live.{is_live, is_partial, home}
 use Rattle.pcrf_model.specs.Bindings.{matches, bind}
 use Rattle.pcrf_model.specs.Tables.{Tables}
 use Rattle.pcrf_model.specs.Rules.{rules}
-use Rattle.pcrf_model.specs.Differences.{told, difference}
+use Rattle.pcrf_model.specs.Differences.{told_rules_of, difference}
 use Rattle.pcrf_model.specs.OperatorValues.{operator_value, value_seen}
 use Rattle.pcrf_model.specs.Requests.{CcrValue, AarValue, StrValue, RequestValue, Ccr, Aar, Str, Base}
 use Rattle.pcrf_model.specs.Making.{ccr_fields, aar_facts, next_tag}
 use Rattle.pcrf_model.specs.Refusals.{ccr_refusal, aar_refusal, str_refusal}
-use Rattle.pcrf_model.specs.Serving.{accepted_ccr, serve, serve_ccr, serve_aar, serve_str, provisioned}
+use Rattle.pcrf_model.specs.Serving.{accepted_ccr, serve, serve_ccr, serve_aar, serve_str, provision_outcome}
 use Rattle.pcrf_model.specs.Pushing.{push, lacks_counter}
 use Rattle.pcrf_model.specs.Laws.{ReadsTheSame}
 use Rattle.pcrf_model.proofs.ViewLaws.{view-Same, view-kept}
@@ -33,8 +33,8 @@ reads v w e = record {
   candidates = λ a s. ap (λ (z : View). matches z a s) e;
   bindings = λ a. ap (λ (z : View). bind z a) e;
   lists = λ t s. ap (λ (z : View). rules t z s) e;
-  entries = λ s. ap (λ (z : View). told z s) e;
-  differences = λ t s. ap (λ (z : View). difference (told z s) (rules t z s)) e;
+  entries = λ s. ap (λ (z : View). told_rules_of z s) e;
+  differences = λ t s. ap (λ (z : View). difference (told_rules_of z s) (rules t z s)) e;
 }
 
 -- the kept facts
@@ -53,8 +53,8 @@ operator_value-kept_of t h = ap (λ (v : View). value_seen t h.clock v) (view_so
 -- ---- requests
 
 -- what a request makes of a holding, as a function of the views with and without its facts
-provisioned-kept_of : (most : ℕ) (t : Tables) (i : ℕ) (h : Holding) (q : CcrValue) → provisioned most t i (kept_of h) q ≡ provisioned most t i h q
-unfolding provisioned
+provisioned-kept_of : (most : ℕ) (t : Tables) (i : ℕ) (h : Holding) (q : CcrValue) → provision_outcome most t i (kept_of h) q ≡ provision_outcome most t i h q
+unfolding provision_outcome
 provisioned-kept_of most t i h q = rw (view_with h.facts (under (gx q.session) (ccr_fields q (next_tag i h q.number)))) refl
 
 -- the same credit control requests are refused

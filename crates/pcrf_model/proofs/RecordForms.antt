@@ -11,12 +11,12 @@ use Rattle.ranked.proofs.OrderLaws.{eq_is}
 use Rattle.ranked.proofs.SetLaws.{In-left, In-cases, filter-In, top_of}
 use Rattle.ranked.proofs.AscendingLaws.{ascending-ascending}
 use Rattle.pcrf_facts.specs.Facts.{Fact, End, Removed, Field, is_shaded_by}
-use Rattle.pcrf_facts.specs.Held.{kept, held, joined}
+use Rattle.pcrf_facts.specs.Held.{kept_set, kept_list, join_of}
 use Rattle.pcrf_facts.proofs.FactLaws.{tag_ranked, shaded_irr, shaded_trans}
 use Rattle.pcrf_facts.proofs.JoinedLaws.{kept-In, sorted-In}
 use Rattle.pcrf_values.specs.Limits.{last_counter, site_limit}
 use Rattle.pcrf_model.specs.Sessions.{Kind, Session, session_cmp}
-use Rattle.pcrf_model.specs.Holdings.{SessionFact, session_fact_cmp, under, Holding, replaced}
+use Rattle.pcrf_model.specs.Holdings.{SessionFact, session_fact_cmp, under, Holding, with_facts_of}
 use Rattle.pcrf_model.specs.Operations.{Operation}
 use Rattle.pcrf_model.specs.Forms.{is_stamp, is_unsigned, number_at, fits, is_counted, is_session, is_operation, is_tagged, is_request_number, is_held, is_holding, is_up_to, are_up_to, is_numbered, is_recorded, is_record}
 use Rattle.pcrf_model.proofs.HoldingLaws as holdings
@@ -47,18 +47,18 @@ test_by_known k facts w = both _ _ (has_one w.some.0 facts w.some.1) (all_pass (
 -- ---- what is kept, and joins
 
 -- something is kept where there is something
-some_kept : (xs : List Fact) → (f : Fact) × In f xs → (g : Fact) × In g (held xs)
-some_kept xs w = let top = top_of is_shaded_by shaded_irr shaded_trans w.0 xs w.1 in (top.0, (sorted-In (kept xs) top.0).1 top.1)
+some_kept : (xs : List Fact) → (f : Fact) × In f xs → (g : Fact) × In g (kept_list xs)
+some_kept xs w = let top = top_of is_shaded_by shaded_irr shaded_trans w.0 xs w.1 in (top.0, (sorted-In (kept_set xs) top.0).1 top.1)
 
 -- what is kept of a record is one
-pub held_known : (k : Kind) (xs : List Fact) → IsKnown k xs → IsKnown k (held xs)
-held_known k xs w = record { some = some_kept xs w.some; each = λ f i. w.each f (kept-In f xs ((sorted-In (kept xs) f).0 i)).0 }
+pub held_known : (k : Kind) (xs : List Fact) → IsKnown k xs → IsKnown k (kept_list xs)
+held_known k xs w = record { some = some_kept xs w.some; each = λ f i. w.each f (kept-In f xs ((sorted-In (kept_set xs) f).0 i)).0 }
 
-pub held_record : (k : Kind) (xs : List Fact) → is_record k xs ≡ true → is_record k (held xs) ≡ true
-held_record k xs w = test_by_known k (held xs) (held_known k xs (known_by_test k xs w))
+pub held_record : (k : Kind) (xs : List Fact) → is_record k xs ≡ true → is_record k (kept_list xs) ≡ true
+held_record k xs w = test_by_known k (kept_list xs) (held_known k xs (known_by_test k xs w))
 
 -- and so is the join of two
-pub joined_record : (k : Kind) (xs ys : List Fact) → is_record k xs ≡ true → is_record k ys ≡ true → is_record k (joined xs ys) ≡ true
+pub joined_record : (k : Kind) (xs ys : List Fact) → is_record k xs ≡ true → is_record k ys ≡ true → is_record k (join_of xs ys) ≡ true
 joined_record k xs ys v w =
     let x = known_by_test k xs v in
     let y = known_by_test k ys w in
@@ -66,7 +66,7 @@ joined_record k xs ys v w =
       some = (x.some.0, In-left x.some.0 xs ys x.some.1);
       each = λ f i. elim (In-cases f xs ys i) [ inl j ↦ x.each f j | inr j ↦ y.each f j ];
     } in
-    test_by_known k (joined xs ys) (held_known k (xs ++ ys) all)
+    test_by_known k (join_of xs ys) (held_known k (xs ++ ys) all)
 
 -- ---- operations
 
@@ -153,13 +153,13 @@ recorded_held clock s f low session h l =
 
 -- a holding of the form in which the facts of one session are replaced by those of a record has it, if no tag in it is above its clock
 pub replaced_in_form : (h : Holding) (s : Session) (facts : List Fact) (clock : ℕ) → is_holding h ≡ true → is_session s ≡ true → list_all (is_recorded s.kind) facts ≡ true → clock ≤ last_counter
-    → are_up_to clock (replaced h s facts clock).facts ≡ true → is_holding (replaced h s facts clock) ≡ true
+    → are_up_to clock (with_facts_of h s facts clock).facts ≡ true → is_holding (with_facts_of h s facts clock) ≡ true
 replaced_in_form h s facts clock form session recorded low l =
     let f = form_by_test h form in
     let is_other = λ (x : SessionFact). not (is_eq (session_cmp s x.0)) in
     let others : List SessionFact = filter is_other h.facts in
-    let upto = each_passes (λ (x : SessionFact). is_up_to clock x.1) (replaced h s facts clock).facts l in
-    test_by_form (replaced h s facts clock) (record {
+    let upto = each_passes (λ (x : SessionFact). is_up_to clock x.1) (with_facts_of h s facts clock).facts l in
+    test_by_form (with_facts_of h s facts clock) (record {
       clock = low;
       rises = ascending-ascending session_fact_cmp holdings.session_fact_ranked (others ++ under s facts);
       held = λ x i. elim (In-cases x others (under s facts) ((holdings.sorted-In (others ++ under s facts) x).0 i)) [

@@ -29,7 +29,7 @@ use Rattle.pcrf_model.specs.Tables.{Class, OperatorRule, ApnRow, Tables, media_c
 use Rattle.pcrf_model.specs.Flows.{FlowId, of_component, filters, flow_status, is_signalling, media_type, class_of, Uplink, Downlink, asked_rate, flow_rule_name, flow_rule}
 use Rattle.pcrf_model.specs.Rules.{rule_of, apn_of, operator_rule, operator_rules, flow_rules, listed_cmp, rules}
 use Rattle.pcrf_facts.specs.ToldWords.{ToldRule}
-use Rattle.pcrf_model.specs.Differences.{told, told_name_of, difference}
+use Rattle.pcrf_model.specs.Differences.{told_rules_of, told_name_of, difference}
 use Rattle.pcrf_model.specs.Serving.{delta_of}
 use Rattle.pcrf_model.specs.Forms.{is_byte, is_text, is_unsigned, is_class, is_status, are_filters, is_rule, is_operator_rule, is_session, fits_place, is_holding, are_tables}
 use Rattle.pcrf_model.proofs.HoldingLaws.{facts_on-In}
@@ -255,7 +255,7 @@ module _ (t : Tables) (h : Holding) (tables : are_tables t ≡ true) (form : is_
   told_name Af n x w = clash false w refl
 
   -- so are the names of told entries
-  pub told_in_form : (s : Session) (u : ToldRule) → In u (told v s) → is_text rule_name_limit u.0 ≡ true
+  pub told_in_form : (s : Session) (u : ToldRule) → In u (told_rules_of v s) → is_text rule_name_limit u.0 ≡ true
   told_in_form s u i =
       let r = told-shows h.facts s u i in
       told_name s.kind u.0 (Told u.1) (shown_fits s (OfRuleName u.0) (r.0, Told u.1) r.1)
@@ -263,11 +263,11 @@ module _ (t : Tables) (h : Holding) (tables : are_tables t ≡ true) (form : is_
   -- and what is told of a difference
   pub can_tell : (most : ℕ) (s : Session) → CanTell (delta_of most t v s)
   can_tell most s =
-      let whole : DeltaValue = difference (told v s) (rules t v s) in
-      let installed = λ (r : RuleValue) (i : In r (delta_of most t v s).installed). rule_in_form s r (installed-In (told v s) (rules t v s) r (take-In (most - length whole.removed) r whole.installed i)).0 in
+      let whole : DeltaValue = difference (told_rules_of v s) (rules t v s) in
+      let installed = λ (r : RuleValue) (i : In r (delta_of most t v s).installed). rule_in_form s r (installed-In (told_rules_of v s) (rules t v s) r (take-In (most - length whole.removed) r whole.installed i)).0 in
       record {
         names = λ n i.
-            let u = map-In told_name_of n (told v s) (removed-In (told v s) (rules t v s) n (take-In most n whole.removed i)).0 in
+            let u = map-In told_name_of n (told_rules_of v s) (removed-In (told_rules_of v s) (rules t v s) n (take-In most n whole.removed i)).0 in
             subst (λ (z : List ℕ). is_text rule_name_limit z ≡ true) (sym u.2) (told_in_form s u.0 u.1);
         names_too = λ r i. (installed r i).0;
         rules = λ r i. (installed r i).1;

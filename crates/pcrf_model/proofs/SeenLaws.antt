@@ -10,9 +10,9 @@ use Rattle.pcrf_model.specs.Requests.{RequestValue}
 use Rattle.pcrf_model.specs.Serving.{serve}
 use Rattle.pcrf_model.specs.Pushing.{push}
 use Rattle.pcrf_model.specs.Letters.{LetterBody, Range, Snapshot, Acknowledgement, LetterValue, meaning}
-use Rattle.pcrf_model.specs.Worlds.{ServeAt, PushAt, Letter, Merge, Ack, Restart, Replied, PushedOut, Lettered, Merged, Restarted, NoMemory, Setting, Writing, SiteView, SiteTook, SentLetter, WorldTook, taken_holding, site_view, world_view, made, merged, merged_in_part, first_taken, restarted, change, change_by, letter_to, ack_to, with_letter}
+use Rattle.pcrf_model.specs.Worlds.{ServeAt, PushAt, Letter, Merge, Ack, Restart, Replied, PushedOut, Lettered, Merged, Restarted, NoMemory, Setting, Writing, SiteView, SiteTook, SentLetter, WorldTook, taken_holding, site_view, world_view, with_operation_made, with_letter_taken, with_first_taken, first_taken, restart_of, change, change_by, letter_to, ack_to, with_letter}
 use Rattle.pcrf_model.specs.CursorLaws.{HoldsBehind}
-use Rattle.pcrf_model.specs.Seen.{view_made, view_served, view_pushed, brought, view_merged, view_in_part, view_again, view_letter, view_ack, see_change, see_change_by, see_letter, SeenIsWhatWasTaken, SnapshotsStay}
+use Rattle.pcrf_model.specs.Seen.{view_made, view_served, view_pushed, brought_holding, view_merged, view_in_part, view_again, view_letter, view_ack, see_change, see_change_by, see_letter, SeenIsWhatWasTaken, SnapshotsStay}
 use Rattle.pcrf_model.proofs.UnionLaws.{kept_of-union, union_comm, holding_of-append, holding_of-Same}
 use Rattle.pcrf_model.proofs.ReadingLaws.{serve-kept_of, push-kept_of}
 use Rattle.pcrf_model.proofs.CursorSnapshots.{event_holds}
@@ -24,7 +24,7 @@ holding_of-one : (os : List Operation) (o : Operation) → holding_of (os ++ o �
 holding_of-one os o = holding_of-Same (os ++ o ∷ []) (o ∷ os) (Same-turn os (o ∷ []))
 
 -- an operation that the site made
-site_made : (o : Option Operation) (s : SiteTook) → view_made o (site_view s) ≡ site_view (made o s)
+site_made : (o : Option Operation) (s : SiteTook) → view_made o (site_view s) ≡ site_view (with_operation_made o s)
 site_made None s =
     let taken = append-nil s.taken in
     let log = append-nil s.log in
@@ -34,11 +34,11 @@ site_made (Some o) s =
     sym (λ i. record (site_view s) { state = record { holding = held i; log = s.log ++ o ∷ [] } })
 
 -- a request that it served
-site_serves : (g : Setting) (q : RequestValue) (s : SiteTook) → view_made (view_served g q (site_view s)).added (site_view s) ≡ site_view (made (serve g.most g.tables s.number (taken_holding s) q).added s)
+site_serves : (g : Setting) (q : RequestValue) (s : SiteTook) → view_made (view_served g q (site_view s)).added (site_view s) ≡ site_view (with_operation_made (serve g.most g.tables s.number (taken_holding s) q).added s)
 site_serves g q s = ap (λ (o : Outcome). view_made o.added (site_view s)) (serve-kept_of g.most g.tables s.number (taken_holding s) q) ∙ site_made (serve g.most g.tables s.number (taken_holding s) q).added s
 
 -- a push that it made
-site_pushes : (g : Setting) (name : Option (List ℕ)) (s : SiteTook) → view_made (view_pushed g name (site_view s)).added (site_view s) ≡ site_view (made (push g.most g.tables s.number (taken_holding s) name).added s)
+site_pushes : (g : Setting) (name : Option (List ℕ)) (s : SiteTook) → view_made (view_pushed g name (site_view s)).added (site_view s) ≡ site_view (with_operation_made (push g.most g.tables s.number (taken_holding s) name).added s)
 site_pushes g name s = ap (λ (o : Outcome). view_made o.added (site_view s)) (push-kept_of g.most g.tables s.number (taken_holding s) name) ∙ site_made (push g.most g.tables s.number (taken_holding s) name).added s
 
 -- operations
@@ -54,24 +54,24 @@ site_takes_kept s os =
     ∙ site_takes s os
 
 -- a letter whole
-site_merges : (how : Writing) (l : SentLetter) (s : SiteTook) → HoldsBehind l.behind l.letter.body → view_merged how l.letter (site_view s) ≡ site_view (merged how l s)
+site_merges : (how : Writing) (l : SentLetter) (s : SiteTook) → HoldsBehind l.behind l.letter.body → view_merged how l.letter (site_view s) ≡ site_view (with_letter_taken how l s)
 site_merges how l s holds =
     let held = of_body l.letter.body holds in
-    λ i. record (site_view (merged how l s)) { state = record { holding = held i; log = s.log } }
+    λ i. record (site_view (with_letter_taken how l s)) { state = record { holding = held i; log = s.log } }
   where
-    of_body : (b : LetterBody) → HoldsBehind l.behind b → kept_of (union (kept_of (taken_holding s)) (brought b)) ≡ kept_of (holding_of (s.taken ++ meaning l.behind b))
+    of_body : (b : LetterBody) → HoldsBehind l.behind b → kept_of (union (kept_of (taken_holding s)) (brought_holding b)) ≡ kept_of (holding_of (s.taken ++ meaning l.behind b))
     of_body (Range from os) h = site_takes s os
     of_body (Snapshot k n) h = ap (λ (x : Holding). kept_of (union (kept_of (taken_holding s)) x)) h ∙ site_takes_kept s l.behind
     of_body (Acknowledgement m e c) h = site_takes s []
 
 -- the first operations of a letter
-site_merges_in_part : (n : ℕ) (l : SentLetter) (s : SiteTook) → view_in_part n l.letter (site_view s) ≡ site_view (merged_in_part n l s)
+site_merges_in_part : (n : ℕ) (l : SentLetter) (s : SiteTook) → view_in_part n l.letter (site_view s) ≡ site_view (with_first_taken n l s)
 site_merges_in_part n l s =
     let held = site_takes s (first_taken n l.letter.body) in
     λ i. record (site_view s) { state = record { holding = held i; log = s.log } }
 
 -- a restart
-site_starts_again : (s : SiteTook) → view_again (site_view s) ≡ site_view (restarted s)
+site_starts_again : (s : SiteTook) → view_again (site_view s) ≡ site_view (restart_of s)
 site_starts_again s =
     let epoch = length-append s.past (s.log ∷ []) in
     sym (λ i. record (view_again (site_view s)) { epoch = epoch i + 1 })
@@ -123,13 +123,13 @@ letter_seen w i k write same = of_option (slice_get w.sites i) refl
 
 -- each event
 pub seen_is_taken : SeenIsWhatWasTaken
-seen_is_taken g w (ServeAt i q) (Ok (Replied r)) all = change_seen w i (λ s. view_made (view_served g q s).added s) (λ s. made (serve g.most g.tables s.number (taken_holding s) q).added s) (site_serves g q)
-seen_is_taken g w (PushAt i name) (Ok (PushedOut p)) all = change_seen w i (λ s. view_made (view_pushed g name s).added s) (λ s. made (push g.most g.tables s.number (taken_holding s) name).added s) (site_pushes g name)
+seen_is_taken g w (ServeAt i q) (Ok (Replied r)) all = change_seen w i (λ s. view_made (view_served g q s).added s) (λ s. with_operation_made (serve g.most g.tables s.number (taken_holding s) q).added s) (site_serves g q)
+seen_is_taken g w (PushAt i name) (Ok (PushedOut p)) all = change_seen w i (λ s. view_made (view_pushed g name s).added s) (λ s. with_operation_made (push g.most g.tables s.number (taken_holding s) name).added s) (site_pushes g name)
 seen_is_taken g w (Letter i j) (Ok (Lettered k)) all = letter_seen w i (view_letter g j) (letter_to g j) (λ s. refl)
-seen_is_taken g w (Merge j k) (Ok Merged) all = change_by_seen w j k (view_merged g.writes) (merged g.writes) (λ l at s. site_merges g.writes l s (all k l at))
-seen_is_taken g w (Merge j k) (Err (NoMemory n)) all = change_by_seen w j k (view_in_part n) (merged_in_part n) (λ l at s. site_merges_in_part n l s)
+seen_is_taken g w (Merge j k) (Ok Merged) all = change_by_seen w j k (view_merged g.writes) (with_letter_taken g.writes) (λ l at s. site_merges g.writes l s (all k l at))
+seen_is_taken g w (Merge j k) (Err (NoMemory n)) all = change_by_seen w j k (view_in_part n) (with_first_taken n) (λ l at s. site_merges_in_part n l s)
 seen_is_taken g w (Ack j i) (Ok (Lettered k)) all = letter_seen w j (view_ack g i) (ack_to g i) (λ s. refl)
-seen_is_taken g w (Restart i) (Ok (Restarted e)) all = change_seen w i view_again restarted site_starts_again
+seen_is_taken g w (Restart i) (Ok (Restarted e)) all = change_seen w i view_again restart_of site_starts_again
 seen_is_taken g w e a all = refl
 
 -- snapshots stay

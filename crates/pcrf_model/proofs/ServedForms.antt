@@ -27,13 +27,13 @@ use Rattle.pcrf_model.specs.Views.{View, view}
 use Rattle.pcrf_model.specs.Live.{is_live}
 use Rattle.pcrf_model.specs.Tables.{Tables}
 use Rattle.pcrf_model.specs.Rules.{rules}
-use Rattle.pcrf_model.specs.Differences.{told, difference, is_empty}
+use Rattle.pcrf_model.specs.Differences.{told_rules_of, difference, is_empty}
 use Rattle.pcrf_model.specs.Requests.{CcrValue, AarValue, StrValue, RequestValue, Ccr, Aar, Str, Base}
 use Rattle.pcrf_model.specs.Making.{ccr_fields, told_facts, component_facts, aar_facts, next_tag, next_operation}
 use Rattle.pcrf_model.specs.Refusals.{first_cause, is_clock_full, ccr_causes, ccr_refusal, aar_causes, aar_refusal, str_refusal}
 use Rattle.pcrf_model.specs.Replies.{ReplyValue, OnGx, Rejected, Refused, Outcome}
-use Rattle.pcrf_model.specs.Serving.{empty_delta, delta_of, provisioned, accepted_ccr, described, closed, refused_or, serve_ccr, serve_aar, serve_str, serve}
-use Rattle.pcrf_model.specs.Pushing.{is_of_host, is_home, is_due, due, telling, nothing_pushed, push, lacks_counter}
+use Rattle.pcrf_model.specs.Serving.{empty_delta, delta_of, provision_outcome, accepted_ccr, description_outcome, session_end_outcome, refusal_or, serve_ccr, serve_aar, serve_str, serve}
+use Rattle.pcrf_model.specs.Pushing.{is_of_host, is_home, is_due, due_session, push_outcome, nothing_pushed, push, lacks_counter}
 use Rattle.pcrf_model.specs.Forms.{is_text, is_unsigned, is_identity, is_origin, is_user, is_session, fits_session_field, are_apart, is_component, is_request_number, is_operation, is_holding, is_request, is_stamp, is_record, are_tables}
 use Rattle.pcrf_model.proofs.HoldingLaws.{sorted-In}
 use Rattle.pcrf_model.proofs.ViewLaws.{view-Same}
@@ -121,7 +121,7 @@ adds_this : (p : Operation) → is_operation p ≡ true → Good (Some p)
 adds_this p w o e = subst (λ (z : Operation). is_operation z ≡ true) (some_same p o e) w
 
 -- whether refused or not
-good_or : (as_reply : Refusal → ReplyValue) (x : Option Refusal) (a : Outcome) → (x ≡ None → Good a.added) → Good (refused_or as_reply x a).added
+good_or : (as_reply : Refusal → ReplyValue) (x : Option Refusal) (a : Outcome) → (x ≡ None → Good a.added) → Good (refusal_or as_reply x a).added
 good_or as_reply None a w = w refl
 good_or as_reply (Some r) a w = λ o e. absurd (cc)
 
@@ -202,7 +202,7 @@ told_length u d = simp (length-append, length-map)
 -- something is told of what is due, where a message carries an entry
 pub told_some : (most : ℕ) (t : Tables) (i : ℕ) (v : View) (name : Option (List ℕ)) (s : Session) (u : Tag) → 1 ≤ most → is_due t i v name s ≡ true → 1 ≤ length (told_facts u (delta_of most t v s))
 told_some most t i v name s u one w =
-    let d : DeltaValue = difference (told v s) (rules t v s) in
+    let d : DeltaValue = difference (told_rules_of v s) (rules t v s) in
     let open_ = second_so (is_gx s.kind && is_live v s && is_home i v s && is_of_host v name s) (not (is_empty d)) w in
     let lacks = not_empty (length d.removed + length d.installed) open_ in
     let count = told_length u (delta_of most t v s) in
@@ -262,8 +262,8 @@ module _ (most : ℕ) (t : Tables) (i : ℕ) (h : Holding) (tables : are_tables 
         (Same-append h.facts sorted h.facts (under s set) (Same-itself h.facts) (map-Same (λ (f : Fact). (s, f)) (ascending fact_cmp set) set (facts.sorted-In set))))
 
     -- an initial request or an update adds an operation of the form
-    provisioned_good : Good (provisioned most t i h q).added
-    unfolding provisioned
+    provisioned_good : Good (provision_outcome most t i h q).added
+    unfolding provision_outcome
     provisioned_good =
         let v : View = view (h.facts ++ under s set) in
         let d : DeltaValue = delta_of most t v s in
@@ -293,7 +293,7 @@ module _ (most : ℕ) (t : Tables) (i : ℕ) (h : Holding) (tables : are_tables 
   -- any AA request
   pub aar_good : i < site_limit → (q : AarValue) → is_request (Aar q) ≡ true → Good (serve_aar t i h q).added
   unfolding serve_aar
-  aar_good site q w = good_or Refused (aar_refusal t i h q) (described i h q) (λ e. adds_this _ (makes (can_add i h site form (aar_left t i h q e))))
+  aar_good site q w = good_or Refused (aar_refusal t i h q) (description_outcome i h q) (λ e. adds_this _ (makes (can_add i h site form (aar_left t i h q e))))
     where
       makes : CanAdd i h → is_operation (next_operation i h 0 (af q.session) (aar_facts q (next_tag i h 0))) ≡ true
       makes can = made_in_form i h 0 (af q.session) (aar_facts q (next_tag i h 0)) can refl (origin_parts q.session q.host q.realm (aar_parts q w).0).0 (call_makes (h.clock + 1) i q w)
@@ -301,7 +301,7 @@ module _ (most : ℕ) (t : Tables) (i : ℕ) (h : Holding) (tables : are_tables 
   -- any session termination request
   pub str_good : i < site_limit → (q : StrValue) → is_request (Str q) ≡ true → Good (serve_str i h q).added
   unfolding serve_str
-  str_good site q w = good_or Refused (str_refusal h q) (closed i h q)
+  str_good site q w = good_or Refused (str_refusal h q) (session_end_outcome i h q)
       (λ e. adds_this _ (end_in_form (h.clock + 1) i 0 (af q.session) (stamp_left i h (can_add i h site form (str_left h q e))) refl (origin_parts q.session q.host q.realm w).0))
 
   -- any request
@@ -329,7 +329,7 @@ module _ (most : ℕ) (t : Tables) (i : ℕ) (h : Holding) (tables : are_tables 
       first_so _ _ (first_so _ _ (held_fact h form (s, Field address shows.0.0 shows.0.1) (shown_fact t h tables form s address shows.0 shows.1)))
 
   -- what is told of a session that is due makes an operation of the form
-  telling_good : (name : Option (List ℕ)) (s : Session) → 1 ≤ most → CanAdd i h → is_due t i (view h.facts) name s ≡ true → Good (telling most t i h (view h.facts) s).added
+  telling_good : (name : Option (List ℕ)) (s : Session) → 1 ≤ most → CanAdd i h → is_due t i (view h.facts) name s ≡ true → Good (push_outcome most t i h (view h.facts) s).added
   telling_good name s one can w =
       let d : DeltaValue = delta_of most t (view h.facts) s in
       adds_this _ (telling_in_form (h.clock + 1) i s (stamp_left i h can) (due_gateway name s w) (due_in_form name s w) d (can_tell t h tables form most s)
@@ -338,9 +338,9 @@ module _ (most : ℕ) (t : Tables) (i : ℕ) (h : Holding) (tables : are_tables 
   -- whatever is pushed
   push_good : 1 ≤ most → i < site_limit → (name : Option (List ℕ)) → lacks_counter t i h name ≡ false → Good (push most t i h name).added
   unfolding push lacks_counter
-  push_good one site name w = of_due (due t i (view h.facts) name) refl w
+  push_good one site name w = of_due (due_session t i (view h.facts) name) refl w
     where
-      of_due : (x : Option Session) → due t i (view h.facts) name ≡ x → (is_some x && is_clock_full h) ≡ false → Good (unwrap_or (option_map (telling most t i h (view h.facts)) x) nothing_pushed).added
+      of_due : (x : Option Session) → due_session t i (view h.facts) name ≡ x → (is_some x && is_clock_full h) ≡ false → Good (unwrap_or (option_map (push_outcome most t i h (view h.facts)) x) nothing_pushed).added
       of_due None e k = λ o q. absurd (cc)
       of_due (Some s) e k = telling_good name s one (can_add i h site form k) (first_due t i h.facts name s e).is_one
 

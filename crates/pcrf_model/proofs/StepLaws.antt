@@ -6,7 +6,7 @@ use Rattle.pcrf_model.specs.Tables.{Tables}
 use Rattle.pcrf_model.specs.Replies.{ReplyValue, Taken, Copy, Outcome}
 use Rattle.pcrf_model.specs.Serving.{serve}
 use Rattle.pcrf_model.specs.Pushing.{push}
-use Rattle.pcrf_model.specs.Steps.{SiteState, kept_state, SiteEvent, Serve, Push, Ops, Whole, AskOwn, AskWhole, adding, MayReply, stepped}
+use Rattle.pcrf_model.specs.Steps.{SiteState, kept_state, SiteEvent, Serve, Push, Ops, Whole, AskOwn, AskWhole, with_own, MayReply, state_after}
 use Rattle.pcrf_model.proofs.UnionLaws.{kept_of-union, kept_of_twice}
 use Rattle.pcrf_model.proofs.ReadingLaws.{serve-kept_of, push-kept_of, lacks_counter-kept_of}
 
@@ -38,7 +38,7 @@ module _ (most : ℕ) (t : Tables) (i : ℕ) (s : SiteState) where
   with_more k log = with_holding (union (kept_of s.holding) k) (union s.holding k) (kept_of-union s.holding k) log
 
   -- with an operation added
-  adds : (o : Option Operation) → kept_state (adding (kept_state s) o) ≡ kept_state (adding s o)
+  adds : (o : Option Operation) → kept_state (with_own (kept_state s) o) ≡ kept_state (with_own s o)
   adds None = with_holding (kept_of s.holding) s.holding (kept_of_twice s.holding) s.log
   adds (Some o) = with_more (record { facts = under o.session o.facts; clock = o.counter }) (s.log ++ o ∷ [])
 
@@ -47,14 +47,14 @@ module _ (most : ℕ) (t : Tables) (i : ℕ) (s : SiteState) where
   unchanged = with_holding (kept_of s.holding) s.holding (kept_of_twice s.holding) s.log
 
   -- the same is kept after each event
-  pub steps : (e : SiteEvent) (r : ReplyValue) → kept_state (stepped most t i (kept_state s) e r) ≡ kept_state (stepped most t i s e r)
-  steps (Serve q) r = ap (λ (o : Outcome). kept_state (adding (kept_state s) o.added)) (serve-kept_of most t i s.holding q) ∙ adds (serve most t i s.holding q).added
-  steps (Push name) r = ap (λ (o : Outcome). kept_state (adding (kept_state s) o.added)) (push-kept_of most t i s.holding name) ∙ adds (push most t i s.holding name).added
+  pub steps : (e : SiteEvent) (r : ReplyValue) → kept_state (state_after most t i (kept_state s) e r) ≡ kept_state (state_after most t i s e r)
+  steps (Serve q) r = ap (λ (o : Outcome). kept_state (with_own (kept_state s) o.added)) (serve-kept_of most t i s.holding q) ∙ adds (serve most t i s.holding q).added
+  steps (Push name) r = ap (λ (o : Outcome). kept_state (with_own (kept_state s) o.added)) (push-kept_of most t i s.holding name) ∙ adds (push most t i s.holding name).added
   steps (Ops os) (Taken n) = with_more (holding_of (take n os)) s.log
   steps (Whole k) r = with_more k s.log
   steps e r = unchanged
 
 -- both
 pub steps-kept : (most : ℕ) (t : Tables) (i : ℕ) (s : SiteState) (e : SiteEvent) (r : ReplyValue) →
-    (MayReply most t i (kept_state s) e r ↔ MayReply most t i s e r) × (kept_state (stepped most t i (kept_state s) e r) ≡ kept_state (stepped most t i s e r))
+    (MayReply most t i (kept_state s) e r ↔ MayReply most t i s e r) × (kept_state (state_after most t i (kept_state s) e r) ≡ kept_state (state_after most t i s e r))
 steps-kept most t i s e r = (may_reply most t i s e r, steps most t i s e r)

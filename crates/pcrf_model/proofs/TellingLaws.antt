@@ -16,16 +16,16 @@ use Rattle.pcrf_values.specs.RuleValues.{RuleValue, DeltaValue}
 use Rattle.pcrf_facts.specs.Places.{Place, OfSession, OfComponent, OfFlow, OfRuleName}
 use Rattle.pcrf_facts.specs.Values.{Value, Untold, Told, Entry}
 use Rattle.pcrf_facts.specs.Facts.{Fact, Field}
-use Rattle.pcrf_facts.specs.Held.{is_ended, is_gone, shown}
+use Rattle.pcrf_facts.specs.Held.{is_ended, is_gone, entry_shown}
 use Rattle.pcrf_model.specs.Sessions.{Session, session_cmp}
 use Rattle.pcrf_model.specs.Holdings.{SessionFact, under, on_session, facts_on}
-use Rattle.pcrf_model.specs.Views.{View, Shown, shown_cmp, shown_on, showing, view}
+use Rattle.pcrf_model.specs.Views.{View, Shown, shown_cmp, entry_shown_on, shown_by_fact, view}
 use Rattle.pcrf_model.specs.Live.{is_live}
 use Rattle.pcrf_model.specs.Bindings.{bind, is_bound_to}
 use Rattle.pcrf_model.specs.Tables.{Tables}
 use Rattle.pcrf_model.specs.Rules.{flow_at, rule_of, rule_at, operator_rules, listed_cmp, rules}
 use Rattle.pcrf_facts.specs.ToldWords.{ToldRule}
-use Rattle.pcrf_model.specs.Differences.{told_cmp, told, rule_name_of, as_told, stays, last_of_names, apply}
+use Rattle.pcrf_model.specs.Differences.{told_cmp, told_rules_of, rule_name_of, as_told, stays, last_of_names, apply}
 use Rattle.pcrf_model.specs.Making.{told_facts}
 use Rattle.pcrf_model.proofs.HoldingLaws.{session_ranked, facts_on-In, under-In}
 use Rattle.pcrf_model.proofs.ViewLaws.{shown_ranked, its_session, sessions_alone, all-shows, In-all}
@@ -102,7 +102,7 @@ module _ (xs : List SessionFact) (s : Session) (ts : List Fact) (tells : (f : Fa
   field_same : (r : Session) (p : Place) → is_told p ≡ false → w.shows r p ≡ v.shows r p
   field_same r p h =
       (sessions_alone (xs ++ under s ts) r).shows p
-      ∙ ap (λ (l : List Fact). shown l p) (facts_after r)
+      ∙ ap (λ (l : List Fact). entry_shown l p) (facts_after r)
       ∙ field_shows (facts_on xs r) (more r) (more_tells r) p h
       ∙ sym ((sessions_alone xs r).shows p)
 
@@ -141,7 +141,7 @@ module _ (xs : List SessionFact) (s : Session) (ts : List Fact) (tells : (f : Fa
   -- all that shows is in order
   in_order : (facts : List SessionFact) → Rises shown_cmp (view facts).all
   unfolding view
-  in_order facts = ascending-ascending shown_cmp shown_ranked (filter_map (λ (x : SessionFact). showing (shown_on facts) x.0 x.1) facts)
+  in_order facts = ascending-ascending shown_cmp shown_ranked (filter_map (λ (x : SessionFact). shown_by_fact (entry_shown_on facts) x.0 x.1) facts)
 
   -- the sessions that have a fact
   known_sessions : In s (map its_session xs) → w.sessions ≡ v.sessions
@@ -206,21 +206,21 @@ module _ (xs : List SessionFact) (s : Session) (g : Tag) (d : DeltaValue)
   after = view (xs ++ under s ts)
 
   -- what the session shows before
-  shows_before : (p : Place) → before.shows s p ≡ shown (facts_on xs s) p
+  shows_before : (p : Place) → before.shows s p ≡ entry_shown (facts_on xs s) p
   shows_before p = (sessions_alone xs s).shows p
 
   -- and after
-  shows_after : (p : Place) → after.shows s p ≡ shown (facts_on xs s ++ ts) p
+  shows_after : (p : Place) → after.shows s p ≡ entry_shown (facts_on xs s ++ ts) p
   shows_after p =
       (sessions_alone (xs ++ under s ts) s).shows p
-      ∙ ap (λ (l : List Fact). shown l p) (filter_map-append (on_session s) xs (under s ts) ∙ ap (λ (l : List Fact). facts_on xs s ++ l) (facts_on-under s ts))
+      ∙ ap (λ (l : List Fact). entry_shown l p) (filter_map-append (on_session s) xs (under s ts) ∙ ap (λ (l : List Fact). facts_on xs s ++ l) (facts_on-under s ts))
 
   -- what the rest of the names show
   old_after : (n : List ℕ) → (In n d.removed → ⊥) → (In n (map rule_name_of d.installed) → ⊥) → after.shows s (OfRuleName n) ≡ before.shows s (OfRuleName n)
   old_after n a b = shows_after (OfRuleName n) ∙ shows_old (facts_on xs s) g d n a b ∙ sym (shows_before (OfRuleName n))
 
   -- what is told after is what the difference leads to
-  told_onward : (p : ToldRule) → In p (told after s) → In p (apply (told before s) d)
+  told_onward : (p : ToldRule) → In p (told_rules_of after s) → In p (apply (told_rules_of before s) d)
   told_onward p i =
       let h = told-shows (xs ++ under s ts) s p i in
       elim (is_among p.0 d.removed) [
@@ -230,25 +230,25 @@ module _ (xs : List SessionFact) (s : Session) (g : Tag) (d : DeltaValue)
               let r = map-In rule_name_of p.0 d.installed j in
               let shows : after.shows s (OfRuleName r.0.name) ≡ Some (g, Told r.0) = shows_after (OfRuleName r.0.name) ∙ shows_told (facts_on xs s) g d older open_ its r.0 r.1 in
               let q = one_told r.0 p.1 (ap (λ (z : Entry). z.1) (entries_of (g, Told r.0) (h.0, Told p.1) (sym shows ∙ ap (λ (n : List ℕ). after.shows s (OfRuleName n)) (sym r.2) ∙ h.1))) in
-              subst (λ (z : ToldRule). In z (apply (told before s) d)) (λ k. (sym r.2 k, q k)) (installed_in (told before s) d its.one_each r.0 r.1)
-          | inr b ↦ stays_in (told before s) d p (In-told xs s p.0 h.0 p.1 (sym (old_after p.0 a b) ∙ h.1)) (stays_if (told before s) d p a b)
+              subst (λ (z : ToldRule). In z (apply (told_rules_of before s) d)) (λ k. (sym r.2 k, q k)) (installed_in (told_rules_of before s) d its.one_each r.0 r.1)
+          | inr b ↦ stays_in (told_rules_of before s) d p (In-told xs s p.0 h.0 p.1 (sym (old_after p.0 a b) ∙ h.1)) (stays_if (told_rules_of before s) d p a b)
         ]
       ]
 
   -- and all of that
-  told_backward : (p : ToldRule) → In p (apply (told before s) d) → In p (told after s)
-  told_backward p i = elim (there (told before s) d p i) [
+  told_backward : (p : ToldRule) → In p (apply (told_rules_of before s) d) → In p (told_rules_of after s)
+  told_backward p i = elim (there (told_rules_of before s) d p i) [
     | inl r ↦
         let h = told-shows xs s p r.0 in
-        In-told (xs ++ under s ts) s p.0 h.0 p.1 (old_after p.0 (not_removed (told before s) d p r.1) (not_installed (told before s) d p r.1) ∙ h.1)
+        In-told (xs ++ under s ts) s p.0 h.0 p.1 (old_after p.0 (not_removed (told_rules_of before s) d p r.1) (not_installed (told_rules_of before s) d p r.1) ∙ h.1)
     | inr r ↦
         let shows : after.shows s (OfRuleName r.0.name) ≡ Some (g, Told r.0) = shows_after (OfRuleName r.0.name) ∙ shows_told (facts_on xs s) g d older open_ its r.0 r.1 in
-        subst (λ (z : ToldRule). In z (told after s)) (sym r.2) (In-told (xs ++ under s ts) s r.0.name g r.0 shows)
+        subst (λ (z : ToldRule). In z (told_rules_of after s)) (sym r.2) (In-told (xs ++ under s ts) s r.0.name g r.0 shows)
   ]
 
   -- the told entries are those before, with the difference applied
-  pub told_after : told after s ≡ apply (told before s) d
+  pub told_after : told_rules_of after s ≡ apply (told_rules_of before s) d
   told_after = same_ascending told_cmp told_ranked _ _
-      (subst (Rises told_cmp) (told_is_told (xs ++ under s ts) s).in_order (ascending-ascending told_cmp told_ranked (told after s)))
-      (ascending-ascending told_cmp told_ranked (filter (stays d) (told before s) ++ map as_told (last_of_names d.installed)))
+      (subst (Rises told_cmp) (told_is_told (xs ++ under s ts) s).in_order (ascending-ascending told_cmp told_ranked (told_rules_of after s)))
+      (ascending-ascending told_cmp told_ranked (filter (stays d) (told_rules_of before s) ++ map as_told (last_of_names d.installed)))
       (λ p. (told_onward p, told_backward p))

@@ -14,7 +14,7 @@ use Rattle.pcrf_values.specs.RuleValues.{RuleValue, DeltaValue}
 use Rattle.pcrf_facts.specs.Places.{Place, OfSession, OfComponent, OfFlow, OfRuleName}
 use Rattle.pcrf_facts.specs.Values.{Value, Untold, Told, value_cmp, Entry, entry_cmp}
 use Rattle.pcrf_facts.specs.Facts.{Fact, Field}
-use Rattle.pcrf_facts.specs.Held.{ends, is_ended, blocks, is_gone, entry_at, value_at, shown}
+use Rattle.pcrf_facts.specs.Held.{ends, is_ended, blocks, is_gone, entry_at, value_at, entry_shown}
 use Rattle.pcrf_facts.proofs.FactLaws.{place_ranked, entry_ranked}
 use Rattle.pcrf_facts.proofs.ShownLaws.{field_entry, entry_field}
 use Rattle.pcrf_model.specs.Differences.{rule_name_of}
@@ -61,7 +61,7 @@ module _ (xs ts : List Fact) (tells : (f : Fact) → In f ts → Tells f) where
   ended_same = any_same ends (λ f i. ap ends (tells f i).is)
 
   -- a place of which they say nothing shows what it showed
-  pub shown_same : (p : Place) → ((f : Fact) → In f ts → entry_at p f ≡ None) → shown (xs ++ ts) p ≡ shown xs p
+  pub shown_same : (p : Place) → ((f : Fact) → In f ts → entry_at p f ≡ None) → entry_shown (xs ++ ts) p ≡ entry_shown xs p
   shown_same p quiet = λ i. cond (gone_same p i) None (values i)
     where
       no_some : {P : Type 0} (e : Entry) → None ≡ Some e → P
@@ -87,7 +87,7 @@ module _ (xs ts : List Fact) (tells : (f : Fact) → In f ts → Tells f) where
       g = tells f i
 
   -- so fields show what they showed
-  pub field_shows : (p : Place) → is_told p ≡ false → shown (xs ++ ts) p ≡ shown xs p
+  pub field_shows : (p : Place) → is_told p ≡ false → entry_shown (xs ++ ts) p ≡ entry_shown xs p
   field_shows p h = shown_same p (quiet_field p h)
 
 -- ---- telling a difference
@@ -136,7 +136,7 @@ module _ (xs : List Fact) (g : Tag) (d : DeltaValue) where
 
   module _ (older : (m : List ℕ) (u : Tag) (x : Value) → In (Field (OfRuleName m) u x) xs → tag_cmp u g ≡ Less) (open_ : (n : List ℕ) → is_gone xs (OfRuleName n) ≡ false) where
     -- what is told now shows, for its tag is above all before
-    shows_new : (n : List ℕ) (x : Value) → In (Field (OfRuleName n) g x) ts → ((y : Value) → In (Field (OfRuleName n) g y) ts → y ≡ x) → shown (xs ++ ts) (OfRuleName n) ≡ Some (g, x)
+    shows_new : (n : List ℕ) (x : Value) → In (Field (OfRuleName n) g x) ts → ((y : Value) → In (Field (OfRuleName n) g y) ts → y ≡ x) → entry_shown (xs ++ ts) (OfRuleName n) ≡ Some (g, x)
     shows_new n x i only =
         let p : Place = OfRuleName n in
         let es : List Entry = filter_map (entry_at p) (xs ++ ts) in
@@ -161,7 +161,7 @@ module _ (xs : List Fact) (g : Tag) (d : DeltaValue) where
 
     module _ (its : IsApart d) where
       -- a removed name shows that nothing is told
-      pub shows_untold : (n : List ℕ) → In n d.removed → shown (xs ++ ts) (OfRuleName n) ≡ Some (g, Untold)
+      pub shows_untold : (n : List ℕ) → In n d.removed → entry_shown (xs ++ ts) (OfRuleName n) ≡ Some (g, Untold)
       shows_untold n i = shows_new n Untold
           (In-left (Field (OfRuleName n) g Untold) (map (λ n. Field (OfRuleName n) g Untold) d.removed) (map (λ (r : RuleValue). Field (OfRuleName r.name) g (Told r)) d.installed) (In-map (λ n. Field (OfRuleName n) g Untold) n d.removed i))
           (λ y j. elim (of_name n y j) [
@@ -170,7 +170,7 @@ module _ (xs : List Fact) (g : Tag) (d : DeltaValue) where
           ])
 
       -- an installed rule shows
-      pub shows_told : (r : RuleValue) → In r d.installed → shown (xs ++ ts) (OfRuleName r.name) ≡ Some (g, Told r)
+      pub shows_told : (r : RuleValue) → In r d.installed → entry_shown (xs ++ ts) (OfRuleName r.name) ≡ Some (g, Told r)
       shows_told r i = shows_new r.name (Told r)
           (In-right (Field (OfRuleName r.name) g (Told r)) (map (λ n. Field (OfRuleName n) g Untold) d.removed) (map (λ (r : RuleValue). Field (OfRuleName r.name) g (Told r)) d.installed) (In-map (λ (r : RuleValue). Field (OfRuleName r.name) g (Told r)) r d.installed i))
           (λ y j. elim (of_name r.name y j) [
@@ -179,7 +179,7 @@ module _ (xs : List Fact) (g : Tag) (d : DeltaValue) where
           ])
 
   -- any other name shows what it showed
-  pub shows_old : (n : List ℕ) → (In n d.removed → ⊥) → (In n (map rule_name_of d.installed) → ⊥) → shown (xs ++ ts) (OfRuleName n) ≡ shown xs (OfRuleName n)
+  pub shows_old : (n : List ℕ) → (In n d.removed → ⊥) → (In n (map rule_name_of d.installed) → ⊥) → entry_shown (xs ++ ts) (OfRuleName n) ≡ entry_shown xs (OfRuleName n)
   shows_old n a b = shown_same xs ts (told-tells g d) (OfRuleName n) (λ f i. elim (told-In g d f i) [
     | inl r ↦ ap (entry_at (OfRuleName n)) r.2 ∙ other_name n r.0 g Untold (λ e. a (subst (λ (m : List ℕ). In m d.removed) e r.1))
     | inr r ↦ ap (entry_at (OfRuleName n)) r.2 ∙ other_name n r.0.name g (Told r.0) (λ e. b (subst (λ (m : List ℕ). In m (map rule_name_of d.installed)) e (In-map rule_name_of r.0 d.installed r.1)))

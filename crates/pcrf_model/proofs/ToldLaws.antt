@@ -16,9 +16,9 @@ use Rattle.pcrf_facts.specs.Places.{Place, OfRuleName, place_cmp}
 use Rattle.pcrf_facts.specs.Values.{Value, Told, entry_cmp}
 use Rattle.pcrf_model.specs.Sessions.{Session, session_cmp}
 use Rattle.pcrf_model.specs.Holdings.{SessionFact}
-use Rattle.pcrf_model.specs.Views.{View, Shown, shown_cmp, shown_as, shown_on, showing, view}
+use Rattle.pcrf_model.specs.Views.{View, Shown, shown_cmp, shown_of, entry_shown_on, shown_by_fact, view}
 use Rattle.pcrf_facts.specs.ToldWords.{ToldRule, told_rule_at}
-use Rattle.pcrf_model.specs.Differences.{told_cmp, told, told_name_of, IsTold}
+use Rattle.pcrf_model.specs.Differences.{told_cmp, told_rules_of, told_name_of, IsTold}
 use Rattle.pcrf_model.proofs.HoldingLaws.{session_ranked}
 use Rattle.pcrf_model.proofs.ViewLaws.{shown_ranked, all-shows, In-all}
 use Rattle.pcrf_model.proofs.DifferenceLaws.{told_ranked}
@@ -47,7 +47,7 @@ module _ (facts : List SessionFact) (s : Session) where
   -- all that shows is in order
   all_ascending : Rises shown_cmp v.all
   unfolding view
-  all_ascending = ascending-ascending shown_cmp shown_ranked (filter_map (λ (x : SessionFact). showing (shown_on facts) x.0 x.1) facts)
+  all_ascending = ascending-ascending shown_cmp shown_ranked (filter_map (λ (x : SessionFact). shown_by_fact (entry_shown_on facts) x.0 x.1) facts)
 
   -- names of the session stand in the order of what shows there
   name_order : (x y : Shown) (n m : List ℕ) → x.session ≡ s → y.session ≡ s → x.place ≡ OfRuleName n → y.place ≡ OfRuleName m → In x v.all → In y v.all → shown_cmp x y ≡ Less → text_cmp n m ≡ Less
@@ -86,24 +86,24 @@ module _ (facts : List SessionFact) (s : Session) where
   weaker (u ∷ us) a = (λ y i. ap (λ r. ordering_then r (rule_cmp u.1 y.1)) (a.0 y i), weaker us a.1)
 
   -- in order, and no name twice
-  pub told_is_told : IsTold (told v s)
-  unfolding told
+  pub told_is_told : IsTold (told_rules_of v s)
+  unfolding told_rules_of
   told_is_told = record {
     in_order = ascending-itself told_cmp told_ranked (filter_map entry v.all) (weaker (filter_map entry v.all) by_name);
     one_each = Distinct-ascending text_cmp text_ranked (map told_name_of (filter_map entry v.all)) (map-ascending name_cmp text_cmp told_name_of (filter_map entry v.all) (λ x y i j l. l) by_name);
   }
 
   -- an entry that was told is what its name shows
-  pub told-shows : (u : ToldRule) → In u (told v s) → (g : Tag) × (v.shows s (OfRuleName u.0) ≡ Some (g, Told u.1))
-  unfolding told
+  pub told-shows : (u : ToldRule) → In u (told_rules_of v s) → (g : Tag) × (v.shows s (OfRuleName u.0) ≡ Some (g, Told u.1))
+  unfolding told_rules_of
   told-shows u i =
       let r = filter_map-In entry u v.all i in
       let n = at_name r.0 u r.2 in
       (r.0.tag, (λ k. v.shows (sym n.0 k) (sym n.1 k)) ∙ all-shows facts r.0 r.1 ∙ ap (λ (x : Value). Some (r.0.tag, x)) n.2)
 
   -- what a name shows was told
-  pub In-told : (n : List ℕ) (g : Tag) (r : RuleValue) → v.shows s (OfRuleName n) ≡ Some (g, Told r) → In (n, r) (told v s)
-  unfolding told
+  pub In-told : (n : List ℕ) (g : Tag) (r : RuleValue) → v.shows s (OfRuleName n) ≡ Some (g, Told r) → In (n, r) (told_rules_of v s)
+  unfolding told_rules_of
   In-told n g r h =
-      In-filter_map entry (shown_as s (OfRuleName n) (g, Told r)) (n, r) v.all (In-all facts s (OfRuleName n) (g, Told r) h)
+      In-filter_map entry (shown_of s (OfRuleName n) (g, Told r)) (n, r) v.all (In-all facts s (OfRuleName n) (g, Told r) h)
       (ap (λ b. cond b (Some (n, r)) None) (eq_itself session_ranked s))

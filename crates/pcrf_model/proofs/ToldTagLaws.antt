@@ -11,7 +11,7 @@ use Rattle.pcrf_facts.specs.Places.{OfSession, OfComponent, OfFlow, OfRuleName}
 use Rattle.pcrf_facts.specs.Facts.{Fact, End, Removed, Field}
 use Rattle.pcrf_facts.proofs.FactLaws.{tag_ranked}
 use Rattle.pcrf_model.specs.Sessions.{Kind, Gx, Af, Session, session_cmp}
-use Rattle.pcrf_model.specs.Holdings.{SessionFact, under, Holding, kept_facts, union, kept_of, replaced}
+use Rattle.pcrf_model.specs.Holdings.{SessionFact, under, Holding, kept_facts, union, kept_of, with_facts_of}
 use Rattle.pcrf_model.specs.Operations.{Operation, with_operation}
 use Rattle.pcrf_model.specs.Making.{told_facts}
 use Rattle.pcrf_model.specs.Forms.{is_tagged, is_operation, is_holding}
@@ -74,10 +74,10 @@ pub told_with_operation : (h : Holding) (o : Operation) → ToldUpTo h.clock h.f
 told_with_operation h o = told_union h (record { facts = under o.session o.facts; clock = o.counter })
 
 -- one session's facts replaced
-pub told_replaced : (n : ℕ) (h : Holding) (s : Session) (facts : List Fact) → ToldUpTo n h.facts → ToldUpTo n (under s facts) → ToldUpTo n (replaced h s facts n).facts
+pub told_replaced : (n : ℕ) (h : Holding) (s : Session) (facts : List Fact) → ToldUpTo n h.facts → ToldUpTo n (under s facts) → ToldUpTo n (with_facts_of h s facts n).facts
 told_replaced n h s facts v w =
     let others : List SessionFact = filter (λ x. not (is_eq (session_cmp s x.0))) h.facts in
-    told_part n (others ++ under s facts) (replaced h s facts n).facts (λ x. (sorted-In (others ++ under s facts) x).0)
+    told_part n (others ++ under s facts) (with_facts_of h s facts n).facts (λ x. (sorted-In (others ++ under s facts) x).0)
     (told_append n others (under s facts) (told_part n h.facts others (λ x i. (filter-In (λ x. not (is_eq (session_cmp s x.0))) x h.facts i).0) v) w)
 
 -- ---- form

@@ -10,14 +10,14 @@ use Rattle.ranked.proofs.AscendingLaws.{ascending-In, ascending-Same}
 use Rattle.pcrf_facts.specs.Places.{Place}
 use Rattle.pcrf_facts.specs.Values.{Entry}
 use Rattle.pcrf_facts.specs.Facts.{Fact, End, Removed, Field}
-use Rattle.pcrf_facts.specs.Held.{kept, held}
+use Rattle.pcrf_facts.specs.Held.{kept_set, kept_list}
 use Rattle.pcrf_facts.specs.Laws.{ShowTheSame}
 use Rattle.pcrf_facts.proofs.FactLaws.{place_ranked, entry_ranked}
 use Rattle.pcrf_facts.proofs.JoinedLaws.{sorted-In}
 use Rattle.pcrf_facts.proofs.ShownLaws.{members_show_the_same, held_shows_the_same, fact_there}
 use Rattle.pcrf_model.specs.Sessions.{Session, session_cmp}
 use Rattle.pcrf_model.specs.Holdings.{SessionFact, is_shaded_there_by, kept_facts, facts_on}
-use Rattle.pcrf_model.specs.Views.{Shown, shown_cmp, shown_as, shown_on, showing, view}
+use Rattle.pcrf_model.specs.Views.{Shown, shown_cmp, shown_of, entry_shown_on, shown_by_fact, view}
 use Rattle.pcrf_model.specs.Laws.{ReadsEachSession}
 use Rattle.pcrf_model.proofs.HoldingLaws.{session_ranked, there_irr, there_trans, kept_facts-In, facts_on-Same, facts_on-kept, facts_on-In, same_session}
 
@@ -32,18 +32,18 @@ sessions_alone facts s = record { shows = λ p. refl; ended = refl; removals = r
 
 -- what the facts of a session show, of all that show
 abbrev all_shown : (Session → Place → Option Entry) → List SessionFact → List Shown
-all_shown shows = filter_map (λ (x : SessionFact). showing shows x.0 x.1)
+all_shown shows = filter_map (λ (x : SessionFact). shown_by_fact shows x.0 x.1)
 
 -- the session of a fact
 abbrev pub its_session : SessionFact → Session
 its_session x = x.0
 
 -- views are the same where each session shows the same, the same show, and the same sessions have facts
-same_view : (xs ys : List SessionFact) → ((s : Session) → ShowTheSame (facts_on xs s) (facts_on ys s)) → Same (all_shown (shown_on ys) xs) (all_shown (shown_on ys) ys) → Same (map its_session xs) (map its_session ys) → view xs ≡ view ys
+same_view : (xs ys : List SessionFact) → ((s : Session) → ShowTheSame (facts_on xs s) (facts_on ys s)) → Same (all_shown (entry_shown_on ys) xs) (all_shown (entry_shown_on ys) ys) → Same (map its_session xs) (map its_session ys) → view xs ≡ view ys
 unfolding view
 same_view xs ys each all sessions =
-    let shows : shown_on xs ≡ shown_on ys = λ i s p. (each s).shows p i in
-    let listed : ascending shown_cmp (all_shown (shown_on xs) xs) ≡ ascending shown_cmp (all_shown (shown_on ys) ys) =
+    let shows : entry_shown_on xs ≡ entry_shown_on ys = λ i s p. (each s).shows p i in
+    let listed : ascending shown_cmp (all_shown (entry_shown_on xs) xs) ≡ ascending shown_cmp (all_shown (entry_shown_on ys) ys) =
     ap (λ (f : Session → Place → Option Entry). ascending shown_cmp (all_shown f xs)) shows
     ∙ ascending-Same shown_cmp shown_ranked _ _ all in
     let known : ascending session_cmp (map its_session xs) ≡ ascending session_cmp (map its_session ys) = ascending-Same session_cmp session_ranked _ _ sessions in
@@ -57,7 +57,7 @@ same_view xs ys each all sessions =
 
 -- the view depends on the members alone
 pub view-Same : (xs ys : List SessionFact) → Same xs ys → view xs ≡ view ys
-view-Same xs ys s = same_view xs ys (λ a. members_show_the_same (facts_on xs a) (facts_on ys a) (facts_on-Same xs ys a s)) (filter_map-Same (λ (x : SessionFact). showing (shown_on ys) x.0 x.1) xs ys s) (map-Same its_session xs ys s)
+view-Same xs ys s = same_view xs ys (λ a. members_show_the_same (facts_on xs a) (facts_on ys a) (facts_on-Same xs ys a s)) (filter_map-Same (λ (x : SessionFact). shown_by_fact (entry_shown_on ys) x.0 x.1) xs ys s) (map-Same its_session xs ys s)
 
 -- ---- the kept facts
 
@@ -69,8 +69,8 @@ show_through xs ys zs f g = record { shows = λ p. f.shows p ∙ g.shows p; ende
 kept_shows : (facts : List SessionFact) (s : Session) → ShowTheSame (facts_on (kept_facts facts) s) (facts_on facts s)
 kept_shows facts s =
     let own : List Fact = facts_on facts s in
-    show_through (facts_on (kept_facts facts) s) (held own) own
-    (members_show_the_same (facts_on (kept_facts facts) s) (held own) (λ f. (λ i. (sorted-In (kept own) f).1 ((facts_on-kept facts s f).0 i), λ i. (facts_on-kept facts s f).1 ((sorted-In (kept own) f).0 i))))
+    show_through (facts_on (kept_facts facts) s) (kept_list own) own
+    (members_show_the_same (facts_on (kept_facts facts) s) (kept_list own) (λ f. (λ i. (sorted-In (kept_set own) f).1 ((facts_on-kept facts s f).0 i), λ i. (facts_on-kept facts s f).1 ((sorted-In (kept_set own) f).0 i))))
     (held_shows_the_same own)
 
 module _ (facts : List SessionFact) where
@@ -90,34 +90,34 @@ module _ (facts : List SessionFact) where
 
   -- what a fact's place shows
   abbrev shows_there : SessionFact → Option Shown
-  shows_there x = showing (shown_on facts) x.0 x.1
+  shows_there x = shown_by_fact (entry_shown_on facts) x.0 x.1
 
   -- what is shown is of a field that shows
-  shown_field : (s : Session) (f : Fact) (x : Shown) → showing (shown_on facts) s f ≡ Some x → (p : Place) × (e : Entry) × (shown_on facts s p ≡ Some e) × (shown_as s p e ≡ x)
+  shown_field : (s : Session) (f : Fact) (x : Shown) → shown_by_fact (entry_shown_on facts) s f ≡ Some x → (p : Place) × (e : Entry) × (entry_shown_on facts s p ≡ Some e) × (shown_of s p e ≡ x)
   shown_field s End x h = none_some x h
   shown_field s (Removed r) x h = none_some x h
-  shown_field s (Field p t v) x h = of_entry (shown_on facts s p) refl h
+  shown_field s (Field p t v) x h = of_entry (entry_shown_on facts s p) refl h
     where
-      of_entry : (o : Option Entry) → shown_on facts s p ≡ o → option_map (shown_as s p) o ≡ Some x → (p : Place) × (e : Entry) × (shown_on facts s p ≡ Some e) × (shown_as s p e ≡ x)
+      of_entry : (o : Option Entry) → entry_shown_on facts s p ≡ o → option_map (shown_of s p) o ≡ Some x → (p : Place) × (e : Entry) × (entry_shown_on facts s p ≡ Some e) × (shown_of s p e ≡ x)
       of_entry None q k = none_some x k
       of_entry (Some e) q k = (p, e, q, cc)
 
   -- what shows is there
-  pub In-shown : (s : Session) (p : Place) (e : Entry) → shown_on facts s p ≡ Some e → In (shown_as s p e) (all_shown (shown_on facts) facts)
+  pub In-shown : (s : Session) (p : Place) (e : Entry) → entry_shown_on facts s p ≡ Some e → In (shown_of s p e) (all_shown (entry_shown_on facts) facts)
   In-shown s p e h =
-      In-filter_map shows_there (s, Field p e.0 e.1) (shown_as s p e) facts
+      In-filter_map shows_there (s, Field p e.0 e.1) (shown_of s p e) facts
       (facts_on-In facts s (Field p e.0 e.1) (fact_there (facts_on facts s) p e h))
-      (ap (option_map (shown_as s p)) h)
+      (ap (option_map (shown_of s p)) h)
 
   -- and what is there shows
-  pub shown-In : (x : Shown) → In x (all_shown (shown_on facts) facts) → shown_on facts x.session x.place ≡ Some (x.tag, x.value)
+  pub shown-In : (x : Shown) → In x (all_shown (entry_shown_on facts) facts) → entry_shown_on facts x.session x.place ≡ Some (x.tag, x.value)
   shown-In x i =
       let r = filter_map-In shows_there x facts i in
       let k = shown_field r.0.0 r.0.1 x r.2 in
-      subst (λ (y : Shown). shown_on facts y.session y.place ≡ Some (y.tag, y.value)) k.3 k.2
+      subst (λ (y : Shown). entry_shown_on facts y.session y.place ≡ Some (y.tag, y.value)) k.3 k.2
 
   -- the same places show by what is kept
-  all-kept : Same (all_shown (shown_on facts) (kept_facts facts)) (all_shown (shown_on facts) facts)
+  all-kept : Same (all_shown (entry_shown_on facts) (kept_facts facts)) (all_shown (entry_shown_on facts) facts)
   all-kept x = (
     λ h. let r = filter_map-In shows_there x (kept_facts facts) h in In-filter_map shows_there r.0 x facts (kept_facts-In r.0 facts r.1).0 r.2,
     λ h.
@@ -127,7 +127,7 @@ module _ (facts : List SessionFact) where
         let f : Fact = Field k.0 k.1.0 k.1.1 in
         In-filter_map shows_there (s, f) x (kept_facts facts)
         (facts_on-In (kept_facts facts) s f (fact_there (facts_on (kept_facts facts) s) k.0 k.1 ((kept_shows facts s).shows k.0 ∙ k.2)))
-        (ap (option_map (shown_as s k.0)) k.2 ∙ ap Some k.3),
+        (ap (option_map (shown_of s k.0)) k.2 ∙ ap Some k.3),
   )
 
 -- the view is that of what is kept
@@ -137,14 +137,14 @@ view-kept facts = same_view (kept_facts facts) facts (kept_shows facts) (all-kep
 -- ---- what the view lists
 
 -- what shows is listed
-pub In-all : (facts : List SessionFact) (s : Session) (p : Place) (e : Entry) → (view facts).shows s p ≡ Some e → In (shown_as s p e) (view facts).all
+pub In-all : (facts : List SessionFact) (s : Session) (p : Place) (e : Entry) → (view facts).shows s p ≡ Some e → In (shown_of s p e) (view facts).all
 unfolding view
-In-all facts s p e h = (ascending-In shown_cmp shown_ranked (all_shown (shown_on facts) facts) (shown_as s p e)).1 (In-shown facts s p e h)
+In-all facts s p e h = (ascending-In shown_cmp shown_ranked (all_shown (entry_shown_on facts) facts) (shown_of s p e)).1 (In-shown facts s p e h)
 
 -- and what is listed shows
 pub all-shows : (facts : List SessionFact) (x : Shown) → In x (view facts).all → (view facts).shows x.session x.place ≡ Some (x.tag, x.value)
 unfolding view
-all-shows facts x i = shown-In facts x ((ascending-In shown_cmp shown_ranked (all_shown (shown_on facts) facts) x).0 i)
+all-shows facts x i = shown-In facts x ((ascending-In shown_cmp shown_ranked (all_shown (entry_shown_on facts) facts) x).0 i)
 
 -- a session that shows something has a fact
 pub shows-known : (facts : List SessionFact) (s : Session) (p : Place) (e : Entry) → (view facts).shows s p ≡ Some e → In s (view facts).sessions

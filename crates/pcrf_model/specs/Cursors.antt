@@ -37,13 +37,13 @@ peer_entry c peer = slice_index_or c.peers peer None
 -- ---- making a letter for a peer
 
 -- the whole state where nothing is known to be taken, else the operations past the cursor
-abbrev pub asked_past : Option Cursor → SiteEvent
-asked_past None = AskWhole
-asked_past (Some c) = if c.cursor == 0 then AskWhole else AskOwn c.cursor
+abbrev pub question_past : Option Cursor → SiteEvent
+question_past None = AskWhole
+question_past (Some c) = if c.cursor == 0 then AskWhole else AskOwn c.cursor
 
 -- what the site is asked, to make a letter for the peer
 abbrev pub ask : CursorsValue → ℕ → SiteEvent
-ask c peer = asked_past (peer_entry c peer)
+ask c peer = question_past (peer_entry c peer)
 
 -- a letter of the site that says this
 abbrev pub letter_saying : CursorsValue → ℕ → LetterBody → LetterValue
@@ -60,16 +60,16 @@ abbrev pub in_epoch : ℕ → Cursor → Cursor
 in_epoch epoch x = if nat_lt x.epoch epoch then record { epoch = epoch; cursor = 0 } else x
 
 -- a snapshot raises the cursor to the length of the log, a range that begins at it or before raises it to its end
-abbrev pub raised_by : LetterBody → ℕ → ℕ
-raised_by (Range from os) cursor = if nat_le from cursor then max cursor (from + length os) else cursor
-raised_by (Snapshot h n) cursor = max cursor n
-raised_by (Acknowledgement m e n) cursor = cursor
+abbrev pub raised_cursor : LetterBody → ℕ → ℕ
+raised_cursor (Range from os) cursor = if nat_le from cursor then max cursor (from + length os) else cursor
+raised_cursor (Snapshot h n) cursor = max cursor n
+raised_cursor (Acknowledgement m e n) cursor = cursor
 
 -- a letter of an older epoch changes nothing
 abbrev pub maker_after : LetterValue → Cursor → Cursor
 maker_after l x =
     if nat_lt l.epoch x.epoch then x
-    else (let y : Cursor = in_epoch l.epoch x in record { epoch = y.epoch; cursor = raised_by l.body y.cursor })
+    else (let y : Cursor = in_epoch l.epoch x in record { epoch = y.epoch; cursor = raised_cursor l.body y.cursor })
 
 -- the letter acknowledges, and carries no operation
 abbrev pub is_acknowledgement : LetterBody → Bool
@@ -78,8 +78,8 @@ is_acknowledgement (Snapshot h n) = false
 is_acknowledgement (Acknowledgement m e n) = true
 
 -- an acknowledgement is not of its sender's operations, and changes nothing here
-abbrev pub took : CursorsValue → LetterValue → CursorsValue
-took c l = if is_acknowledgement l.body then c else record c { makers = slice_set c.makers l.site (maker_after l (maker_entry c l.site)) }
+abbrev pub cursors_after_letter : CursorsValue → LetterValue → CursorsValue
+cursors_after_letter c l = if is_acknowledgement l.body then c else record c { makers = slice_set c.makers l.site (maker_after l (maker_entry c l.site)) }
 
 -- ---- acknowledgements
 
@@ -105,7 +105,7 @@ peer_after a (Some x) =
     else (if x.epoch == a.sender_epoch then Some (record { epoch = x.epoch; cursor = max x.cursor a.cursor }) else Some x)
 
 -- at a site that isn't its maker in that epoch it changes nothing
-abbrev pub acked : CursorsValue → AckValue → CursorsValue
-acked c a =
+abbrev pub cursors_after_ack : CursorsValue → AckValue → CursorsValue
+cursors_after_ack c a =
     if a.maker == c.site && a.maker_epoch == c.epoch
     then record c { peers = slice_set c.peers a.sender (peer_after a (peer_entry c a.sender)) } else c

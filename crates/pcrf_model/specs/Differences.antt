@@ -16,8 +16,8 @@ abbrev pub told_cmp : ToldRule → ToldRule → Ordering
 told_cmp = pair_cmp text_cmp rule_cmp
 
 -- the names that show a rule, ascending, each with its rule
-unfoldable pub told : View → Session → List ToldRule
-told v s = filter_map (λ (x : Shown). if is_eq (session_cmp x.session s) then told_rule_at x.place x.tag x.value else None) v.all
+unfoldable pub told_rules_of : View → Session → List ToldRule
+told_rules_of v s = filter_map (λ (x : Shown). if is_eq (session_cmp x.session s) then told_rule_at x.place x.tag x.value else None) v.all
 
 -- the name of a told entry
 abbrev pub told_name_of : ToldRule → List ℕ

@@ -55,8 +55,8 @@ abbrev pub kept_of : Holding → Holding
 kept_of h = record { facts = ascending session_fact_cmp (kept_facts h.facts); clock = h.clock }
 
 -- these facts in place of those that the session had, under that clock
-abbrev pub replaced : Holding → Session → List Fact → ℕ → Holding
-replaced h s facts clock = record {
+abbrev pub with_facts_of : Holding → Session → List Fact → ℕ → Holding
+with_facts_of h s facts clock = record {
   facts = ascending session_fact_cmp (filter (λ x. not (is_eq (session_cmp s x.0))) h.facts ++ under s facts);
   clock = clock;
 }

@@ -5,9 +5,9 @@ use Rattle.pcrf_values.specs.Limits.{delta_limit, last_epoch}
 use Rattle.pcrf_model.specs.Holdings.{Holding, nothing_held}
 use Rattle.pcrf_model.specs.Replies.{ReplyValue}
 use Rattle.pcrf_model.specs.Steps.{SiteEvent, Serve}
-use Rattle.pcrf_model.specs.Seen.{seen_after}
+use Rattle.pcrf_model.specs.Seen.{world_view_after}
 use Rattle.pcrf_model.specs.Letters.{LetterBody, Range, Snapshot, LetterValue}
-use Rattle.pcrf_model.specs.Cursors.{Cursor, CursorsValue, start_cursors, maker_entry, took}
+use Rattle.pcrf_model.specs.Cursors.{Cursor, CursorsValue, start_cursors, maker_entry, cursors_after_letter}
 use Rattle.pcrf_model.specs.Worlds.{WorldEvent, ServeAt, PushAt, Letter, Merge, Ack, Restart, Replied, Lettered, Merged, Restarted, NoSuchSite, NoSuchLetter, WorldAnswer, SiteView, WorldView, SiteTook, SentLetter, WorldTook, start, Setting, Writing, WholeLogs, ByCursors, taken_holding, world_view, answer_of, after, after_all}
 use Rattle.pcrf_model.specs.Samples.{operator, first_session, host_address, initial, update, sip_rule, delta}
 use Rattle.pcrf_model.specs.Scenes.{granted, one, call_at_the_end}
@@ -29,7 +29,7 @@ newer_epoch = letter 2 (Snapshot nothing_held 0)
 -- the cursors of site 1 after these letters
 abbrev pub taking_letters : List LetterValue → CursorsValue
 taking_letters [] = start_cursors 1 1
-taking_letters (l ∷ ls) = took (taking_letters ls) l
+taking_letters (l ∷ ls) = cursors_after_letter (taking_letters ls) l
 
 -- what site 1 took of site 0 by these letters, the last first
 abbrev pub cursor_after : List LetterValue → Cursor
@@ -119,7 +119,7 @@ seen_first how = seen_all (take 3 exchange) (take 3 exchange_answers) (world_vie
     seen_all : List WorldEvent → List WorldAnswer → WorldView → WorldView
     seen_all [] answers v = v
     seen_all (e ∷ es) [] v = v
-    seen_all (e ∷ es) (a ∷ answers) v = seen_all es answers (seen_after (writing how) v e a)
+    seen_all (e ∷ es) (a ∷ answers) v = seen_all es answers (world_view_after (writing how) v e a)
 
 -- what site 1 then holds
 abbrev pub seen_holding : Writing → Option Holding

@@ -14,15 +14,15 @@ use Rattle.pcrf_model.specs.Operations.{Operation}
 use Rattle.pcrf_model.specs.Requests.{CcrValue, FlowValue, ComponentValue, AarValue}
 
 -- the fact that a request gives, if it gives it
-abbrev pub given : {A : Type 0} → Place → Tag → (A → Value) → Option A → List Fact
-given p t as_value x = option_to_list (option_map (λ y. Field p t (as_value y)) x)
+abbrev pub given_fact : {A : Type 0} → Place → Tag → (A → Value) → Option A → List Fact
+given_fact p t as_value x = option_to_list (option_map (λ y. Field p t (as_value y)) x)
 
 -- the fields of a session that a request of either interface sets: host, realm and the type of the request, and what else it carries
 abbrev pub session_fields : Tag → Option (List ℕ) → Option (List ℕ) → Option (List Subscriber) → List ℕ → List ℕ → ℕ → List Fact
 session_fields t a n ids of_host of_realm kind =
-    given address t Address a
-    ++ given apn t Text n
-    ++ given subscribers t Subscribers ids
+    given_fact address t Address a
+    ++ given_fact apn t Text n
+    ++ given_fact subscribers t Subscribers ids
     ++ (Field host t (Text of_host) ∷ Field realm t (Text of_realm) ∷ Field last t (Number kind) ∷ [])
 
 -- ---- Gx (TS 29.212, 4.5.1)
@@ -47,20 +47,20 @@ is_removed s = unwrap_or (option_map (λ n. n == flow_status_removed) s) false
 abbrev pub flow_facts : ℕ → Tag → FlowValue → List Fact
 flow_facts c t f =
     if is_removed f.status then Removed (Flow c f.number) ∷ []
-    else (given (OfFlow c f.number FlowDescriptions) t Filters f.filters
-    ++ given (OfFlow c f.number FlowUsage) t Number f.usage
-    ++ given (OfFlow c f.number FlowStatus) t Number f.status
-    ++ given (OfFlow c f.number FlowRateUp) t Number f.rate_up
-    ++ given (OfFlow c f.number FlowRateDown) t Number f.rate_down)
+    else (given_fact (OfFlow c f.number FlowDescriptions) t Filters f.filters
+    ++ given_fact (OfFlow c f.number FlowUsage) t Number f.usage
+    ++ given_fact (OfFlow c f.number FlowStatus) t Number f.status
+    ++ given_fact (OfFlow c f.number FlowRateUp) t Number f.rate_up
+    ++ given_fact (OfFlow c f.number FlowRateDown) t Number f.rate_down)
 
 -- a component that is removed makes only the fact that it is, whatever flows are described with it
 abbrev pub component_facts : Tag → ComponentValue → List Fact
 component_facts t c =
     if is_removed c.status then Removed (Component c.number) ∷ []
-    else (given (OfComponent c.number MediaType) t Number c.media
-    ++ given (OfComponent c.number ComponentStatus) t Number c.status
-    ++ given (OfComponent c.number ComponentRateUp) t Number c.rate_up
-    ++ given (OfComponent c.number ComponentRateDown) t Number c.rate_down
+    else (given_fact (OfComponent c.number MediaType) t Number c.media
+    ++ given_fact (OfComponent c.number ComponentStatus) t Number c.status
+    ++ given_fact (OfComponent c.number ComponentRateUp) t Number c.rate_up
+    ++ given_fact (OfComponent c.number ComponentRateDown) t Number c.rate_down
     ++ flat_map (flow_facts c.number t) c.flows)
 
 -- the facts of an AA request, component by component; what stands for the type of its request is 0
@@ -78,5 +78,5 @@ abbrev pub next_operation : ℕ → Holding → ℕ → Session → List Fact �
 next_operation i h number s facts = record { counter = h.clock + 1; site = i; number = number; session = s; facts = ascending fact_cmp facts }
 
 -- the end of a session alone (TS 29.212, 4.5.7; TS 29.214, 4.4.4)
-abbrev pub ending : ℕ → Holding → ℕ → Session → Operation
-ending i h number s = next_operation i h number s (End ∷ [])
+abbrev pub end_operation : ℕ → Holding → ℕ → Session → Operation
+end_operation i h number s = next_operation i h number s (End ∷ [])

@@ -14,7 +14,7 @@ use Rattle.pcrf_model.specs.Bindings.{bind}
 use Rattle.pcrf_model.specs.Tables.{Tables}
 use Rattle.pcrf_model.specs.Rules.{rules}
 use Rattle.pcrf_facts.specs.ToldWords.{ToldRule}
-use Rattle.pcrf_model.specs.Differences.{told}
+use Rattle.pcrf_model.specs.Differences.{told_rules_of}
 
 -- a field of a session, a component or a flow, and its value
 abbrev pub FieldShown : Type 0
@@ -57,7 +57,7 @@ session_value v s seen = if v.ended s then Ended else (if is_live v s then Live 
 
 -- what a live Gx session shows
 abbrev pub gx_shown : Tables → View → Session → GxShown
-gx_shown t v s = record { fields = fields_shown v s; home = home v s; rules = rules t v s; told = told v s }
+gx_shown t v s = record { fields = fields_shown v s; home = home v s; rules = rules t v s; told = told_rules_of v s }
 
 -- what a live AF session shows
 abbrev pub af_shown : View → Session → AfShown

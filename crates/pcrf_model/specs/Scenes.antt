@@ -16,7 +16,7 @@ use Rattle.pcrf_model.specs.Replies.{PushValue, ReplyValue, OnGx, Pushed, Grante
 use Rattle.pcrf_model.specs.Serving.{serve}
 use Rattle.pcrf_model.specs.Pushing.{push}
 use Rattle.pcrf_model.specs.OperatorValues.{GxShown, AfShown}
-use Rattle.pcrf_model.specs.Steps.{SiteState, adding}
+use Rattle.pcrf_model.specs.Steps.{SiteState, with_own}
 use Rattle.pcrf_model.specs.Samples.{imsi, e164, sip_rule, uplink, any_to_any, operator, first_session, second_session, host_address, initial, update, termination, call, hang_up, audio, no_media, status_only, many_flows, ims_quality}
 
 -- ---- one step of a site
@@ -31,7 +31,7 @@ answers i s q = (serve delta_limit operator i s.holding q).reply
 
 -- site i after the request
 abbrev pub serves : ℕ → SiteState → RequestValue → SiteState
-serves i s q = adding s (serve delta_limit operator i s.holding q).added
+serves i s q = with_own s (serve delta_limit operator i s.holding q).added
 
 -- what site i pushes to any host
 abbrev pub pushes : ℕ → SiteState → ReplyValue
@@ -39,7 +39,7 @@ pushes i s = (push delta_limit operator i s.holding None).reply
 
 -- site i after the push
 abbrev pub pushed : ℕ → SiteState → SiteState
-pushed i s = adding s (push delta_limit operator i s.holding None).added
+pushed i s = with_own s (push delta_limit operator i s.holding None).added
 
 -- with operations of another site
 abbrev pub taking : SiteState → List Operation → SiteState

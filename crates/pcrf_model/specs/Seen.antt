@@ -10,7 +10,7 @@ use Rattle.pcrf_model.specs.Serving.{serve}
 use Rattle.pcrf_model.specs.Pushing.{push}
 use Rattle.pcrf_model.specs.Letters.{LetterBody, Range, Snapshot, Acknowledgement, LetterValue}
 use Rattle.pcrf_model.specs.Cursors.{start_cursors, ack_of, ack_letter}
-use Rattle.pcrf_model.specs.Worlds.{WorldEvent, ServeAt, PushAt, Letter, Merge, Ack, Restart, Replied, PushedOut, Lettered, Merged, Restarted, NoMemory, WorldAnswer, SiteView, WorldView, Writing, Setting, written, first_taken, cursors_after, WorldTook, world_view, after}
+use Rattle.pcrf_model.specs.Worlds.{WorldEvent, ServeAt, PushAt, Letter, Merge, Ack, Restart, Replied, PushedOut, Lettered, Merged, Restarted, NoMemory, WorldAnswer, SiteView, WorldView, Writing, Setting, letter_body, first_taken, cursors_after, WorldTook, world_view, after}
 use Rattle.pcrf_model.specs.CursorLaws.{AllHoldBehind}
 
 -- ---- one site
@@ -33,14 +33,14 @@ abbrev pub view_pushed : Setting → Option (List ℕ) → SiteView → Outcome
 view_pushed g name s = push g.most g.tables s.number s.state.holding name
 
 -- what a letter brings: the operations of a range, the state of a snapshot
-abbrev pub brought : LetterBody → Holding
-brought (Range from os) = holding_of os
-brought (Snapshot h n) = h
-brought (Acknowledgement m e c) = nothing_held
+abbrev pub brought_holding : LetterBody → Holding
+brought_holding (Range from os) = holding_of os
+brought_holding (Snapshot h n) = h
+brought_holding (Acknowledgement m e c) = nothing_held
 
 -- with a letter that was taken whole
 abbrev pub view_merged : Writing → LetterValue → SiteView → SiteView
-view_merged how l s = record (view_with (brought l.body) s) { cursors = cursors_after how s.cursors l }
+view_merged how l s = record (view_with (brought_holding l.body) s) { cursors = cursors_after how s.cursors l }
 
 -- with the first operations of a letter
 abbrev pub view_in_part : ℕ → LetterValue → SiteView → SiteView
@@ -52,7 +52,7 @@ view_again s = record { number = s.number; epoch = s.epoch + 1; state = record {
 
 -- the letter that it writes to a peer
 abbrev pub view_letter : Setting → ℕ → SiteView → LetterValue
-view_letter g peer s = record { edition = g.tables.edition; site = s.number; epoch = s.epoch; body = written g.writes s peer }
+view_letter g peer s = record { edition = g.tables.edition; site = s.number; epoch = s.epoch; body = letter_body g.writes s peer }
 
 -- the acknowledgement that it writes to a maker
 abbrev pub view_ack : Setting → ℕ → SiteView → LetterValue
@@ -81,20 +81,20 @@ abbrev pub see_letter : WorldView → ℕ → (SiteView → LetterValue) → Wor
 see_letter v i write = record v { letters = v.letters ++ option_to_list (option_map write (slice_get v.sites i)) }
 
 -- what is seen after the event
-abbrev pub seen_after : Setting → WorldView → WorldEvent → WorldAnswer → WorldView
-seen_after g v (ServeAt i q) (Ok (Replied r)) = see_change v i (λ s. view_made (view_served g q s).added s)
-seen_after g v (PushAt i name) (Ok (PushedOut p)) = see_change v i (λ s. view_made (view_pushed g name s).added s)
-seen_after g v (Letter i j) (Ok (Lettered k)) = see_letter v i (view_letter g j)
-seen_after g v (Merge j k) (Ok Merged) = see_change_by v j k (view_merged g.writes)
-seen_after g v (Merge j k) (Err (NoMemory n)) = see_change_by v j k (view_in_part n)
-seen_after g v (Ack j i) (Ok (Lettered k)) = see_letter v j (view_ack g i)
-seen_after g v (Restart i) (Ok (Restarted e)) = see_change v i view_again
-seen_after g v event answer = v
+abbrev pub world_view_after : Setting → WorldView → WorldEvent → WorldAnswer → WorldView
+world_view_after g v (ServeAt i q) (Ok (Replied r)) = see_change v i (λ s. view_made (view_served g q s).added s)
+world_view_after g v (PushAt i name) (Ok (PushedOut p)) = see_change v i (λ s. view_made (view_pushed g name s).added s)
+world_view_after g v (Letter i j) (Ok (Lettered k)) = see_letter v i (view_letter g j)
+world_view_after g v (Merge j k) (Ok Merged) = see_change_by v j k (view_merged g.writes)
+world_view_after g v (Merge j k) (Err (NoMemory n)) = see_change_by v j k (view_in_part n)
+world_view_after g v (Ack j i) (Ok (Lettered k)) = see_letter v j (view_ack g i)
+world_view_after g v (Restart i) (Ok (Restarted e)) = see_change v i view_again
+world_view_after g v event answer = v
 
 -- It is what is seen of what each site then took, where each snapshot among the letters is what is kept of what its maker had taken.
 abbrev pub SeenIsWhatWasTaken : Type 0
 SeenIsWhatWasTaken = (g : Setting) (w : WorldTook) (event : WorldEvent) (answer : WorldAnswer) → AllHoldBehind w →
-    seen_after g (world_view w) event answer ≡ world_view (after g w event answer)
+    world_view_after g (world_view w) event answer ≡ world_view (after g w event answer)
 
 -- and so each snapshot is after the event
 abbrev pub SnapshotsStay : Type 0

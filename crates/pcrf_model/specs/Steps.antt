@@ -29,9 +29,9 @@ abbrev pub kept_state : SiteState → SiteState
 kept_state s = record s { holding = kept_of s.holding }
 
 -- with an operation of its own, if there is one
-abbrev pub adding : SiteState → Option Operation → SiteState
-adding s None = s
-adding s (Some o) = record { holding = with_added s.holding (Some o); log = s.log ++ o ∷ [] }
+abbrev pub with_own : SiteState → Option Operation → SiteState
+with_own s None = s
+with_own s (Some o) = record { holding = with_added s.holding (Some o); log = s.log ++ o ∷ [] }
 
 -- its own operations from a position on, as many as are answered at once
 abbrev pub own_from : List Operation → ℕ → List Operation
@@ -48,18 +48,18 @@ MayReply most t i s (AskOwn p) r = r ≡ Own (own_from s.log p) (length s.log)
 MayReply most t i s AskWhole r = r ≡ Copy (kept_of s.holding) (length s.log)
 
 -- the site after the event to which it gave that reply
-abbrev pub stepped : ℕ → Tables → ℕ → SiteState → SiteEvent → ReplyValue → SiteState
-stepped most t i s (Serve q) r = adding s (serve most t i s.holding q).added
-stepped most t i s (Push name) r = adding s (push most t i s.holding name).added
-stepped most t i s (Ops os) (Taken n) = record s { holding = union s.holding (holding_of (take n os)) }
-stepped most t i s (Whole k) r = record s { holding = union s.holding k }
-stepped most t i s e r = s
+abbrev pub state_after : ℕ → Tables → ℕ → SiteState → SiteEvent → ReplyValue → SiteState
+state_after most t i s (Serve q) r = with_own s (serve most t i s.holding q).added
+state_after most t i s (Push name) r = with_own s (push most t i s.holding name).added
+state_after most t i s (Ops os) (Taken n) = record s { holding = union s.holding (holding_of (take n os)) }
+state_after most t i s (Whole k) r = record s { holding = union s.holding k }
+state_after most t i s e r = s
 
 -- the site after the event, with what is kept of what it then holds
-abbrev pub left_by : ℕ → Tables → ℕ → SiteState → SiteEvent → ReplyValue → SiteState
-left_by most t i s e r = kept_state (stepped most t i s e r)
+abbrev pub kept_state_after : ℕ → Tables → ℕ → SiteState → SiteEvent → ReplyValue → SiteState
+kept_state_after most t i s e r = kept_state (state_after most t i s e r)
 
 -- the events with their replies, in order, lead from the first state to the second, each site keeping after each what isn't overshadowed
 abbrev pub Replays : ℕ → Tables → ℕ → SiteState → List (SiteEvent × ReplyValue) → SiteState → Type 0
 Replays most t i s [] z = s ≡ z
-Replays most t i s (x ∷ xs) z = MayReply most t i s x.0 x.1 × Replays most t i (left_by most t i s x.0 x.1) xs z
+Replays most t i s (x ∷ xs) z = MayReply most t i s x.0 x.1 × Replays most t i (kept_state_after most t i s x.0 x.1) xs z

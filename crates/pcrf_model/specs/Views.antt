@@ -9,7 +9,7 @@ use Rattle.ranked.specs.declared.tag.Tag.{Tag}
 use Rattle.pcrf_facts.specs.Places.{Place, Removable, place_cmp}
 use Rattle.pcrf_facts.specs.Values.{Value, Text, Address, Filters, Entry, entry_cmp}
 use Rattle.pcrf_facts.specs.Facts.{Fact, End, Removed, Field}
-use Rattle.pcrf_facts.specs.Held.{shown, removed, is_ended}
+use Rattle.pcrf_facts.specs.Held.{entry_shown, removed_parts, is_ended}
 use Rattle.pcrf_facts.specs.FlowWords.{value_at, number_at}
 use Rattle.pcrf_model.specs.Sessions.{Session, session_cmp}
 use Rattle.pcrf_model.specs.Holdings.{SessionFact, facts_on}
@@ -26,14 +26,14 @@ abbrev pub shown_cmp : Shown → Shown → Ordering
 shown_cmp = on (λ x. (x.session, (x.place, (x.tag, x.value)))) (pair_cmp session_cmp (pair_cmp place_cmp entry_cmp))
 
 -- a place with its entry
-abbrev pub shown_as : Session → Place → Entry → Shown
-shown_as s p e = record { session = s; place = p; tag = e.0; value = e.1 }
+abbrev pub shown_of : Session → Place → Entry → Shown
+shown_of s p e = record { session = s; place = p; tag = e.0; value = e.1 }
 
 -- what the place of a field shows
-abbrev pub showing : (Session → Place → Option Entry) → Session → Fact → Option Shown
-showing shows s End = None
-showing shows s (Removed r) = None
-showing shows s (Field p t v) = option_map (shown_as s p) (shows s p)
+abbrev pub shown_by_fact : (Session → Place → Option Entry) → Session → Fact → Option Shown
+shown_by_fact shows s End = None
+shown_by_fact shows s (Removed r) = None
+shown_by_fact shows s (Field p t v) = option_map (shown_of s p) (shows s p)
 
 -- What each place of a session shows; which session is ended; what of a session is removed; all that shows, ascending; the sessions that
 -- have a fact, ascending.
@@ -45,16 +45,16 @@ pub record View : Type 0 where
   pub sessions : List Session
 
 -- what the facts of a session show
-abbrev pub shown_on : List SessionFact → Session → Place → Option Entry
-shown_on facts s = shown (facts_on facts s)
+abbrev pub entry_shown_on : List SessionFact → Session → Place → Option Entry
+entry_shown_on facts s = entry_shown (facts_on facts s)
 
 -- what is read of these facts
 unfoldable pub view : List SessionFact → View
 view facts = record {
-  shows = shown_on facts;
+  shows = entry_shown_on facts;
   ended = λ s. is_ended (facts_on facts s);
-  removals = λ s. removed (facts_on facts s);
-  all = ascending shown_cmp (filter_map (λ (x : SessionFact). showing (shown_on facts) x.0 x.1) facts);
+  removals = λ s. removed_parts (facts_on facts s);
+  all = ascending shown_cmp (filter_map (λ (x : SessionFact). shown_by_fact (entry_shown_on facts) x.0 x.1) facts);
   sessions = ascending session_cmp (map (λ (x : SessionFact). x.0) facts);
 }
 

@@ -13,7 +13,7 @@ use Rattle.pcrf_model.specs.Pushing.{push, lacks_counter}
 use Rattle.pcrf_model.specs.OperatorValues.{operator_value}
 use Rattle.pcrf_model.specs.Steps.{SiteState, SiteEvent, AskOwn, own_from}
 use Rattle.pcrf_model.specs.Letters.{LetterBody, Range, Snapshot, Acknowledgement, LetterValue, meaning}
-use Rattle.pcrf_model.specs.Cursors.{CursorsValue, start_cursors, ask, took, ack_of, ack_letter, carried_ack, acked}
+use Rattle.pcrf_model.specs.Cursors.{CursorsValue, start_cursors, ask, cursors_after_letter, ack_of, ack_letter, carried_ack, cursors_after_ack}
 
 -- Site i serves a request, or pushes to a host; site i makes a letter for site j; site j takes letter k; site j acknowledges to site i what it took
 -- of it; site i starts again, empty.
@@ -76,9 +76,9 @@ asked_body s (AskOwn p) = Range p (own_from s.state.log p)
 asked_body s e = Snapshot s.state.holding (length s.state.log)
 
 -- what a site writes to a peer: its whole log; by its cursors all, or the operations from what the peer said it took
-abbrev pub written : Writing → SiteView → ℕ → LetterBody
-written WholeLogs s peer = Range 0 s.state.log
-written ByCursors s peer = asked_body s (ask s.cursors peer)
+abbrev pub letter_body : Writing → SiteView → ℕ → LetterBody
+letter_body WholeLogs s peer = Range 0 s.state.log
+letter_body ByCursors s peer = asked_body s (ask s.cursors peer)
 
 -- ---- what each event answers
 
@@ -163,13 +163,13 @@ abbrev pub log_in : SiteTook → ℕ → List Operation
 log_in s epoch = slice_index_or ([] ∷ s.past ++ s.log ∷ []) epoch []
 
 -- a site that took nothing yet
-abbrev pub fresh : ℕ → SiteTook
-fresh number = record { number = number; taken = []; past = []; log = []; cursors = start_cursors number 1 }
+abbrev pub fresh_site : ℕ → SiteTook
+fresh_site number = record { number = number; taken = []; past = []; log = []; cursors = start_cursors number 1 }
 
 -- sites 0 to n - 1
 abbrev pub fresh_sites : ℕ → List SiteTook
 fresh_sites zero = []
-fresh_sites (suc n) = fresh_sites n ++ fresh n ∷ []
+fresh_sites (suc n) = fresh_sites n ++ fresh_site n ∷ []
 
 -- sites 0 to n - 1, and no letter
 abbrev pub start : ℕ → WorldTook
@@ -188,17 +188,17 @@ abbrev pub world_view : WorldTook → WorldView
 world_view w = record { sites = map site_view w.sites; letters = map (λ (l : SentLetter). l.letter) w.letters }
 
 -- with an operation that the site made, if it made one
-abbrev pub made : Option Operation → SiteTook → SiteTook
-made o s = record s { taken = s.taken ++ option_to_list o; log = s.log ++ option_to_list o }
+abbrev pub with_operation_made : Option Operation → SiteTook → SiteTook
+with_operation_made o s = record s { taken = s.taken ++ option_to_list o; log = s.log ++ option_to_list o }
 
 -- what a letter that was taken whole does to the cursors, if sites use them
 abbrev pub cursors_after : Writing → CursorsValue → LetterValue → CursorsValue
 cursors_after WholeLogs c l = c
-cursors_after ByCursors c l = unwrap_or (option_map (acked c) (carried_ack l l.body)) (took c l)
+cursors_after ByCursors c l = unwrap_or (option_map (cursors_after_ack c) (carried_ack l l.body)) (cursors_after_letter c l)
 
 -- with a letter that was taken whole
-abbrev pub merged : Writing → SentLetter → SiteTook → SiteTook
-merged how l s = record s { taken = s.taken ++ meaning l.behind l.letter.body; cursors = cursors_after how s.cursors l.letter }
+abbrev pub with_letter_taken : Writing → SentLetter → SiteTook → SiteTook
+with_letter_taken how l s = record s { taken = s.taken ++ meaning l.behind l.letter.body; cursors = cursors_after how s.cursors l.letter }
 
 -- of a range the first operations alone; a snapshot is taken whole or not at all
 abbrev pub first_taken : ℕ → LetterBody → List Operation
@@ -207,12 +207,12 @@ first_taken n (Snapshot h m) = []
 first_taken n (Acknowledgement m e c) = []
 
 -- with the first operations of a letter
-abbrev pub merged_in_part : ℕ → SentLetter → SiteTook → SiteTook
-merged_in_part n l s = record s { taken = s.taken ++ first_taken n l.letter.body }
+abbrev pub with_first_taken : ℕ → SentLetter → SiteTook → SiteTook
+with_first_taken n l s = record s { taken = s.taken ++ first_taken n l.letter.body }
 
 -- empty, in the next epoch
-abbrev pub restarted : SiteTook → SiteTook
-restarted s = record { number = s.number; taken = []; past = s.past ++ s.log ∷ []; log = []; cursors = start_cursors s.number (epoch_of s + 1) }
+abbrev pub restart_of : SiteTook → SiteTook
+restart_of s = record { number = s.number; taken = []; past = s.past ++ s.log ∷ []; log = []; cursors = start_cursors s.number (epoch_of s + 1) }
 
 -- the world with site i changed, if there is one
 abbrev pub change : WorldTook → ℕ → (SiteTook → SiteTook) → WorldTook
@@ -231,16 +231,16 @@ change_by w j k f = by (slice_get w.letters k)
     by (Some l) = change w j (f l)
 
 -- a letter of the site
-abbrev pub sent : SiteTook → LetterValue → SentLetter
-sent s l = record { letter = l; behind = s.taken }
+abbrev pub sent_letter : SiteTook → LetterValue → SentLetter
+sent_letter s l = record { letter = l; behind = s.taken }
 
 -- the letter that the site writes to a peer
 abbrev pub letter_to : Setting → ℕ → SiteTook → SentLetter
-letter_to g peer s = sent s (record { edition = g.tables.edition; site = s.number; epoch = epoch_of s; body = written g.writes (site_view s) peer })
+letter_to g peer s = sent_letter s (record { edition = g.tables.edition; site = s.number; epoch = epoch_of s; body = letter_body g.writes (site_view s) peer })
 
 -- the acknowledgement that the site writes to a maker
 abbrev pub ack_to : Setting → ℕ → SiteTook → SentLetter
-ack_to g maker s = sent s (ack_letter g.tables.edition (ack_of s.cursors maker))
+ack_to g maker s = sent_letter s (ack_letter g.tables.edition (ack_of s.cursors maker))
 
 -- with one more letter, which site i made
 abbrev pub with_letter : WorldTook → ℕ → (SiteTook → SentLetter) → WorldTook
@@ -249,13 +249,13 @@ with_letter w i write = record w { letters = w.letters ++ option_to_list (option
 -- An answered request or push adds what the definitions give on what the site took; a letter gives its meaning to whoever takes it; a restart empties;
 -- a fault changes nothing, but that the first operations of a range stand where memory was refused.
 abbrev pub after : Setting → WorldTook → WorldEvent → WorldAnswer → WorldTook
-after g w (ServeAt i q) (Ok (Replied r)) = change w i (λ s. made (serve g.most g.tables s.number (taken_holding s) q).added s)
-after g w (PushAt i name) (Ok (PushedOut p)) = change w i (λ s. made (push g.most g.tables s.number (taken_holding s) name).added s)
+after g w (ServeAt i q) (Ok (Replied r)) = change w i (λ s. with_operation_made (serve g.most g.tables s.number (taken_holding s) q).added s)
+after g w (PushAt i name) (Ok (PushedOut p)) = change w i (λ s. with_operation_made (push g.most g.tables s.number (taken_holding s) name).added s)
 after g w (Letter i j) (Ok (Lettered k)) = with_letter w i (letter_to g j)
-after g w (Merge j k) (Ok Merged) = change_by w j k (merged g.writes)
-after g w (Merge j k) (Err (NoMemory n)) = change_by w j k (merged_in_part n)
+after g w (Merge j k) (Ok Merged) = change_by w j k (with_letter_taken g.writes)
+after g w (Merge j k) (Err (NoMemory n)) = change_by w j k (with_first_taken n)
 after g w (Ack j i) (Ok (Lettered k)) = with_letter w j (ack_to g i)
-after g w (Restart i) (Ok (Restarted e)) = change w i restarted
+after g w (Restart i) (Ok (Restarted e)) = change w i restart_of
 after g w event answer = w
 
 -- ---- all events with their answers, in order

@@ -9,7 +9,7 @@ ghost use Rattle.pcrf_model.specs.Views.{value};
 ghost use Rattle.pcrf_model.specs.Live.{is_live, home};
 ghost use Rattle.pcrf_model.specs.Bindings.{bind};
 ghost use Rattle.pcrf_model.specs.Rules.{rules};
-ghost use Rattle.pcrf_model.specs.Differences.{told};
+ghost use Rattle.pcrf_model.specs.Differences.{told_rules_of};
 ghost use Rattle.pcrf_model.specs.OperatorValues.{Ended, Partial, Live, operator_value};
 ghost use Rattle.pcrf_values.specs.Applications.{gx_application};
 ghost use Rattle.pcrf_values.specs.Results.{success, unknown_session_id, authorization_rejected, missing_avp, no_common_application, unable_to_comply, service_not_authorized, session_not_available, initial_parameters};
@@ -29,7 +29,7 @@ pub fn initial_request_installs_the_operators_rule()
     ensures live { is_live (seen one) first_session ≡ true }
     ensures access_point { value (seen one) first_session apn ≡ Some (Text (codes "ims")) }
     ensures home { home (seen one) first_session ≡ Some 0 }
-    ensures told { told (seen one) first_session ≡ (codes "op/sip", sip_rule) ∷ [] }
+    ensures told { told_rules_of (seen one) first_session ≡ (codes "op/sip", sip_rule) ∷ [] }
 {}
 
 /// The same request again is granted, with nothing to install or remove, and changes the clock alone.

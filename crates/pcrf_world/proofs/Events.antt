@@ -8,7 +8,7 @@ use Rattle.pcrf_model.specs.Tables.{Tables}
 use Rattle.pcrf_model.specs.Letters.{LetterBody, LetterValue}
 use Rattle.pcrf_model.specs.Cursors.{ask, ack_letter, ack_of}
 use Rattle.pcrf_model.specs.Worlds.{ServeAt, PushAt, Letter, Merge, Ack, Restart, Replied, PushedOut, Lettered, Merged, Restarted, ClockFull, NoMemory, Gives, SiteView, WorldView, ByCursors, asked_body}
-use Rattle.pcrf_model.specs.Seen.{view_made, view_served, view_pushed, view_merged, view_in_part, view_again, view_letter, view_ack, see_change, see_change_by, seen_after}
+use Rattle.pcrf_model.specs.Seen.{view_made, view_served, view_pushed, view_merged, view_in_part, view_again, view_letter, view_ack, see_change, see_change_by, world_view_after}
 use Rattle.site_machine.specs.Sites.{with_made, served, pushed}
 use Rattle.pcrf_world.specs.Members.{seen_of, with_site, started_again}
 use Rattle.pcrf_world.specs.Values.{setting}
@@ -60,29 +60,29 @@ module _ (g : Tables) (ms : List Member) (ls : List LetterValue) (i : ℕ) (m : 
   changes k n is = seen_set ms ls i n (k (seen_of m)) is ∙ sym (see_change_at (world_of ms ls) i k (seen_of m) (seen_at ms i m at))
 
   -- it started again
-  pub restarted_at : (epoch : ℕ) → world_of (slice_set ms i (started_again m)) ls ≡ seen_after (setting g) (world_of ms ls) (Restart i) (Ok (Restarted epoch))
+  pub restarted_at : (epoch : ℕ) → world_of (slice_set ms i (started_again m)) ls ≡ world_view_after (setting g) (world_of ms ls) (Restart i) (Ok (Restarted epoch))
   restarted_at epoch = changes view_again (started_again m) refl
 
   module _ (is : m.site.tables ≡ g) where
     -- it served a request
-    pub served_at : (q : RequestValue) (r : ReplyValue) → world_of (slice_set ms i (with_site m (with_made m.site (served m.site q).added))) ls ≡ seen_after (setting g) (world_of ms ls) (ServeAt i q) (Ok (Replied r))
+    pub served_at : (q : RequestValue) (r : ReplyValue) → world_of (slice_set ms i (with_site m (with_made m.site (served m.site q).added))) ls ≡ world_view_after (setting g) (world_of ms ls) (ServeAt i q) (Ok (Replied r))
     served_at q r = changes (λ (x : SiteView). view_made (view_served (setting g) q x).added x) (with_site m (with_made m.site (served m.site q).added))
         (seen_made m (served m.site q).added ∙ ap (λ (t : Tables). view_made (view_served (setting t) q (seen_of m)).added (seen_of m)) is)
 
     -- it pushed
-    pub pushed_at : (name : Option (List ℕ)) (p : Option PushValue) → world_of (slice_set ms i (with_site m (with_made m.site (pushed m.site name).added))) ls ≡ seen_after (setting g) (world_of ms ls) (PushAt i name) (Ok (PushedOut p))
+    pub pushed_at : (name : Option (List ℕ)) (p : Option PushValue) → world_of (slice_set ms i (with_site m (with_made m.site (pushed m.site name).added))) ls ≡ world_view_after (setting g) (world_of ms ls) (PushAt i name) (Ok (PushedOut p))
     pushed_at name p = changes (λ (x : SiteView). view_made (view_pushed (setting g) name x).added x) (with_site m (with_made m.site (pushed m.site name).added))
         (seen_made m (pushed m.site name).added ∙ ap (λ (t : Tables). view_made (view_pushed (setting t) name (seen_of m)).added (seen_of m)) is)
 
     -- it wrote to a peer
-    pub lettered_at : m.cursors.site ≡ m.site.number → (j k : ℕ) → world_of ms (ls ++ letter_made m.cursors m.site j ∷ []) ≡ seen_after (setting g) (world_of ms ls) (Letter i j) (Ok (Lettered k))
+    pub lettered_at : m.cursors.site ≡ m.site.number → (j k : ℕ) → world_of ms (ls ++ letter_made m.cursors m.site j ∷ []) ≡ world_view_after (setting g) (world_of ms ls) (Letter i j) (Ok (Lettered k))
     lettered_at own j k =
         let body : LetterBody = asked_body (seen_of m) (ask m.cursors j) in
         let letter : letter_made m.cursors m.site j ≡ view_letter (setting g) j (seen_of m) = λ n. record { edition = (ap (λ (t : Tables). t.edition) is) n; site = own n; epoch = m.cursors.epoch; body = body } in
         rw (seen_at ms i m at) (ap (λ (l : LetterValue). world_of ms (ls ++ l ∷ [])) letter)
 
     -- it told a maker what it took of it
-    pub acknowledged_at : (maker k : ℕ) → world_of ms (ls ++ ack_letter m.site.tables.edition (ack_of m.cursors maker) ∷ []) ≡ seen_after (setting g) (world_of ms ls) (Ack i maker) (Ok (Lettered k))
+    pub acknowledged_at : (maker k : ℕ) → world_of ms (ls ++ ack_letter m.site.tables.edition (ack_of m.cursors maker) ∷ []) ≡ world_view_after (setting g) (world_of ms ls) (Ack i maker) (Ok (Lettered k))
     acknowledged_at maker k =
         let letters : ls ++ ack_letter m.site.tables.edition (ack_of m.cursors maker) ∷ [] ≡ ls ++ view_ack (setting g) maker (seen_of m) ∷ [] = ap (λ (t : Tables). ls ++ ack_letter t.edition (ack_of m.cursors maker) ∷ []) is in
         rw (seen_at ms i m at) (ap (world_of ms) letters)
@@ -93,9 +93,9 @@ module _ (g : Tables) (ms : List Member) (ls : List LetterValue) (i : ℕ) (m : 
     taken_at f same = changes (f l) n same ∙ sym (see_change_by_at (world_of ms ls) i k f l there)
 
     -- all of it
-    pub merged_at : seen_of n ≡ view_merged ByCursors l (seen_of m) → world_of (slice_set ms i n) ls ≡ seen_after (setting g) (world_of ms ls) (Merge i k) (Ok Merged)
+    pub merged_at : seen_of n ≡ view_merged ByCursors l (seen_of m) → world_of (slice_set ms i n) ls ≡ world_view_after (setting g) (world_of ms ls) (Merge i k) (Ok Merged)
     merged_at = taken_at (view_merged ByCursors)
 
     -- the first operations of it
-    pub merged_in_part_at : (count : ℕ) → seen_of n ≡ view_in_part count l (seen_of m) → world_of (slice_set ms i n) ls ≡ seen_after (setting g) (world_of ms ls) (Merge i k) (Err (NoMemory count))
+    pub merged_in_part_at : (count : ℕ) → seen_of n ≡ view_in_part count l (seen_of m) → world_of (slice_set ms i n) ls ≡ world_view_after (setting g) (world_of ms ls) (Merge i k) (Err (NoMemory count))
     merged_in_part_at count = taken_at (view_in_part count)

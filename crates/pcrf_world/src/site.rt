@@ -3,7 +3,7 @@ ghost use Rattle.std.specs.Prelude.{◌≡◌, ◌<◌, ◌+◌, None, IfOk, IfE
 ghost use Rattle.pcrf_model.specs.Cursors.{ack_letter, ack_of};
 ghost use Rattle.pcrf_values.specs.Limits.{last_epoch, site_limit};
 ghost use Rattle.pcrf_model.specs.Operations.{holding_of};
-ghost use Rattle.pcrf_model.specs.Seen.{brought, view_in_part, view_merged};
+ghost use Rattle.pcrf_model.specs.Seen.{brought_holding, view_in_part, view_merged};
 ghost use Rattle.pcrf_model.specs.Tables as tables;
 ghost use Rattle.pcrf_model.specs.Worlds.{ByCursors, MayStopAfter, first_taken};
 ghost use Rattle.peer_cursors.specs.Writing.{letter_made};
@@ -92,7 +92,8 @@ impl Member {
 /// Has a site take what a letter says, or tells how many of its operations stand taken where memory was refused.
 #[tactic(auto, using(pcrf_model::proofs::UnionLaws::union_nothing))]
 fn take_body(site: &mut Site, body: &Body) -> Result<(), usize>
-    ensures ok { OnOk result (site.new ≡ with_state site.old (brought (body_value body.now))) }
+    ensures ok { OnOk result (site.new
+        ≡ with_state site.old (brought_holding (body_value body.now))) }
     ensures part { IfErr result (λ n. MayStopAfter (body_value body.now) n) }
     ensures err { IfErr result (λ n. site.new
         ≡ with_state site.old (holding_of (first_taken n (body_value body.now)))) }

@@ -1,6 +1,6 @@
 //! How far one site took the operations of another.
 ghost use Rattle.std.specs.Prelude.{◌≡◌, ◌≤◌, Some};
-ghost use Rattle.pcrf_model.specs.Cursors.{maker_after, peer_after, raised_by};
+ghost use Rattle.pcrf_model.specs.Cursors.{maker_after, peer_after, raised_cursor};
 ghost use Rattle.pcrf_values.specs.Limits.{last_counter};
 ghost use Rattle.peer_cursors.specs.Values.{cursor_at};
 
@@ -96,7 +96,7 @@ impl Cursor {
 /// How many operations of a letter's epoch are taken with it, where so many were before.
 fn raised_by(letter: &Letter, known: u64) -> u64
     requires { known ≤ last_counter }
-    ensures raised { result ≡ raised_by letter.now.body known }
+    ensures raised { result ≡ raised_cursor letter.now.body known }
     ensures within { result ≤ last_counter }
 {
     letter.note_kept();

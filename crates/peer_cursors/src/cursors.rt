@@ -1,6 +1,6 @@
 //! The cursors of a site: of each maker, and of each peer.
 ghost use Rattle.std.specs.Prelude.{◌≡◌, ◌≤◌, ◌<◌};
-ghost use Rattle.pcrf_model.specs.Cursors.{ack_of, acked, letter_saying, maker_entry, peer_entry, start_cursors, took};
+ghost use Rattle.pcrf_model.specs.Cursors.{ack_of, cursors_after_ack, letter_saying, maker_entry, peer_entry, start_cursors, cursors_after_letter};
 ghost use Rattle.peer_exchange.specs.Values.{body_value};
 ghost use Rattle.pcrf_values.specs.Limits.{site_limit};
 ghost use Rattle.pcrf_model.specs.Worlds.{ByCursors, cursors_after};
@@ -99,7 +99,7 @@ impl Cursors {
     /// Counts a letter that was taken whole, and gives what its sender is to be told then. An acknowledgement counts for
     /// nothing here.
     pub fn took(&mut self, letter: &Letter) -> Ack
-        ensures took { self.new ≡ took self.old letter.now }
+        ensures took { self.new ≡ cursors_after_letter self.old letter.now }
         ensures ack { result ≡ ack_of self.new letter.now.site }
     {
         letter.note_kept();
@@ -114,7 +114,7 @@ impl Cursors {
 
     /// Counts what a peer said that it took; at a site that isn't its maker in that epoch it counts for nothing.
     pub fn acked(&mut self, ack: &Ack)
-        ensures { self.new ≡ acked self.old ack.now }
+        ensures { self.new ≡ cursors_after_ack self.old ack.now }
     {
         if ack.maker() != self.site || ack.maker_epoch() != self.epoch {
             return;

@@ -1,7 +1,7 @@
 -- Exchanges one after the other.
 use Rattle.std.proofs.Common.{◌≡◌, ℕ, Bool, true, false, cond, inl, inr, ◌==◌, ◌&&◌, List, [], ◌∷◌, ◌++◌, Option, refl, sym, ap, subst, ◌∙◌, append_assoc, append-nil}
 use Rattle.pcrf_model.specs.Letters.{AckValue, LetterValue}
-use Rattle.pcrf_model.specs.Cursors.{Cursor, CursorsValue, acked, took, is_acknowledgement}
+use Rattle.pcrf_model.specs.Cursors.{Cursor, CursorsValue, cursors_after_ack, cursors_after_letter, is_acknowledgement}
 use Rattle.pcrf_model.specs.Steps.{SiteEvent, Serve, Push, Ops, Whole, AskOwn, AskWhole}
 use Rattle.link_ends.specs.Books.{ReceiptValue, SeatValue}
 use Rattle.link_ends.specs.Earlier.{HasEarlier, with_receipts}
@@ -46,7 +46,7 @@ pub exchanged_called : (s t u : SeatValue) (makers after : List Cursor) → Exch
 exchanged_called s t u makers after a h = exchanged_then s t u makers after after a (exchanged_earlier t u after after h refl)
 
 -- an acknowledgement changes no maker's entry
-pub acked_makers : (c : CursorsValue) (a : AckValue) → (acked c a).makers ≡ c.makers
+pub acked_makers : (c : CursorsValue) (a : AckValue) → (cursors_after_ack c a).makers ≡ c.makers
 acked_makers c a = of_test (a.maker == c.site && a.maker_epoch == c.epoch) _
   where
     of_test : (counts : Bool) (peers : List (Option Cursor)) → (cond counts (record c { peers = peers }) c).makers ≡ c.makers
@@ -54,12 +54,12 @@ acked_makers c a = of_test (a.maker == c.site && a.maker_epoch == c.epoch) _
     of_test false peers = refl
 
 -- a letter that isn't one raises its maker's
-took_makers : (c : CursorsValue) (l : LetterValue) → is_acknowledgement l.body ≡ false → (took c l).makers ≡ makers_after c.makers l
+took_makers : (c : CursorsValue) (l : LetterValue) → is_acknowledgement l.body ≡ false → (cursors_after_letter c l).makers ≡ makers_after c.makers l
 took_makers c l e = ap (λ (b : Bool). (cond b c (record c { makers = makers_after c.makers l })).makers) e
 
 -- a letter whose contents were taken whole
 pub exchanged_took : (s t : SeatValue) (c : CursorsValue) (l : LetterValue) (at : ℕ) (event : SiteEvent) → l.body ≡ body_of at event → GainsWhole s t event
-    → Exchanged s t c.makers (took c l).makers
+    → Exchanged s t c.makers (cursors_after_letter c l).makers
 exchanged_took s t c l at (Ops operations) is g =
     (g.0 ∷ [], g.1, inr (l, subst (λ b. HoldsWhole g.0 b) (sym is) (g.2, g.3), took_makers c l (ap is_acknowledgement is)))
 exchanged_took s t c l at (Whole holding) is g =

@@ -22,7 +22,7 @@ use Rattle.pcrf_model.specs.Views.{View, view}
 use Rattle.pcrf_model.specs.Tables.{Tables}
 use Rattle.pcrf_model.specs.Differences.{is_empty}
 use Rattle.pcrf_model.specs.Replies.{PushValue}
-use Rattle.pcrf_model.specs.Pushing.{is_of_host, is_home, is_due, due}
+use Rattle.pcrf_model.specs.Pushing.{is_of_host, is_home, is_due, due_session}
 use Rattle.pcrf_model.proofs.BindLaws.{has_address, gx_is}
 use Rattle.pcrf_model.proofs.HoldingLaws.{session_ranked}
 use Rattle.pcrf_model.proofs.ViewLaws.{its_session, shows-known}
@@ -149,8 +149,8 @@ module _ (t : Tables) (i : ℕ) (name : Option (List ℕ)) (facts : List Session
   sessions_rise = ascending-ascending session_cmp session_ranked (map its_session facts)
 
   -- so the push is of the session that is due
-  pub pushed_is : first_push t v i name es ≡ option_map (push_of t v) (due t i v name)
-  unfolding due
+  pub pushed_is : first_push t v i name es ≡ option_map (push_of t v) (due_session t i v name)
+  unfolding due_session
   pushed_is =
       first_is es its_push
       ∙ ap (option_map (push_of t v)) (same_found session_cmp session_ranked is_next (map session_of es) v.sessions (records_rise es r.ascending) sessions_rise (λ s. (forth s, back s)))

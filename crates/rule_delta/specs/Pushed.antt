@@ -5,14 +5,14 @@ use Rattle.pcrf_model.specs.Sessions.{Session}
 use Rattle.pcrf_model.specs.Views.{View}
 use Rattle.pcrf_model.specs.Tables.{Tables}
 use Rattle.pcrf_model.specs.Rules.{rules}
-use Rattle.pcrf_model.specs.Differences.{told, difference}
+use Rattle.pcrf_model.specs.Differences.{told_rules_of, difference}
 use Rattle.pcrf_model.specs.Serving.{delta_of}
 use Rattle.pcrf_model.specs.Replies.{PushValue}
 use Rattle.pcrf_model.specs.Pushing.{push_to}
 
 -- the difference between what it was told and the rules
 abbrev pub untold : Tables → View → Session → DeltaValue
-untold t v s = difference (told v s) (rules t v s)
+untold t v s = difference (told_rules_of v s) (rules t v s)
 
 -- its first entries, to the gateway of the session
 abbrev pub push_of : Tables → View → Session → PushValue

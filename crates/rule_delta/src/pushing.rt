@@ -4,7 +4,7 @@ ghost use Rattle.std.specs.Option.{option_copied};
 ghost use Rattle.ranked.specs.Sets.{Distinct};
 ghost use Rattle.pcrf_facts.specs.Live.{gx_is_live};
 ghost use Rattle.pcrf_model.specs.Differences.{is_empty, rule_name_of};
-ghost use Rattle.pcrf_model.specs.Pushing.{due, push_to};
+ghost use Rattle.pcrf_model.specs.Pushing.{due_session, push_to};
 ghost use Rattle.pcrf_model.specs.Rules.{rules};
 ghost use Rattle.pcrf_model.specs.Sessions.{gx};
 ghost use Rattle.pcrf_model.specs.Views.{view};
@@ -44,7 +44,7 @@ pub fn next_push(
 ) -> Result<Option<PushOut>, AllocError>
     ensures push { IfOk result (λ push. option_map push_view push
         ≡ option_map (push_of tables.now (view state.now.facts))
-        (due tables.now site (view state.now.facts) (option_copied host.entry))) }
+        (due_session tables.now site (view state.now.facts) (option_copied host.entry))) }
     ensures names { IfOk result (λ push. IfSome push (λ p. Distinct (map rule_name_of
         (rules tables.now (view state.now.facts) (gx p.session))))) }
 {

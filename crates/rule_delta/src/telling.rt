@@ -1,7 +1,7 @@
 //! What the gateway of a session is still to be told.
 ghost use Rattle.std.specs.Prelude.{◌≡◌, IfOk, OnOk, map};
 ghost use Rattle.ranked.specs.Sets.{Distinct};
-ghost use Rattle.pcrf_model.specs.Differences.{rule_name_of, told};
+ghost use Rattle.pcrf_model.specs.Differences.{rule_name_of, told_rules_of};
 ghost use Rattle.pcrf_model.specs.Rules.{rules};
 ghost use Rattle.pcrf_model.specs.Sessions.{gx};
 ghost use Rattle.pcrf_model.specs.Views.{view};
@@ -37,7 +37,7 @@ pub fn untold(
 /// What the gateway of a session was told: nothing, where no fact of the session is known.
 pub fn told_of(alloc: Global, state: &State, session: &GxSid) -> Result<Told, AllocError>
     ensures { IfOk result (λ entries. entries
-        ≡ told (view state.now.facts) (gx session.now)) }
+        ≡ told_rules_of (view state.now.facts) (gx session.now)) }
 {
     match state.gx(session) {
         Some(record) => record.told(alloc),

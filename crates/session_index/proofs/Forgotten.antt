@@ -13,7 +13,7 @@ use Rattle.ranked.proofs.SetLaws.{In-filter, In-left, In-right, In-cases, In-any
 use Rattle.pcrf_values.specs.Subscribers.{subscriber_cmp}
 use Rattle.pcrf_facts.specs.Facts.{Fact, End, Removed, Field}
 use Rattle.pcrf_facts.specs.FlowWords.{value_at}
-use Rattle.pcrf_facts.specs.Held.{shown, is_ended, is_gone, blocks}
+use Rattle.pcrf_facts.specs.Held.{entry_shown, is_ended, is_gone, blocks}
 use Rattle.pcrf_facts.specs.Places.{Place, address, subscribers}
 use Rattle.pcrf_facts.specs.Values.{Value, Entry, Subscriber, Address, Subscribers}
 use Rattle.pcrf_facts.proofs.FactLaws.{subscriber_ranked}
@@ -160,11 +160,11 @@ each_more i j k id xs y f r = record {
     kept x false e n = f.others x (λ m. n (In-left x xs (y ∷ []) m))
 
 -- the value of an entry that shows
-its : (facts : List Fact) (p : Place) (t : Tag) (x y : Value) → Some (t, x) ≡ shown facts p → value_at (shown facts) p ≡ Some y → x ≡ y
+its : (facts : List Fact) (p : Place) (t : Tag) (x y : Value) → Some (t, x) ≡ entry_shown facts p → value_at (entry_shown facts) p ≡ Some y → x ≡ y
 its facts p t x y s e = some_same x y (ap (option_map (λ (w : Entry). w.1)) s ∙ e)
 
 -- under the address that a record shows
-pub address_forgotten : (i j : IndexValue) (s : Session) (facts : List Fact) (t : Tag) (x : Ipv4Addr) → Some (t, Address (ipv4_octets x)) ≡ shown facts address
+pub address_forgotten : (i j : IndexValue) (s : Session) (facts : List Fact) (t : Tag) (x : Ipv4Addr) → Some (t, Address (ipv4_octets x)) ≡ entry_shown facts address
     → ((a : Ipv4Addr) → listed_at j s.kind a ≡ (if is_eq (address_cmp x a) then without text_cmp s.id (listed_at i s.kind a) else listed_at i s.kind a)) → ForgetsAddress i j s facts
 address_forgotten i j s facts t x shows f = record {
   gone = λ a e. f a ∙ out a e (is_eq (address_cmp x a)) refl;
@@ -190,14 +190,14 @@ address_forgotten i j s facts t x shows f = record {
     kept a n false q = refl
 
 -- under none, where it shows none
-pub no_address_forgotten : (i : IndexValue) (s : Session) (facts : List Fact) → None ≡ shown facts address → ForgetsAddress i i s facts
+pub no_address_forgotten : (i : IndexValue) (s : Session) (facts : List Fact) → None ≡ entry_shown facts address → ForgetsAddress i i s facts
 no_address_forgotten i s facts shows = record {
   gone = λ a e. none_some (Address (ipv4_octets a)) (ap (option_map (λ (w : Entry). w.1)) shows ∙ e);
   others = λ a n. refl;
 }
 
 -- under the subscribers that a record shows
-pub subscribers_of_forgotten : (i j : BySubscriber) (id : List ℕ) (facts : List Fact) (t : Tag) (xs : List Subscriber) → Some (t, Subscribers xs) ≡ shown facts subscribers
+pub subscribers_of_forgotten : (i j : BySubscriber) (id : List ℕ) (facts : List Fact) (t : Tag) (xs : List Subscriber) → Some (t, Subscribers xs) ≡ entry_shown facts subscribers
     → ForgetsEach i j id xs → ForgetsSubscribers i j id facts
 subscribers_of_forgotten i j id facts t xs shows f = record {
   gone = λ x w. f.gone x (subst (λ (us : List Subscriber). In x us) (same w.0 w.1) w.2);
@@ -208,11 +208,11 @@ subscribers_of_forgotten i j id facts t xs shows f = record {
     listed_in (Subscribers us) = us
     listed_in v = []
 
-    same : (us : List Subscriber) → value_at (shown facts) subscribers ≡ Some (Subscribers us) → us ≡ xs
+    same : (us : List Subscriber) → value_at (entry_shown facts) subscribers ≡ Some (Subscribers us) → us ≡ xs
     same us e = sym (ap listed_in (its facts subscribers t (Subscribers xs) (Subscribers us) shows e))
 
 -- under none, where it shows none
-pub no_subscribers_forgotten : (i : BySubscriber) (id : List ℕ) (facts : List Fact) → None ≡ shown facts subscribers → ForgetsSubscribers i i id facts
+pub no_subscribers_forgotten : (i : BySubscriber) (id : List ℕ) (facts : List Fact) → None ≡ entry_shown facts subscribers → ForgetsSubscribers i i id facts
 no_subscribers_forgotten i id facts shows = record {
   gone = λ x w. none_some (Subscribers w.0) (ap (option_map (λ (e : Entry). e.1)) shows ∙ w.1);
   others = λ x n. refl;

@@ -8,7 +8,7 @@ use Rattle.ranked.specs.declared.tag.Tag.{Tag}
 use Rattle.ranked.proofs.Plain.{is_false, some_same, none_some, came_from}
 use Rattle.ranked.proofs.SetLaws.{In-filter_map, filter_map-In, greatest-Same}
 use Rattle.pcrf_facts.specs.Facts.{Fact}
-use Rattle.pcrf_facts.specs.Held.{held, shown}
+use Rattle.pcrf_facts.specs.Held.{kept_list, entry_shown}
 use Rattle.pcrf_facts.specs.Places.{address}
 use Rattle.pcrf_facts.specs.Values.{Value, Address, Entry}
 use Rattle.pcrf_facts.proofs.ShownLaws.{shown-held}
@@ -69,7 +69,7 @@ module _ (facts : List SessionFact) (a : List ℕ) (ids : List (List ℕ)) where
         (greatest-Same candidate_cmp candidate_ranked.total candidate_ranked.same (filter_map (candidate v (af a)) v.sessions) (filter_map listed ids) (λ c. (forth c, back c)))
 
 -- the matches are the same by what a record keeps
-listed_held : (afs : List Fact) (facts : List SessionFact) (ids : List (List ℕ)) → matches_listed (held afs) facts ids ≡ matches_listed afs facts ids
+listed_held : (afs : List Fact) (facts : List SessionFact) (ids : List (List ℕ)) → matches_listed (kept_list afs) facts ids ≡ matches_listed afs facts ids
 listed_held afs facts ids = λ i. filter_map (λ (id : List ℕ). candidate (beside_held (facts_on facts (gx id)) afs i) (af []) (gx id)) ids
 
 -- the value of an address entry
@@ -78,24 +78,24 @@ value_of = option_map (λ (e : Entry). e.1)
 
 module _ (first facts : List SessionFact) (a : List ℕ) (asked : List Fact) (w : HasRecord first asked facts a) where
   -- what the record says of an address is what the view says
-  address_is : value (view facts) (af a) address ≡ value_of (shown asked address)
+  address_is : value (view facts) (af a) address ≡ value_of (entry_shown asked address)
   unfolding view
-  address_is = ap value_of (sym (shown-held (facts_on facts (af a)) address) ∙ ap (λ (fs : List Fact). shown fs address) (sym w.own))
+  address_is = ap value_of (sym (shown-held (facts_on facts (af a)) address) ∙ ap (λ (fs : List Fact). entry_shown fs address) (sym w.own))
 
   -- each gateway's session says the same by both facts
   gateways_alike : (id : List ℕ) → value (view first) (gx id) address ≡ value (view facts) (gx id) address
   unfolding view
-  gateways_alike id = ap (λ (fs : List Fact). value_of (shown fs address)) (w.gateways id)
+  gateways_alike id = ap (λ (fs : List Fact). value_of (entry_shown fs address)) (w.gateways id)
 
   -- without an address it is bound to none
-  pub no_address : shown asked address ≡ None → None ≡ bind (view facts) (af a)
+  pub no_address : entry_shown asked address ≡ None → None ≡ bind (view facts) (af a)
   no_address h = sym ((bind-none facts (af a)).1 (λ s. is_false _ (λ m.
       let x = both_show (view facts) (af a) s m in
       none_some x.0 (sym (ap value_of h) ∙ sym address_is ∙ x.1))))
 
   -- with one it is bound to the greatest of the matches among those that are listed under it
   pub listed_is_bound : (i : IndexValue) (x : Ipv4Addr) (t : Tag) (found : Option Candidate) (ids : List (List ℕ)) → Covers (view first) i
-      → Some (t, Address (ipv4_octets x)) ≡ shown asked address → ids ≡ listed_at i Gx x
+      → Some (t, Address (ipv4_octets x)) ≡ entry_shown asked address → ids ≡ listed_at i Gx x
       → found ≡ greatest candidate_cmp (matches_listed asked first ids) → option_map (λ (c : Candidate). gx c.1.1) found ≡ bind (view facts) (af a)
   listed_is_bound i x t found ids all shows are best =
       ap (option_map (λ (c : Candidate). gx c.1.1))

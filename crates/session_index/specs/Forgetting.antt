@@ -7,7 +7,7 @@ use Rattle.ranked.specs.Sets.{In}
 use Rattle.pcrf_values.specs.Subscribers.{subscriber_cmp}
 use Rattle.pcrf_facts.specs.Facts.{Fact}
 use Rattle.pcrf_facts.specs.FlowWords.{value_at}
-use Rattle.pcrf_facts.specs.Held.{shown}
+use Rattle.pcrf_facts.specs.Held.{entry_shown}
 use Rattle.pcrf_facts.specs.Places.{Place, address, subscribers}
 use Rattle.pcrf_facts.specs.Values.{Subscriber, Address, Subscribers}
 use Rattle.pcrf_model.specs.Holdings.{SessionFact}
@@ -30,7 +30,7 @@ EndedShowNothing = (facts : List SessionFact) (s : Session) → (view facts).end
 
 -- these facts of a session show the address
 abbrev pub GivesAddress : List Fact → Ipv4Addr → Type 0
-GivesAddress facts a = value_at (shown facts) address ≡ Some (Address (ipv4_octets a))
+GivesAddress facts a = value_at (entry_shown facts) address ≡ Some (Address (ipv4_octets a))
 
 -- the session is taken out from under the address that these facts show, and from under no other
 pub record ForgetsAddress (before after : IndexValue) (s : Session) (facts : List Fact) : Type 0 where
@@ -44,7 +44,7 @@ pub record ForgetsEach (before after : BySubscriber) (id : List ℕ) (xs : List 
 
 -- these facts of a session show the subscriber among its own
 abbrev pub GivesSubscriber : List Fact → Subscriber → Type 0
-GivesSubscriber facts x = (xs : List Subscriber) × (value_at (shown facts) subscribers ≡ Some (Subscribers xs)) × In x xs
+GivesSubscriber facts x = (xs : List Subscriber) × (value_at (entry_shown facts) subscribers ≡ Some (Subscribers xs)) × In x xs
 
 -- the session is taken out from under the subscribers that these facts show, and from under no others
 pub record ForgetsSubscribers (before after : BySubscriber) (id : List ℕ) (facts : List Fact) : Type 0 where

@@ -10,7 +10,7 @@ use Rattle.ranked.specs.declared.tag.Tag.{Tag}
 use Rattle.pcrf_values.specs.Subscribers.{subscriber_cmp}
 use Rattle.pcrf_facts.specs.Facts.{Fact, Field}
 use Rattle.pcrf_facts.specs.FlowWords.{value_at}
-use Rattle.pcrf_facts.specs.Held.{shown}
+use Rattle.pcrf_facts.specs.Held.{entry_shown}
 use Rattle.pcrf_facts.specs.Places.{address, subscribers}
 use Rattle.pcrf_facts.specs.Values.{Subscriber, Address, Subscribers}
 use Rattle.pcrf_model.specs.Bindings.{Candidate}
@@ -74,11 +74,11 @@ pub record ListsFacts (i : IndexValue) (s : Session) (facts : List Fact) : Type 
 
 -- the session is listed under the address that these facts show
 pub record ListsAddress (i : IndexValue) (s : Session) (facts : List Fact) : Type 0 where
-  pub listed : (a : Ipv4Addr) → value_at (shown facts) address ≡ Some (Address (ipv4_octets a)) → In s.id (listed_at i s.kind a)
+  pub listed : (a : Ipv4Addr) → value_at (entry_shown facts) address ≡ Some (Address (ipv4_octets a)) → In s.id (listed_at i s.kind a)
 
 -- the Gx session is listed under each subscriber that these facts show
 pub record ListsSubscribers (i : IndexValue) (id : List ℕ) (facts : List Fact) : Type 0 where
-  pub listed : (xs : List Subscriber) → value_at (shown facts) subscribers ≡ Some (Subscribers xs) → ListedUnder i.subscribed id xs
+  pub listed : (xs : List Subscriber) → value_at (entry_shown facts) subscribers ≡ Some (Subscribers xs) → ListedUnder i.subscribed id xs
 
 -- the session of each of these records is listed under the address that it shows
 pub record ListAddresses (i : IndexValue) (kind : List ℕ → Session) (es : Records) : Type 0 where

@@ -21,7 +21,7 @@ use Rattle.lattice_core.proofs.MapParts.{option_facts, option_valid, option_both
 use Rattle.pcrf_facts.specs.Places.{Place}
 use Rattle.pcrf_facts.specs.Values.{Value, value_cmp, Entry, entry_cmp}
 use Rattle.pcrf_facts.specs.Facts.{Fact, End, Removed, Field, is_shaded_by}
-use Rattle.pcrf_facts.specs.Held.{kept, held, joined, ends}
+use Rattle.pcrf_facts.specs.Held.{kept_set, kept_list, join_of, ends}
 use Rattle.pcrf_facts.proofs.FactLaws.{place_ranked, entry_ranked, shaded_irr, shaded_trans}
 use Rattle.pcrf_facts.proofs.JoinedLaws.{joined-held}
 use Rattle.session_records.specs.Levels.{entry_by, at_place, live_at, level}
@@ -32,7 +32,7 @@ shaded_strict = record { irr = shaded_irr; trans = shaded_trans }
 
 -- ---- registers
 -- a field with another at its place, by which is greater
-two : (p : Place) (x y : Entry) (b : Bool) → is_lt (entry_cmp x y) ≡ b → Same (at_place p (if b then Some y else Some x)) (kept (Field p x.0 x.1 ∷ Field p y.0 y.1 ∷ []))
+two : (p : Place) (x y : Entry) (b : Bool) → is_lt (entry_cmp x y) ≡ b → Same (at_place p (if b then Some y else Some x)) (kept_set (Field p x.0 x.1 ∷ Field p y.0 y.1 ∷ []))
 two p x y true h = only_top shaded_strict (Field p y.0 y.1) (Field p x.0 x.1 ∷ Field p y.0 y.1 ∷ []) (inr (inl refl)) below
   where
     below : (a : Fact) → In a (Field p x.0 x.1 ∷ Field p y.0 y.1 ∷ []) → (a ≡ Field p y.0 y.1) ⊎ (is_shaded_by a (Field p y.0 y.1) ≡ true)
@@ -51,14 +51,14 @@ two p x y false h = only_top shaded_strict (Field p x.0 x.1) (Field p x.0 x.1 �
     below a (inr (inr i)) = absurd i
 
 -- what a place keeps
-place_both : (p : Place) (x y : Option Entry) → Same (at_place p (reg_joined value_cmp x y)) (kept (at_place p x ++ at_place p y))
+place_both : (p : Place) (x y : Option Entry) → Same (at_place p (reg_joined value_cmp x y)) (kept_set (at_place p x ++ at_place p y))
 place_both p None None = Same-itself []
 place_both p None (Some y) = one_kept shaded_strict (Field p y.0 y.1)
 place_both p (Some x) None = one_kept shaded_strict (Field p x.0 x.1)
 place_both p (Some x) (Some y) = two p x y (is_lt (entry_cmp x y)) refl
 
 -- and by itself
-place_own : (p : Place) (x : Option Entry) → Same (at_place p x) (kept (at_place p x))
+place_own : (p : Place) (x : Option Entry) → Same (at_place p x) (kept_set (at_place p x))
 place_own p None = Same-itself []
 place_own p (Some x) = one_kept shaded_strict (Field p x.0 x.1)
 
@@ -79,7 +79,7 @@ entry_joined R make h (Some x) (Some y) =
 -- a register at a place keeps, where the values of facts stand in the order of its values
 pub register_keeps : {T : Type 0} (R : T → T → Ordering) (make : T → Value) → ((x y : T) → value_cmp (make x) (make y) ≡ R x y) → (p : Place) → Keeps is_shaded_by (λ _. Unit {0}) (reg_joined R) (λ x. at_place p (entry_by make x))
 register_keeps {T} R make h p = record {
-  both = λ x y _ _. subst (λ (e : Option Entry). Same (at_place p e) (kept (at_place p (entry_by make x) ++ at_place p (entry_by make y)))) (sym (entry_joined R make h x y)) (place_both p (entry_by make x) (entry_by make y));
+  both = λ x y _ _. subst (λ (e : Option Entry). Same (at_place p e) (kept_set (at_place p (entry_by make x) ++ at_place p (entry_by make y)))) (sym (entry_joined R make h x y)) (place_both p (entry_by make x) (entry_by make y));
   own = λ x _. place_own p (entry_by make x);
 }
 
@@ -176,34 +176,34 @@ module _ {F K V : Type 0} {place : F → Place} {fields : List F} {sub : K → V
         part : T → F ⊎ K → List Fact
         part x = level_part (entry x) (entries x)
 
-        both_of : (x y : T) → valid_all x → valid_all y → Same (level place fields sub (entry (join_all x y)) (entries (join_all x y))) (kept (level place fields sub (entry x) (entries x) ++ level place fields sub (entry y) (entries y)))
+        both_of : (x y : T) → valid_all x → valid_all y → Same (level place fields sub (entry (join_all x y)) (entries (join_all x y))) (kept_set (level place fields sub (entry x) (entries x) ++ level place fields sub (entry y) (entries y)))
         both_of x y v w =
             parts_kept shaded_strict its.rising (whole x ++ whole y) (whole (join_all x y)) (λ k. part x k ++ part y k) (part (join_all x y))
             (made_of_both (whole x) (whole y) (part x) (part y) (level_made (entry x) (entries x) (valid_of x v).0) (level_made (entry y) (entries y) (valid_of y w).0))
             (level_made (entry (join_all x y)) (entries (join_all x y)) (subst (λ (es : List (K × V)). IsAscending cmp es) (sym (maps x y)) (joined_rises o join (entries x) (entries y))))
             at
           where
-            at : (k : F ⊎ K) → Same (level_part (entry (join_all x y)) (entries (join_all x y)) k) (kept (level_part (entry x) (entries x) k ++ level_part (entry y) (entries y) k))
-            at (inl f) = subst (λ (e : Option Entry). Same (at_place (place f) e) (kept (at_place (place f) (entry x f) ++ at_place (place f) (entry y f)))) (sym (told x y f)) (place_both (place f) (entry x f) (entry y f))
-            at (inr k) = subst (λ (e : Option V). Same (option_facts (sub k) e) (kept (option_facts (sub k) (value_at cmp (entries x) k) ++ option_facts (sub k) (value_at cmp (entries y) k))))
+            at : (k : F ⊎ K) → Same (level_part (entry (join_all x y)) (entries (join_all x y)) k) (kept_set (level_part (entry x) (entries x) k ++ level_part (entry y) (entries y) k))
+            at (inl f) = subst (λ (e : Option Entry). Same (at_place (place f) e) (kept_set (at_place (place f) (entry x f) ++ at_place (place f) (entry y f)))) (sym (told x y f)) (place_both (place f) (entry x f) (entry y f))
+            at (inr k) = subst (λ (e : Option V). Same (option_facts (sub k) e) (kept_set (option_facts (sub k) (value_at cmp (entries x) k) ++ option_facts (sub k) (value_at cmp (entries y) k))))
                 (sym (ap (λ (es : List (K × V)). value_at cmp es k) (maps x y) ∙ value_joined cmp join o.total (entries x) (entries y) k (valid_of x v).0 (valid_of y w).0))
                 (option_both shaded_strict (keeps k) (value_at cmp (entries x) k) (value_at cmp (entries y) k) (valid_at o valid k (entries x) (valid_of x v).1) (valid_at o valid k (entries y) (valid_of y w).1))
 
-        own_of : (x : T) → valid_all x → Same (level place fields sub (entry x) (entries x)) (kept (level place fields sub (entry x) (entries x)))
+        own_of : (x : T) → valid_all x → Same (level place fields sub (entry x) (entries x)) (kept_set (level place fields sub (entry x) (entries x)))
         own_of x v = parts_kept shaded_strict its.rising (whole x) (whole x) (part x) (part x) (level_made (entry x) (entries x) (valid_of x v).0) (level_made (entry x) (entries x) (valid_of x v).0) at
           where
-            at : (k : F ⊎ K) → Same (level_part (entry x) (entries x) k) (kept (level_part (entry x) (entries x) k))
+            at : (k : F ⊎ K) → Same (level_part (entry x) (entries x) k) (kept_set (level_part (entry x) (entries x) k))
             at (inl f) = place_own (place f) (entry x f)
             at (inr k) = option_own shaded_strict (keeps k) (value_at cmp (entries x) k) (valid_at o valid k (entries x) (valid_of x v).1)
 
 -- ---- facts one after another
 -- what is held of the first facts, and of one more
-pub held_more : {A : Type 0} (fact_of : A → Fact) (facts : List A) (i : ℕ) (f : A) → i < length facts → f ≡ get_or facts i f → joined (held (map fact_of (take i facts))) (fact_of f ∷ []) ≡ held (map fact_of (take (i + 1) facts))
+pub held_more : {A : Type 0} (fact_of : A → Fact) (facts : List A) (i : ℕ) (f : A) → i < length facts → f ≡ get_or facts i f → join_of (kept_list (map fact_of (take i facts))) (fact_of f ∷ []) ≡ kept_list (map fact_of (take (i + 1) facts))
 held_more {A} fact_of facts i f within is =
     joined-held (map fact_of (take i facts)) (fact_of f ∷ [])
-    ∙ ap held (sym (map-append fact_of (take i facts) (f ∷ [])))
-    ∙ ap (λ (g : A). held (map fact_of (take i facts ++ g ∷ []))) is
-    ∙ ap (λ (l : List A). held (map fact_of l)) (sym (take_more facts i f within))
+    ∙ ap kept_list (sym (map-append fact_of (take i facts) (f ∷ [])))
+    ∙ ap (λ (g : A). kept_list (map fact_of (take i facts ++ g ∷ []))) is
+    ∙ ap (λ (l : List A). kept_list (map fact_of l)) (sym (take_more facts i f within))
 
 -- ---- the end
 -- what the end overshadows is not the end

@@ -7,7 +7,7 @@ use Rattle.pcrf_model.specs.Operations.{Operation, holding_of}
 use Rattle.pcrf_model.specs.Replies.{ReplyValue, Taken}
 use Rattle.pcrf_model.specs.Serving.{serve}
 use Rattle.pcrf_model.specs.Pushing.{push}
-use Rattle.pcrf_model.specs.Steps.{SiteState, SiteEvent, left_by, Serve, Push, Ops, Whole}
+use Rattle.pcrf_model.specs.Steps.{SiteState, SiteEvent, kept_state_after, Serve, Push, Ops, Whole}
 use Rattle.site_book.specs.Books.{BookValue, called}
 
 -- what an operation says, if there is one
@@ -26,7 +26,7 @@ gain t i s e r = nothing_held
 -- what all of them add, one after the other
 abbrev pub gained : Tables → ℕ → SiteState → List (SiteEvent × ReplyValue) → Holding
 gained t i s [] = nothing_held
-gained t i s (x ∷ xs) = union (gain t i s x.0 x.1) (gained t i (left_by delta_limit t i s x.0 x.1) xs)
+gained t i s (x ∷ xs) = union (gain t i s x.0 x.1) (gained t i (kept_state_after delta_limit t i s x.0 x.1) xs)
 
 -- the site holds what is kept of its opening and of what the entries added
 abbrev pub HoldsAll : BookValue → Type 0

@@ -7,7 +7,7 @@ use Rattle.ranked.specs.Sets.{In}
 use Rattle.ranked.proofs.SetLaws.{In-cases, filter-In}
 use Rattle.pcrf_facts.specs.Facts.{Fact, End, Removed, Field}
 use Rattle.pcrf_model.specs.Sessions.{Session, session_cmp}
-use Rattle.pcrf_model.specs.Holdings.{SessionFact, Holding, under, facts_on, replaced}
+use Rattle.pcrf_model.specs.Holdings.{SessionFact, Holding, under, facts_on, with_facts_of}
 use Rattle.pcrf_model.specs.Forms.{is_holding, is_up_to, are_up_to}
 use Rattle.pcrf_model.proofs.HoldingLaws.{sorted-In, under-In, facts_on-In}
 use Rattle.pcrf_model.proofs.FormReading.{each_passes}
@@ -30,11 +30,11 @@ record_up_to : (h : Holding) (facts : List Fact) (n : ℕ) (r : Session) → fac
 record_up_to h facts n r is later form = all_pass (is_up_to n) facts (λ f i. held_up_to h n form later (r, f) (facts_on-In h.facts r f (subst (In f) is i)))
 
 -- in place of those of a session
-pub put_up_to : (h : Holding) (s : Session) (facts : List Fact) (n : ℕ) → is_holding h ≡ true → h.clock ≤ n → list_all (is_up_to n) facts ≡ true → are_up_to n (replaced h s facts n).facts ≡ true
+pub put_up_to : (h : Holding) (s : Session) (facts : List Fact) (n : ℕ) → is_holding h ≡ true → h.clock ≤ n → list_all (is_up_to n) facts ≡ true → are_up_to n (with_facts_of h s facts n).facts ≡ true
 put_up_to h s facts n form later given =
     let is_other = λ (x : SessionFact). not (is_eq (session_cmp s x.0)) in
     let others : List SessionFact = filter is_other h.facts in
-    all_pass (λ (x : SessionFact). is_up_to n x.1) (replaced h s facts n).facts (λ x i. elim (In-cases x others (under s facts) ((sorted-In (others ++ under s facts) x).0 i)) [
+    all_pass (λ (x : SessionFact). is_up_to n x.1) (with_facts_of h s facts n).facts (λ x i. elim (In-cases x others (under s facts) ((sorted-In (others ++ under s facts) x).0 i)) [
       | inl j ↦ held_up_to h n form later x (filter-In is_other x h.facts j).0
       | inr j ↦ each_passes (is_up_to n) facts given x.1 (under-In s x facts j).1
     ])

@@ -13,7 +13,7 @@ use Rattle.lattice_core.specs.Subsets.{IsSubset, map_subset}
 use Rattle.lattice_core.proofs.MapParts.{option_facts, map_made}
 use Rattle.lattice_core.proofs.Subsets.{Tells, by_parts, to_parts, map_tells}
 use Rattle.pcrf_facts.specs.Facts.{Fact}
-use Rattle.pcrf_facts.specs.Held.{held}
+use Rattle.pcrf_facts.specs.Held.{kept_list}
 use Rattle.pcrf_model.specs.Sessions.{Session, Gx, Af, gx, af}
 use Rattle.pcrf_model.specs.Holdings.{SessionFact, session_fact_cmp, under, Holding}
 use Rattle.pcrf_model.proofs.HoldingLaws.{there_strict, sorted-In, sorted-Same, In-under, under-In}
@@ -42,10 +42,10 @@ some_under : (s : Session) (xs ys : List Fact) → IsSubset (under s xs) (under 
 some_under s xs ys h f i = (under-In s (s, f) ys (h (s, f) (In-under s f xs i))).1
 
 -- so tests of facts tell of them
-under_tells : (s : Session) → Tells (λ xs. held xs ≡ xs) facts_subset facts_empty (under s)
+under_tells : (s : Session) → Tells (λ xs. kept_list xs ≡ xs) facts_subset facts_empty (under s)
 under_tells s = record {
-  some = λ xs ys v w. Decides-like (facts_subset xs ys) (under_some s xs ys) (some_under s xs ys) ((facts_tell {valid = λ zs. held zs ≡ zs}).some xs ys v w);
-  none = λ xs v. Decides-like (facts_empty xs) (under_some s xs []) (some_under s xs []) ((facts_tell {valid = λ zs. held zs ≡ zs}).none xs v);
+  some = λ xs ys v w. Decides-like (facts_subset xs ys) (under_some s xs ys) (some_under s xs ys) ((facts_tell {valid = λ zs. kept_list zs ≡ zs}).some xs ys v w);
+  none = λ xs v. Decides-like (facts_empty xs) (under_some s xs []) (some_under s xs []) ((facts_tell {valid = λ zs. kept_list zs ≡ zs}).none xs v);
 }
 
 -- ---- the records of one kind

@@ -15,7 +15,7 @@ use Rattle.lattice_core.proofs.MapParts.{option_facts, map_made}
 use Rattle.lattice_core.proofs.PlacedValues.{value_placed}
 use Rattle.pcrf_facts.specs.Facts.{Fact}
 use Rattle.pcrf_model.specs.Sessions.{Session, Gx, Af, gx, af, session_cmp}
-use Rattle.pcrf_model.specs.Holdings.{SessionFact, session_fact_cmp, under, replaced}
+use Rattle.pcrf_model.specs.Holdings.{SessionFact, session_fact_cmp, under, with_facts_of}
 use Rattle.pcrf_model.proofs.HoldingLaws as holding
 use Rattle.pcrf_model.proofs.HoldingLaws.{session_ranked, there_strict, under-In}
 use Rattle.site_join.specs.States.{Records, facts_under, facts_of, held_by, record_facts}
@@ -123,7 +123,7 @@ gx_apart gxs id x i = ap not (is_false (is_eq (session_cmp (af id) x.0)) (λ t.
 
 -- A record put in the place of a Gx session's replaces its facts.
 pub puts_gx : (gxs afs : Records) (id : List ℕ) (v : Option (List Fact)) (before clock : ℕ) → IsAscending text_cmp gxs → IsAscending text_cmp (placed text_cmp gxs id v)
-    → held_by (placed text_cmp gxs id v) afs clock ≡ replaced (held_by gxs afs before) (gx id) (record_facts v) clock
+    → held_by (placed text_cmp gxs id v) afs clock ≡ with_facts_of (held_by gxs afs before) (gx id) (record_facts v) clock
 puts_gx gxs afs id v before clock a b =
     let all : List SessionFact = facts_of gxs afs in
     let put_in : List SessionFact = facts_of (placed text_cmp gxs id v) afs in
@@ -134,7 +134,7 @@ puts_gx gxs afs id v before clock a b =
 
 -- And in that of an AF session's.
 pub puts_af : (gxs afs : Records) (id : List ℕ) (v : Option (List Fact)) (before clock : ℕ) → IsAscending text_cmp afs → IsAscending text_cmp (placed text_cmp afs id v)
-    → held_by gxs (placed text_cmp afs id v) clock ≡ replaced (held_by gxs afs before) (af id) (record_facts v) clock
+    → held_by gxs (placed text_cmp afs id v) clock ≡ with_facts_of (held_by gxs afs before) (af id) (record_facts v) clock
 puts_af gxs afs id v before clock a b =
     let all : List SessionFact = facts_of gxs afs in
     let turned : List SessionFact = facts_under af afs ++ facts_under gx gxs in

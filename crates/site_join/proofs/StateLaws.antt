@@ -17,7 +17,7 @@ use Rattle.lattice_core.specs.Entries.{IsAscending, AllValues, value_at, put, ma
 use Rattle.lattice_core.specs.laws.Maps.{put_all_itself, joined_single}
 use Rattle.lattice_core.proofs.MapParts.{option_facts, option_valid, valid_at, map_keeps, map_made}
 use Rattle.pcrf_facts.specs.Facts.{Fact, fact_cmp, is_shaded_by}
-use Rattle.pcrf_facts.specs.Held.{kept, held, joined}
+use Rattle.pcrf_facts.specs.Held.{kept_set, kept_list, join_of}
 use Rattle.pcrf_facts.proofs.FactLaws.{fact_ranked}
 use Rattle.pcrf_facts.proofs.JoinedLaws.{kept-In, In-kept, sorted-In, joined_comm, joined_assoc, held_twice}
 use Rattle.pcrf_model.specs.Sessions.{Session, Kind, Gx, Af, gx, af, session_cmp}
@@ -31,39 +31,39 @@ use Rattle.site_join.specs.declared.operation.SessionFacts.TheVariants as of
 
 -- what holds of the records of a state: they stand in order, and hold what is kept of them
 abbrev pub AreKept : Records → Type 0
-AreKept es = IsAscending text_cmp es × AllValues (λ facts. held facts ≡ facts) es
+AreKept es = IsAscending text_cmp es × AllValues (λ facts. kept_list facts ≡ facts) es
 
 -- ---- facts under one session
 
 -- what is kept there
-pub under_kept : (s : Session) (xs : List Fact) → Same (under s (kept xs)) (kept_facts (under s xs))
+pub under_kept : (s : Session) (xs : List Fact) → Same (under s (kept_set xs)) (kept_facts (under s xs))
 under_kept s xs x = (there, back)
   where
-    there : In x (under s (kept xs)) → In x (kept_facts (under s xs))
+    there : In x (under s (kept_set xs)) → In x (kept_facts (under s xs))
     there i =
-        let r = under-In s x (kept xs) i in
+        let r = under-In s x (kept_set xs) i in
         let k = kept-In x.1 xs r.1 in
         subst (λ (t : Session). In (t, x.1) (kept_facts (under s xs))) (sym r.0)
         (holding.In-kept_facts (s, x.1) (under s xs) (In-under s x.1 xs k.0) (λ y j. is_false (is_shaded_there_by (s, x.1) y) (λ t.
         clash (is_shaded_by x.1 y.1) (shaded_there (s, x.1) y t) (k.1 y.1 (under-In s y xs j).1))))
 
-    back : In x (kept_facts (under s xs)) → In x (under s (kept xs))
+    back : In x (kept_facts (under s xs)) → In x (under s (kept_set xs))
     back i =
         let m = holding.kept_facts-In x (under s xs) i in
         let r = under-In s x xs m.0 in
-        subst (λ (t : Session). In (t, x.1) (under s (kept xs))) (sym r.0)
-        (In-under s x.1 (kept xs) (In-kept x.1 xs r.1 (λ g j. is_false (is_shaded_by x.1 g) (λ t.
+        subst (λ (t : Session). In (t, x.1) (under s (kept_set xs))) (sym r.0)
+        (In-under s x.1 (kept_set xs) (In-kept x.1 xs r.1 (λ g j. is_false (is_shaded_by x.1 g) (λ t.
         clash (is_shaded_there_by x (s, g)) (subst (λ (u : Session). is_shaded_there_by (u, x.1) (s, g) ≡ true) (sym r.0) (shades_there s x.1 g t)) (m.1 (s, g) (In-under s g xs j))))))
 
 -- a record keeps, under its session
-pub under_keeps : (s : Session) → Keeps is_shaded_there_by (λ xs. held xs ≡ xs) joined (under s)
+pub under_keeps : (s : Session) → Keeps is_shaded_there_by (λ xs. kept_list xs ≡ xs) join_of (under s)
 under_keeps s = record {
-  both = λ v w _ _. subst (λ (z : List SessionFact). Same (under s (joined v w)) (kept_facts z)) (map-append (λ (f : Fact). (s, f)) v w)
-      (Same-through (under s (joined v w)) (under s (kept (v ++ w))) (kept_facts (under s (v ++ w)))
-      (map-Same (λ (f : Fact). (s, f)) (joined v w) (kept (v ++ w)) (sorted-In (kept (v ++ w))))
+  both = λ v w _ _. subst (λ (z : List SessionFact). Same (under s (join_of v w)) (kept_facts z)) (map-append (λ (f : Fact). (s, f)) v w)
+      (Same-through (under s (join_of v w)) (under s (kept_set (v ++ w))) (kept_facts (under s (v ++ w)))
+      (map-Same (λ (f : Fact). (s, f)) (join_of v w) (kept_set (v ++ w)) (sorted-In (kept_set (v ++ w))))
       (under_kept s (v ++ w)));
-  own = λ v h. Same-through (under s v) (under s (kept v)) (kept_facts (under s v))
-      (map-Same (λ (f : Fact). (s, f)) v (kept v) (subst (λ (z : List Fact). Same z (kept v)) h (sorted-In (kept v))))
+  own = λ v h. Same-through (under s v) (under s (kept_set v)) (kept_facts (under s v))
+      (map-Same (λ (f : Fact). (s, f)) v (kept_set v) (subst (λ (z : List Fact). Same z (kept_set v)) h (sorted-In (kept_set v))))
       (under_kept s v);
 }
 
@@ -83,7 +83,7 @@ module _ (kind : List ℕ → Session) (named : (id : List ℕ) → (kind id).id
   keyed id v x i = ap (λ (s : Session). Some s.id) (under-In (kind id) x v i).0 ∙ ap Some (named id)
 
   -- joined maps of records keep
-  pub kind_keeps : Keeps is_shaded_there_by AreKept (map_joined text_cmp joined) (facts_under kind)
+  pub kind_keeps : Keeps is_shaded_there_by AreKept (map_joined text_cmp join_of) (facts_under kind)
   kind_keeps = map_keeps there_strict id_rises text_ranked (λ id. under (kind id)) keyed (λ id. under_keeps (kind id))
 
   -- the facts at a Session-Id are those of its record
@@ -158,15 +158,15 @@ four a b c d x = (
 
 -- Joined maps of records have what is kept of the facts of both states.
 pub states_join : (gxs afs hxs bfs : Records) → AreKept gxs → AreKept afs → AreKept hxs → AreKept bfs
-    → Same (facts_of (map_joined text_cmp joined gxs hxs) (map_joined text_cmp joined afs bfs)) (kept_facts (facts_of gxs afs ++ facts_of hxs bfs))
+    → Same (facts_of (map_joined text_cmp join_of gxs hxs) (map_joined text_cmp join_of afs bfs)) (kept_facts (facts_of gxs afs ++ facts_of hxs bfs))
 states_join gxs afs hxs bfs a b c d =
     let g : List SessionFact = facts_under gx gxs ++ facts_under gx hxs in
     let f : List SessionFact = facts_under af afs ++ facts_under af bfs in
     let of_gx : (x : SessionFact) → In x g → x.0.kind ≡ Gx = λ x i. elim (In-cases x (facts_under gx gxs) (facts_under gx hxs) i) [ inl j ↦ of_kind gx Gx (λ _. refl) gxs x j | inr j ↦ of_kind gx Gx (λ _. refl) hxs x j ] in
     let of_af : (x : SessionFact) → In x f → x.0.kind ≡ Af = λ x i. elim (In-cases x (facts_under af afs) (facts_under af bfs) i) [ inl j ↦ of_kind af Af (λ _. refl) afs x j | inr j ↦ of_kind af Af (λ _. refl) bfs x j ] in
-    let joined_facts : List SessionFact = facts_of (map_joined text_cmp joined gxs hxs) (map_joined text_cmp joined afs bfs) in
+    let joined_facts : List SessionFact = facts_of (map_joined text_cmp join_of gxs hxs) (map_joined text_cmp join_of afs bfs) in
     Same-through joined_facts (kept_facts g ++ kept_facts f) (kept_facts (facts_of gxs afs ++ facts_of hxs bfs))
-    (Same-append (facts_under gx (map_joined text_cmp joined gxs hxs)) (facts_under af (map_joined text_cmp joined afs bfs)) (kept_facts g) (kept_facts f)
+    (Same-append (facts_under gx (map_joined text_cmp join_of gxs hxs)) (facts_under af (map_joined text_cmp join_of afs bfs)) (kept_facts g) (kept_facts f)
     ((kind_keeps gx gx_named).both gxs hxs a c) ((kind_keeps af af_named).both afs bfs b d))
     (Same-through (kept_facts g ++ kept_facts f) (kept_facts (g ++ f)) (kept_facts (facts_of gxs afs ++ facts_of hxs bfs))
     (both_kinds g f of_gx of_af)
@@ -184,8 +184,8 @@ state_kept gxs afs a b =
 -- ---- one operation taken
 
 -- a map joined with none
-joined_none : (es : Records) → IsAscending text_cmp es → map_joined text_cmp joined es [] ≡ es
-joined_none es s = put_all_itself text_cmp joined nat_list_cmp_total text_same joined_comm joined_assoc es s
+joined_none : (es : Records) → IsAscending text_cmp es → map_joined text_cmp join_of es [] ≡ es
+joined_none es s = put_all_itself text_cmp join_of nat_list_cmp_total text_same joined_comm joined_assoc es s
 
 -- facts in order, with more, of which what is kept is known
 kept_with : (xs us vs : List SessionFact) → Same us (kept_facts vs) → Same (kept_facts (xs ++ us)) (kept_facts (ascending session_fact_cmp (ascending session_fact_cmp xs ++ vs)))
@@ -201,22 +201,22 @@ kept_with xs us vs s =
     (Same-append (ascending session_fact_cmp xs) vs xs vs (holding.sorted-In xs) (Same-itself vs)))))))
 
 -- the facts of one session, as a record has them
-one_record : (s : Session) (facts : List Fact) → Same (under s (held facts)) (kept_facts (under s facts))
-one_record s facts = Same-through (under s (held facts)) (under s (kept facts)) (kept_facts (under s facts)) (map-Same (λ (f : Fact). (s, f)) (held facts) (kept facts) (sorted-In (kept facts))) (under_kept s facts)
+one_record : (s : Session) (facts : List Fact) → Same (under s (kept_list facts)) (kept_facts (under s facts))
+one_record s facts = Same-through (under s (kept_list facts)) (under s (kept_set facts)) (kept_facts (under s facts)) (map-Same (λ (f : Fact). (s, f)) (kept_list facts) (kept_set facts) (sorted-In (kept_set facts))) (under_kept s facts)
 
 -- Records with those of one more are what is kept with these facts.
 more_records : (gxs afs hxs bfs : Records) (clock : ℕ) (facts : List SessionFact) → AreKept gxs → AreKept afs → AreKept hxs → AreKept bfs
     → Same (facts_of hxs bfs) (kept_facts facts)
-    → ascending session_fact_cmp (facts_of (map_joined text_cmp joined gxs hxs) (map_joined text_cmp joined afs bfs)) ≡ ascending session_fact_cmp (kept_facts (ascending session_fact_cmp ((held_by gxs afs clock).facts ++ facts)))
+    → ascending session_fact_cmp (facts_of (map_joined text_cmp join_of gxs hxs) (map_joined text_cmp join_of afs bfs)) ≡ ascending session_fact_cmp (kept_facts (ascending session_fact_cmp ((held_by gxs afs clock).facts ++ facts)))
 more_records gxs afs hxs bfs clock facts a b c d s =
-    let both : List SessionFact = facts_of (map_joined text_cmp joined gxs hxs) (map_joined text_cmp joined afs bfs) in
+    let both : List SessionFact = facts_of (map_joined text_cmp join_of gxs hxs) (map_joined text_cmp join_of afs bfs) in
     let all : List SessionFact = kept_facts (ascending session_fact_cmp ((held_by gxs afs clock).facts ++ facts)) in
     holding.sorted-Same both all
     (Same-through both (kept_facts (facts_of gxs afs ++ facts_of hxs bfs)) all (states_join gxs afs hxs bfs a b c d)
     (kept_with (facts_of gxs afs) (facts_of hxs bfs) facts s))
 
 -- the record of one operation
-one_kept_record : (id : List ℕ) (facts : List Fact) → AreKept ((id, held facts) ∷ [])
+one_kept_record : (id : List ℕ) (facts : List Fact) → AreKept ((id, kept_list facts) ∷ [])
 one_kept_record id facts = ((tt, tt), (held_twice facts, tt))
 
 -- no record
@@ -225,29 +225,29 @@ no_records = (tt, tt)
 
 -- A Gx operation is taken by joining its facts into the record of its session.
 pub takes_gx : (gxs afs : Records) (clock : ℕ) (o : Operation) (id : List ℕ) → o.session ≡ gx id → AreKept gxs → AreKept afs
-    → held_by (put text_cmp joined gxs id (held o.facts)) afs (max clock o.counter) ≡ kept_of (with_operation (held_by gxs afs clock) o)
+    → held_by (put text_cmp join_of gxs id (kept_list o.facts)) afs (max clock o.counter) ≡ kept_of (with_operation (held_by gxs afs clock) o)
 takes_gx gxs afs clock o id is a b =
-    let one : Records = (id, held o.facts) ∷ [] in
+    let one : Records = (id, kept_list o.facts) ∷ [] in
     let facts : Same (facts_of one []) (kept_facts (under o.session o.facts)) =
     subst (λ (s : Session). Same (facts_of one []) (kept_facts (under s o.facts))) (sym is)
-    (subst (λ (l : List SessionFact). Same l (kept_facts (under (gx id) o.facts))) (sym (append-nil (under (gx id) (held o.facts) ++ []) ∙ append-nil (under (gx id) (held o.facts)))) (one_record (gx id) o.facts)) in
+    (subst (λ (l : List SessionFact). Same l (kept_facts (under (gx id) o.facts))) (sym (append-nil (under (gx id) (kept_list o.facts) ++ []) ∙ append-nil (under (gx id) (kept_list o.facts)))) (one_record (gx id) o.facts)) in
     let all = more_records gxs afs one [] clock (under o.session o.facts) a b (one_kept_record id o.facts) no_records facts in
-    let gx_put : put text_cmp joined gxs id (held o.facts) ≡ map_joined text_cmp joined gxs one = sym (joined_single text_cmp joined nat_list_cmp_total text_same joined_comm joined_assoc gxs id (held o.facts) a.0) in
-    let same : ascending session_fact_cmp (facts_of (put text_cmp joined gxs id (held o.facts)) afs) ≡ ascending session_fact_cmp (facts_of (map_joined text_cmp joined gxs one) (map_joined text_cmp joined afs [])) =
+    let gx_put : put text_cmp join_of gxs id (kept_list o.facts) ≡ map_joined text_cmp join_of gxs one = sym (joined_single text_cmp join_of nat_list_cmp_total text_same joined_comm joined_assoc gxs id (kept_list o.facts) a.0) in
+    let same : ascending session_fact_cmp (facts_of (put text_cmp join_of gxs id (kept_list o.facts)) afs) ≡ ascending session_fact_cmp (facts_of (map_joined text_cmp join_of gxs one) (map_joined text_cmp join_of afs [])) =
     (let none = sym (joined_none afs b.0) in λ i. ascending session_fact_cmp (facts_of (gx_put i) (none i))) in
     λ i. record { facts = (same ∙ all) i; clock = max clock o.counter }
 
 -- And an AF operation.
 pub takes_af : (gxs afs : Records) (clock : ℕ) (o : Operation) (id : List ℕ) → o.session ≡ af id → AreKept gxs → AreKept afs
-    → held_by gxs (put text_cmp joined afs id (held o.facts)) (max clock o.counter) ≡ kept_of (with_operation (held_by gxs afs clock) o)
+    → held_by gxs (put text_cmp join_of afs id (kept_list o.facts)) (max clock o.counter) ≡ kept_of (with_operation (held_by gxs afs clock) o)
 takes_af gxs afs clock o id is a b =
-    let one : Records = (id, held o.facts) ∷ [] in
+    let one : Records = (id, kept_list o.facts) ∷ [] in
     let facts : Same (facts_of [] one) (kept_facts (under o.session o.facts)) =
     subst (λ (s : Session). Same (facts_of [] one) (kept_facts (under s o.facts))) (sym is)
-    (subst (λ (l : List SessionFact). Same l (kept_facts (under (af id) o.facts))) (sym (append-nil (under (af id) (held o.facts)))) (one_record (af id) o.facts)) in
+    (subst (λ (l : List SessionFact). Same l (kept_facts (under (af id) o.facts))) (sym (append-nil (under (af id) (kept_list o.facts)))) (one_record (af id) o.facts)) in
     let all = more_records gxs afs [] one clock (under o.session o.facts) a b no_records (one_kept_record id o.facts) facts in
-    let af_put : put text_cmp joined afs id (held o.facts) ≡ map_joined text_cmp joined afs one = sym (joined_single text_cmp joined nat_list_cmp_total text_same joined_comm joined_assoc afs id (held o.facts) b.0) in
-    let same : ascending session_fact_cmp (facts_of gxs (put text_cmp joined afs id (held o.facts))) ≡ ascending session_fact_cmp (facts_of (map_joined text_cmp joined gxs []) (map_joined text_cmp joined afs one)) =
+    let af_put : put text_cmp join_of afs id (kept_list o.facts) ≡ map_joined text_cmp join_of afs one = sym (joined_single text_cmp join_of nat_list_cmp_total text_same joined_comm joined_assoc afs id (kept_list o.facts) b.0) in
+    let same : ascending session_fact_cmp (facts_of gxs (put text_cmp join_of afs id (kept_list o.facts))) ≡ ascending session_fact_cmp (facts_of (map_joined text_cmp join_of gxs []) (map_joined text_cmp join_of afs one)) =
     (let none = sym (joined_none gxs a.0) in λ i. ascending session_fact_cmp (facts_of (none i) (af_put i))) in
     λ i. record { facts = (same ∙ all) i; clock = max clock o.counter }
 
@@ -255,10 +255,10 @@ takes_af gxs afs clock o id is a b =
 pub takes : (gxs afs : Records) (clock : ℕ) (on : SessionFacts) (o : Operation) → session_of on ≡ o.session → facts_in on ≡ o.facts → AreKept gxs → AreKept afs
     → held_by (gx_with gxs on) (af_with afs on) (max clock o.counter) ≡ kept_of (with_operation (held_by gxs afs clock) o)
 takes gxs afs clock (of.Gx id facts) o s f a b =
-    ap (λ (fs : List Fact). held_by (put text_cmp joined gxs id (held fs)) afs (max clock o.counter)) f
+    ap (λ (fs : List Fact). held_by (put text_cmp join_of gxs id (kept_list fs)) afs (max clock o.counter)) f
     ∙ takes_gx gxs afs clock o id (sym s) a b
 takes gxs afs clock (of.Af id facts) o s f a b =
-    ap (λ (fs : List Fact). held_by gxs (put text_cmp joined afs id (held fs)) (max clock o.counter)) f
+    ap (λ (fs : List Fact). held_by gxs (put text_cmp join_of afs id (kept_list fs)) (max clock o.counter)) f
     ∙ takes_af gxs afs clock o id (sym s) a b
 
 -- ---- what is read of one session
@@ -271,16 +271,16 @@ on_one s x y u w l p q =
     ap (λ r. ordering_then r (fact_cmp u w)) (sym (tied_itself session_ranked.total s)) ∙ (λ i. ordering_then (session_cmp (sym a.0 i) (sym b.0 i)) (fact_cmp (sym a.1 i) (sym b.1 i))) ∙ l
 
 -- the facts of a record rise
-record_rises : (o : Option (List Fact)) → option_valid (λ facts. held facts ≡ facts) o → Rises fact_cmp (record_facts o)
+record_rises : (o : Option (List Fact)) → option_valid (λ facts. kept_list facts ≡ facts) o → Rises fact_cmp (record_facts o)
 record_rises None h = tt
-record_rises (Some facts) h = subst (Rises fact_cmp) h (ascending-ascending fact_cmp fact_ranked (kept facts))
+record_rises (Some facts) h = subst (Rises fact_cmp) h (ascending-ascending fact_cmp fact_ranked (kept_set facts))
 
 -- The facts that a state holds of a Gx session are those of its record.
 pub reads_gx : (gxs afs : Records) (clock : ℕ) (id : List ℕ) → AreKept gxs → record_facts (value_at text_cmp gxs id) ≡ facts_on (held_by gxs afs clock).facts (gx id)
 reads_gx gxs afs clock id a =
     let all : List SessionFact = facts_of gxs afs in
     same_ascending fact_cmp fact_ranked (record_facts (value_at text_cmp gxs id)) (facts_on (ascending session_fact_cmp all) (gx id))
-    (record_rises (value_at text_cmp gxs id) (valid_at text_ranked (λ facts. held facts ≡ facts) id gxs a.1))
+    (record_rises (value_at text_cmp gxs id) (valid_at text_ranked (λ facts. kept_list facts ≡ facts) id gxs a.1))
     (filter_map-ascending session_fact_cmp fact_cmp (on_session (gx id)) (ascending session_fact_cmp all) (λ x y u w i j l p q. on_one (gx id) x y u w l p q) (ascending-ascending session_fact_cmp session_fact_ranked all))
     (λ f. (
       λ i. In-facts_on (ascending session_fact_cmp all) (gx id) f ((holding.sorted-In all (gx id, f)).1 (In-left (gx id, f) (facts_under gx gxs) (facts_under af afs) (from_id gx gx_named gxs a.0 id f i))),
@@ -296,7 +296,7 @@ pub reads_af : (gxs afs : Records) (clock : ℕ) (id : List ℕ) → AreKept afs
 reads_af gxs afs clock id b =
     let all : List SessionFact = facts_of gxs afs in
     same_ascending fact_cmp fact_ranked (record_facts (value_at text_cmp afs id)) (facts_on (ascending session_fact_cmp all) (af id))
-    (record_rises (value_at text_cmp afs id) (valid_at text_ranked (λ facts. held facts ≡ facts) id afs b.1))
+    (record_rises (value_at text_cmp afs id) (valid_at text_ranked (λ facts. kept_list facts ≡ facts) id afs b.1))
     (filter_map-ascending session_fact_cmp fact_cmp (on_session (af id)) (ascending session_fact_cmp all) (λ x y u w i j l p q. on_one (af id) x y u w l p q) (ascending-ascending session_fact_cmp session_fact_ranked all))
     (λ f. (
       λ i. In-facts_on (ascending session_fact_cmp all) (af id) f ((holding.sorted-In all (af id, f)).1 (In-right (af id, f) (facts_under gx gxs) (facts_under af afs) (from_id af af_named afs b.0 id f i))),
@@ -320,7 +320,7 @@ holds_kept gxs afs clock a b =
 
 -- Joined records of two states are what is kept of both.
 pub merges : (gxs afs hxs bfs : Records) (c d : ℕ) → AreKept gxs → AreKept afs → AreKept hxs → AreKept bfs
-    → held_by (map_joined text_cmp joined gxs hxs) (map_joined text_cmp joined afs bfs) (max c d) ≡ kept_of (union (held_by gxs afs c) (held_by hxs bfs d))
+    → held_by (map_joined text_cmp join_of gxs hxs) (map_joined text_cmp join_of afs bfs) (max c d) ≡ kept_of (union (held_by gxs afs c) (held_by hxs bfs d))
 merges gxs afs hxs bfs c d ours_gx ours_af theirs_gx theirs_af =
     let theirs : List SessionFact = facts_of hxs bfs in
     let kept_theirs : Same theirs (kept_facts (ascending session_fact_cmp theirs)) =

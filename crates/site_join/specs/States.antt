@@ -5,7 +5,7 @@ use Rattle.ranked.specs.Ascending.{ascending}
 use Rattle.ranked.specs.Orders.{text_cmp}
 use Rattle.lattice_core.specs.Entries.{put}
 use Rattle.pcrf_facts.specs.Facts.{Fact}
-use Rattle.pcrf_facts.specs.Held.{held, joined}
+use Rattle.pcrf_facts.specs.Held.{kept_list, join_of}
 use Rattle.pcrf_model.specs.Sessions.{Session, gx, af}
 use Rattle.pcrf_model.specs.Holdings.{SessionFact, session_fact_cmp, under, Holding, union, kept_of}
 use Rattle.gx_records.specs.GxFacts as gx_facts
@@ -48,13 +48,13 @@ facts_in (on.Af id facts) = map af_facts.fact_of facts.items
 
 -- the records of Gx sessions with these facts joined into one, where they are on one of these
 abbrev pub gx_with : Records → SessionFacts → Records
-gx_with gxs (on.Gx id facts) = put text_cmp joined gxs id (held (map gx_facts.fact_of facts.items))
+gx_with gxs (on.Gx id facts) = put text_cmp join_of gxs id (kept_list (map gx_facts.fact_of facts.items))
 gx_with gxs (on.Af id facts) = gxs
 
 -- those of AF sessions
 abbrev pub af_with : Records → SessionFacts → Records
 af_with afs (on.Gx id facts) = afs
-af_with afs (on.Af id facts) = put text_cmp joined afs id (held (map af_facts.fact_of facts.items))
+af_with afs (on.Af id facts) = put text_cmp join_of afs id (kept_list (map af_facts.fact_of facts.items))
 
 -- ---- merging
 

@@ -4,7 +4,7 @@ ghost use Rattle.std.specs.List.{list_all};
 ghost use Rattle.std.specs.Option.{option_copied};
 ghost use Rattle.pcrf_values.specs.Limits.{last_counter};
 ghost use Rattle.pcrf_model.specs.Sessions.{Gx, Af, gx, af};
-ghost use Rattle.pcrf_model.specs.Holdings.{nothing_held, facts_on, union, kept_of, replaced};
+ghost use Rattle.pcrf_model.specs.Holdings.{nothing_held, facts_on, union, kept_of, with_facts_of};
 ghost use Rattle.pcrf_model.specs.Operations.{with_operation};
 ghost use Rattle.pcrf_model.specs.ToldTags.{ToldUpTo};
 ghost use Rattle.pcrf_model.specs.Forms.{are_up_to, is_holding, is_record, is_recorded};
@@ -234,11 +234,11 @@ impl State {
     ) -> Result<Option<GxRec>, AllocError>
         requires within { clock ≤ last_counter }
         requires counted { are_up_to clock
-            (replaced self.old (gx id.now) (record_facts given) clock).facts ≡ true }
+            (with_facts_of self.old (gx id.now) (record_facts given) clock).facts ≡ true }
         ensures stood { IfOk result (λ stood.
             record_facts stood ≡ facts_on self.old.facts (gx id.now)) }
         ensures placed { OnOk result
-            (self.new ≡ replaced self.old (gx id.now) (record_facts given) clock) }
+            (self.new ≡ with_facts_of self.old (gx id.now) (record_facts given) clock) }
         ensures unchanged { OnErr result (self.new ≡ self.old) }
         ensures refused_record { OnErr result (IsSome given) }
         ensures refused_new { OnErr result (facts_on self.old.facts (gx id.now) ≡ []) }
@@ -261,11 +261,11 @@ impl State {
     ) -> Result<Option<AfRec>, AllocError>
         requires within { clock ≤ last_counter }
         requires counted { are_up_to clock
-            (replaced self.old (af id.now) (record_facts given) clock).facts ≡ true }
+            (with_facts_of self.old (af id.now) (record_facts given) clock).facts ≡ true }
         ensures stood { IfOk result (λ stood.
             record_facts stood ≡ facts_on self.old.facts (af id.now)) }
         ensures placed { OnOk result
-            (self.new ≡ replaced self.old (af id.now) (record_facts given) clock) }
+            (self.new ≡ with_facts_of self.old (af id.now) (record_facts given) clock) }
         ensures unchanged { OnErr result (self.new ≡ self.old) }
         ensures refused_record { OnErr result (IsSome given) }
         ensures refused_new { OnErr result (facts_on self.old.facts (af id.now) ≡ []) }

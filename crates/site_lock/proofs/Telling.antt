@@ -12,8 +12,8 @@ use Rattle.pcrf_model.specs.Views.{View, view}
 use Rattle.pcrf_model.specs.Requests.{CcrValue, AarValue, StrValue, RequestValue, Ccr, Aar, Str, Base}
 use Rattle.pcrf_model.specs.Replies.{ReplyValue, OnGx, Rejected, Refused, Outcome}
 use Rattle.pcrf_model.specs.Refusals.{ccr_refusal, aar_refusal, str_refusal}
-use Rattle.pcrf_model.specs.Serving.{serve, serve_ccr, serve_aar, serve_str, accepted_ccr, described, closed, provisioned, refused_or}
-use Rattle.pcrf_model.specs.Pushing.{push, due, telling, nothing_pushed}
+use Rattle.pcrf_model.specs.Serving.{serve, serve_ccr, serve_aar, serve_str, accepted_ccr, description_outcome, session_end_outcome, provision_outcome, refusal_or}
+use Rattle.pcrf_model.specs.Pushing.{push, due_session, push_outcome, nothing_pushed}
 use Rattle.pcrf_model.specs.Steps.{SiteState, SiteEvent, MayReply, Serve, Push, Ops, Whole, AskOwn, AskWhole}
 use Rattle.site_machine.specs.declared.event.Reply.{Reply}
 use Rattle.site_machine.specs.declared.fault.StepFault.{StepFault}
@@ -24,13 +24,13 @@ use Rattle.site_lock.specs.Calls.{TellsPast}
 
 -- refused or accepted
 refused_tells : (past : ℕ) (as_reply : Refusal → ReplyValue) (refusal : Option Refusal) (accepted : Outcome) → ((r : Refusal) → TellsPast past (as_reply r))
-    → TellsPast past accepted.reply → TellsPast past (refused_or as_reply refusal accepted).reply
+    → TellsPast past accepted.reply → TellsPast past (refusal_or as_reply refusal accepted).reply
 refused_tells past as_reply None accepted refused a = a
 refused_tells past as_reply (Some r) accepted refused a = refused r
 
 module _ (past most : ℕ) (t : Tables) (i : ℕ) (h : Holding) where
-  provisioned_tells : (q : CcrValue) → TellsPast past (provisioned most t i h q).reply
-  unfolding provisioned
+  provisioned_tells : (q : CcrValue) → TellsPast past (provision_outcome most t i h q).reply
+  unfolding provision_outcome
   provisioned_tells q = tt
 
   accepted_tells : (q : CcrValue) (kind : RequestKind) → TellsPast past (accepted_ccr most t i h q kind).reply
@@ -44,11 +44,11 @@ module _ (past most : ℕ) (t : Tables) (i : ℕ) (h : Holding) where
 
   aar_tells : (q : AarValue) → TellsPast past (serve_aar t i h q).reply
   unfolding serve_aar
-  aar_tells q = refused_tells past Refused (aar_refusal t i h q) (described i h q) (λ r. tt) tt
+  aar_tells q = refused_tells past Refused (aar_refusal t i h q) (description_outcome i h q) (λ r. tt) tt
 
   str_tells : (q : StrValue) → TellsPast past (serve_str i h q).reply
   unfolding serve_str
-  str_tells q = refused_tells past Refused (str_refusal h q) (closed i h q) (λ r. tt) tt
+  str_tells q = refused_tells past Refused (str_refusal h q) (session_end_outcome i h q) (λ r. tt) tt
 
   serve_tells : (q : RequestValue) → TellsPast past (serve most t i h q).reply
   serve_tells (Ccr q) = ccr_tells q
@@ -56,13 +56,13 @@ module _ (past most : ℕ) (t : Tables) (i : ℕ) (h : Holding) where
   serve_tells (Str q) = str_tells q
   serve_tells (Base q) = tt
 
-  one_told : (v : View) (s : Option Session) → TellsPast past (unwrap_or (option_map (telling most t i h v) s) nothing_pushed).reply
+  one_told : (v : View) (s : Option Session) → TellsPast past (unwrap_or (option_map (push_outcome most t i h v) s) nothing_pushed).reply
   one_told v None = tt
   one_told v (Some s) = tt
 
   push_tells : (name : Option (List ℕ)) → TellsPast past (push most t i h name).reply
   unfolding push
-  push_tells name = one_told (view h.facts) (due t i (view h.facts) name)
+  push_tells name = one_told (view h.facts) (due_session t i (view h.facts) name)
 
 -- A reply to a request or a push tells nothing of it, and one to whoever asks tells how many there are.
 pub told_past : (past most : ℕ) (t : Tables) (i : ℕ) (s : SiteState) (e : SiteEvent) (r : ReplyValue) → past < length s.log → MayReply most t i s e r → TellsPast past r

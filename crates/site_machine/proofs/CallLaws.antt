@@ -6,7 +6,7 @@ use Rattle.ranked.specs.Ascending.{ascending}
 use Rattle.pcrf_values.specs.declared.refusal.Refusal.{Refusal}
 use Rattle.pcrf_values.specs.Results.{missing_avp, service_not_authorized, session_not_available, unable_to_comply, unknown_session_id}
 use Rattle.pcrf_facts.specs.Facts.{Fact, End, fact_cmp}
-use Rattle.pcrf_facts.specs.Held.{held, joined, is_ended}
+use Rattle.pcrf_facts.specs.Held.{kept_list, join_of, is_ended}
 use Rattle.pcrf_facts.specs.Live.{af_is_live}
 use Rattle.pcrf_model.specs.Sessions.{gx, af}
 use Rattle.pcrf_model.specs.Holdings.{Holding, SessionFact, under, facts_on}
@@ -32,14 +32,14 @@ other_under id a [] = refl
 other_under id a (f ∷ fs) = other_under id a fs
 
 -- so with a request's facts the session asks for a binding by that record
-pub asks_with : (facts : List SessionFact) (a : List ℕ) (fs asking : List Fact) → asking ≡ joined (facts_on facts (af a)) (held fs) → HasRecord facts asking (facts ++ under (af a) fs) a
+pub asks_with : (facts : List SessionFact) (a : List ℕ) (fs asking : List Fact) → asking ≡ join_of (facts_on facts (af a)) (kept_list fs) → HasRecord facts asking (facts ++ under (af a) fs) a
 asks_with facts a fs asking is = record {
   gateways = λ id.
       sym (facts_on-append facts (under (af a) fs) (gx id)
       ∙ ap (λ (l : List Fact). facts_on facts (gx id) ++ l) (other_under id a fs)
       ∙ append-nil (facts_on facts (gx id)));
   own = is ∙ held-append (facts_on facts (af a)) fs
-      ∙ ap held (sym (facts_on-append facts (under (af a) fs) (af a) ∙ ap (λ (l : List Fact). facts_on facts (af a) ++ l) (own_under (af a) fs)));
+      ∙ ap kept_list (sym (facts_on-append facts (under (af a) fs) (af a) ∙ ap (λ (l : List Fact). facts_on facts (af a) ++ l) (own_under (af a) fs)));
 }
 
 -- what is there is the opposite of what is none

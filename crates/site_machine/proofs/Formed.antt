@@ -15,7 +15,7 @@ use Rattle.pcrf_facts.specs.Facts.{Fact, End, fact_cmp}
 use Rattle.pcrf_facts.specs.Places.{RequestType}
 use Rattle.pcrf_facts.specs.Values.{Number}
 use Rattle.pcrf_model.specs.Sessions.{Gx, gx, af}
-use Rattle.pcrf_model.specs.Holdings.{SessionFact, Holding, facts_on, kept_of, replaced}
+use Rattle.pcrf_model.specs.Holdings.{SessionFact, Holding, facts_on, kept_of, with_facts_of}
 use Rattle.pcrf_model.specs.Operations.{Operation, with_operation}
 use Rattle.pcrf_model.specs.Views.{view}
 use Rattle.pcrf_model.specs.Tables.{Tables}
@@ -114,5 +114,5 @@ hung_up_formed counter i q stamp w = end_in_form counter i 0 (af q.session) stam
 
 -- where the facts that a session had are put back, no tag is above the clock that was
 pub put_back_up_to : (h : Holding) (o : Operation) → kept_of h ≡ h → is_holding h ≡ true
-    → are_up_to h.clock (replaced (kept_of (with_operation h o)) o.session (facts_on h.facts o.session) h.clock).facts ≡ true
+    → are_up_to h.clock (with_facts_of (kept_of (with_operation h o)) o.session (facts_on h.facts o.session) h.clock).facts ≡ true
 put_back_up_to h o kept form = subst (λ (k : Holding). are_up_to h.clock k.facts ≡ true) (sym (restored h o kept)) (holding_up_to h form)

@@ -20,8 +20,8 @@ use Rattle.pcrf_model.specs.Differences.{rule_name_of}
 use Rattle.pcrf_model.specs.Requests.{CcrValue}
 use Rattle.pcrf_model.specs.Refusals.{first_cause, ccr_causes, ccr_refusal}
 use Rattle.pcrf_model.specs.Making.{ccr_fields, next_tag}
-use Rattle.pcrf_model.specs.Serving.{provisioned, with_added}
-use Rattle.pcrf_model.specs.Pushing.{due, push}
+use Rattle.pcrf_model.specs.Serving.{provision_outcome, with_added}
+use Rattle.pcrf_model.specs.Pushing.{due_session, push}
 use Rattle.pcrf_model.specs.Laws.{TellsTheFirst}
 use Rattle.pcrf_model.specs.ToldTags.{ToldUpTo}
 use Rattle.pcrf_model.proofs.UnionLaws.{view-kept_of}
@@ -77,16 +77,16 @@ module _ (s : SiteValue) (w : ToldUpTo s.state.holding.clock s.state.holding.fac
   -- an initial request or an update leaves the rest
   pub provisioned_leaves : (q : CcrValue) → (view s.state.holding.facts).ended (gx q.session) ≡ false
       → Distinct (map rule_name_of (rules s.tables (view (with_fields s.number s.state.holding q)) (gx q.session)))
-      → (after : SiteValue) → after ≡ with_made s (provisioned delta_limit s.tables s.number s.state.holding q).added
+      → (after : SiteValue) → after ≡ with_made s (provision_outcome delta_limit s.tables s.number s.state.holding q).added
       → TellsTheFirst delta_limit s.tables (view (with_fields s.number s.state.holding q)) (view after.state.holding.facts) (gx q.session)
   provisioned_leaves q alive names after is =
-      let o : Option Operation = (provisioned delta_limit s.tables s.number h q).added in
+      let o : Option Operation = (provision_outcome delta_limit s.tables s.number h q).added in
       subst (λ (v : View). TellsTheFirst delta_limit s.tables (view (with_fields s.number h q)) v (gx q.session))
       (sym (ap (λ (x : SiteValue). view x.state.holding.facts) is ∙ shown_made s o))
       (provisioning-tells_up_to delta_limit s.tables s.number h q w names alive)
 
   -- and so does a push
-  pub pushed_leaves : (name : Option (List ℕ)) (r : Session) → due s.tables s.number (view s.state.holding.facts) name ≡ Some r
+  pub pushed_leaves : (name : Option (List ℕ)) (r : Session) → due_session s.tables s.number (view s.state.holding.facts) name ≡ Some r
       → Distinct (map rule_name_of (rules s.tables (view s.state.holding.facts) r))
       → (after : SiteValue) → after ≡ with_made s (push delta_limit s.tables s.number s.state.holding name).added
       → TellsTheFirst delta_limit s.tables (view s.state.holding.facts) (view after.state.holding.facts) r

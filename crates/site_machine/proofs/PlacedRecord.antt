@@ -1,10 +1,10 @@
 -- The fields of a credit control request joined into the record of its session, and that put in its place.
 use Rattle.std.proofs.Common.{◌≡◌, ℕ, ◌+◌, ◌<◌, ◌≤◌, max, true, List, sym, ap, ◌∙◌, subst, arith}
 use Rattle.pcrf_facts.specs.Facts.{Fact}
-use Rattle.pcrf_facts.specs.Held.{held, joined}
+use Rattle.pcrf_facts.specs.Held.{kept_list, join_of}
 use Rattle.pcrf_values.specs.Limits.{last_counter, site_limit}
 use Rattle.pcrf_model.specs.Sessions.{Gx, gx}
-use Rattle.pcrf_model.specs.Holdings.{Holding, facts_on, kept_of, replaced}
+use Rattle.pcrf_model.specs.Holdings.{Holding, facts_on, kept_of, with_facts_of}
 use Rattle.pcrf_model.specs.Operations.{Operation, with_operation}
 use Rattle.pcrf_model.specs.Requests.{CcrValue, Ccr}
 use Rattle.pcrf_model.specs.Forms.{are_up_to, is_holding, is_operation, is_record, is_request}
@@ -41,15 +41,15 @@ module _ (s : SiteValue) (q : CcrValue) (counter : ℕ) (within : counter ≤ la
   counted : max h.clock counter ≡ counter
   counted = omega (arith, next)
 
-  module _ (kept : kept_of h ≡ h) (fs one record_ : List Fact) (fields : fs ≡ fields_of s.number counter q q.kind) (of_one : one ≡ held fs) (of_both : record_ ≡ joined (facts_on h.facts (gx q.session)) one) where
+  module _ (kept : kept_of h ≡ h) (fs one record_ : List Fact) (fields : fs ≡ fields_of s.number counter q q.kind) (of_one : one ≡ kept_list fs) (of_both : record_ ≡ join_of (facts_on h.facts (gx q.session)) one) where
     -- the record that is put
-    pub put_is_made : replaced h (gx q.session) record_ counter ≡ with_fields
+    pub put_is_made : with_facts_of h (gx q.session) record_ counter ≡ with_fields
     put_is_made =
-        ap (λ (b : List Fact). replaced h (gx q.session) b counter) (of_both ∙ ap (joined (facts_on h.facts (gx q.session))) (of_one ∙ ap held fields))
+        ap (λ (b : List Fact). with_facts_of h (gx q.session) b counter) (of_both ∙ ap (join_of (facts_on h.facts (gx q.session))) (of_one ∙ ap kept_list fields))
         ∙ placed_is_taken h made kept counter counted
 
     -- no tag is above the counter then
-    pub put_up_to : is_holding h ≡ true → are_up_to counter (replaced h (gx q.session) record_ counter).facts ≡ true
+    pub put_up_to : is_holding h ≡ true → are_up_to counter (with_facts_of h (gx q.session) record_ counter).facts ≡ true
     put_up_to form =
         let up = holding_up_to with_fields (kept_in_form (with_operation h made) (with_operation_form h made form formed)) in
         subst (λ (k : Holding). are_up_to counter k.facts ≡ true) (sym put_is_made) (subst (λ (n : ℕ). are_up_to n with_fields.facts ≡ true) counted up)

@@ -11,7 +11,7 @@ use Rattle.pcrf_model.specs.Views.{View, view}
 use Rattle.pcrf_model.specs.Live.{is_live}
 use Rattle.pcrf_model.specs.Tables.{Tables}
 use Rattle.pcrf_model.specs.Replies.{PushValue, Pushed, Outcome}
-use Rattle.pcrf_model.specs.Pushing.{due, push, lacks_counter, telling}
+use Rattle.pcrf_model.specs.Pushing.{due_session, push, lacks_counter, push_outcome}
 use Rattle.pcrf_model.specs.Refusals.{is_clock_full}
 use Rattle.site_machine.specs.Sites.{SiteValue}
 use Rattle.pcrf_model.proofs.BindLaws.{gx_is}
@@ -35,7 +35,7 @@ module _ (s : SiteValue) (name : Option (List ℕ)) where
 
   -- the session that is due
   abbrev next : Option Session
-  next = due t s.number v name
+  next = due_session t s.number v name
 
   -- its push
   abbrev out : Option PushValue
@@ -80,7 +80,7 @@ module _ (s : SiteValue) (name : Option (List ℕ)) where
           }
 
   -- its session is due
-  pub session_due : (p : PushValue) → Some p ≡ out → due s.tables s.number (view s.state.holding.facts) name ≡ Some (gx p.session)
+  pub session_due : (p : PushValue) → Some p ≡ out → due_session s.tables s.number (view s.state.holding.facts) name ≡ Some (gx p.session)
   session_due p e = let w = is_pushed p e in w.is_due ∙ ap (λ (r : Session). Some r) (sym w.named)
 
   -- and what it tells are the first entries of the session's difference

@@ -10,7 +10,7 @@ use Rattle.pcrf_values.specs.declared.refusal.Refusal.{Refusal}
 use Rattle.pcrf_values.specs.declared.request_kind.RequestKind.{RequestKind}
 use Rattle.pcrf_values.specs.declared.request_kind.RequestKind.TheVariants.{Initial, Update, Termination}
 use Rattle.pcrf_facts.specs.Facts.{Fact, Field, fact_cmp}
-use Rattle.pcrf_facts.specs.Held.{is_ended, shown}
+use Rattle.pcrf_facts.specs.Held.{is_ended, entry_shown}
 use Rattle.pcrf_facts.specs.Live.{gx_is_live}
 use Rattle.pcrf_facts.specs.Places.{apn, host}
 use Rattle.pcrf_facts.specs.Values.{Text}
@@ -27,7 +27,7 @@ use Rattle.pcrf_model.specs.Requests.{CcrValue}
 use Rattle.pcrf_model.specs.Refusals.{ccr_refusal, lacks_parameters, names_no_row, is_clock_full}
 use Rattle.pcrf_model.specs.Replies.{OnGx, Granted, Rejected}
 use Rattle.pcrf_model.specs.Making.{ccr_fields, told_facts, next_tag}
-use Rattle.pcrf_model.specs.Serving.{delta_of, provisioned, accepted_ccr, serve_ccr}
+use Rattle.pcrf_model.specs.Serving.{delta_of, provision_outcome, accepted_ccr, serve_ccr}
 use Rattle.site_machine.specs.Sites.{SiteValue}
 use Rattle.pcrf_model.proofs.HoldingLaws.{sorted-In}
 use Rattle.pcrf_model.proofs.ViewLaws.{view-Same, view-kept}
@@ -114,12 +114,12 @@ shown_with h o =
     ∙ view-Same both all (sorted-In all)
 
 -- where a session shows no access point, it has no default quality of service
-pub no_access_point : (t : Tables) (facts : List SessionFact) (s : Session) → shown (facts_on facts s) apn ≡ None → quality_of t (view facts) s ≡ None
+pub no_access_point : (t : Tables) (facts : List SessionFact) (s : Session) → entry_shown (facts_on facts s) apn ≡ None → quality_of t (view facts) s ≡ None
 unfolding view
 no_access_point t facts s h = rw h refl
 
 -- else it has that of its access point
-pub access_point : (t : Tables) (facts : List SessionFact) (s : Session) (g : Tag) (name : List ℕ) → shown (facts_on facts s) apn ≡ Some (g, Text name)
+pub access_point : (t : Tables) (facts : List SessionFact) (s : Session) (g : Tag) (name : List ℕ) → entry_shown (facts_on facts s) apn ≡ Some (g, Text name)
     → quality_of t (view facts) s ≡ option_and_then (λ (r : ApnRow). r.default) (apn_row t name)
 unfolding view
 access_point t facts s g name h = rw h refl
@@ -148,8 +148,8 @@ module _ (t : Tables) (i : ℕ) (h : Holding) (q : CcrValue) (k : RequestKind) (
   d = delta_of delta_limit t v (gx q.session)
 
   -- so an initial request or an update gives
-  pub provisioned_is : provisioned delta_limit t i h q ≡ record { reply = told_reply t v (gx q.session); added = Some (operation_told i (h.clock + 1) q k d) }
-  unfolding provisioned
+  pub provisioned_is : provision_outcome delta_limit t i h q ≡ record { reply = told_reply t v (gx q.session); added = Some (operation_told i (h.clock + 1) q k d) }
+  unfolding provision_outcome
   provisioned_is =
       let s : Session = gx q.session in
       let tag : Tag = next_tag i h q.number in
@@ -165,7 +165,7 @@ module _ (t : Tables) (i : ℕ) (h : Holding) (q : CcrValue) (k : RequestKind) (
       }
 
 -- what is accepted of a request that leaves its session open
-pub opening_is : (t : Tables) (i : ℕ) (h : Holding) (q : CcrValue) (k : RequestKind) → opens k ≡ true → accepted_ccr delta_limit t i h q k ≡ provisioned delta_limit t i h q
+pub opening_is : (t : Tables) (i : ℕ) (h : Holding) (q : CcrValue) (k : RequestKind) → opens k ≡ true → accepted_ccr delta_limit t i h q k ≡ provision_outcome delta_limit t i h q
 opening_is t i h q Initial opening = refl
 opening_is t i h q Update opening = refl
 opening_is t i h q Termination opening = clash false opening refl

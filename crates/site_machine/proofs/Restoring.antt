@@ -9,7 +9,7 @@ use Rattle.ranked.proofs.OrderLaws.{eq_is, eq_itself}
 use Rattle.ranked.proofs.SetLaws.{In-left, In-right, In-cases, top_of}
 use Rattle.pcrf_facts.specs.Facts.{Fact}
 use Rattle.pcrf_model.specs.Sessions.{Session, session_cmp}
-use Rattle.pcrf_model.specs.Holdings.{Holding, SessionFact, session_fact_cmp, is_shaded_there_by, under, facts_on, kept_facts, kept_of, union, replaced}
+use Rattle.pcrf_model.specs.Holdings.{Holding, SessionFact, session_fact_cmp, is_shaded_there_by, under, facts_on, kept_facts, kept_of, union, with_facts_of}
 use Rattle.pcrf_model.specs.Operations.{Operation, with_operation}
 use Rattle.pcrf_model.proofs.HoldingLaws.{session_ranked, session_fact_ranked, there_irr, there_trans, same_session, kept_facts-In, In-kept_facts, sorted-In, sorted-Same, In-facts_on, facts_on-In, In-under, under-In, replaces_one}
 use Rattle.pcrf_model.proofs.UnionLaws.{kept_of-union}
@@ -29,7 +29,7 @@ module _ (h : Holding) (o : Operation) (kept : kept_of h ≡ h) where
 
   -- with the session's own facts put back
   abbrev put_back : Holding
-  put_back = replaced with_it s (facts_on h.facts s) h.clock
+  put_back = with_facts_of with_it s (facts_on h.facts s) h.clock
 
   -- what is held is kept, in order
   held_is : ascending session_fact_cmp (kept_facts h.facts) ≡ h.facts

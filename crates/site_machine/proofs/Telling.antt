@@ -9,7 +9,7 @@ use Rattle.ranked.proofs.SetLaws.{In-right}
 use Rattle.pcrf_values.specs.Limits.{session_id_limit}
 use Rattle.pcrf_values.specs.RuleValues.{DeltaValue}
 use Rattle.pcrf_facts.specs.Facts.{Fact, End, Removed, Field, fact_cmp, is_shaded_by}
-use Rattle.pcrf_facts.specs.Held.{held, joined, kept}
+use Rattle.pcrf_facts.specs.Held.{kept_list, join_of, kept_set}
 use Rattle.pcrf_facts.proofs.JoinedLaws.{kept-In, In-kept, sorted-In, sorted-Same, joined-held}
 use Rattle.pcrf_model.specs.Holdings.{Holding, facts_on, kept_of}
 use Rattle.pcrf_model.specs.Operations.{Operation, with_operation}
@@ -34,19 +34,19 @@ module _ (h : Holding) (made : Operation) (is_kept : kept_of h ≡ h) (is_set : 
   own = facts_on h.facts made.session
 
   -- the operation's are among them
-  own_is : own ≡ held (own ++ made.facts)
+  own_is : own ≡ kept_list (own ++ made.facts)
   own_is =
       sym (ap (λ (k : Holding). facts_on k.facts made.session) is_set)
       ∙ taken_facts h made is_kept (max h.clock made.counter) refl
       ∙ held-append own made.facts
 
   -- so what is told is all that is joined
-  pub told_joins : (told : List Fact) → joined (facts_on h.facts made.session) (held told) ≡ joined (facts_on h.facts made.session) (held (made.facts ++ told))
+  pub told_joins : (told : List Fact) → join_of (facts_on h.facts made.session) (kept_list told) ≡ join_of (facts_on h.facts made.session) (kept_list (made.facts ++ told))
   told_joins told =
       held-append own told
-      ∙ ap (λ (fs : List Fact). joined fs told) own_is
+      ∙ ap (λ (fs : List Fact). join_of fs told) own_is
       ∙ joined-held (own ++ made.facts) told
-      ∙ ap held (append_assoc own made.facts told)
+      ∙ ap kept_list (append_assoc own made.facts told)
       ∙ sym (held-append own (made.facts ++ told))
 
 -- told nothing, a site holds what it held
@@ -89,25 +89,25 @@ is_the_end (Removed r) h = clash true refl h
 is_the_end (Field p t v) h = clash true refl h
 
 -- with the end nothing else is kept
-ends_all : (fs : List Fact) → Same (kept (fs ++ End ∷ [])) (kept (End ∷ []))
+ends_all : (fs : List Fact) → Same (kept_set (fs ++ End ∷ [])) (kept_set (End ∷ []))
 ends_all fs f = (there, back)
   where
     last : In End (fs ++ End ∷ [])
     last = In-right End fs (End ∷ []) (inl refl)
 
-    end_kept : (xs : List Fact) → In End xs → In End (kept xs)
+    end_kept : (xs : List Fact) → In End xs → In End (kept_set xs)
     end_kept xs i = In-kept End xs i (λ g j. refl)
 
-    there : In f (kept (fs ++ End ∷ [])) → In f (kept (End ∷ []))
+    there : In f (kept_set (fs ++ End ∷ [])) → In f (kept_set (End ∷ []))
     there i =
         let is : f ≡ End = is_the_end f ((kept-In f (fs ++ End ∷ []) i).1 End last) in
-        subst (λ (x : Fact). In x (kept (End ∷ []))) (sym is) (end_kept (End ∷ []) (inl refl))
+        subst (λ (x : Fact). In x (kept_set (End ∷ []))) (sym is) (end_kept (End ∷ []) (inl refl))
 
-    back : In f (kept (End ∷ [])) → In f (kept (fs ++ End ∷ []))
+    back : In f (kept_set (End ∷ [])) → In f (kept_set (fs ++ End ∷ []))
     back i =
         let is : f ≡ End = is_the_end f ((kept-In f (End ∷ []) i).1 End (inl refl)) in
-        subst (λ (x : Fact). In x (kept (fs ++ End ∷ []))) (sym is) (end_kept (fs ++ End ∷ []) last)
+        subst (λ (x : Fact). In x (kept_set (fs ++ End ∷ []))) (sym is) (end_kept (fs ++ End ∷ []) last)
 
 -- a session with the end has the end alone
-pub end_joins : (fs : List Fact) → End ∷ [] ≡ joined fs (held (End ∷ []))
-end_joins fs = sym (held-append fs (End ∷ []) ∙ sorted-Same (kept (fs ++ End ∷ [])) (kept (End ∷ [])) (ends_all fs))
+pub end_joins : (fs : List Fact) → End ∷ [] ≡ join_of fs (kept_list (End ∷ []))
+end_joins fs = sym (held-append fs (End ∷ []) ∙ sorted-Same (kept_set (fs ++ End ∷ [])) (kept_set (End ∷ [])) (ends_all fs))

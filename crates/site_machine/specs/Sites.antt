@@ -3,13 +3,13 @@ use Rattle.std.specs.Prelude.{ℕ, ◌+◌, List, [], ◌∷◌, ◌++◌, Optio
 use Rattle.pcrf_facts.specs.Facts.{Fact}
 use Rattle.pcrf_values.specs.Limits.{delta_limit}
 use Rattle.pcrf_model.specs.Sessions.{Session}
-use Rattle.pcrf_model.specs.Holdings.{Holding, nothing_held, union, kept_of, replaced}
+use Rattle.pcrf_model.specs.Holdings.{Holding, nothing_held, union, kept_of, with_facts_of}
 use Rattle.pcrf_model.specs.Operations.{Operation, with_operation, holding_of}
 use Rattle.pcrf_model.specs.Requests.{CcrValue, AarValue, StrValue, RequestValue}
 use Rattle.pcrf_model.specs.Replies.{Outcome, ReplyValue}
 use Rattle.pcrf_model.specs.Serving.{serve, serve_ccr, serve_aar, serve_str}
 use Rattle.pcrf_model.specs.Pushing.{push}
-use Rattle.pcrf_model.specs.Steps.{SiteState, SiteEvent, MayReply, kept_state, stepped}
+use Rattle.pcrf_model.specs.Steps.{SiteState, SiteEvent, MayReply, kept_state, state_after}
 use Rattle.pcrf_model.specs.Tables.{Tables}
 use Rattle.dia_base.specs.declared.identity.Identity.{Identity}
 
@@ -71,7 +71,7 @@ SiteMayReply s e r = MayReply delta_limit s.tables s.number s.state e r
 
 -- after an event to which it gave that reply: what is kept is held
 abbrev pub after_event : SiteValue → SiteEvent → ReplyValue → SiteValue
-after_event s e r = record s { state = kept_state (stepped delta_limit s.tables s.number s.state e r) }
+after_event s e r = record s { state = kept_state (state_after delta_limit s.tables s.number s.state e r) }
 
 -- empty
 abbrev pub emptied : SiteValue → SiteValue
@@ -79,4 +79,4 @@ emptied s = record s { state = new_state }
 
 -- with these facts in place of those of a session, under that clock
 abbrev pub with_record : SiteValue → Session → List Fact → ℕ → SiteValue
-with_record s session facts clock = record s { state = record { holding = replaced s.state.holding session facts clock; log = s.state.log } }
+with_record s session facts clock = record s { state = record { holding = with_facts_of s.state.holding session facts clock; log = s.state.log } }

@@ -1,6 +1,6 @@
 //! Operations of a site's own, where what is known of their session then is made already.
 ghost use Rattle.std.specs.Prelude.{◌≡◌, ◌<◌, Some, None, length, OnOk, OnErr, IfSome};
-ghost use Rattle.pcrf_facts.specs.Held.{held, joined};
+ghost use Rattle.pcrf_facts.specs.Held.{kept_list, join_of};
 ghost use Rattle.pcrf_model.specs.Holdings.{facts_on, kept_of};
 ghost use Rattle.pcrf_model.specs.Operations.{with_operation};
 ghost use Rattle.pcrf_model.specs.Sessions.{gx, af};
@@ -25,8 +25,8 @@ impl Site {
     ) -> Result<(), AllocError>
         requires later { length self.old.state.log < operation.counter }
         requires session { operation.session ≡ gx id.now }
-        requires joins { known ≡ joined
-            (facts_on self.old.state.holding.facts (gx id.now)) (held operation.facts) }
+        requires joins { known ≡ join_of
+            (facts_on self.old.state.holding.facts (gx id.now)) (kept_list operation.facts) }
         ensures ok { OnOk result (self.new ≡ with_made self.old (Some operation)) }
         ensures err { OnErr result (self.new ≡ self.old) }
     {
@@ -45,8 +45,8 @@ impl Site {
     ) -> Result<(), AllocError>
         requires later { length self.old.state.log < operation.counter }
         requires session { operation.session ≡ af id.now }
-        requires joins { known ≡ joined
-            (facts_on self.old.state.holding.facts (af id.now)) (held operation.facts) }
+        requires joins { known ≡ join_of
+            (facts_on self.old.state.holding.facts (af id.now)) (kept_list operation.facts) }
         ensures ok { OnOk result (self.new ≡ with_made self.old (Some operation)) }
         ensures err { OnErr result (self.new ≡ self.old) }
     {
@@ -68,8 +68,8 @@ impl Site {
         requires session { operation.session ≡ gx id.now }
         requires nothing { (known ≡ None) → kept_of (with_operation
             self.old.state.holding operation) ≡ self.old.state.holding }
-        requires joins { IfSome known (λ k. k ≡ joined
-            (facts_on self.old.state.holding.facts (gx id.now)) (held operation.facts)) }
+        requires joins { IfSome known (λ k. k ≡ join_of
+            (facts_on self.old.state.holding.facts (gx id.now)) (kept_list operation.facts)) }
         requires told { IfSome known (λ k. IsTold self.old.state.holding (gx id.now) k) }
         ensures ok { OnOk result (self.new ≡ with_made self.old (Some operation)) }
         ensures err { OnErr result (self.new ≡ self.old) }

@@ -5,7 +5,7 @@ ghost use Rattle.std.specs.Option.{option_copied};
 ghost use Rattle.ranked.specs.Ascending.{ascending};
 ghost use Rattle.pcrf_facts.specs.Facts.{Fact, fact_cmp};
 ghost use Rattle.pcrf_facts.specs.FlowWords.{or_else};
-ghost use Rattle.pcrf_facts.specs.Held.{held, is_ended, joined};
+ghost use Rattle.pcrf_facts.specs.Held.{kept_list, is_ended, join_of};
 ghost use Rattle.pcrf_facts.specs.Live.{af_is_live};
 ghost use Rattle.pcrf_model.specs.Forms.{is_operation};
 ghost use Rattle.pcrf_model.specs.Sessions.{af};
@@ -74,9 +74,9 @@ impl Site {
         ensures facts { IfOk result (λ made. IfSome made (λ m. map fact_of m.0.items
             ≡ ascending fact_cmp (described self.now.number (self.now.state.holding.clock + 1)
             (aar_view aar.now)))) }
-        ensures known { IfOk result (λ made. IfSome made (λ m. m.1 ≡ joined
+        ensures known { IfOk result (λ made. IfSome made (λ m. m.1 ≡ join_of
             (facts_on self.now.state.holding.facts (af aar.now.session))
-            (held (map fact_of m.0.items)))) }
+            (kept_list (map fact_of m.0.items)))) }
     {
         self.note_number();
         let call = call_of(self.alloc, aar, self.held.clock() + 1, self.number)?;
@@ -111,7 +111,7 @@ impl Site {
     /// With this as its record, which has what a request describes, a session would be bound to none.
     fn binds_to_none(&self, session: &AfSid, known: &AfRec) -> bool
         ensures { (facts : List Fact) → known.now
-            ≡ joined (facts_on self.now.state.holding.facts (af session.now)) (held facts)
+            ≡ join_of (facts_on self.now.state.holding.facts (af session.now)) (kept_list facts)
             → result ≡ is_none (bind (view (self.now.state.holding.facts
             ++ under (af session.now) facts)) (af session.now)) }
     {
@@ -121,7 +121,7 @@ impl Site {
     /// The record of a session with what a request describes.
     fn with_call(&self, session: &AfSid, call: AfRec) -> Result<AfRec, AllocError>
         ensures { IfOk result (λ both. both
-            ≡ joined (facts_on self.now.state.holding.facts (af session.now)) call) }
+            ≡ join_of (facts_on self.now.state.holding.facts (af session.now)) call) }
     {
         call.note_valid();
         match self.held.af(session) {
@@ -165,8 +165,8 @@ impl Site {
         requires later { length self.old.state.log < counter }
         requires formed { is_operation (operation_on_call
             self.old.number counter session.now (map fact_of facts.items)) ≡ true }
-        requires joins { known ≡ joined (facts_on self.old.state.holding.facts (af session.now))
-            (held (map fact_of facts.items)) }
+        requires joins { known ≡ join_of (facts_on self.old.state.holding.facts (af session.now))
+            (kept_list (map fact_of facts.items)) }
         ensures ok { OnOk result (self.new ≡ with_made self.old (Some (operation_on_call
             self.old.number counter session.now (map fact_of facts.items)))) }
         ensures err { OnErr result (self.new ≡ self.old) }

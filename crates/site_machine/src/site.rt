@@ -4,13 +4,13 @@ ghost use Rattle.std.specs.Option.{option_copied};
 ghost use Rattle.ranked.specs.Sets.{Distinct};
 ghost use Rattle.pcrf_values.specs.Results.{authorization_rejected, unable_to_comply};
 ghost use Rattle.pcrf_values.specs.declared.request_kind.RequestKind.TheVariants.{Termination};
-ghost use Rattle.pcrf_facts.specs.Held.{held, is_ended, joined};
+ghost use Rattle.pcrf_facts.specs.Held.{kept_list, is_ended, join_of};
 ghost use Rattle.pcrf_facts.specs.Live.{gx_is_live};
 ghost use Rattle.pcrf_values.specs.Limits.{delta_limit, last_counter, site_limit};
-ghost use Rattle.pcrf_model.specs.Holdings.{facts_on, kept_of, replaced};
-ghost use Rattle.pcrf_model.specs.Pushing.{due, lacks_counter};
+ghost use Rattle.pcrf_model.specs.Holdings.{facts_on, kept_of, with_facts_of};
+ghost use Rattle.pcrf_model.specs.Pushing.{due_session, lacks_counter};
 ghost use Rattle.pcrf_model.specs.Replies.{OnGx, Granted, Pushed};
-ghost use Rattle.pcrf_model.specs.Serving.{delta_of, empty_delta, provisioned, serve_base};
+ghost use Rattle.pcrf_model.specs.Serving.{delta_of, empty_delta, provision_outcome, serve_base};
 ghost use Rattle.pcrf_model.specs.Sessions.{Gx, gx};
 ghost use Rattle.pcrf_model.specs.Steps.{own_from};
 ghost use Rattle.pcrf_model.specs.Views.{view};
@@ -291,10 +291,10 @@ impl Site {
         requires next { counter ≡ self.old.state.holding.clock + 1 }
         requires opens { opens ccr.now.kind ≡ true }
         requires alive { (view self.old.state.holding.facts).ended (gx ccr.now.session) ≡ false }
-        ensures reply { IfOk result (λ told. gx_reply_value told.0 ≡ (provisioned delta_limit
+        ensures reply { IfOk result (λ told. gx_reply_value told.0 ≡ (provision_outcome delta_limit
             self.old.tables self.old.number self.old.state.holding (ccr_view ccr.now)).reply) }
         ensures spare { IfOk result (λ told. told.1 ≡ spares thrice told.0) }
-        ensures ok { OnOk result (self.new ≡ with_made self.old (provisioned delta_limit
+        ensures ok { OnOk result (self.new ≡ with_made self.old (provision_outcome delta_limit
             self.old.tables self.old.number self.old.state.holding (ccr_view ccr.now)).added) }
         ensures left { OnOk result (ProvisionLeaves self.old self.new (ccr_view ccr.now)) }
         ensures err { OnErr result (self.new ≡ self.old) }
@@ -317,7 +317,7 @@ impl Site {
     /// The record of a session with what a request sets.
     fn with_fields(&self, session: &GxSid, made: GxRec) -> Result<GxRec, AllocError>
         ensures { IfOk result (λ both. both
-            ≡ joined (facts_on self.now.state.holding.facts (gx session.now)) made) }
+            ≡ join_of (facts_on self.now.state.holding.facts (gx session.now)) made) }
     {
         made.note_valid();
         match self.held.gx(session) {
@@ -331,7 +331,7 @@ impl Site {
         requires within { clock ≤ last_counter }
         requires counted { length self.old.state.log ≤ clock }
         requires known { facts_on self.old.state.holding.facts (gx session.now) ≢ [] }
-        requires back { are_up_to clock (replaced self.old.state.holding
+        requires back { are_up_to clock (with_facts_of self.old.state.holding
             (gx session.now) (record_facts before) clock).facts ≡ true }
         ensures { self.new ≡ with_record self.old (gx session.now) (record_facts before) clock }
     {
@@ -422,9 +422,9 @@ impl Site {
     fn with_told(&self, session: &GxSid, told: &[GxFact]) -> Result<Option<GxRec>, AllocError>
         requires { map fact_of told.now ≢ [] → is_record Gx (map fact_of told.now) ≡ true }
         ensures nothing { IfOk result (λ both. (both ≡ None) → map fact_of told.now ≡ []) }
-        ensures joins { IfOk result (λ both. IfSome both (λ known. known ≡ joined
+        ensures joins { IfOk result (λ both. IfSome both (λ known. known ≡ join_of
             (facts_on self.now.state.holding.facts (gx session.now))
-            (held (map fact_of told.now)))) }
+            (kept_list (map fact_of told.now)))) }
     {
         if told.is_empty() {
             return Ok(None);
@@ -618,7 +618,7 @@ impl Site {
     fn next_push(&mut self, host: Option<&[u8]>) -> Result<Option<PushOut>, AllocError>
         ensures push { IfOk result (λ push. option_map push_view push
             ≡ option_map (push_of self.new.tables (view self.new.state.holding.facts))
-            (due self.new.tables self.new.number (view self.new.state.holding.facts)
+            (due_session self.new.tables self.new.number (view self.new.state.holding.facts)
             (option_copied host.entry))) }
         ensures names { IfOk result (λ push. IfSome push (λ p. Distinct (map rule_name_of
             (rules self.new.tables (view self.new.state.holding.facts) (gx p.session))))) }

@@ -2,7 +2,7 @@
 ghost use Rattle.std.specs.Prelude.{◌≡◌, Some, false, IfOk, IfSome, map, option_map};
 ghost use Rattle.ranked.specs.Sets.{Distinct};
 ghost use Rattle.pcrf_model.specs.Differences.{rule_name_of};
-ghost use Rattle.pcrf_model.specs.Pushing.{due};
+ghost use Rattle.pcrf_model.specs.Pushing.{due_session};
 ghost use Rattle.pcrf_model.specs.Rules.{rules};
 ghost use Rattle.pcrf_model.specs.Sessions.{gx};
 ghost use Rattle.pcrf_model.specs.Views.{view};
@@ -42,7 +42,7 @@ pub fn next_waiting(
     requires due { DueWait tables.now site (view state.now.facts) waiting.old }
     ensures push { IfOk result (λ push. option_map push_view push
         ≡ option_map (push_of tables.now (view state.now.facts))
-        (due tables.now site (view state.now.facts) (Some host.now))) }
+        (due_session tables.now site (view state.now.facts) (Some host.now))) }
     ensures names { IfOk result (λ push. IfSome push (λ p. Distinct (map rule_name_of
         (rules tables.now (view state.now.facts) (gx p.session))))) }
     ensures kept { AreKept tables.now (view state.now.facts) lists.new }

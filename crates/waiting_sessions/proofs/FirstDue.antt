@@ -7,7 +7,7 @@ use Rattle.ranked.specs.Sets.{In}
 use Rattle.ranked.proofs.OrderLaws.{text_ranked, eq_is, eq_itself}
 use Rattle.ranked.proofs.Plain.{none_some, some_same}
 use Rattle.pcrf_model.specs.Holdings.{SessionFact}
-use Rattle.pcrf_model.specs.Pushing.{is_due, due}
+use Rattle.pcrf_model.specs.Pushing.{is_due, due_session}
 use Rattle.pcrf_model.specs.Sessions.{gx}
 use Rattle.pcrf_model.specs.Tables.{Tables}
 use Rattle.pcrf_model.specs.Views.{view}
@@ -29,7 +29,7 @@ empty (x ∷ xs) h = none_some x h
 module _ (t : Tables) (i : ℕ) (facts : List SessionFact) (name : List ℕ) (u w : WaitingValue)
     (rest : (other : List ℕ) → waiting_of w other ≡ without_first text_cmp u.lists name other) where
   -- where none comes first none is due
-  pub none_due : u.all ≡ false → DueWait t i (view facts) u → Rises text_cmp (waiting_of u name) → None ≡ first_of (waiting_of u name) → None ≡ due t i (view facts) (Some name)
+  pub none_due : u.all ≡ false → DueWait t i (view facts) u → Rises text_cmp (waiting_of u name) → None ≡ first_of (waiting_of u name) → None ≡ due_session t i (view facts) (Some name)
   none_due a h rises none =
       sym (first_waits t i facts (waiting_of u) name (h.listed a) rises
       ∙ ap (λ (ids : List (List ℕ)). find (is_due t i (view facts) (Some name)) (map gx ids)) (empty (waiting_of u name) none))
@@ -51,7 +51,7 @@ module _ (t : Tables) (i : ℕ) (facts : List SessionFact) (name : List ℕ) (u 
 
   module _ (id : List ℕ) (first : Some id ≡ first_of (waiting_of u name)) where
     -- the first that is due is the one
-    pub is_first : u.all ≡ false → DueWait t i (view facts) u → Rises text_cmp (waiting_of u name) → is_due t i (view facts) (Some name) (gx id) ≡ true → Some (gx id) ≡ due t i (view facts) (Some name)
+    pub is_first : u.all ≡ false → DueWait t i (view facts) u → Rises text_cmp (waiting_of u name) → is_due t i (view facts) (Some name) (gx id) ≡ true → Some (gx id) ≡ due_session t i (view facts) (Some name)
     is_first a h rises d =
         sym (first_waits t i facts (waiting_of u) name (h.listed a) rises
         ∙ ap (λ (ids : List (List ℕ)). find (is_due t i (view facts) (Some name)) (map gx ids)) (began (waiting_of u name) id first)

@@ -6,7 +6,7 @@ use Rattle.ranked.proofs.OrderLaws.{text_ranked, eq_itself}
 use Rattle.ranked.proofs.Plain.{none_some, some_same}
 use Rattle.ranked.specs.declared.tag.Tag.{Tag}
 use Rattle.pcrf_facts.specs.Facts.{Fact}
-use Rattle.pcrf_facts.specs.Held.{shown}
+use Rattle.pcrf_facts.specs.Held.{entry_shown}
 use Rattle.pcrf_facts.specs.Places.{Place, host}
 use Rattle.pcrf_facts.specs.Values.{Text, Entry}
 use Rattle.pcrf_model.specs.Holdings.{SessionFact, facts_on}
@@ -17,17 +17,17 @@ use Rattle.session_index.proofs.Covering.{list_grows, list_has}
 use Rattle.waiting_sessions.specs.Waits.{WaitingValue, waiting_of, Keeps, WaitsUnder, WaitsIfDue}
 
 -- what a record shows at a place is what the view has
-pub value_shown : (facts : List SessionFact) (s : Session) (known : List Fact) (p : Place) (o : Option Entry) → known ≡ facts_on facts s → o ≡ shown known p
+pub value_shown : (facts : List SessionFact) (s : Session) (known : List Fact) (p : Place) (o : Option Entry) → known ≡ facts_on facts s → o ≡ entry_shown known p
     → option_map (λ (e : Entry). e.1) o ≡ value (view facts) s p
 unfolding view
-value_shown facts s known p o k e = ap (option_map (λ (d : Entry). d.1)) (e ∙ ap (λ (fs : List Fact). shown fs p) k)
+value_shown facts s known p o k e = ap (option_map (λ (d : Entry). d.1)) (e ∙ ap (λ (fs : List Fact). entry_shown fs p) k)
 
 -- a session without a host need not wait
-pub no_host : (facts : List SessionFact) (s : Session) (known : List Fact) (w : WaitingValue) → known ≡ facts_on facts s → None ≡ shown known host → WaitsIfDue (view facts) w s
+pub no_host : (facts : List SessionFact) (s : Session) (known : List Fact) (w : WaitingValue) → known ≡ facts_on facts s → None ≡ entry_shown known host → WaitsIfDue (view facts) w s
 no_host facts s known w k e = record { there = λ a name h. none_some name (ap (option_and_then as_text) (value_shown facts s known host None k e) ∙ h) }
 
 -- one that waits under its host waits
-pub has_host : (facts : List SessionFact) (id : List ℕ) (known : List Fact) (w : WaitingValue) (t : Tag) (n : List ℕ) → known ≡ facts_on facts (gx id) → Some (t, Text n) ≡ shown known host
+pub has_host : (facts : List SessionFact) (id : List ℕ) (known : List Fact) (w : WaitingValue) (t : Tag) (n : List ℕ) → known ≡ facts_on facts (gx id) → Some (t, Text n) ≡ entry_shown known host
     → WaitsUnder w n id → WaitsIfDue (view facts) w (gx id)
 has_host facts id known w t n k e h = record {
   there = λ a name m.

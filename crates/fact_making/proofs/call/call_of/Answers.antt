@@ -1,7 +1,7 @@
 use Rattle.std.proofs.Common.{◌≡◌, List, ◌++◌, IfOk, map, ap, ◌∙◌, subst, flat_map}
 use Rattle.ranked.specs.declared.tag.Tag.{Tag}
 use Rattle.pcrf_facts.specs.Facts.{Fact}
-use Rattle.pcrf_facts.specs.Held.{held}
+use Rattle.pcrf_facts.specs.Held.{kept_list}
 use Rattle.pcrf_model.specs.Making.{component_facts}
 use Rattle.pcrf_model.specs.Sessions.{Af}
 use Rattle.pcrf_model.specs.Forms.{is_record}
@@ -20,7 +20,7 @@ returns-clause-all c =
     let fields = ap (λ (fs : List Fact). fs ++ flat_map (component_facts tag) c.as_slice-components.result.now) c.in_ok-facts.ensures in
     let components = ap (λ cs. call_fields view tag ++ flat_map (component_facts tag) cs) c.as_slice-components.ensures.components in
     let made : map fact_of c.put_components.new.facts.items ≡ described c.args.site c.args.counter view = c.in_ok-put_components.ensures ∙ (fields ∙ components) in
-    let facts = ap (λ (fs : List AfFact). held (map fact_of fs)) c.as_slice.ensures.value ∙ ap held made in
+    let facts = ap (λ (fs : List AfFact). kept_list (map fact_of fs)) c.as_slice.ensures.value ∙ ap kept_list made in
     subst (λ (fs : List Fact). IfOk c.of_facts.result (λ call. call ≡ fs))
     (facts ∙ call_is_whole view c.args.site c.args.counter c.as_slice-components.ensures.apart)
     c.of_facts.ensures

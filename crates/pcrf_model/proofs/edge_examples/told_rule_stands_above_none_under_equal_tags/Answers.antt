@@ -3,12 +3,12 @@ use Rattle.std.specs.Fmt.{digits}
 use Rattle.pcrf_model.specs.Views.{view}
 use Rattle.pcrf_model.specs.Bindings.{bind}
 use Rattle.pcrf_model.specs.Rules.{rules}
-use Rattle.pcrf_model.specs.Differences.{told}
+use Rattle.pcrf_model.specs.Differences.{told_rules_of}
 use Rattle.pcrf_model.specs.Refusals.{ccr_refusal, aar_refusal, str_refusal}
-use Rattle.pcrf_model.specs.Serving.{provisioned, serve_ccr, serve_aar, serve_str}
-use Rattle.pcrf_model.specs.Pushing.{due, push, lacks_counter}
+use Rattle.pcrf_model.specs.Serving.{provision_outcome, serve_ccr, serve_aar, serve_str}
+use Rattle.pcrf_model.specs.Pushing.{due_session, push, lacks_counter}
 use Rattle.pcrf_model.proofs.edge_examples.told_rule_stands_above_none_under_equal_tags.Goals as goal
 
 pub returns : goal.returns
-unfolding digits view bind rules told ccr_refusal aar_refusal str_refusal provisioned serve_ccr serve_aar serve_str due push lacks_counter
+unfolding digits view bind rules told_rules_of ccr_refusal aar_refusal str_refusal provision_outcome serve_ccr serve_aar serve_str due_session push lacks_counter
 returns c = record { first = refl; second = refl }

@@ -1,6 +1,6 @@
 use Rattle.pcrf_model.specs.Views.{view}
 use Rattle.pcrf_model.specs.Rules.{rules}
-use Rattle.pcrf_model.specs.Differences.{told}
+use Rattle.pcrf_model.specs.Differences.{told_rules_of}
 use Rattle.pcrf_model.proofs.DifferenceLaws.{apply-difference}
 use Rattle.pcrf_model.proofs.FirstEntries.{difference-first}
 use Rattle.pcrf_model.proofs.FormReading.{flows_fit}
@@ -12,7 +12,7 @@ pub returns : goal.returns
 returns c = record {
   told = told_is_told;
   session = λ t h s rows form.
-      let told_now = told (view h.facts) s in
+      let told_now = told_rules_of (view h.facts) s in
       let rules_now = rules t (view h.facts) s in
       let is = told_is_told h.facts s in
       let names = rules-names_differ t h.facts s rows (flows_fit h form) in

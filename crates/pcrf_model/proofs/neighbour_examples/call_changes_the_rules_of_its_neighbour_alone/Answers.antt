@@ -7,9 +7,9 @@ use Rattle.pcrf_facts.specs.Values.{Value, Address}
 use Rattle.pcrf_model.specs.Views.{view}
 use Rattle.pcrf_model.specs.Bindings.{bind}
 use Rattle.pcrf_model.specs.Rules.{rules}
-use Rattle.pcrf_model.specs.Differences.{told}
+use Rattle.pcrf_model.specs.Differences.{told_rules_of}
 use Rattle.pcrf_model.specs.Refusals.{ccr_refusal, aar_refusal, str_refusal}
-use Rattle.pcrf_model.specs.Serving.{provisioned, serve_ccr, serve_aar, serve_str}
+use Rattle.pcrf_model.specs.Serving.{provision_outcome, serve_ccr, serve_aar, serve_str}
 use Rattle.pcrf_model.specs.Laws.{HasAddress, NeverMeet}
 use Rattle.pcrf_model.specs.Neighbours.{two_apart, far_call}
 use Rattle.pcrf_model.specs.Samples.{call_session, first_session, host_address}
@@ -26,7 +26,7 @@ not_both : (x : Value) → Some (Address (host_address 2)) ≡ Some x → Some (
 not_both x e f = clash (is_first (Address (host_address 1))) refl (ap is_first (some_same (Address (host_address 1)) x f ∙ sym (some_same (Address (host_address 2)) x e)))
 
 pub returns : goal.returns
-unfolding digits view bind rules told ccr_refusal aar_refusal str_refusal provisioned serve_ccr serve_aar serve_str
+unfolding digits view bind rules told_rules_of ccr_refusal aar_refusal str_refusal provision_outcome serve_ccr serve_aar serve_str
 returns c = record { apart = apart; meets = inr refl; met = inl refl; before = refl; kept = refl; other = refl; more = refl }
   where
     first_is : (x : Value) → HasAddress (seen two_apart) (seen far_call) first_session x → Some (Address (host_address 1)) ≡ Some x

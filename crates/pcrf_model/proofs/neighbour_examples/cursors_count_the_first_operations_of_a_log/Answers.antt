@@ -4,9 +4,9 @@ use Rattle.ranked.proofs.Plain.{none_some}
 use Rattle.pcrf_model.specs.Views.{view}
 use Rattle.pcrf_model.specs.Bindings.{bind}
 use Rattle.pcrf_model.specs.Rules.{rules}
-use Rattle.pcrf_model.specs.Differences.{told}
+use Rattle.pcrf_model.specs.Differences.{told_rules_of}
 use Rattle.pcrf_model.specs.Refusals.{ccr_refusal, aar_refusal, str_refusal}
-use Rattle.pcrf_model.specs.Serving.{provisioned, serve_ccr, serve_aar, serve_str}
+use Rattle.pcrf_model.specs.Serving.{provision_outcome, serve_ccr, serve_aar, serve_str}
 use Rattle.pcrf_model.specs.CursorLaws.{FirstTaken, Reaches}
 use Rattle.pcrf_model.specs.Neighbours.{counted}
 use Rattle.pcrf_model.specs.Scenes.{one}
@@ -23,7 +23,7 @@ no_shorter (inl l) = omega (arith, l)
 no_shorter (inr r) = let e = r.1 in omega (arith, e)
 
 pub returns : goal.returns
-unfolding digits view bind rules told ccr_refusal aar_refusal str_refusal provisioned serve_ccr serve_aar serve_str
+unfolding digits view bind rules told_rules_of ccr_refusal aar_refusal str_refusal provision_outcome serve_ccr serve_aar serve_str
 returns c = record { later = inl (omega arith); further = inr (refl, omega arith); earlier = no_earlier; shorter = no_shorter; first = first; no_second = second }
   where
     first : FirstTaken 1 one.log one.log

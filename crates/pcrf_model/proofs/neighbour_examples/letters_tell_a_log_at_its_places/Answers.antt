@@ -5,9 +5,9 @@ use Rattle.ranked.specs.Sets.{In}
 use Rattle.pcrf_model.specs.Views.{view}
 use Rattle.pcrf_model.specs.Bindings.{bind}
 use Rattle.pcrf_model.specs.Rules.{rules}
-use Rattle.pcrf_model.specs.Differences.{told}
+use Rattle.pcrf_model.specs.Differences.{told_rules_of}
 use Rattle.pcrf_model.specs.Refusals.{ccr_refusal, aar_refusal, str_refusal}
-use Rattle.pcrf_model.specs.Serving.{provisioned, serve_ccr, serve_aar, serve_str}
+use Rattle.pcrf_model.specs.Serving.{provision_outcome, serve_ccr, serve_aar, serve_str}
 use Rattle.pcrf_model.specs.Operations.{Operation}
 use Rattle.pcrf_model.specs.Letters.{Range}
 use Rattle.pcrf_model.specs.Worlds.{SiteTook, SentLetter, epoch_of}
@@ -18,7 +18,7 @@ use Rattle.pcrf_model.proofs.CursorSteps.{start_backed, start_peer}
 use Rattle.pcrf_model.proofs.neighbour_examples.letters_tell_a_log_at_its_places.Goals as goal
 
 pub returns : goal.returns
-unfolding digits view bind rules told ccr_refusal aar_refusal str_refusal provisioned serve_ccr serve_aar serve_str
+unfolding digits view bind rules told_rules_of ccr_refusal aar_refusal str_refusal provision_outcome serve_ccr serve_aar serve_str
 returns c = record { sound = record { sites = sites; letters = letters }; further = further }
   where
     own : (k : ℕ) (o : Operation) → slice_get one.log k ≡ Some o → In o one.log

@@ -7,9 +7,9 @@ use Rattle.pcrf_facts.specs.Values.{Value, Address}
 use Rattle.pcrf_model.specs.Views.{view}
 use Rattle.pcrf_model.specs.Bindings.{bind}
 use Rattle.pcrf_model.specs.Rules.{rules}
-use Rattle.pcrf_model.specs.Differences.{told}
+use Rattle.pcrf_model.specs.Differences.{told_rules_of}
 use Rattle.pcrf_model.specs.Refusals.{ccr_refusal, aar_refusal, str_refusal}
-use Rattle.pcrf_model.specs.Serving.{provisioned, serve_ccr, serve_aar, serve_str}
+use Rattle.pcrf_model.specs.Serving.{provision_outcome, serve_ccr, serve_aar, serve_str}
 use Rattle.pcrf_model.specs.Laws.{BindsAlike}
 use Rattle.pcrf_model.specs.Samples.{first_session, host_address}
 use Rattle.pcrf_model.specs.Neighbours.{refreshed}
@@ -26,7 +26,7 @@ other : Some (Address (host_address 1)) ≡ Some (Address (host_address 2)) → 
 other e = clash (is_first (Address (host_address 1))) refl (ap is_first (some_same (Address (host_address 1)) (Address (host_address 2)) e))
 
 pub returns : goal.returns
-unfolding digits view bind rules told ccr_refusal aar_refusal str_refusal provisioned serve_ccr serve_aar serve_str
+unfolding digits view bind rules told_rules_of ccr_refusal aar_refusal str_refusal provision_outcome serve_ccr serve_aar serve_str
 returns c = record { again = again; moved = λ alike. other alike.at_address }
   where
     again : BindsAlike (seen one) (seen refreshed) first_session

@@ -1,5 +1,5 @@
 use Rattle.std.proofs.Common.{◌≡◌, IfOk, List, ap, ◌∙◌, subst}
-use Rattle.pcrf_facts.specs.ToldWords.{ToldRule, told}
+use Rattle.pcrf_facts.specs.ToldWords.{ToldRule, told_rules}
 use Rattle.pcrf_model.specs.Sessions.{gx}
 use Rattle.rule_delta.proofs.ToldAlone.{told_alone}
 use Rattle.rule_delta.proofs.telling.told_of.Goals as goal
@@ -7,12 +7,12 @@ use Rattle.rule_delta.proofs.telling.told_of.Goals as goal
 pub returns-in-Some : goal.returns-in-Some
 returns-in-Some c =
     subst (λ (us : List ToldRule). IfOk c.told.result (λ entries. entries ≡ us))
-    (ap told c.in-Some.ensures ∙ told_alone c.args.state.now.facts (gx c.args.session.now))
+    (ap told_rules c.in-Some.ensures ∙ told_alone c.args.state.now.facts (gx c.args.session.now))
     c.told.ensures
 
 pub returns-in-None : goal.returns-in-None
 returns-in-None c =
     c.of.ensures
     ∙ c.new.ensures.items
-    ∙ ap told c.in-None.ensures
+    ∙ ap told_rules c.in-None.ensures
     ∙ told_alone c.args.state.now.facts (gx c.args.session.now)

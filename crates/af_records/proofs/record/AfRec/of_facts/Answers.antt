@@ -1,7 +1,7 @@
 use Rattle.std.proofs.Common.{◌≡◌, true, List, [], ◌∷◌, map, take, sym, subst, ap, ◌∙◌, arith, rules}
 use Rattle.std.proofs.lemmas.List.{take_all}
 use Rattle.pcrf_facts.specs.Facts.{Fact}
-use Rattle.pcrf_facts.specs.Held.{held, joined}
+use Rattle.pcrf_facts.specs.Held.{kept_list, join_of}
 use Rattle.pcrf_model.specs.Sessions.{Af}
 use Rattle.pcrf_model.specs.Forms.{is_record}
 use Rattle.pcrf_model.proofs.RecordForms.{held_record}
@@ -12,11 +12,11 @@ use Rattle.af_records.proofs.record.AfRec.of_facts.Goals as goal
 pub loop-fact-preserved : goal.loop-fact-preserved
 loop-fact-preserved c =
     c.in_ok-put.ensures.ok
-    ∙ ap (λ (r : List Fact). joined r (fact_of c.fact-item.result ∷ [])) c.loop-fact.invariant
+    ∙ ap (λ (r : List Fact). join_of r (fact_of c.fact-item.result ∷ [])) c.loop-fact.invariant
     ∙ held_more fact_of c.args.facts.now c.loop-fact.fact-index c.fact-item.result (omega arith) c.fact-item.is
 
 pub invariant_of-result : goal.invariant_of-result
 invariant_of-result c =
     let all : take c.loop-fact.fact-index c.args.facts.now ≡ c.args.facts.now = search (rules, take_all) in
-    let known : known_facts c.loop-fact.parts ≡ held (map fact_of c.args.facts.now) = rw all at c.loop-fact.invariant in
+    let known : known_facts c.loop-fact.parts ≡ kept_list (map fact_of c.args.facts.now) = rw all at c.loop-fact.invariant in
     subst (λ (facts : List Fact). is_record Af facts ≡ true) (sym known) (held_record Af (map fact_of c.args.facts.now) c.requires)

@@ -1,7 +1,7 @@
 use Rattle.std.proofs.Common.{List, ap, sym, ◌∙◌}
 use Rattle.pcrf_facts.specs.Places.{SessionField, OfSession}
 use Rattle.pcrf_facts.specs.Facts.{Fact}
-use Rattle.pcrf_facts.specs.Held.{shown}
+use Rattle.pcrf_facts.specs.Held.{entry_shown}
 use Rattle.session_records.specs.SessionFacts.{session_says}
 use Rattle.gx_records.proofs.ReaderLaws.{field_shows}
 use Rattle.gx_records.proofs.record.GxRec.fields.Goals as goal
@@ -10,4 +10,4 @@ pub returns : goal.returns
 returns c = λ (f : SessionField).
     ap (λ o. session_says o f) c.fields_at.ensures
     ∙ sym (field_shows c.self.inside.parts f c.note_valid.ensures)
-    ∙ ap (λ (facts : List Fact). shown facts (OfSession f)) c.self.view_is
+    ∙ ap (λ (facts : List Fact). entry_shown facts (OfSession f)) c.self.view_is

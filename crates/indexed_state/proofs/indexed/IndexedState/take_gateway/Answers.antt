@@ -1,5 +1,5 @@
 use Rattle.std.proofs.Common.{◌≡◌, ℕ, max, Some, sym, ap, ◌∙◌, subst}
-use Rattle.pcrf_facts.specs.Held.{held, joined}
+use Rattle.pcrf_facts.specs.Held.{kept_list, join_of}
 use Rattle.pcrf_model.specs.Holdings.{Holding, facts_on, kept_of}
 use Rattle.pcrf_model.specs.Operations.{with_operation}
 use Rattle.pcrf_model.specs.Sessions.{gx}
@@ -22,7 +22,7 @@ put_gx-requires-clause-counted c =
     let h = c.self.inside.state in
     let o = c.args.operation.now in
     let s = gx c.args.id.now in
-    let joins = c.requires.joins ∙ ap (λ (x : IndexedValue). joined (facts_on x.holding.facts s) (held o.facts)) (sym c.self.view_is) in
+    let joins = c.requires.joins ∙ ap (λ (x : IndexedValue). join_of (facts_on x.holding.facts s) (kept_list o.facts)) (sym c.self.view_is) in
     let counter = sym (c.max-clock.ensures ∙ ap (λ (n : ℕ). max n c.counter.result) c.clock.ensures.clock ∙ ap (max h.clock) c.counter.ensures.counter) in
     put_up_to h o c.note_kept.ensures c.max-clock.result counter s c.requires.session c.args.known joins c.note_form.ensures c.note_form-2.ensures
 
@@ -38,7 +38,7 @@ invariant_of-self-2 c =
     let h = c.self.inside.state in
     let o = c.args.operation.now in
     let s = gx c.args.id.now in
-    let joins = c.requires.joins ∙ ap (λ (x : IndexedValue). joined (facts_on x.holding.facts s) (held o.facts)) (sym c.self.view_is) in
+    let joins = c.requires.joins ∙ ap (λ (x : IndexedValue). join_of (facts_on x.holding.facts s) (kept_list o.facts)) (sym c.self.view_is) in
     let counter = sym (c.max-clock.ensures ∙ ap (λ (n : ℕ). max n c.counter.result) c.clock.ensures.clock ∙ ap (max h.clock) c.counter.ensures.counter) in
     let is = c.in_ok-stood.ensures.placed ∙ put_is_taken h o c.note_kept.ensures c.max-clock.result counter s c.requires.session c.args.known joins in
     let k = c.put_gx.new.self in
@@ -74,7 +74,7 @@ returns-clause-ok c =
     let h = c.self.inside.state in
     let o = c.args.operation.now in
     let s = gx c.args.id.now in
-    let joins = c.requires.joins ∙ ap (λ (x : IndexedValue). joined (facts_on x.holding.facts s) (held o.facts)) (sym c.self.view_is) in
+    let joins = c.requires.joins ∙ ap (λ (x : IndexedValue). join_of (facts_on x.holding.facts s) (kept_list o.facts)) (sym c.self.view_is) in
     let counter = sym (c.max-clock.ensures ∙ ap (λ (n : ℕ). max n c.counter.result) c.clock.ensures.clock ∙ ap (max h.clock) c.counter.ensures.counter) in
     let is = c.in_ok-stood.ensures.placed ∙ put_is_taken h o c.note_kept.ensures c.max-clock.result counter s c.requires.session c.args.known joins in
     ap (λ (m : Holding). record { tables = c.self.inside.tables; holding = m }) is

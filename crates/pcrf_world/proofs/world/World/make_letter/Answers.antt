@@ -2,7 +2,7 @@ use Rattle.std.proofs.Common.{rules, ◌≡◌, ◌<◌, ℕ, ◌++◌, [], ◌�
 use Rattle.std.proofs.lemmas.Option.{slice_get_read, slice_get_within}
 use Rattle.pcrf_model.specs.Letters.{LetterValue}
 use Rattle.pcrf_model.specs.Worlds.{Letter, Lettered}
-use Rattle.pcrf_model.specs.Seen.{seen_after}
+use Rattle.pcrf_model.specs.Seen.{world_view_after}
 use Rattle.site_machine.specs.Sites.{SiteValue}
 use Rattle.pcrf_world.specs.Members.{seen_of}
 use Rattle.pcrf_world.specs.Values.{WorldValue, setting}
@@ -31,7 +31,7 @@ returns c =
             answer = rw (there, there_peer) (ap (λ (n : ℕ). Ok (Lettered n)) count);
             seen = ap (world_of ms) letters
                 ∙ lettered_at c.self.inside.tables ms ls c.args.i m at (ap (λ (x : SiteValue). x.tables) is.site) is.cursors c.args.j c.len-k.result
-                ∙ ap (λ (x : WorldValue). seen_after (setting x.tables) x.seen (Letter c.args.i c.args.j) (Ok (Lettered c.len-k.result))) c.self.view_is;
+                ∙ ap (λ (x : WorldValue). world_view_after (setting x.tables) x.seen (Letter c.args.i c.args.j) (Ok (Lettered c.len-k.result))) c.self.view_is;
             tables = search rules;
             sites = search rules;
           }))

@@ -4,7 +4,7 @@ use Rattle.std.specs.Option.{option_copied}
 use Rattle.pcrf_model.specs.Pushing.{lacks_counter}
 use Rattle.pcrf_model.specs.Replies.{Pushed}
 use Rattle.pcrf_model.specs.Worlds.{PushAt, PushedOut, ClockFull, Gives}
-use Rattle.pcrf_model.specs.Seen.{seen_after}
+use Rattle.pcrf_model.specs.Seen.{world_view_after}
 use Rattle.reply_values.specs.Replies.{push_view}
 use Rattle.site_machine.specs.Sites.{SiteValue, pushed, with_made}
 use Rattle.pcrf_world.specs.Members.{IsMember, seen_of, with_site}
@@ -57,7 +57,7 @@ returns c =
                 (pushed_gives c.self.inside.tables ms ls c.args.i m at is name p so room);
             seen = ap (λ (x : SiteValue). world_of (slice_set ms c.args.i (with_site m x)) ls) made
                 ∙ pushed_at c.self.inside.tables ms ls c.args.i m at is name p
-                ∙ ap (λ (x : WorldValue). seen_after (setting x.tables) x.seen (PushAt c.args.i name) (Ok (PushedOut p))) c.self.view_is;
+                ∙ ap (λ (x : WorldValue). world_view_after (setting x.tables) x.seen (PushAt c.args.i name) (Ok (PushedOut p))) c.self.view_is;
             tables = search rules;
             sites = as_many ms c.args.i (with_site m c.push.new.self) c.args.self.now.seen.sites (ap (λ (x : WorldValue). x.seen.sites) c.self.view_is);
           }))

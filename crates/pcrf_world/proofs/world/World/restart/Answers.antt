@@ -2,7 +2,7 @@ use Rattle.std.proofs.Common.{rules, ◌≡◌, List, Some, Ok, length, refl, sl
 use Rattle.std.proofs.lemmas.Option.{slice_get_read}
 use Rattle.pcrf_world.specs.Members.{IsMember, seen_of, started_again}
 use Rattle.pcrf_model.specs.Worlds.{Restart, Restarted}
-use Rattle.pcrf_model.specs.Seen.{seen_after}
+use Rattle.pcrf_model.specs.Seen.{world_view_after}
 use Rattle.pcrf_world.specs.Values.{WorldValue, setting}
 use Rattle.pcrf_world.specs.declared.site.Member.{Member}
 use Rattle.pcrf_world.proofs.Events.{restarted_at}
@@ -31,7 +31,7 @@ returns c =
       answer = rw there (search rules);
       seen = ap (λ (x : Member). world_of (slice_set ms c.args.i x) ls) again
           ∙ restarted_at c.self.inside.tables ms ls c.args.i m at c.in-Some.epoch
-          ∙ ap (λ (x : WorldValue). seen_after (setting x.tables) x.seen (Restart c.args.i) (Ok (Restarted c.in-Some.epoch))) c.self.view_is;
+          ∙ ap (λ (x : WorldValue). world_view_after (setting x.tables) x.seen (Restart c.args.i) (Ok (Restarted c.in-Some.epoch))) c.self.view_is;
       tables = search rules;
       sites = as_many ms c.args.i c.restart.new.self c.args.self.now.seen.sites (ap (λ (x : WorldValue). x.seen.sites) c.self.view_is);
     }

@@ -2,7 +2,7 @@ use Rattle.std.proofs.Common.{rules, ◌≡◌, ◌+◌, ◌++◌, [], ◌∷◌
 use Rattle.std.proofs.lemmas.List.{take_all, take_more, map-append}
 use Rattle.pcrf_model.specs.Tables.{Tables}
 use Rattle.pcrf_model.specs.Worlds.{WorldTook, WorldView, start, world_view, after_all, Gives, HoldAlike}
-use Rattle.pcrf_model.specs.Seen.{seen_after}
+use Rattle.pcrf_model.specs.Seen.{world_view_after}
 use Rattle.pcrf_world.specs.Values.{setting, event_value, answer_value, events_value, answers_value}
 use Rattle.pcrf_values.specs.Limits.{delta_limit}
 use Rattle.pcrf_model.proofs.CursorGaps.{ranges_leave_no_gap}
@@ -32,7 +32,7 @@ loop-event-preserved c =
     let more_answers = map-append answer_value told (answer ∷ []) in
     let happened = c.step-answer.ensures in
     let here : Gives (setting c.args.tables) (world_view took) e a = rw (← before.holds, ← before.tables) happened.answer in
-    let seen = happened.seen ∙ ap (λ (t : Tables). seen_after (setting t) c.loop-event.world.seen e a) before.tables ∙ ap (λ (v : WorldView). seen_after (setting c.args.tables) v e a) before.holds
+    let seen = happened.seen ∙ ap (λ (t : Tables). world_view_after (setting t) c.loop-event.world.seen e a) before.tables ∙ ap (λ (v : WorldView). world_view_after (setting c.args.tables) v e a) before.holds
     ∙ seen_is_taken (setting c.args.tables) took e a (snapshots_hold (setting c.args.tables) c.args.n es answers) in
     record {
       gives = rw (more, pushed, more_events, more_answers) (gives_push (setting c.args.tables) first es answers e a before.gives here);

@@ -1,7 +1,7 @@
 use Rattle.std.proofs.Common.{rules, ◌≡◌, Some, Ok, length, refl, slice_get, slice_set, ap, sym, ◌∙◌, subst}
 use Rattle.std.proofs.lemmas.Option.{slice_get_read}
 use Rattle.pcrf_model.specs.Worlds.{ServeAt, Replied, Gives}
-use Rattle.pcrf_model.specs.Seen.{seen_after}
+use Rattle.pcrf_model.specs.Seen.{world_view_after}
 use Rattle.site_machine.specs.Sites.{SiteValue, served, with_made}
 use Rattle.site_machine.specs.Values.{request_value, reply_value}
 use Rattle.pcrf_world.specs.Members.{IsMember, with_site}
@@ -37,7 +37,7 @@ returns c =
           (served_gives c.self.inside.tables ms ls c.args.i m at is q r so);
       seen = ap (λ (x : SiteValue). world_of (slice_set ms c.args.i (with_site m x)) ls) made
           ∙ served_at c.self.inside.tables ms ls c.args.i m at is q r
-          ∙ ap (λ (x : WorldValue). seen_after (setting x.tables) x.seen (ServeAt c.args.i q) (Ok (Replied r))) c.self.view_is;
+          ∙ ap (λ (x : WorldValue). world_view_after (setting x.tables) x.seen (ServeAt c.args.i q) (Ok (Replied r))) c.self.view_is;
       tables = search rules;
       sites = as_many ms c.args.i (with_site m c.serve.new.self) c.args.self.now.seen.sites (ap (λ (x : WorldValue). x.seen.sites) c.self.view_is);
     }

@@ -2,7 +2,7 @@ use Rattle.std.proofs.Common.{rules, ◌≡◌, Some, Ok, Err, length, refl, sli
 use Rattle.std.proofs.lemmas.Option.{slice_get_read, slice_get_within}
 use Rattle.pcrf_world.specs.Members.{seen_of}
 use Rattle.pcrf_model.specs.Worlds.{Merge, Merged, NoMemory}
-use Rattle.pcrf_model.specs.Seen.{seen_after}
+use Rattle.pcrf_model.specs.Seen.{world_view_after}
 use Rattle.pcrf_world.specs.Values.{WorldValue, setting}
 use Rattle.pcrf_world.proofs.Events.{merged_at, merged_in_part_at}
 use Rattle.pcrf_world.proofs.Members.{as_many, members_at, seen_at, sites_set}
@@ -32,7 +32,7 @@ returns c =
       | in-Ok b ↦ rw b.result-is (record {
         answer = rw (site, letter) refl;
         seen = merged_at c.self.inside.tables ms ls c.args.j m at c.args.k l there c.take.new.self (search rules)
-            ∙ ap (λ (x : WorldValue). seen_after (setting x.tables) x.seen (Merge c.args.j c.args.k) (Ok Merged)) c.self.view_is;
+            ∙ ap (λ (x : WorldValue). world_view_after (setting x.tables) x.seen (Merge c.args.j c.args.k) (Ok Merged)) c.self.view_is;
         tables = search rules;
         sites = as_before;
       })
@@ -41,7 +41,7 @@ returns c =
           rw b.result-is (record {
             answer = (slice_get_within c.args.self.now.seen.sites c.args.j (seen_of m) site, l, letter, search rules);
             seen = merged_in_part_at c.self.inside.tables ms ls c.args.j m at c.args.k l there c.take.new.self n (search rules)
-                ∙ ap (λ (x : WorldValue). seen_after (setting x.tables) x.seen (Merge c.args.j c.args.k) (Err (NoMemory n))) c.self.view_is;
+                ∙ ap (λ (x : WorldValue). world_view_after (setting x.tables) x.seen (Merge c.args.j c.args.k) (Err (NoMemory n))) c.self.view_is;
             tables = search rules;
             sites = as_before;
           }))

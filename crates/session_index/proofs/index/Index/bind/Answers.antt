@@ -1,5 +1,5 @@
 use Rattle.std.proofs.Common.{refl, sym, ap, ◌∙◌}
-use Rattle.pcrf_facts.specs.Held.{held}
+use Rattle.pcrf_facts.specs.Held.{kept_list}
 use Rattle.bind_index.proofs.Bound.{unknown_is_unbound}
 use Rattle.session_index.proofs.index.Index.bind.Goals as goal
 
@@ -9,5 +9,5 @@ returns-in_default c = λ all. unknown_is_unbound c.args.state.now.facts c.args.
 pub returns : goal.returns
 returns c = λ all. c.bind_by.ensures c.args.state.now.facts c.args.session.now (record {
   gateways = λ id. refl;
-  own = sym c.note_valid.ensures ∙ ap held c.in-Some.ensures;
+  own = sym c.note_valid.ensures ∙ ap kept_list c.in-Some.ensures;
 }) all

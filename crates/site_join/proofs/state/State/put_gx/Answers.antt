@@ -2,7 +2,7 @@ use Rattle.std.proofs.Common.{◌≡◌, true, ap, sym, subst, ◌∙◌}
 use Rattle.ranked.specs.Orders.{text_cmp}
 use Rattle.lattice_core.specs.Entries.{IsAscending}
 use Rattle.pcrf_model.specs.Sessions.{gx}
-use Rattle.pcrf_model.specs.Holdings.{Holding, facts_on, replaced}
+use Rattle.pcrf_model.specs.Holdings.{Holding, facts_on, with_facts_of}
 use Rattle.pcrf_model.specs.Forms.{is_holding, is_session}
 use Rattle.pcrf_model.proofs.RecordForms.{replaced_in_form}
 use Rattle.site_join.specs.States.{Records, record_facts, held_by}
@@ -21,7 +21,7 @@ returns-clause-placed c =
     let there = c.in_ok-stood.ensures.placed in
     ap (λ (es : Records). held_by es c.self.inside.af c.args.clock) there
     ∙ puts_gx c.self.inside.gx c.self.inside.af c.args.id.now c.args.given c.self.inside.clock c.args.clock c.note_valid.ensures.0 (subst (IsAscending text_cmp) there c.note_valid-2.ensures.0)
-    ∙ ap (λ (h : Holding). replaced h (gx c.args.id.now) (record_facts c.args.given) c.args.clock) c.self.view_is
+    ∙ ap (λ (h : Holding). with_facts_of h (gx c.args.id.now) (record_facts c.args.given) c.args.clock) c.self.view_is
 
 pub returns-in_err-stood-clause-refused_new : goal.returns-in_err-stood-clause-refused_new
 returns-in_err-stood-clause-refused_new c = where_refused c.from_residual.result (
@@ -34,7 +34,7 @@ invariant_of-self-2 c =
     let there = c.in_ok-stood.ensures.placed in
     let is = ap (λ (es : Records). held_by es c.self.inside.af c.args.clock) there
     ∙ puts_gx c.self.inside.gx c.self.inside.af c.args.id.now c.args.given c.self.inside.clock c.args.clock c.note_valid.ensures.0 (subst (IsAscending text_cmp) there c.note_valid-2.ensures.0)
-    ∙ ap (λ (h : Holding). replaced h (gx c.args.id.now) (record_facts c.args.given) c.args.clock) c.self.view_is in
+    ∙ ap (λ (h : Holding). with_facts_of h (gx c.args.id.now) (record_facts c.args.given) c.args.clock) c.self.view_is in
     let form : is_holding c.args.self.now ≡ true = subst (λ (h : Holding). is_holding h ≡ true) c.self.view_is c.self.invariant in
     let session : is_session (gx c.args.id.now) ≡ true = rw c.id.ensures at c.note_text.ensures in
     subst (λ (h : Holding). is_holding h ≡ true) (sym is)

@@ -1,7 +1,7 @@
 use Rattle.std.proofs.Common.{List, ap, sym, ◌∙◌}
 use Rattle.pcrf_values.specs.declared.request_kind.RequestKind.{RequestKind}
 use Rattle.pcrf_facts.specs.Facts.{Fact}
-use Rattle.pcrf_facts.specs.Held.{held, joined}
+use Rattle.pcrf_facts.specs.Held.{kept_list, join_of}
 use Rattle.pcrf_model.specs.Holdings.{facts_on}
 use Rattle.pcrf_model.specs.Operations.{Operation}
 use Rattle.pcrf_model.specs.Sessions.{gx}
@@ -16,4 +16,4 @@ add_to_gateway-requires-clause-joins c =
     let q = ccr_view c.args.ccr.now in
     let own = facts_on s.state.holding.facts (gx q.session) in
     let facts = ap (λ (o : Operation). o.facts) c.in_ok-operation.ensures ∙ ap (λ (k : RequestKind). fields_of s.number c.args.counter q k) c.requires.kind in
-    c.in_ok-ended.ensures ∙ end_joins own ∙ ap (λ (fs : List Fact). joined own (held fs)) (sym facts)
+    c.in_ok-ended.ensures ∙ end_joins own ∙ ap (λ (fs : List Fact). join_of own (kept_list fs)) (sym facts)

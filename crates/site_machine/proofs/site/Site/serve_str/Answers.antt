@@ -1,6 +1,6 @@
 use Rattle.std.proofs.Common.{ℕ, ◌+◌, List, Some, map, ap, sym, ◌∙◌}
 use Rattle.pcrf_facts.specs.Facts.{Fact}
-use Rattle.pcrf_facts.specs.Held.{held, joined}
+use Rattle.pcrf_facts.specs.Held.{kept_list, join_of}
 use Rattle.pcrf_facts.specs.Live.{af_is_live}
 use Rattle.pcrf_model.specs.Sessions.{af}
 use Rattle.pcrf_model.specs.Holdings.{facts_on}
@@ -61,4 +61,4 @@ returns-clause-ok c =
 pub add_on_call-requires-clause-joins : goal.add_on_call-requires-clause-joins
 add_on_call-requires-clause-joins c =
     let own = facts_on c.args.self.now.state.holding.facts (af c.args.call.now.session) in
-    c.in_ok-ended.ensures ∙ end_joins own ∙ ap (λ (fs : List Fact). joined own (held fs)) (sym c.in_ok-facts.ensures)
+    c.in_ok-ended.ensures ∙ end_joins own ∙ ap (λ (fs : List Fact). join_of own (kept_list fs)) (sym c.in_ok-facts.ensures)

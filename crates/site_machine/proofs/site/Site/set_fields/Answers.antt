@@ -2,7 +2,7 @@ use Rattle.std.proofs.Common.{◌≡◌, true, map, Some, sym, ap, ◌∙◌, su
 use Rattle.std.proofs.lemmas.Result.{on_ok_weaker}
 use Rattle.gx_records.specs.GxFacts.{fact_of}
 use Rattle.pcrf_model.specs.Forms.{are_up_to}
-use Rattle.pcrf_model.specs.Holdings.{replaced}
+use Rattle.pcrf_model.specs.Holdings.{with_facts_of}
 use Rattle.pcrf_model.specs.Sessions.{gx}
 use Rattle.gx_profile.specs.Requests.{ccr_view}
 use Rattle.site_join.specs.States.{record_facts}
@@ -18,7 +18,7 @@ of_facts-requires c = make_a_record c.args.self.now (ccr_view c.args.ccr.now) c.
 pub put_gx-requires-clause-counted : goal.put_gx-requires-clause-counted
 put_gx-requires-clause-counted c =
     let q = ccr_view c.args.ccr.now in
-    subst (λ (x : SiteValue). are_up_to c.args.counter (replaced x.state.holding (gx q.session) (record_facts (Some c.in_ok-record.record)) c.args.counter).facts ≡ true) (sym c.self.view_is)
+    subst (λ (x : SiteValue). are_up_to c.args.counter (with_facts_of x.state.holding (gx q.session) (record_facts (Some c.in_ok-record.record)) c.args.counter).facts ≡ true) (sym c.self.view_is)
     (put_up_to c.args.self.now q c.args.counter c.requires.within c.requires.next c.note_number.ensures c.note_ccr.ensures c.note_kept.ensures (map fact_of c.args.facts.now) c.in_ok-made.made c.in_ok-record.record
     c.requires.fields c.in_ok-made.ensures c.in_ok-record.ensures c.note_form.ensures)
 

@@ -1,7 +1,7 @@
 use Rattle.std.proofs.Common.{◌≡◌, true, List, ◌++◌, map, Some, ap, sym, ◌∙◌, subst, arith}
 use Rattle.pcrf_values.specs.RuleValues.{DeltaValue}
 use Rattle.pcrf_facts.specs.Facts.{Fact}
-use Rattle.pcrf_facts.specs.Held.{held, joined}
+use Rattle.pcrf_facts.specs.Held.{kept_list, join_of}
 use Rattle.pcrf_values.specs.Limits.{delta_limit}
 use Rattle.pcrf_model.specs.Forms.{is_operation, is_record}
 use Rattle.pcrf_model.specs.Holdings.{facts_on, kept_of}
@@ -71,9 +71,9 @@ add_told-requires-clause-joins c =
     let fields = c.requires.fields ∙ ap (λ (x : SiteValue). fields_of x.number c.args.counter q q.kind) (sym c.in_ok-missing.ensures.same) in
     let set = subst (λ (x : SiteValue). kept_of (with_operation x.state.holding (operation_made x.number c.args.counter q q.kind)) ≡ x.state.holding) (sym c.in_ok-missing.ensures.same) c.requires.set in
     let more = told_joins h (operation_made s.number c.args.counter q q.kind) c.note_kept.ensures set told in
-    let all = ap (λ (fs : List Fact). joined own (held (fs ++ told))) (sym fields) ∙ ap (λ (o : Operation). joined own (held o.facts)) (sym c.in_ok-operation.ensures) in
-    let same = ap (λ (fs : List GxFact). joined own (held (map fact_of fs))) c.as_slice.ensures.value in
-    some_weaker c.in_ok-known.known (λ k. k ≡ joined own (held (map fact_of c.as_slice.result.now))) (λ k. k ≡ joined own (held c.in_ok-operation.operation.facts))
+    let all = ap (λ (fs : List Fact). join_of own (kept_list (fs ++ told))) (sym fields) ∙ ap (λ (o : Operation). join_of own (kept_list o.facts)) (sym c.in_ok-operation.ensures) in
+    let same = ap (λ (fs : List GxFact). join_of own (kept_list (map fact_of fs))) c.as_slice.ensures.value in
+    some_weaker c.in_ok-known.known (λ k. k ≡ join_of own (kept_list (map fact_of c.as_slice.result.now))) (λ k. k ≡ join_of own (kept_list c.in_ok-operation.operation.facts))
     (λ k is. is ∙ same ∙ more ∙ all) c.in_ok-known.ensures.joins
 
 pub add_told-requires-clause-told : goal.add_told-requires-clause-told
@@ -83,7 +83,7 @@ add_told-requires-clause-told c =
     let q = ccr_view c.args.ccr.now in
     let told = map fact_of c.as_slice.result.now in
     let each = told_each c.args.counter s.number c.of-delta.result told (ap (map fact_of) c.as_slice.ensures.value ∙ c.in_ok-told.ensures) in
-    some_weaker c.in_ok-known.known (λ k. k ≡ joined (facts_on h.facts (gx q.session)) (held told)) (λ k. IsTold h (gx q.session) k)
+    some_weaker c.in_ok-known.known (λ k. k ≡ join_of (facts_on h.facts (gx q.session)) (kept_list told)) (λ k. IsTold h (gx q.session) k)
     (λ k is. record { told = told; each = each; joins = is }) c.in_ok-known.ensures.joins
 
 pub returns-clause-ok : goal.returns-clause-ok
