@@ -16,7 +16,7 @@ pub type FlowUsageNumber = BoundedNumber<0, 2>;
 pub type AfRequestType = BoundedNumber<0, 0>;
 
 /// What a fact says of a media component (TS 29.214, 5.3.16). Rates are in bit/s.
-#[derive(Clone, Copy)]
+#[derive(Clone, Copy, Debug)]
 pub enum ComponentValue {
     /// Media-Type.
     MediaType(u32),
@@ -29,7 +29,7 @@ pub enum ComponentValue {
 }
 
 /// What a fact says of a flow (TS 29.214, 5.3.27). Rates are in bit/s.
-#[derive(Drop)]
+#[derive(Debug, Drop)]
 pub enum FlowValue {
     /// Flow-Description.
     Descriptions(Filters),
@@ -44,7 +44,7 @@ pub enum FlowValue {
 }
 
 /// A fact of an AF session. Components and flows go by their Media-Component-Number and Flow-Number.
-#[derive(Drop)]
+#[derive(Debug, Drop)]
 pub enum AfFact {
     /// The session is ended.
     End,

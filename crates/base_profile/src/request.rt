@@ -13,7 +13,7 @@ use exact_values::Exact;
 use std::alloc::{AllocError, Global};
 
 /// What a request of the base protocol asks for.
-#[derive(Drop, PartialEq, Eq)]
+#[derive(Debug, Drop, PartialEq, Eq)]
 pub enum BaseKind {
     /// What the peers can (5.3.1): with the applications that the peer advertises.
     CapabilitiesExchange(Vec<ApplicationId>),
@@ -24,7 +24,7 @@ pub enum BaseKind {
 }
 
 /// A request of the base protocol as it was read.
-#[derive(Drop, PartialEq, Eq)]
+#[derive(Debug, Drop, PartialEq, Eq)]
 pub struct BaseRequest {
     /// What it asks for.
     pub kind: BaseKind,

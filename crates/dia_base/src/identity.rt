@@ -7,7 +7,7 @@ use std::net::Ipv4Addr;
 
 /// The Diameter node that a site is: its Origin-Host and Origin-Realm (RFC 6733, 6.3 and 6.4), and its
 /// Host-IP-Address (5.3.5).
-#[derive(Drop, PartialEq, Eq)]
+#[derive(Debug, Drop, PartialEq, Eq)]
 pub struct Identity {
     /// Origin-Host.
     pub host: DiameterIdentity,

@@ -15,7 +15,7 @@ use ranked::Ranked;
 use std::alloc::{AllocError, Global};
 
 /// The node that sent a request (RFC 6733, 6.3 and 6.4).
-#[derive(Drop, PartialEq, Eq)]
+#[derive(Debug, Drop, PartialEq, Eq)]
 pub struct Origin {
     /// Origin-Host.
     pub host: DiameterIdentity,

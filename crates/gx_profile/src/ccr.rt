@@ -23,7 +23,7 @@ use std::alloc::{AllocError, Global};
 use std::net::Ipv4Addr;
 
 /// A credit control request as it was read: what this profile asks of it, and nothing else.
-#[derive(Drop, PartialEq, Eq)]
+#[derive(Debug, Drop, PartialEq, Eq)]
 pub struct Ccr {
     /// Session-Id, which names the gateway's session.
     pub session: GxSid,

@@ -16,7 +16,7 @@ use std::alloc::Global;
 use std::marker::Model;
 
 /// A re-authorisation answer as it was read: what this profile asks of it, and nothing else.
-#[derive(Drop, PartialEq, Eq)]
+#[derive(Debug, Drop, PartialEq, Eq)]
 pub struct Raa {
     /// Session-Id, which names the gateway's session.
     pub session: GxSid,

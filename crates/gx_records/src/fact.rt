@@ -10,7 +10,7 @@ use std::alloc::AllocError;
 pub type OpenRequestType = BoundedNumber<1, 2>;
 
 /// A fact of a Gx session.
-#[derive(Drop)]
+#[derive(Debug, Drop)]
 pub enum GxFact {
     /// The session is ended.
     End,

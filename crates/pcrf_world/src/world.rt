@@ -20,7 +20,7 @@ use std::marker::Model;
 use thiserror::Error;
 
 /// What may happen next. Sites are named by their numbers, and letters by theirs, both from 0.
-#[derive(Drop)]
+#[derive(Debug, Drop)]
 pub enum WorldEvent {
     /// A site serves a request.
     Serve(usize, Request),
@@ -38,7 +38,7 @@ pub enum WorldEvent {
 }
 
 /// What an event gave.
-#[derive(Drop)]
+#[derive(Debug, Drop)]
 pub enum WorldOutcome {
     /// The site's reply.
     Replied(Reply),

@@ -8,7 +8,7 @@ use pcrf_values::{DefaultQuality, Refusal};
 use std::alloc::AllocError;
 
 /// What a site answers to a credit control request.
-#[derive(Drop, PartialEq, Eq)]
+#[derive(Debug, Drop, PartialEq, Eq)]
 pub enum GxReply {
     /// The request is accepted: what of the session's rules is removed and installed, and the default quality of service of
     /// its access point, where it has one.

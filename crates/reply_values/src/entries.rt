@@ -14,7 +14,7 @@ use std::marker::Model;
 pub const DELTA_LIMIT: usize = 40;
 
 /// The entries of a difference that a message carries: the first ones, 40 at most. Contracts see it as a `DeltaValue`.
-#[derive(Drop, PartialEq, Eq)]
+#[derive(Debug, Drop, PartialEq, Eq)]
 pub struct FirstEntries {
     delta: Delta,
 }

@@ -8,7 +8,7 @@ use ranked::Ranked;
 use std::alloc::AllocError;
 
 /// A push: what the gateway of a session is told by a re-authorisation request (TS 29.212, 4.5.2 and 5.6.4).
-#[derive(Drop, PartialEq, Eq)]
+#[derive(Debug, Drop, PartialEq, Eq)]
 pub struct PushOut {
     /// The gateway's session.
     pub session: GxSid,

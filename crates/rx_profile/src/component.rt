@@ -18,7 +18,7 @@ use std::alloc::{AllocError, Global};
 use std::marker::Model;
 
 /// A flow (Media-Sub-Component, TS 29.214, 5.3.18), which contracts see as a `FlowValue`.
-#[derive(Drop)]
+#[derive(Debug, Drop)]
 pub struct Flow {
     parts: FlowParts,
     filters: Option<PermitFilters>,
@@ -139,7 +139,7 @@ impl FromRaw<RawComponent> for NumberedComponent {
 }
 
 /// A media component (Media-Component-Description, TS 29.214, 5.3.16), which contracts see as a `ComponentValue`.
-#[derive(Drop)]
+#[derive(Debug, Drop)]
 pub struct Component {
     parts: ComponentParts,
     flows: Vec<Flow>,
@@ -228,7 +228,7 @@ impl FromRaw<NumberedComponent> for Component {
 
 /// The components of a request, which contracts see as their list. Their numbers differ, and in each of them those of its
 /// flows.
-#[derive(Drop)]
+#[derive(Debug, Drop)]
 pub struct Components {
     list: Vec<Component>,
 }

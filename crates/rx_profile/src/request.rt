@@ -28,7 +28,7 @@ use std::net::Ipv4Addr;
 const COMPONENTS: usize = 64;
 
 /// An AA request as it was read: what this profile asks of it, and nothing else.
-#[derive(Drop)]
+#[derive(Debug, Drop)]
 pub struct Aar {
     /// Session-Id, which names the application function's session.
     pub session: AfSid,

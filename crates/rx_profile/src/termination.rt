@@ -13,7 +13,7 @@ use ranked::Ranked;
 use std::alloc::{AllocError, Global};
 
 /// A session termination request as it was read: what this profile asks of it, and nothing else.
-#[derive(Drop, PartialEq, Eq)]
+#[derive(Debug, Drop, PartialEq, Eq)]
 pub struct Str {
     /// Session-Id, which names the application function's session.
     pub session: AfSid,

@@ -9,7 +9,7 @@ use std::alloc::AllocError;
 use std::net::Ipv4Addr;
 
 /// What a fact says of a session. `L` is the number of the type of its last request.
-#[derive(Drop)]
+#[derive(Debug, Drop)]
 pub enum SessionValue<L> {
     /// Framed-IP-Address (RFC 7155, 4.4.10.5.1).
     Address(Ipv4Addr),

@@ -17,7 +17,7 @@ use std::alloc::AllocError;
 use std::marker::Model;
 
 /// A session with facts on it.
-#[derive(Drop)]
+#[derive(Debug, Drop)]
 pub enum SessionFacts {
     /// A gateway's session (TS 29.212).
     Gx(GxSid, Vec<GxFact>),
@@ -86,7 +86,7 @@ pub fn are_af_facts(facts: &[AfFact]) -> bool
 /// Each is one that a site may make: it has a counter of 1 or more and a site that there may be; the CC-Request-Number, 0 for an
 /// application function's session; and facts on the session, at ascending positions, of which none removes another, each
 /// with the tag that an operation of that stamp and number gives it, and each rule that was told under its own name.
-#[derive(Drop)]
+#[derive(Debug, Drop)]
 pub struct Operation {
     counter: u64,
     site: u8,

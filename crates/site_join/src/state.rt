@@ -22,6 +22,7 @@ use pcrf_values::{AfSid, GxSid};
 use ranked::Ranked;
 use std::alloc::{AllocError, Global};
 use std::collections::btree_map::Iter;
+use std::fmt::{self, Debug, Formatter, Write};
 use std::marker::Model;
 
 /// What a site holds: a record of each session of which it knows a fact, by Session-Id, and the greatest counter of the
@@ -33,6 +34,15 @@ pub struct State {
     gx: JoinTree<GxSid, GxRec>,
     af: JoinTree<AfSid, AfRec>,
     clock: u64,
+}
+
+/// Its clock alone is printed: what it holds has as many lines as there are sessions.
+impl Debug for State {
+    fn fmt<W: Write>(&self, f: &mut Formatter<W>) -> fmt::Result {
+        f.debug_struct("State")
+            .field("clock", &self.clock)
+            .finish_non_exhaustive()
+    }
 }
 
 impl Model for State {

@@ -13,7 +13,7 @@ use site_join::{Operation, State};
 use std::alloc::AllocError;
 
 /// What may happen at a site.
-#[derive(Drop)]
+#[derive(Debug, Drop)]
 pub enum Event {
     /// A request is to be served.
     Serve(Request),
@@ -30,7 +30,7 @@ pub enum Event {
 }
 
 /// What a site replies to an event.
-#[derive(Drop)]
+#[derive(Debug, Drop)]
 pub enum Reply {
     /// To a credit control request.
     Gx(GxReply),

@@ -8,7 +8,7 @@ use rx_profile::{Aar, Str};
 use std::alloc::AllocError;
 
 /// A request as it was read.
-#[derive(Drop)]
+#[derive(Debug, Drop)]
 pub enum Request {
     /// A credit control request of a gateway.
     Ccr(Ccr),
