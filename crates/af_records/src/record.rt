@@ -522,7 +522,7 @@ impl AfRec {
 
     /// The components and flows that are removed, as far as that is kept, components first.
     #[tactic(auto, using(crate::proofs::RemovedLaws::removed_is))]
-    pub fn removed(&self) -> RemovedParts<'_>
+    pub fn removed_parts(&self) -> RemovedParts<'_>
         ensures { map removable_of result ≡ held_words.removed_parts self.now }
     {
         self.parts.note_valid();

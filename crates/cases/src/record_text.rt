@@ -121,7 +121,7 @@ pub fn put_gx(alloc: Global, record: &GxRec, out: &mut String) -> Result<(), All
     put_state(out, record.live(), record.ended())?;
     put_gx_fields(out, record)?;
     put_told(out, record)?;
-    let told = record.told(alloc)?;
+    let told = record.told_rules(alloc)?;
     let put = put_rules(out, told.as_slice());
     drop(told);
     put
@@ -218,7 +218,7 @@ fn put_flows(out: &mut String, record: &AfRec) -> Result<(), AllocError> {
 }
 
 fn put_removed(out: &mut String, record: &AfRec) -> Result<(), AllocError> {
-    for part in record.removed() {
+    for part in record.removed_parts() {
         match part {
             RemovedPart::Component(number) => write!(out, "; removed {number}")?,
             RemovedPart::Flow(number, flow) => write!(out, "; removed {number}/{flow}")?,

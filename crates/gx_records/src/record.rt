@@ -295,7 +295,7 @@ impl GxRec {
     }
 
     /// The names that show a rule, each with its rule.
-    pub fn told(&self, alloc: Global) -> Result<Told, AllocError>
+    pub fn told_rules(&self, alloc: Global) -> Result<Told, AllocError>
         ensures { IfOk result (λ t. t ≡ told_rules self.now) }
     {
         let mut pairs = Vec::new(alloc);

@@ -16,7 +16,7 @@ ghost use Rattle.pcrf_model.specs.Sessions.{gx, af};
 ghost use Rattle.pcrf_model.specs.Tables.{Tables as TablesValue};
 ghost use Rattle.pcrf_model.specs.Views.{View, view};
 ghost use Rattle.ranked.specs.Sets.{Distinct};
-ghost use Rattle.rule_delta.specs.Pushed.{push_of, untold};
+ghost use Rattle.rule_delta.specs.Pushed.{push_of, untold_difference};
 ghost use Rattle.site_join.specs.States.{record_facts};
 ghost use Rattle.waiting_sessions.specs.Waits.{DueWait};
 
@@ -37,7 +37,7 @@ use session_index::Index;
 use site_join::{Operation, State};
 use std::alloc::{AllocError, Global};
 use std::marker::Model;
-use waiting_pushes::{next_waiting, untold_by};
+use waiting_pushes::{next_waiting, untold_difference_by};
 use waiting_sessions::{Waiting, gather};
 
 /// What a site holds, with the operator tables, by which it is told what rules are. Beside it, unseen, an index of the sessions
@@ -233,15 +233,15 @@ impl IndexedState {
     }
 
     /// What the gateway of a session is still to be told (TS 29.212, 4.5.2).
-    pub fn untold(&mut self, session: &GxSid) -> Result<Delta, AllocError>
+    pub fn untold_difference(&mut self, session: &GxSid) -> Result<Delta, AllocError>
         ensures difference { IfOk result (λ delta. delta
-            ≡ untold self.old.tables (view self.old.holding.facts) (gx session.now)) }
+            ≡ untold_difference self.old.tables (view self.old.holding.facts) (gx session.now)) }
         ensures names { OnOk result (Distinct (map rule_name_of
             (rules self.old.tables (view self.old.holding.facts) (gx session.now)))) }
         ensures same { self.new ≡ self.old }
     {
         make_whole(&self.state, &mut self.index, &mut self.is_whole)?;
-        untold_by(
+        untold_difference_by(
             self.alloc,
             &self.tables,
             &self.state,

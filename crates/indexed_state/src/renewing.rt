@@ -22,7 +22,7 @@ use std::thread::Threads;
 impl IndexedState {
     /// The PCC rules that are kept of a gateway's session, `None` where none are: they may have changed, or nobody asked for
     /// them yet. It takes no memory.
-    pub fn kept(&self, session: &GxSid) -> Option<&[Rule]>
+    pub fn kept_rules(&self, session: &GxSid) -> Option<&[Rule]>
         ensures { IfSome result (λ kept. kept.now
             ≡ rules self.now.tables (view self.now.holding.facts) (gx session.now)) }
     {
@@ -45,7 +45,7 @@ impl IndexedState {
         )
     }
 
-    /// Does as `renew` does, and tells whether `kept` then answers rules of a session: it does of each that is live.
+    /// Does as `renew` does, and tells whether `kept_rules` then answers rules of a session: it does of each that is live.
     pub fn renew_for(
         &mut self,
         rt: &(impl Threads + Sync),

@@ -84,7 +84,7 @@ fn renewed<R: Threads + Sync>(rt: &R, site: &mut Site, ids: &[GxSid]) -> Option<
     for id in ids {
         print = mixed(
             print,
-            site.kept(id)
+            site.kept_rules(id)
                 .map_or(0, |list: &[Rule]| print_of_rules(list)),
         );
     }

@@ -49,7 +49,7 @@ impl Call for ListTold {
     }
 
     fn make(self) -> Result<u64, ListTold> {
-        match self.record.told(self.alloc) {
+        match self.record.told_rules(self.alloc) {
             Ok(told) => Ok(fingerprint_of(told.as_slice())),
             Err(_) => Err(self),
         }

@@ -76,7 +76,7 @@ fn gx_shown(
     let home = home_of(known);
     let (user, client) = fields_of(known)?;
     let rules = derive(alloc, tables, state, session)?;
-    let told = known.told(alloc)?;
+    let told = known.told_rules(alloc)?;
     Ok(GxSeen {
         user,
         client,

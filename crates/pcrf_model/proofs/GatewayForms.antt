@@ -36,7 +36,7 @@ one_name m n e = ap (λ (p : Position). p.1.1.1.1) e
 -- a fact of a gateway's operation: a field that says what the request does, under its number; or what is told, under number 0
 pub data IsOfGateway (n c i : ℕ) (says : SessionField → Option Value) (d : DeltaValue) : Fact → Type 0 where
   at_field : (f : SessionField) (v : Value) → says f ≡ Some v → IsOfGateway n c i says d (Field (OfSession f) (tag n c i) v)
-  untold : (m : List ℕ) → In m d.removed → IsOfGateway n c i says d (Field (OfRuleName m) (tag 0 c i) Untold)
+  untold_difference : (m : List ℕ) → In m d.removed → IsOfGateway n c i says d (Field (OfRuleName m) (tag 0 c i) Untold)
   newly_told : (r : RuleValue) → In r d.installed → IsOfGateway n c i says d (Field (OfRuleName r.name) (tag 0 c i) (Told r))
 
 module _ (n c i : ℕ) (says : SessionField → Option Value) (d : DeltaValue) where
@@ -47,13 +47,13 @@ module _ (n c i : ℕ) (says : SessionField → Option Value) (d : DeltaValue) w
   -- what is told is so
   pub told_each : Each Is (told_facts (tag 0 c i) d)
   told_each =
-      all_map (λ m. Field (OfRuleName m) (tag 0 c i) Untold) d.removed untold
+      all_map (λ m. Field (OfRuleName m) (tag 0 c i) Untold) d.removed untold_difference
       and all_map (λ (r : RuleValue). Field (OfRuleName r.name) (tag 0 c i) (Told r)) d.installed newly_told
 
   -- and each is a field
   is_field : (f : Fact) → Is f → IsField f
   is_field f (at_field a v s) = field (OfSession a) (tag n c i) v
-  is_field f (untold m j) = field (OfRuleName m) (tag 0 c i) Untold
+  is_field f (untold_difference m j) = field (OfRuleName m) (tag 0 c i) Untold
   is_field f (newly_told r j) = field (OfRuleName r.name) (tag 0 c i) (Told r)
 
   module _ (can : CanTell d) where
@@ -62,17 +62,17 @@ module _ (n c i : ℕ) (says : SessionField → Option Value) (d : DeltaValue) w
     apart f g (at_field a v s) (at_field b w u) e =
         let p = one_place (OfSession a) (OfSession b) e in
         one_field (OfSession a) (OfSession b) (tag n c i) v w p (some_same v w (sym s ∙ ap says (one_session_field a b p) ∙ u))
-    apart f g (untold m j) (untold o k) e = ap (λ (p : Place). Field p (tag 0 c i) Untold) (one_place (OfRuleName m) (OfRuleName o) e)
+    apart f g (untold_difference m j) (untold_difference o k) e = ap (λ (p : Place). Field p (tag 0 c i) Untold) (one_place (OfRuleName m) (OfRuleName o) e)
     apart f g (newly_told r j) (newly_told s k) e = ap (λ (x : RuleValue). Field (OfRuleName x.name) (tag 0 c i) (Told x)) (can.apart.one_each r s j k (one_name r.name s.name e))
-    apart f g (untold m j) (newly_told s k) e = absurd (can.apart.not_both m j (subst (λ (x : List ℕ). In x (map rule_name_of d.installed)) (sym (one_name m s.name e)) (In-map rule_name_of s d.installed k)))
-    apart f g (newly_told r j) (untold o k) e = absurd (can.apart.not_both o k (subst (λ (x : List ℕ). In x (map rule_name_of d.installed)) (one_name r.name o e) (In-map rule_name_of r d.installed j)))
+    apart f g (untold_difference m j) (newly_told s k) e = absurd (can.apart.not_both m j (subst (λ (x : List ℕ). In x (map rule_name_of d.installed)) (sym (one_name m s.name e)) (In-map rule_name_of s d.installed k)))
+    apart f g (newly_told r j) (untold_difference o k) e = absurd (can.apart.not_both o k (subst (λ (x : List ℕ). In x (map rule_name_of d.installed)) (one_name r.name o e) (In-map rule_name_of r d.installed j)))
     apart f g a b e = let k : (position f).0 ≡ (position g).0 = ap (λ (p : Position). p.0) e in absurd (omega (arith, k))
 
     module _ (fit : (f : SessionField) (v : Value) → says f ≡ Some v → fits_session_field Gx f v ≡ true) where
       -- each is in form
       in_form : (f : Fact) → Is f → (fits Gx f && is_tagged Gx c i n f) ≡ true
       in_form f (at_field a v s) = both _ _ (fit a v s) (eq_itself tag_ranked (tag n c i))
-      in_form f (untold m j) = both _ _ (both _ _ (can.names m j) refl) (eq_itself tag_ranked (tag 0 c i))
+      in_form f (untold_difference m j) = both _ _ (both _ _ (can.names m j) refl) (eq_itself tag_ranked (tag 0 c i))
       in_form f (newly_told r j) =
           both _ _
           (both _ _ (can.names_too r j) (both _ _ (eq_itself text_ranked r.name) (can.rules r j)))

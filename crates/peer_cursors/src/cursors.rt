@@ -98,7 +98,7 @@ impl Cursors {
 
     /// Counts a letter that was taken whole, and gives what its sender is to be told then. An acknowledgement counts for
     /// nothing here.
-    pub fn took(&mut self, letter: &Letter) -> Ack
+    pub fn take_letter(&mut self, letter: &Letter) -> Ack
         ensures took { self.new ≡ cursors_after_letter self.old letter.now }
         ensures ack { result ≡ ack_of self.new letter.now.site }
     {
@@ -113,7 +113,7 @@ impl Cursors {
     }
 
     /// Counts what a peer said that it took; at a site that isn't its maker in that epoch it counts for nothing.
-    pub fn acked(&mut self, ack: &Ack)
+    pub fn take_ack(&mut self, ack: &Ack)
         ensures { self.new ≡ cursors_after_ack self.old ack.now }
     {
         if ack.maker() != self.site || ack.maker_epoch() != self.epoch {
@@ -129,9 +129,9 @@ impl Cursors {
         ensures site { self.new.site ≡ self.old.site }
     {
         match Ack::carried_by(letter) {
-            Some(ack) => self.acked(&ack),
+            Some(ack) => self.take_ack(&ack),
             None => {
-                let _ack = self.took(letter);
+                let _ack = self.take_letter(letter);
             }
         }
     }

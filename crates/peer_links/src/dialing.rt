@@ -93,7 +93,7 @@ fn acknowledged<S: Read + Write>(
     let Some(ack) = Ack::carried_by(&letter) else {
         return Err(LinkEnd::Letter(LetterFault::BadShape));
     };
-    cursors.acked(&ack);
+    cursors.take_ack(&ack);
     Ok(ack)
 }
 

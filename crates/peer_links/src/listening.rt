@@ -63,7 +63,7 @@ fn take_brought<T: Threads + Wait + Sync, L: Ledger>(
 {
     take_whole(rt, site, seat, &event)?;
     let letter = heading.close(event);
-    Ok(cursors.took(&letter))
+    Ok(cursors.take_letter(&letter))
 }
 
 /// Takes a letter, and tells what its sender is to be told; nothing after an acknowledgement, which is counted.
@@ -78,7 +78,7 @@ fn take<T: Threads + Wait + Sync, L: Ledger>(
     ensures { Exchanged seat.old seat.new cursors.old.makers cursors.new.makers }
 {
     if let Some(ack) = Ack::carried_by(&letter) {
-        cursors.acked(&ack);
+        cursors.take_ack(&ack);
         return Ok(None);
     }
     let Some((heading, event)) = Heading::open(letter) else {

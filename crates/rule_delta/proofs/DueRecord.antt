@@ -28,7 +28,7 @@ use Rattle.pcrf_model.proofs.HoldingLaws.{session_ranked}
 use Rattle.pcrf_model.proofs.ViewLaws.{its_session, shows-known}
 use Rattle.site_join.specs.States.{Records}
 use Rattle.bind_index.proofs.Entries.{AreRecordsOf, its_facts, has_record}
-use Rattle.rule_delta.specs.Pushed.{untold, push_of}
+use Rattle.rule_delta.specs.Pushed.{untold_difference, push_of}
 use Rattle.rule_delta.specs.ByRecord.{is_at_host, push_due, first_push}
 
 -- ---- the first that passes
@@ -105,7 +105,7 @@ module _ (t : Tables) (i : ℕ) (name : Option (List ℕ)) (facts : List Session
   -- and so is its push
   push_alone : (id : List ℕ) → push_due t v i name id (facts_on facts (gx id)) ≡ push_if_due (gx id)
   unfolding view
-  push_alone id = ap (λ (b : Bool). cond (is_live v (gx id) && is_home i v (gx id) && b && not (is_empty (untold t v (gx id)))) (Some (push_of t v (gx id))) None) (host_alone name id)
+  push_alone id = ap (λ (b : Bool). cond (is_live v (gx id) && is_home i v (gx id) && b && not (is_empty (untold_difference t v (gx id)))) (Some (push_of t v (gx id))) None) (host_alone name id)
 
   -- of each record
   its_push : (e : List ℕ × List Fact) → In e es → push_due t v i name e.0 e.1 ≡ push_if_due (gx e.0)

@@ -11,7 +11,7 @@ use Rattle.pcrf_model.specs.Differences.{is_empty, first}
 use Rattle.pcrf_model.specs.Replies.{PushValue}
 use Rattle.pcrf_model.specs.Pushing.{is_of_host, is_home, push_to}
 use Rattle.bind_index.specs.Beside.{beside}
-use Rattle.rule_delta.specs.Pushed.{untold}
+use Rattle.rule_delta.specs.Pushed.{untold_difference}
 
 -- what is read of a Gx session of these facts
 abbrev pub alone : List Fact → View
@@ -32,7 +32,7 @@ is_asked i name facts = gx_is_live facts && is_at_home i facts && is_at_host nam
 -- the push of the session, if it is due
 abbrev pub push_due : Tables → View → ℕ → Option (List ℕ) → List ℕ → List Fact → Option PushValue
 push_due t v i name id facts =
-    if is_asked i name facts && not (is_empty (untold t v (gx id))) then Some (push_to (alone facts) (gx id) (first delta_limit (untold t v (gx id)))) else None
+    if is_asked i name facts && not (is_empty (untold_difference t v (gx id))) then Some (push_to (alone facts) (gx id) (first delta_limit (untold_difference t v (gx id)))) else None
 
 -- that of the first of these that is due
 abbrev pub first_push : Tables → View → ℕ → Option (List ℕ) → List (List ℕ × List Fact) → Option PushValue

@@ -11,8 +11,8 @@ use Rattle.pcrf_model.specs.Replies.{PushValue}
 use Rattle.pcrf_model.specs.Pushing.{push_to}
 
 -- the difference between what it was told and the rules
-abbrev pub untold : Tables → View → Session → DeltaValue
-untold t v s = difference (told_rules_of v s) (rules t v s)
+abbrev pub untold_difference : Tables → View → Session → DeltaValue
+untold_difference t v s = difference (told_rules_of v s) (rules t v s)
 
 -- its first entries, to the gateway of the session
 abbrev pub push_of : Tables → View → Session → PushValue

@@ -11,4 +11,4 @@ mod telling;
 pub use application::apply;
 pub use differences::difference;
 pub use pushing::{Asked, is_asked, is_empty, next_push, push_to};
-pub use telling::{told_of, untold};
+pub use telling::{told_rules_of, untold_difference};

@@ -12,7 +12,7 @@ ghost use Rattle.reply_values.specs.Replies.{push_view};
 ghost use Rattle.rule_delta.specs.Pushed.{push_of};
 ghost use Rattle.rule_delta.specs.ByRecord.{alone, first_push, is_asked, is_at_host, is_at_home, push_due};
 
-use crate::telling::untold;
+use crate::telling::untold_difference;
 use gx_records::GxRec;
 use op_tables::Tables;
 use pcrf_values::{Delta, GxSid};
@@ -34,7 +34,7 @@ pub struct Asked<'a> {
 /// The push that is due at a site: of the live sessions of gateways whose home it is, whose host is the given one (any
 /// where none is given), and whose gateway isn't told all, that with the least Session-Id, with the first entries of what
 /// its gateway is still to be told (TS 29.212, 4.5.2); `None` where no session is due. Its time grows with the number of
-/// gateways' sessions, and is that of `untold` for each that is looked at.
+/// gateways' sessions, and is that of `untold_difference` for each that is looked at.
 pub fn next_push(
     alloc: Global,
     tables: &Tables,
@@ -93,7 +93,7 @@ fn push_due(
     if !is_asked(asked, known) {
         return Ok(None);
     }
-    let delta = untold(alloc, tables, state, session)?;
+    let delta = untold_difference(alloc, tables, state, session)?;
     if is_empty(&delta) {
         return Ok(None);
     }

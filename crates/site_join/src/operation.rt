@@ -127,7 +127,7 @@ impl Operation {
     }
 
     /// The operation of these parts, which the caller knows that a site may make: nothing is judged.
-    pub fn stamped(counter: u64, site: u8, number: u32, facts: SessionFacts) -> Operation
+    pub fn with_stamp(counter: u64, site: u8, number: u32, facts: SessionFacts) -> Operation
         requires { is_operation (operation_of counter site number facts) ≡ true }
         ensures { result ≡ operation_of counter site number facts }
     {

@@ -172,7 +172,7 @@ impl Site {
         ensures err { OnErr result (self.new ≡ self.old) }
     {
         let facts = SessionFacts::Af(session.try_copy()?, facts);
-        let operation = Operation::stamped(counter, self.number, 0, facts);
+        let operation = Operation::with_stamp(counter, self.number, 0, facts);
         self.add_to_call(operation, session, known)
     }
 }

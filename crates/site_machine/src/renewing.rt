@@ -13,11 +13,11 @@ use std::thread::Threads;
 impl Site {
     /// The PCC rules that are kept of a gateway's session, by precedence and name; `None` where none are kept, since they may
     /// have changed, or nobody asked for them yet. It takes no memory.
-    pub fn kept(&self, session: &GxSid) -> Option<&[Rule]>
+    pub fn kept_rules(&self, session: &GxSid) -> Option<&[Rule]>
         ensures { IfSome result (λ kept. kept.now
             ≡ rules self.now.tables (view self.now.state.holding.facts) (gx session.now)) }
     {
-        self.held.kept(session)
+        self.held.kept_rules(session)
     }
 
     /// Derives the rules of each live gateway's session of which none are kept, in as many threads as there are processors, and
@@ -29,7 +29,7 @@ impl Site {
         self.held.renew(rt)
     }
 
-    /// Does as `renew` does, and tells whether `kept` then answers rules of a session: it does of each that is live.
+    /// Does as `renew` does, and tells whether `kept_rules` then answers rules of a session: it does of each that is live.
     pub fn renew_for(
         &mut self,
         rt: &(impl Threads + Sync),

@@ -24,7 +24,7 @@ ghost use Rattle.pcrf_model.specs.Forms.{are_up_to, is_holding, is_operation, is
 ghost use Rattle.pcrf_model.specs.Operations.{with_operation};
 ghost use Rattle.pcrf_facts.specs.FlowWords.{or_else};
 ghost use Rattle.reply_values.specs.Replies.{push_view};
-ghost use Rattle.rule_delta.specs.Pushed.{push_of, untold};
+ghost use Rattle.rule_delta.specs.Pushed.{push_of, untold_difference};
 ghost use Rattle.gx_records.specs.GxFacts.{fact_of};
 ghost use Rattle.gx_profile.specs.Requests.{ccr_view};
 ghost use Rattle.base_profile.specs.Requests.{base_view};
@@ -393,7 +393,7 @@ impl Site {
         ensures err { OnErr result (self.new ≡ self.old) }
     {
         let quality = self.quality_of(&ccr.session);
-        let missing = self.untold(&ccr.session)?;
+        let missing = self.untold_difference(&ccr.session)?;
         let delta = FirstEntries::of(missing);
         note_entries(&delta);
         note_ccr(ccr);
@@ -434,14 +434,14 @@ impl Site {
     }
 
     /// What the gateway of a session is still to be told.
-    fn untold(&mut self, session: &GxSid) -> Result<Delta, AllocError>
-        ensures difference { IfOk result (λ delta. delta ≡ untold
+    fn untold_difference(&mut self, session: &GxSid) -> Result<Delta, AllocError>
+        ensures difference { IfOk result (λ delta. delta ≡ untold_difference
             self.new.tables (view self.new.state.holding.facts) (gx session.now)) }
         ensures names { OnOk result (Distinct (map rule_name_of
             (rules self.new.tables (view self.new.state.holding.facts) (gx session.now)))) }
         ensures same { self.new ≡ self.old }
     {
-        self.held.untold(session)
+        self.held.untold_difference(session)
     }
 
     /// The operation of the end that an accepted request makes, or of the fields that it sets.
@@ -456,7 +456,7 @@ impl Site {
         let session = ccr.session.try_copy()?;
         let facts = facts_made(self.alloc, ccr, self.tag(ccr.number, counter))?;
         let facts = SessionFacts::Gx(session, facts);
-        Ok(Operation::stamped(counter, self.number, ccr.number, facts))
+        Ok(Operation::with_stamp(counter, self.number, ccr.number, facts))
     }
 
     /// The operation of the fields that an accepted request sets, which are these facts, and of what the gateway is told.
@@ -477,7 +477,7 @@ impl Site {
         let mut told = told;
         facts.append(&mut told)?;
         let facts = SessionFacts::Gx(ccr.session.try_copy()?, facts);
-        Ok(Operation::stamped(counter, self.number, ccr.number, facts))
+        Ok(Operation::with_stamp(counter, self.number, ccr.number, facts))
     }
 
     /// The tag of what an operation of this site says.
@@ -639,7 +639,7 @@ impl Site {
         let mut facts = Vec::new(self.alloc);
         put_told(self.alloc, &mut facts, self.tag(0, counter), &push.delta)?;
         let facts = SessionFacts::Gx(push.session.try_copy()?, facts);
-        self.add(Operation::stamped(counter, self.number, 0, facts))
+        self.add(Operation::with_stamp(counter, self.number, 0, facts))
     }
 
     /// Takes operations in order. An error tells how many stand taken.

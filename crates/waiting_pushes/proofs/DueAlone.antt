@@ -8,7 +8,7 @@ use Rattle.pcrf_model.specs.Sessions.{gx}
 use Rattle.pcrf_model.specs.Tables.{Tables}
 use Rattle.pcrf_model.specs.Views.{View, view}
 use Rattle.rule_delta.specs.ByRecord.{is_at_host, push_due}
-use Rattle.rule_delta.specs.Pushed.{untold, push_of}
+use Rattle.rule_delta.specs.Pushed.{untold_difference, push_of}
 use Rattle.waiting_pushes.specs.Due.{push_if_due}
 
 module _ (t : Tables) (i : ℕ) (facts : List SessionFact) (id : List ℕ) where
@@ -25,4 +25,4 @@ module _ (t : Tables) (i : ℕ) (facts : List SessionFact) (id : List ℕ) where
   -- and so is its push
   pub push_alone : (name : Option (List ℕ)) → push_due t v i name id (facts_on facts (gx id)) ≡ push_if_due t i v name (gx id)
   unfolding view
-  push_alone name = ap (λ (b : Bool). cond (is_live v (gx id) && is_home i v (gx id) && b && not (is_empty (untold t v (gx id)))) (Some (push_of t v (gx id))) None) (host_alone name)
+  push_alone name = ap (λ (b : Bool). cond (is_live v (gx id) && is_home i v (gx id) && b && not (is_empty (untold_difference t v (gx id)))) (Some (push_of t v (gx id))) None) (host_alone name)

@@ -6,4 +6,4 @@ mod pushing;
 mod telling;
 
 pub use pushing::next_waiting;
-pub use telling::untold_by;
+pub use telling::untold_difference_by;

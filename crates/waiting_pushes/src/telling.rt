@@ -9,7 +9,7 @@ ghost use Rattle.pcrf_model.specs.Views.{view};
 ghost use Rattle.reply_values.specs.Replies.{push_view};
 ghost use Rattle.kept_rules.specs.Kept.{AreKept};
 ghost use Rattle.rule_delta.specs.ByRecord.{push_due};
-ghost use Rattle.rule_delta.specs.Pushed.{untold};
+ghost use Rattle.rule_delta.specs.Pushed.{untold_difference};
 ghost use Rattle.session_index.specs.Index.{Covers};
 ghost use Rattle.waiting_pushes.specs.Due.{push_if_due};
 
@@ -18,14 +18,14 @@ use kept_rules::Rules;
 use op_tables::Tables;
 use pcrf_values::{Delta, GxSid};
 use reply_values::{FirstEntries, PushOut};
-use rule_delta::{Asked, difference, is_asked, is_empty, push_to, told_of};
+use rule_delta::{Asked, difference, is_asked, is_empty, push_to, told_rules_of};
 use session_index::Index;
 use site_join::State;
 use std::alloc::{AllocError, Global};
 
-/// What the gateway of a session is still to be told, as `untold` gives it, by an index that covers the state and by the rules
+/// What the gateway of a session is still to be told, as `untold_difference` gives it, by an index that covers the state and by the rules
 /// that are kept: those of the session are kept then. A refusal leaves what is kept so far.
-pub fn untold_by(
+pub fn untold_difference_by(
     alloc: Global,
     tables: &Tables,
     state: &State,
@@ -36,7 +36,7 @@ pub fn untold_by(
     requires covers { Covers (view state.now.facts) index.now }
     requires kept { AreKept tables.now (view state.now.facts) lists.old }
     ensures difference { IfOk result (λ delta. delta
-        ≡ untold tables.now (view state.now.facts) (gx session.now)) }
+        ≡ untold_difference tables.now (view state.now.facts) (gx session.now)) }
     ensures names { OnOk result (Distinct (map rule_name_of
         (rules tables.now (view state.now.facts) (gx session.now)))) }
     ensures kept { AreKept tables.now (view state.now.facts) lists.new }
@@ -45,7 +45,7 @@ pub fn untold_by(
     let Some(list) = lists.get(session) else {
         unreachable!()
     };
-    let told = told_of(alloc, state, session)?;
+    let told = told_rules_of(alloc, state, session)?;
     difference(alloc, &told, list)
 }
 
@@ -97,7 +97,7 @@ fn push_known(
     if !is_asked(asked, known) {
         return Ok(None);
     }
-    let delta = untold_by(alloc, tables, state, index, lists, session)?;
+    let delta = untold_difference_by(alloc, tables, state, index, lists, session)?;
     if is_empty(&delta) {
         return Ok(None);
     }

@@ -60,7 +60,7 @@ fn acknowledge(rt: &impl Abort, cursors: &mut Cursors, peer: u8, epochs: [u16; 2
     let letter = acknowledgement(rt, peer, epochs, cursor);
     let ack = Ack::carried_by(&letter).expect(rt, "an acknowledgement");
     drop(letter);
-    cursors.acked(&ack);
+    cursors.take_ack(&ack);
 }
 
 #[test]

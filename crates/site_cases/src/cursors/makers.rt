@@ -46,7 +46,7 @@ fn took(
     brought: Brought,
 ) -> (u8, u16, u8, u16, u64) {
     let letter = letter(rt, epoch, brought);
-    let told = said(&cursors.took(&letter));
+    let told = said(&cursors.take_letter(&letter));
     drop(letter);
     told
 }
@@ -69,7 +69,7 @@ fn an_acknowledgement_brings_nothing(rt: HostRuntime) {
     let mut cursors = Cursors::start(1, 1);
     took(&rt, &mut cursors, 1, Brought::Range(0, 2));
     let letter = acknowledgement(&rt, 0, [3, 1], 7);
-    let told = said(&cursors.took(&letter));
+    let told = said(&cursors.take_letter(&letter));
     drop(letter);
     assert_eq!(rt; told, (1, 1, 0, 1, 2));
     drop(cursors);

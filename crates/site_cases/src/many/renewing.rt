@@ -39,7 +39,7 @@ pub fn count_kept(rt: &impl Abort, alloc: Global, site: &Site, size: u16) -> u16
     let mut count = 0u16;
     for number in 0..size {
         let id = gateway_id(rt, alloc, number);
-        let is_kept = match site.kept(&id) {
+        let is_kept = match site.kept_rules(&id) {
             Some(list) => is_with_call(rt, alloc, list, number),
             None => false,
         };
@@ -52,7 +52,7 @@ pub fn count_kept(rt: &impl Abort, alloc: Global, site: &Site, size: u16) -> u16
 /// How many rules are kept of a session, if any list is.
 fn count_rules(rt: &impl Abort, alloc: Global, site: &Site, number: u16) -> Option<usize> {
     let id = gateway_id(rt, alloc, number);
-    let count = site.kept(&id).map(|list: &[Rule]| list.len());
+    let count = site.kept_rules(&id).map(|list: &[Rule]| list.len());
     drop(id);
     count
 }

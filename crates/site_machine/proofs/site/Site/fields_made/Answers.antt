@@ -8,8 +8,8 @@ use Rattle.site_machine.specs.Sites.{SiteValue}
 use Rattle.site_machine.proofs.Formed.{stamped, made_formed}
 use Rattle.site_machine.proofs.site.Site.fields_made.Goals as goal
 
-pub stamped-requires : goal.stamped-requires
-stamped-requires c =
+pub with_stamp-requires : goal.with_stamp-requires
+with_stamp-requires c =
     let s = c.args.self.now in
     let q = ccr_view c.args.ccr.now in
     let number = ap (λ (x : SiteValue). x.number) c.self.view_is in

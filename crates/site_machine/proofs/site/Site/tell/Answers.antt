@@ -23,7 +23,7 @@ use Rattle.site_machine.proofs.site.Site.tell.Goals as goal
 
 pub with_told-requires : goal.with_told-requires
 with_told-requires c = λ some.
-    let s = c.untold.new.self in
+    let s = c.untold_difference.new.self in
     let q = ccr_view c.args.ccr.now in
     let d = c.of-delta.result in
     let later = c.requires.later in
@@ -37,7 +37,7 @@ with_told-requires c = λ some.
 
 pub all_made-requires : goal.all_made-requires
 all_made-requires c =
-    let s = c.untold.new.self in
+    let s = c.untold_difference.new.self in
     let q = ccr_view c.args.ccr.now in
     let d = c.of-delta.result in
     let later = c.requires.later in
@@ -50,7 +50,7 @@ all_made-requires c =
 
 pub add_told-requires-clause-nothing : goal.add_told-requires-clause-nothing
 add_told-requires-clause-nothing c = λ none.
-    let s = c.untold.new.self in
+    let s = c.untold_difference.new.self in
     let h = s.state.holding in
     let q = ccr_view c.args.ccr.now in
     let facts = map fact_of c.args.facts.items in
@@ -63,7 +63,7 @@ add_told-requires-clause-nothing c = λ none.
 
 pub add_told-requires-clause-joins : goal.add_told-requires-clause-joins
 add_told-requires-clause-joins c =
-    let s = c.untold.new.self in
+    let s = c.untold_difference.new.self in
     let h = s.state.holding in
     let q = ccr_view c.args.ccr.now in
     let told = map fact_of c.in_ok-told.told.items in
@@ -78,7 +78,7 @@ add_told-requires-clause-joins c =
 
 pub add_told-requires-clause-told : goal.add_told-requires-clause-told
 add_told-requires-clause-told c =
-    let s = c.untold.new.self in
+    let s = c.untold_difference.new.self in
     let h = s.state.holding in
     let q = ccr_view c.args.ccr.now in
     let told = map fact_of c.as_slice.result.now in
@@ -88,7 +88,7 @@ add_told-requires-clause-told c =
 
 pub returns-clause-ok : goal.returns-clause-ok
 returns-clause-ok c =
-    let s = c.untold.new.self in
+    let s = c.untold_difference.new.self in
     let q = ccr_view c.args.ccr.now in
     let d = c.of-delta.result in
     let is : d ≡ delta_of delta_limit s.tables (view s.state.holding.facts) (gx q.session) = c.of-delta.ensures ∙ ap (first delta_limit) c.in_ok-missing.ensures.difference in

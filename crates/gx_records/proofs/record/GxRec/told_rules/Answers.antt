@@ -4,8 +4,8 @@ use Rattle.std.specs.List.{filter_map}
 use Rattle.std.proofs.lemmas.List.{take_all}
 use Rattle.pcrf_facts.specs.ToldWords.{told_rule}
 use Rattle.gx_records.proofs.ToldLaws.{told_pair, one_more, pairs_tell}
-use Rattle.gx_records.proofs.record.GxRec.told.Goals as goal
-use Rattle.gx_records.proofs.record.GxRec.told.Goals.{in-Some+in_ok-name+in_ok-rule+in_ok-push, in_default}
+use Rattle.gx_records.proofs.record.GxRec.told_rules.Goals as goal
+use Rattle.gx_records.proofs.record.GxRec.told_rules.Goals.{in-Some+in_ok-name+in_ok-rule+in_ok-push, in_default}
 
 pub loop-entry-preserved : goal.loop-entry-preserved
 loop-entry-preserved c =

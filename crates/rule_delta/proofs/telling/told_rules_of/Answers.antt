@@ -2,13 +2,13 @@ use Rattle.std.proofs.Common.{◌≡◌, IfOk, List, ap, ◌∙◌, subst}
 use Rattle.pcrf_facts.specs.ToldWords.{ToldRule, told_rules}
 use Rattle.pcrf_model.specs.Sessions.{gx}
 use Rattle.rule_delta.proofs.ToldAlone.{told_alone}
-use Rattle.rule_delta.proofs.telling.told_of.Goals as goal
+use Rattle.rule_delta.proofs.telling.told_rules_of.Goals as goal
 
 pub returns-in-Some : goal.returns-in-Some
 returns-in-Some c =
-    subst (λ (us : List ToldRule). IfOk c.told.result (λ entries. entries ≡ us))
+    subst (λ (us : List ToldRule). IfOk c.told_rules.result (λ entries. entries ≡ us))
     (ap told_rules c.in-Some.ensures ∙ told_alone c.args.state.now.facts (gx c.args.session.now))
-    c.told.ensures
+    c.told_rules.ensures
 
 pub returns-in-None : goal.returns-in-None
 returns-in-None c =
