@@ -1,5 +1,6 @@
 -- What a gateway lacks after a request of its was granted, or after a push.
 use Rattle.std.proofs.Common.{◌≡◌, ℕ, ◌+◌, Bool, true, false, not, cond, List, ◌++◌, map, Option, Some, None, refl, sym, ap, ◌∙◌, subst}
+use Rattle.std.specs.Prelude.{IfSome, if◌then◌else◌}
 use Rattle.std.specs.Cmp.{first_so}
 use Rattle.ranked.specs.Sets.{Distinct}
 use Rattle.ranked.proofs.Plain.{clash, not_true, none_some}
@@ -29,7 +30,7 @@ use Rattle.pcrf_model.proofs.ProvisionLaws.{provisioning-tells_up_to, pushing-te
 use Rattle.site_machine.specs.Facts.{opens, operation_made}
 use Rattle.reply_values.specs.declared.answer.GxReply.{GxReply}
 use Rattle.reply_values.specs.declared.answer.GxReply.TheVariants.{Granted, Refused}
-use Rattle.site_machine.specs.Left.{with_fields, ProvisionLeaves, RequestLeaves}
+use Rattle.site_machine.specs.Left.{with_fields, fields_added, granted_opening, LacksTheRest}
 use Rattle.site_machine.specs.Sites.{SiteValue, with_made}
 use Rattle.site_machine.proofs.Replies.{fields_made, shown_with}
 
@@ -98,12 +99,21 @@ module _ (s : SiteValue) (w : ToldUpTo s.state.holding.clock s.state.holding.fac
 
 -- ---- replies
 
--- what leaves the rest where it is granted
-pub granted_leaves : (before after : SiteValue) (q : CcrValue) (reply : GxReply) → ProvisionLeaves before after q → RequestLeaves before after q reply
-granted_leaves before after q (Granted delta quality) leaves = λ _. leaves
-granted_leaves before after q (Refused r) leaves = tt
+-- the gateway lacks the rest, whatever the request is granted
+abbrev pub GrantLacksTheRest : SiteValue → SiteValue → CcrValue → GxReply → Type 0
+GrantLacksTheRest before after q reply = IfSome (granted_opening q reply) (λ x. LacksTheRest before (fields_added before x) after (gx x.session))
 
--- an end leaves nothing to tell
-pub ended_leaves : (before after : SiteValue) (q : CcrValue) (reply : GxReply) → q.kind ≡ Termination → RequestLeaves before after q reply
-ended_leaves before after q (Granted delta quality) is = λ opening. clash (opens q.kind) opening (ap opens is)
-ended_leaves before after q (Refused r) is = tt
+-- so it does where it lacks the rest anyway
+pub granted_lacks : (before after : SiteValue) (q : CcrValue) (reply : GxReply)
+    → LacksTheRest before (fields_added before q) after (gx q.session) → GrantLacksTheRest before after q reply
+granted_lacks before after q (Granted delta quality) lacks =
+    elim (opens q.kind) as (λ b. IfSome (if b then Some q else None) (λ x. LacksTheRest before (fields_added before x) after (gx x.session)))
+    [ true ↦ lacks | false ↦ tt ]
+granted_lacks before after q (Refused r) lacks = tt
+
+-- an end is no opening
+pub ended_lacks : (before after : SiteValue) (q : CcrValue) (reply : GxReply) → q.kind ≡ Termination → GrantLacksTheRest before after q reply
+ended_lacks before after q (Granted delta quality) is =
+    subst (λ b. IfSome (if b then Some q else None) (λ x. LacksTheRest before (fields_added before x) after (gx x.session)))
+    (sym (ap opens is)) tt
+ended_lacks before after q (Refused r) is = tt

@@ -1,5 +1,5 @@
 -- What the gateway of a session still lacks after a request of its was granted: what the first entries of the difference left (TS 29.212, 4.5.2).
-use Rattle.std.specs.Prelude.{◌≡◌, ℕ, true, List, ◌++◌}
+use Rattle.std.specs.Prelude.{ℕ, if◌then◌else◌, List, ◌++◌, Option, Some, None}
 use Rattle.pcrf_values.specs.Limits.{delta_limit}
 use Rattle.pcrf_model.specs.Sessions.{Session, gx}
 use Rattle.pcrf_model.specs.Holdings.{SessionFact, under, Holding}
@@ -17,25 +17,24 @@ use Rattle.site_machine.specs.declared.request.Request.TheVariants as request
 use Rattle.site_machine.specs.declared.event.Reply.{Reply}
 use Rattle.site_machine.specs.declared.event.Reply.TheVariants as reply
 
--- what a site holds, with the fields of a request
+-- what is held, with the fields of a request
 abbrev pub with_fields : ℕ → Holding → CcrValue → List SessionFact
 with_fields i h q = h.facts ++ under (gx q.session) (ccr_fields q (next_tag i h q.number))
 
--- Told the first entries of the difference with the fields of an initial request or an update, the gateway lacks the rest then.
-abbrev pub ProvisionLeaves : SiteValue → SiteValue → CcrValue → Type 0
-ProvisionLeaves before after q =
-    TellsTheFirst delta_limit before.tables (view (with_fields before.number before.state.holding q)) (view after.state.holding.facts) (gx q.session)
+-- what a site holds, with these
+abbrev pub fields_added : SiteValue → CcrValue → List SessionFact
+fields_added s q = with_fields s.number s.state.holding q
 
--- so it is where an initial request or an update is granted
-abbrev pub RequestLeaves : SiteValue → SiteValue → CcrValue → GxReply → Type 0
-RequestLeaves before after q (Granted delta quality) = opens q.kind ≡ true → ProvisionLeaves before after q
-RequestLeaves before after q (Refused r) = Unit {0}
+-- Told the first entries of its difference by these facts, the gateway of the session lacks just the rest then.
+abbrev pub LacksTheRest : SiteValue → List SessionFact → SiteValue → Session → Type 0
+LacksTheRest before facts after s = TellsTheFirst delta_limit before.tables (view facts) (view after.state.holding.facts) s
 
--- and of each reply to a request
-abbrev pub ReplyLeaves : SiteValue → SiteValue → Request → Reply → Type 0
-ReplyLeaves before after (request.Ccr q) (reply.Gx r) = RequestLeaves before after (ccr_view q) r
-ReplyLeaves before after q r = Unit {0}
+-- the request, where it is an initial one or an update and the reply grants it
+abbrev pub granted_opening : CcrValue → GxReply → Option CcrValue
+granted_opening q (Granted delta quality) = if opens q.kind then Some q else None
+granted_opening q (Refused r) = None
 
--- Told the first entries of the difference by a push, the gateway of the session lacks the rest then.
-abbrev pub PushLeaves : SiteValue → SiteValue → Session → Type 0
-PushLeaves before after s = TellsTheFirst delta_limit before.tables (view before.state.holding.facts) (view after.state.holding.facts) s
+-- so of each request and its reply
+abbrev pub granted_request : Request → Reply → Option CcrValue
+granted_request (request.Ccr q) (reply.Gx r) = granted_opening (ccr_view q) r
+granted_request q r = None

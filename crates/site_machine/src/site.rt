@@ -91,7 +91,7 @@ impl Model for Site {
 impl Site {
     ghost use Rattle.fact_making.specs.Told.{facts_told};
     ghost use Rattle.site_machine.specs.Facts.{fields_of, opens, operation_made, operation_pushed, operation_told, operation_with};
-    ghost use Rattle.site_machine.specs.Left.{ProvisionLeaves, PushLeaves, ReplyLeaves, RequestLeaves};
+    ghost use Rattle.site_machine.specs.Left.{LacksTheRest, fields_added, granted_opening, granted_request};
     ghost use Rattle.site_machine.specs.Replies.{told_reply};
     ghost use Rattle.site_machine.specs.Sites.{new_site, ccr_served, emptied, pushed, served, with_made, with_one, with_record, with_state, with_taken};
 
@@ -214,7 +214,8 @@ impl Site {
             reply_value reply ≡ (served self.old (request_value request.now)).reply) }
         ensures ok { OnOk result (self.new
             ≡ with_made self.old (served self.old (request_value request.now)).added) }
-        ensures left { IfOk result (λ reply. ReplyLeaves self.old self.new request.now reply) }
+        ensures left { IfOk result (λ reply. IfSome (granted_request request.now reply) (λ q.
+            LacksTheRest self.old (fields_added self.old q) self.new (gx q.session))) }
         ensures err { OnErr result (self.new ≡ self.old) }
     {
         match request {
@@ -241,7 +242,8 @@ impl Site {
         ensures ok { OnOk result (self.new
             ≡ with_made self.old (ccr_served self.old (ccr_view ccr.now)).added) }
         ensures left { IfOk result (λ told.
-            RequestLeaves self.old self.new (ccr_view ccr.now) told.0) }
+            IfSome (granted_opening (ccr_view ccr.now) told.0) (λ q.
+            LacksTheRest self.old (fields_added self.old q) self.new (gx q.session))) }
         ensures err { OnErr result (self.new ≡ self.old) }
     {
         if let Some(refusal) = self.standing_refusal(ccr) {
@@ -296,7 +298,8 @@ impl Site {
         ensures spare { IfOk result (λ told. told.1 ≡ spares thrice told.0) }
         ensures ok { OnOk result (self.new ≡ with_made self.old (provision_outcome delta_limit
             self.old.tables self.old.number self.old.state.holding (ccr_view ccr.now)).added) }
-        ensures left { OnOk result (ProvisionLeaves self.old self.new (ccr_view ccr.now)) }
+        ensures left { OnOk result (LacksTheRest self.old (fields_added self.old (ccr_view ccr.now))
+            self.new (gx ccr.now.session)) }
         ensures err { OnErr result (self.new ≡ self.old) }
     {
         self.note_kept();
@@ -555,7 +558,7 @@ impl Site {
         ensures ok { OnOk result (self.new
             ≡ with_made self.old (pushed self.old (option_copied host.entry)).added) }
         ensures left { IfOk result (λ push. IfSome push (λ p.
-            PushLeaves self.old self.new (gx p.session))) }
+            LacksTheRest self.old self.old.state.holding.facts self.new (gx p.session))) }
         ensures room { OnOk result (lacks_counter self.old.tables self.old.number
             self.old.state.holding (option_copied host.entry) ≡ false) }
         ensures full { IfErr result (λ fault. fault ≡ StepFault.ClockFull → lacks_counter
@@ -581,7 +584,8 @@ impl Site {
         ensures ok { OnOk result (self.new
             ≡ with_made self.old (pushed self.old (option_copied host.entry)).added) }
         ensures left { IfOk result (λ found. IfSome found (λ told.
-            PushLeaves self.old self.new (gx told.0.session))) }
+            LacksTheRest self.old self.old.state.holding.facts self.new
+            (gx told.0.session))) }
         ensures spare { IfOk result (λ found. IfSome found (λ told.
             told.1 ≡ spares thrice told.0)) }
         ensures room { OnOk result (lacks_counter self.old.tables self.old.number

@@ -18,7 +18,7 @@ use Rattle.pcrf_model.specs.Replies.{Outcome}
 use Rattle.site_machine.specs.Sites.{SiteValue}
 use Rattle.reply_values.specs.Replies.{push_view}
 use Rattle.site_machine.specs.Facts.{operation_pushed}
-use Rattle.site_machine.specs.Left.{PushLeaves}
+use Rattle.site_machine.specs.Left.{LacksTheRest}
 use Rattle.site_machine.specs.Sites.{pushed, with_made}
 use Rattle.site_machine.proofs.Pushes.{nothing_is, nothing_lacks, session_due, pushed_delta, something_is, something_lacks}
 use Rattle.site_machine.proofs.Formed.{stamped, entries_tell, pushed_formed}
@@ -101,7 +101,7 @@ returns-clause-left c =
     told
     ∙ ap (λ (n : ℕ). with_made s (Some (operation_pushed s.number n (push_view p).session (push_view p).delta))) c.in-Some-next_counter.ensures.some
     ∙ sym (ap (λ (o : Outcome). with_made s o.added) (something_is s name (push_view p) some)) in
-    subst (λ (x : SiteValue). PushLeaves x c.tell_push.new.self (gx p.session)) same
+    subst (λ (x : SiteValue). LacksTheRest x x.state.holding.facts c.tell_push.new.self (gx p.session)) same
     (pushed_leaves s c.note_told.ensures name (gx p.session) (session_due s name (push_view p) some)
     (subst (λ (o : Option PushOut). IfSome o (apart s)) c.in-Some.is names)
     c.tell_push.new.self made)

@@ -15,7 +15,7 @@ use Rattle.site_machine.specs.Facts.{opens, operation_made}
 use Rattle.site_machine.specs.Replies.{gx_reply_value}
 use Rattle.site_machine.specs.Sites.{with_made}
 use Rattle.site_machine.proofs.Replies.{by_clock, served_refused, served_accepted, opening_is}
-use Rattle.site_machine.proofs.Left.{accepted_open, granted_leaves, ended_leaves}
+use Rattle.site_machine.proofs.Left.{accepted_open, granted_lacks, ended_lacks}
 use Rattle.site_machine.proofs.site.Site.serve_ccr.Goals as goal
 
 pub returns-in-Some-clause-reply : goal.returns-in-Some-clause-reply
@@ -69,7 +69,7 @@ returns-in-Termination-clause-ok c =
     subst (λ (x : SiteValue). OnOk c.close.result (c.close.new.self ≡ x)) (made ∙ next ∙ sym served) c.close.ensures.ok
 
 pub returns-in-Termination-clause-left : goal.returns-in-Termination-clause-left
-returns-in-Termination-clause-left c = IfOk-weaker c.close.result _ _ (λ told _. ended_leaves c.args.self.now c.close.new.self (ccr_view c.args.ccr.now) told.0 c.in-Termination.is) c.close.ensures.reply
+returns-in-Termination-clause-left c = IfOk-weaker c.close.result _ _ (λ told _. ended_lacks c.args.self.now c.close.new.self (ccr_view c.args.ccr.now) told.0 c.in-Termination.is) c.close.ensures.reply
 
 pub provision-requires-clause-alive : goal.provision-requires-clause-alive
 provision-requires-clause-alive c =
@@ -91,7 +91,7 @@ returns-in-Initial c =
     record {
       reply = subst (λ (o : Outcome). IfOk c.provision.result (λ told. gx_reply_value told.0 ≡ o.reply)) (sym served) c.provision.ensures.reply;
       ok = subst (λ (o : Outcome). OnOk c.provision.result (c.provision.new.self ≡ with_made s o.added)) (sym served) c.provision.ensures.ok;
-      left = IfOk-weaker c.provision.result _ _ (λ told leaves. granted_leaves s c.provision.new.self q told.0 leaves) c.provision.ensures.left;
+      left = IfOk-weaker c.provision.result _ _ (λ told leaves. granted_lacks s c.provision.new.self q told.0 leaves) c.provision.ensures.left;
       spare = c.provision.ensures.spare;
       err = c.provision.ensures.err;
     }
