@@ -28,12 +28,12 @@ product = record { code = product_name.code; vendor = product_name.vendor; manda
 abbrev pub supported_avps : ℕ → List AvpValue
 supported_avps a = number_avp vendor_id tgpp_vendor ∷ number_avp auth_application_id a ∷ []
 
-abbrev pub supported : ℕ → AvpValue
-supported a = group_avp vendor_specific_application_id (supported_avps a)
+abbrev pub supported_application : ℕ → AvpValue
+supported_application a = group_avp vendor_specific_application_id (supported_avps a)
 
 -- what the PCRF is and can: it speaks Gx and Rx
 abbrev pub capabilities_avps : Identity → List AvpValue
-capabilities_avps i = node_avps i ++ product ∷ supported gx_application ∷ supported rx_application ∷ []
+capabilities_avps i = node_avps i ++ product ∷ supported_application gx_application ∷ supported_application rx_application ∷ []
 
 -- what an answer has besides the result and the origin
 abbrev pub kind_avps : Identity → BaseKind → List AvpValue

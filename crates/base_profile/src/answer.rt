@@ -6,7 +6,7 @@ ghost use Rattle.pcrf_values.specs.Results.{no_common_application};
 ghost use Rattle.dia_codec.specs.Spelling.{avp_view, avp_views, message_view};
 ghost use Rattle.dia_codec.specs.Written.{written_avp, written_len};
 ghost use Rattle.pcrf_model.specs.Refusals.{base_refusal, is_common};
-ghost use Rattle.base_profile.specs.Answers.{address_value, base_answer, capabilities_avps, node_avps, product, supported, supported_avps};
+ghost use Rattle.base_profile.specs.Answers.{address_value, base_answer, capabilities_avps, node_avps, product, supported_application, supported_avps};
 ghost use Rattle.base_profile.specs.Requests.{base_view, kind_view, number_of};
 
 use crate::applications::ApplicationId;
@@ -89,7 +89,7 @@ fn application_value(alloc: Global, application: u32) -> Result<Vec<u8>, AllocEr
 
 /// The Vendor-Specific-Application-Id of an application that the PCRF speaks.
 fn supported(alloc: Global, application: u32) -> Result<Avp, AllocError>
-    ensures { IfOk result (λ avp. avp_view avp ≡ supported application) }
+    ensures { IfOk result (λ avp. avp_view avp ≡ supported_application application) }
 {
     Ok(Avp {
         code: VENDOR_SPECIFIC_APPLICATION_ID,

@@ -3,7 +3,7 @@ ghost use Rattle.std.specs.Prelude.{◌≡◌, ◌<◌, ◌≤◌, length, OnOk,
 ghost use Rattle.std.specs.Net.Addr.{ipv4_octets};
 ghost use Rattle.pcrf_values.specs.Limits.{apn_limit};
 ghost use Rattle.pcrf_values.specs.Results.{avp_occurs_too_many_times};
-ghost use Rattle.pcrf_values.specs.Texts.{folded};
+ghost use Rattle.pcrf_values.specs.Texts.{small_letters};
 ghost use Rattle.dia_codec.specs.Spelling.{avp_view, avp_views};
 ghost use Rattle.dia_base.specs.Avps.{base_key, tgpp_key};
 ghost use Rattle.dia_base.specs.Rows.{first_at, values_of, value_of, value_in, number_at, IsOnlyAt, required, optional, unsigned32, enumerated, text_to, ipv4_address, Accepts, RefusesWith, RefusesAnyKind, FaultsWith};
@@ -219,7 +219,8 @@ pub fn optional_address(avps: &[Avp], key: AvpKey) -> Result<Option<Ipv4Addr>, R
 pub fn optional_apn(alloc: Global, avps: &[Avp], key: AvpKey) -> Result<Option<Apn>, ReadFault>
     ensures accepted { OnOk result
         (Accepts (optional key (text_to apn_limit)) (avp_views avps.now)) }
-    ensures apn { IfOk result (λ apn. apn ≡ option_map folded (value_of key (avp_views avps.now))) }
+    ensures apn { IfOk result (λ apn. apn
+        ≡ option_map small_letters (value_of key (avp_views avps.now))) }
     ensures refused { IfErr result
         (FaultsWith (optional key (text_to apn_limit)) (avp_views avps.now)) }
 {

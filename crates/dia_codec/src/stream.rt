@@ -3,7 +3,7 @@
 ghost use Rattle.std.specs.Prelude.{◌≡◌, ℕ, List, None, IfOk};
 ghost use Rattle.std.specs.List.{AllByRecursion};
 ghost use Rattle.dia_codec.specs.Spelling.{IsFrame};
-ghost use Rattle.dia_codec.specs.Stream.{Splits, CutsInto, end_of, fault_of, frame_bytes, joined, stream_of};
+ghost use Rattle.dia_codec.specs.Stream.{Splits, CutsInto, end_of, fault_of, frame_bytes, bytes_of_pieces, stream_of};
 
 use crate::assembling::Assembler;
 use crate::fault::FrameFault;
@@ -59,7 +59,8 @@ fn take_frames(
 
 /// The frames of a stream that comes in pieces. How it was cut makes no difference: see `one_cut`.
 pub fn frames_of(alloc: Global, pieces: &[&[u8]]) -> Result<FramedStream, AllocError>
-    ensures { IfOk result (λ s. CutsInto (joined pieces.now) (frame_bytes s.frames.items) s.end) }
+    ensures { IfOk result (λ s. CutsInto
+        (bytes_of_pieces pieces.now) (frame_bytes s.frames.items) s.end) }
 {
     let mut assembler = Assembler::start(alloc);
     let mut frames = Vec::new(alloc);

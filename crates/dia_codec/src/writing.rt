@@ -7,7 +7,7 @@ ghost use Rattle.dia_codec.specs.Limits.{command_bound, longest_message, unsigne
 ghost use Rattle.dia_codec.specs.Reading.{message_of};
 ghost use Rattle.dia_codec.specs.Spelling.{avp_view, avp_views, message_view, SpellsMessage};
 ghost use Rattle.dia_codec.specs.Written.{bit_if, flag_byte, avp_flag_byte, vendor_bytes, word_bytes, three_bytes};
-ghost use Rattle.dia_codec.specs.Written.{own_len, padded_len, written_len, written_own, written_avp, written_header, written};
+ghost use Rattle.dia_codec.specs.Written.{own_len, padded_len, written_len, written_own, written_avp, written_header, written_spelling};
 ghost use Rattle.dia_codec.specs.Written.{Fits, FitsAvp, FitsNumbers};
 
 use crate::fault::WriteFault;
@@ -184,7 +184,7 @@ pub fn write_message(alloc: Global, message: &Message) -> Result<Vec<u8>, WriteF
     requires command { message.now.header.command < command_bound }
     requires flags { (message.now.header.flags.request && message.now.header.flags.error)
         ≡ false }
-    ensures written { IfOk result (λ v. v.items ≡ written (message_view message.now)) }
+    ensures written { IfOk result (λ v. v.items ≡ written_spelling (message_view message.now)) }
     ensures spelled { IfOk result (λ v. SpellsMessage v.items (message_view message.now)) }
     ensures fits { OnOk result (Fits (message_view message.now)) }
 
@@ -202,5 +202,5 @@ pub fn write_message(alloc: Global, message: &Message) -> Result<Vec<u8>, WriteF
 
 /// A law: what was written is read again, as the same message.
 pub fn round_trip()
-    ensures { (m : MessageValue) → Fits m → message_of (written m) ≡ Ok m }
+    ensures { (m : MessageValue) → Fits m → message_of (written_spelling m) ≡ Ok m }
 {}

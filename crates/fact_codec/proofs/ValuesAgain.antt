@@ -8,7 +8,7 @@ use Rattle.ranked.proofs.OrderLaws.{eq_is, text_ranked}
 use Rattle.pcrf_values.specs.Limits.{apn_limit, subscription_data_limit, subscribers_limit, filters_limit, filter_limit}
 use Rattle.pcrf_values.specs.RuleValues.{RuleValue}
 use Rattle.pcrf_values.specs.Subscribers.{subscriber_cmp}
-use Rattle.pcrf_values.specs.Texts.{one_to, folded}
+use Rattle.pcrf_values.specs.Texts.{one_to, small_letters}
 use Rattle.pcrf_facts.specs.Values.{Subscriber}
 use Rattle.pcrf_model.specs.Forms.{is_within, is_unsigned, is_text, is_rising, is_address, is_apn, is_subscriber, are_subscribers, are_filters, is_rule}
 use Rattle.pcrf_model.proofs.FormLaws.{within_most}
@@ -64,7 +64,7 @@ text_again most t rest lt h =
 pub apn_again : (t rest : List ℕ) → is_apn t ≡ true → apn_name (text_bytes t ++ rest) ≡ Some (t, rest)
 unfolding apn_name
 apn_again t rest h =
-    let small : folded t ≡ t = eq_is text_ranked (folded t) t (second_so (is_text apn_limit t) _ h) in
+    let small : small_letters t ≡ t = eq_is text_ranked (small_letters t) t (second_so (is_text apn_limit t) _ h) in
     let within : is_within 1 apn_limit (length t) ≡ true = first_so _ _ (first_so _ _ h) in
     let low : length t < 2 ^ 16 = omega (arith, within_most 1 apn_limit (length t) within) in
     let same : is_eq (text_cmp t t) ≡ true = ap (λ u. is_eq (text_cmp u t)) (sym small) ∙ second_so (is_text apn_limit t) _ h in

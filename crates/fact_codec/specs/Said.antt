@@ -7,7 +7,7 @@ use Rattle.pcrf_values.specs.Limits.{identity_limit, apn_limit, subscription_dat
 use Rattle.pcrf_values.specs.Numbers.{number_within}
 use Rattle.pcrf_values.specs.RuleValues.{RuleValue}
 use Rattle.pcrf_values.specs.Subscribers.{subscriber_cmp}
-use Rattle.pcrf_values.specs.Texts.{one_to, folded}
+use Rattle.pcrf_values.specs.Texts.{one_to, small_letters}
 use Rattle.pcrf_facts.specs.Places.{SessionField, FramedIpAddress, CalledStationId, SubscriptionIds, OriginHost, OriginRealm, RequestType, ComponentField, MediaType, ComponentStatus, ComponentRateUp, ComponentRateDown, FlowField, FlowDescriptions, FlowUsage, FlowStatus, FlowRateUp, FlowRateDown, session_field_number, component_field_number, flow_field_number, OfSession, OfComponent, OfFlow, OfRuleName, Component, Flow}
 use Rattle.pcrf_facts.specs.Values.{Subscriber, Value, Number, Text, Address, Subscribers, Filters, Untold, Told}
 use Rattle.pcrf_facts.specs.Facts.{Fact, End, Removed, Field}
@@ -48,7 +48,7 @@ unfoldable pub apn_name : Reader (List ℕ)
 apn_name = do
   n ← short
   t ← exactly n
-  small ← given (one_to apn_limit (folded t))
+  small ← given (one_to apn_limit (small_letters t))
   passed (is_eq (text_cmp small t)) small
 
 -- an IPv4 address

@@ -14,7 +14,7 @@ use Rattle.pcrf_model.specs.Requests.{ComponentValue, AarValue}
 use Rattle.pcrf_model.proofs.FunctionForms.{component_number, flow_number, described_is_held}
 use Rattle.dia_base.specs.Rows.{or_else, refusal_among}
 use Rattle.rx_profile.specs.Services.{repeats, flow_numbers, component_numbers, repeat_refusal, flow_numbers_refusal, numbers_refusal}
-use Rattle.fact_making.specs.Call.{described}
+use Rattle.fact_making.specs.Call.{call_facts}
 
 -- neither of two stands
 pub neither : (a b : Bool) → (a || b) ≡ false → (a ≡ false) × (b ≡ false)
@@ -56,7 +56,7 @@ flows_apart (d ∷ cs) h c i =
     ]
 
 -- what a request describes is held whole
-pub call_is_whole : (q : AarValue) (site counter : ℕ) → numbers_refusal q.components ≡ None → kept_list (described site counter q) ≡ ascending fact_cmp (described site counter q)
+pub call_is_whole : (q : AarValue) (site counter : ℕ) → numbers_refusal q.components ≡ None → kept_list (call_facts site counter q) ≡ ascending fact_cmp (call_facts site counter q)
 call_is_whole q site counter h =
     let both = neither_refuses (repeat_refusal (component_numbers q.components)) (refusal_among flow_numbers_refusal q.components) h in
     described_is_held q counter site (granted_apart (component_numbers q.components) both.0) (flows_apart q.components both.1)

@@ -6,8 +6,8 @@ use Rattle.pcrf_model.specs.Requests.{AarValue}
 use Rattle.pcrf_model.specs.Making.{session_fields, aar_facts}
 
 -- what it describes; an AA request has no number
-abbrev pub described : ℕ → ℕ → AarValue → List Fact
-described site counter q = aar_facts q (record { number = 0; counter = counter; site = site })
+abbrev pub call_facts : ℕ → ℕ → AarValue → List Fact
+call_facts site counter q = aar_facts q (record { number = 0; counter = counter; site = site })
 
 -- of that the fields of the session; what stands for the type of its request is 0
 abbrev pub call_fields : AarValue → Tag → List Fact

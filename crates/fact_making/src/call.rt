@@ -7,7 +7,7 @@ ghost use Rattle.pcrf_values.specs.Limits.{site_limit};
 ghost use Rattle.session_records.specs.SessionFacts.{session_fact};
 ghost use Rattle.af_records.specs.RecordFacts.{fact_of};
 ghost use Rattle.rx_profile.specs.Requests.{aar_view};
-ghost use Rattle.fact_making.specs.Call.{call_fields, described};
+ghost use Rattle.fact_making.specs.Call.{call_fields, call_facts};
 
 use crate::component::put_components;
 use crate::forms::note_aar;
@@ -51,9 +51,9 @@ pub fn call_of(alloc: Global, aar: &Aar, counter: u64, site: u8) -> Result<AfRec
     requires first { 1 ≤ counter }
     requires within { site < site_limit }
     ensures held { IfOk result (λ call. call
-        ≡ kept_list (described site counter (aar_view aar.now))) }
+        ≡ kept_list (call_facts site counter (aar_view aar.now))) }
     ensures all { IfOk result (λ call.
-        call ≡ ascending fact_cmp (described site counter (aar_view aar.now))) }
+        call ≡ ascending fact_cmp (call_facts site counter (aar_view aar.now))) }
 {
     let tag = Tag {
         number: 0,

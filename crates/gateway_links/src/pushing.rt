@@ -1,6 +1,6 @@
 //! Pushes to the gateways that can be reached.
 ghost use Rattle.std.specs.Prelude.{◌≡◌, ◌<◌, ◌≤◌, IfOk};
-ghost use Rattle.dia_codec.specs.Written.{written};
+ghost use Rattle.dia_codec.specs.Written.{written_spelling};
 ghost use Rattle.gx_profile.specs.Pushes.{rar};
 ghost use Rattle.link_ends.specs.Earlier.{HasEarlier};
 ghost use Rattle.reply_values.specs.Replies.{push_view};
@@ -44,7 +44,7 @@ fn request_bytes(
     push: &PushOut,
 ) -> Result<Vec<u8>, AllocError>
     ensures { IfOk result (λ bytes. bytes.items
-        ≡ written (rar identity.now id id (push_view push.now))) }
+        ≡ written_spelling (rar identity.now id id (push_view push.now))) }
 {
     let request = write_rar(alloc, identity, id, id, push)?;
     match write_message(alloc, &request) {

@@ -3,7 +3,7 @@ use Rattle.std.specs.Prelude.{List, [], ◌∷◌, ◌++◌, Option, unwrap_or, 
 use Rattle.std.specs.Net.Addr.{ipv4_octets}
 use Rattle.pcrf_values.specs.Limits.{apn_limit}
 use Rattle.pcrf_values.specs.Numbers.{request_kind_number, request_kind_of}
-use Rattle.pcrf_values.specs.Texts.{folded}
+use Rattle.pcrf_values.specs.Texts.{small_letters}
 use Rattle.pcrf_values.specs.declared.refusal.Refusal.{Refusal}
 use Rattle.pcrf_values.specs.declared.request_kind.RequestKind.{RequestKind}
 use Rattle.pcrf_values.specs.declared.request_kind.RequestKind.TheVariants.{Initial, Termination}
@@ -70,6 +70,6 @@ ccr_of avps = record {
   kind = kind_at avps;
   number = unwrap_or (number_at cc_request_number avps) 0;
   address = value_of framed_ip_address avps;
-  apn = option_map folded (value_of called_station_id avps);
+  apn = option_map small_letters (value_of called_station_id avps);
   subscribers = subscribers_of avps;
 }

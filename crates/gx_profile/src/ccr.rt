@@ -1,7 +1,7 @@
 //! Credit control requests (TS 29.212, 5.6.2).
 ghost use Rattle.std.specs.Prelude.{◌≡◌, ◌↔◌, OnOk, IfOk, IfErr, IsTrue, option_map};
 ghost use Rattle.std.specs.Net.Addr.{ipv4_octets};
-ghost use Rattle.pcrf_values.specs.Texts.{folded};
+ghost use Rattle.pcrf_values.specs.Texts.{small_letters};
 ghost use Rattle.dia_codec.specs.Spelling.{avp_views};
 ghost use Rattle.dia_base.specs.Avps.{called_station_id, framed_ip_address};
 ghost use Rattle.dia_base.specs.Rows.{Accepts, AcceptsAll, RefusesWith, IsFaultOf, rows_refusal, value_of};
@@ -106,7 +106,7 @@ fn read_access(alloc: Global, avps: &[Avp]) -> Result<Access, ReadFault>
     ensures address { IfOk result (λ access.
         option_map ipv4_octets access.address ≡ value_of framed_ip_address (avp_views avps.now)) }
     ensures apn { IfOk result (λ access.
-        access.apn ≡ option_map folded (value_of called_station_id (avp_views avps.now))) }
+        access.apn ≡ option_map small_letters (value_of called_station_id (avp_views avps.now))) }
     ensures refused { IfErr result (IsFaultOf (rows_refusal access_rows (avp_views avps.now))) }
 {
     let subscribers = read_subscribers(alloc, avps)?;

@@ -9,7 +9,7 @@ use Rattle.std.specs.Cmp.{IsTotalOrder}
 use Rattle.std.proofs.lemmas.Cmp.{alike_right}
 use Rattle.lattice_core.specs.Entries.{value_at, IsAscending}
 use Rattle.lattice_core.specs.Lookups.{joined_onto}
-use Rattle.lattice_core.specs.Placed.{placed}
+use Rattle.lattice_core.specs.Placed.{map_with}
 use Rattle.lattice_core.proofs.Lookups.{none_below, below_alike, value_put}
 use Rattle.lattice_core.proofs.Trees.{later, put_is_over}
 
@@ -59,6 +59,6 @@ module _ {K V : Type 0} (cmp : K → K → Ordering) (o : IsTotalOrder cmp) (k :
   value_removed (e ∷ es) q h = removed_at e es q (cmp k e.0) (cmp q e.0) refl refl h (value_removed es q h.1)
 
   -- what was put in its place stands there, and other keys keep theirs
-  pub value_placed : (es : List (K × V)) (w : Option V) (q : K) → IsAscending cmp es → value_at cmp (placed cmp es k w) q ≡ (if is_eq (cmp q k) then w else value_at cmp es q)
+  pub value_placed : (es : List (K × V)) (w : Option V) (q : K) → IsAscending cmp es → value_at cmp (map_with cmp es k w) q ≡ (if is_eq (cmp q k) then w else value_at cmp es q)
   value_placed es (Some v) q h = value_inserted es v q h
   value_placed es None q h = value_removed es q h

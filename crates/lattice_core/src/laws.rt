@@ -5,7 +5,7 @@ ghost use Rattle.std.specs.Prelude.{◌≡◌, Some, if◌then◌else◌};
 ghost use Rattle.std.specs.Ordering.{is_eq};
 ghost use Rattle.lattice_core.specs.Entries.{value_at, put, map_joined};
 ghost use Rattle.lattice_core.specs.Lookups.{joined_onto, option_joined};
-ghost use Rattle.lattice_core.specs.Placed.{placed};
+ghost use Rattle.lattice_core.specs.Placed.{map_with};
 
 use crate::join::Join;
 use crate::map::JoinMap;
@@ -48,7 +48,7 @@ pub fn value_after_place_at<K: Ranked, V: Join>(
     value: &Option<V>,
     asked: &K,
 )
-    ensures { value_at K.cmp (placed K.cmp map.now key.now value.now) asked.now
+    ensures { value_at K.cmp (map_with K.cmp map.now key.now value.now) asked.now
         ≡ (if is_eq (K.cmp asked.now key.now) then value.now else value_at K.cmp map.now asked.now) }
 {
     map.note_valid();
@@ -56,7 +56,7 @@ pub fn value_after_place_at<K: Ranked, V: Join>(
 
 /// What stood at a key, put back there, makes the map what it was.
 pub fn place_back<K: Ranked, V: Join>(map: &JoinTree<K, V>, key: &K, value: &Option<V>)
-    ensures { placed K.cmp (placed K.cmp map.now key.now value.now) key.now
+    ensures { map_with K.cmp (map_with K.cmp map.now key.now value.now) key.now
         (value_at K.cmp map.now key.now)
         ≡ map.now }
 {

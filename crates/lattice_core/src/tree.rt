@@ -3,7 +3,7 @@ ghost use Rattle.std.specs.Prelude.{◌≡◌, [], length, IfOk, IfErr, OnErr, N
 ghost use Rattle.std.specs.Option.{option_copied};
 ghost use Rattle.lattice_core.specs.Entries.{value_at, IsAscending, AllValues, put, map_joined};
 ghost use Rattle.lattice_core.specs.Pages.{entries_after};
-ghost use Rattle.lattice_core.specs.Placed.{placed};
+ghost use Rattle.lattice_core.specs.Placed.{map_with};
 
 use crate::fact_set::{FactSet, is_subset_at};
 use crate::join::Join;
@@ -95,7 +95,7 @@ impl<K: Ranked, V: Join> JoinTree<K, V> {
     /// Puts a value in the place of what stands at a key, or takes that out, and gives it back; only a value at a new key is refused.
     pub fn place_at(&mut self, key: &K, value: Option<V>) -> Result<Option<V>, AllocError>
         ensures stood { IfOk result (λ stood. stood ≡ value_at K.cmp self.old key.now) }
-        ensures placed { IfOk result (λ _. self.new ≡ placed K.cmp self.old key.now value) }
+        ensures placed { IfOk result (λ _. self.new ≡ map_with K.cmp self.old key.now value) }
         ensures unchanged { OnErr result (self.new ≡ self.old) }
         ensures refused_value { OnErr result (IsSome value) }
         ensures refused_new { OnErr result (value_at K.cmp self.old key.now ≡ None) }

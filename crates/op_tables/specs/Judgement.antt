@@ -3,7 +3,7 @@ use Rattle.std.specs.Prelude.{◌≡◌, ℕ, ◌+◌, Bool, false, nat_lt, if�
 use Rattle.std.specs.List.{list_any}
 use Rattle.std.specs.Ordering.{nat_cmp, is_eq}
 use Rattle.ranked.specs.Orders.{text_cmp}
-use Rattle.pcrf_values.specs.Texts.{folded}
+use Rattle.pcrf_values.specs.Texts.{small_letters}
 use Rattle.toml.specs.Data.{Data, Members, get_member, as_table}
 use Rattle.op_tables.specs.Keys.{key_text}
 use Rattle.op_tables.specs.Values.{number, name, word, filters, as_list, number_in, text_in, table_in, data_at}
@@ -54,7 +54,7 @@ fault_of_array key most judge (Some rows) = if nat_lt most (length rows) then So
 -- the two values are one number, or one name
 abbrev pub are_same : Shape → Data → Data → Bool
 are_same (Number least most) d e = is_eq (nat_cmp (number_in d) (number_in e))
-are_same (Name most) d e = is_eq (text_cmp (folded (text_in d)) (folded (text_in e)))
+are_same (Name most) d e = is_eq (text_cmp (small_letters (text_in d)) (small_letters (text_in e)))
 are_same (Word most) d e = is_eq (text_cmp (text_in d) (text_in e))
 are_same (Filters most) d e = false
 are_same (Table keys) d e = false

@@ -6,7 +6,7 @@ use Rattle.std.specs.Ordering.{nat_cmp, is_eq}
 use Rattle.std.specs.BTreeMap.{insert_entry, is_at}
 use Rattle.std.specs.Map.{lookup}
 use Rattle.ranked.specs.Orders.{text_cmp}
-use Rattle.pcrf_values.specs.Texts.{folded}
+use Rattle.pcrf_values.specs.Texts.{small_letters}
 use Rattle.pcrf_values.specs.declared.default_quality.DefaultQuality.{DefaultQuality}
 use Rattle.pcrf_model.specs.Tables.{Class, OperatorRule, ApnRow, Tables}
 use Rattle.toml.specs.Data.{Data, Members, get_member}
@@ -63,7 +63,7 @@ abbrev pub media_type : Data → ℕ
 media_type row = number_at (codes "type") (table_in row)
 
 abbrev pub apn_name : Data → List ℕ
-apn_name row = folded (text_in (data_at (codes "name") (table_in row)))
+apn_name row = small_letters (text_in (data_at (codes "name") (table_in row)))
 
 -- the rows by their keys, ascending
 abbrev pub by_key : {K X : Type 0} → (K → K → Ordering) → (Data → K) → (Data → X) → List Data → List (K × X)

@@ -3,7 +3,7 @@ use Rattle.std.specs.Prelude.{ℕ, ℤ, pos, negsuc, Bool, false, ◌&&◌, nat_
 use Rattle.std.specs.List.{list_all}
 use Rattle.pcrf_values.specs.Filters.{filter_of}
 use Rattle.pcrf_values.specs.Numbers.{number_within}
-use Rattle.pcrf_values.specs.Texts.{one_to, folded}
+use Rattle.pcrf_values.specs.Texts.{one_to, small_letters}
 use Rattle.toml.specs.Data.{Data, boolean, Items, no_items, item, Members, no_members, get_member, as_integer, as_str, as_array, as_table}
 
 -- ---- values, where they are of the kind and in the range that is asked
@@ -18,7 +18,7 @@ number least most d = option_and_then (number_within least most) (as_natural (as
 
 -- a text with a small letter in the place of each capital
 abbrev pub name : ℕ → Data → Option (List ℕ)
-name most d = option_and_then (λ bytes. one_to most (folded bytes)) (as_str d)
+name most d = option_and_then (λ bytes. one_to most (small_letters bytes)) (as_str d)
 
 -- from the exclamation mark to the tilde
 abbrev pub is_visible : ℕ → Bool

@@ -1,6 +1,6 @@
 //! Texts of a document, each judged by its length and bytes, and what stands at a key of a table.
 ghost use Rattle.std.specs.Prelude.{◌≡◌, [], IfOk, IfErr, Some, None, map};
-ghost use Rattle.pcrf_values.specs.Texts.{folded};
+ghost use Rattle.pcrf_values.specs.Texts.{small_letters};
 ghost use Rattle.toml.specs.View.{view, table_view};
 ghost use Rattle.op_tables.specs.Keys.{key_text};
 ghost use Rattle.op_tables.specs.Places.{apn_name_shape, Word as WordShape, Filters, filters_limit, required};
@@ -20,7 +20,7 @@ use toml::{Table, Value};
 #[tactic(auto, unfolding(crate::specs::Judgement::shape_fault))]
 fn name(alloc: Global, key: TableKey, value: &Value) -> Result<Apn, PlacedFault>
     ensures judged { IfOk result (λ _. shape_fault key apn_name_shape (view value.now) ≡ None) }
-    ensures read { IfOk result (λ apn. folded (text_in (view value.now)) ≡ apn) }
+    ensures read { IfOk result (λ apn. small_letters (text_in (view value.now)) ≡ apn) }
     ensures refused { IfErr result (λ fault. IsPlaced fault
         (shape_fault key apn_name_shape (view value.now))) }
 {
@@ -39,7 +39,7 @@ pub fn name_at(alloc: Global, table: &Table, key: TableKey) -> Result<Apn, Place
     ensures judged { IfOk result (λ _. key_fault (required key apn_name_shape)
         (table_view table.now) ≡ None) }
     ensures read { IfOk result (λ apn.
-        folded (text_in (data_at (key_text key) (table_view table.now))) ≡ apn) }
+        small_letters (text_in (data_at (key_text key) (table_view table.now))) ≡ apn) }
     ensures refused { IfErr result (λ fault. IsPlaced fault
         (key_fault (required key apn_name_shape) (table_view table.now))) }
 {

@@ -10,7 +10,7 @@ use Rattle.ranked.proofs.OrderLaws.{text_ranked, eq_itself}
 use Rattle.ranked.proofs.AscendingLaws.{ascending-ascending}
 use Rattle.pcrf_values.specs.Limits.{apn_limit, subscribers_limit}
 use Rattle.pcrf_values.specs.Subscribers.{subscriber_cmp}
-use Rattle.pcrf_values.specs.Texts.{folded}
+use Rattle.pcrf_values.specs.Texts.{small_letters}
 use Rattle.pcrf_facts.specs.Values.{Subscriber}
 use Rattle.pcrf_facts.proofs.FactLaws.{subscriber_ranked}
 use Rattle.pcrf_model.specs.Forms.{is_within, is_byte, is_text, is_rising, is_apn, is_subscriber, are_subscribers}
@@ -30,7 +30,7 @@ pub text_passes : (most : ℕ) (t : List ℕ) → 0 < length t → length t ≤ 
 text_passes most t some few low = both _ _ (length_within most t some few) low
 
 -- a text in small letters is the name of an access point
-pub apn_passes : (t : List ℕ) → 0 < length t → length t ≤ apn_limit → list_all is_byte t ≡ true → folded t ≡ t → is_apn t ≡ true
+pub apn_passes : (t : List ℕ) → 0 < length t → length t ≤ apn_limit → list_all is_byte t ≡ true → small_letters t ≡ t → is_apn t ≡ true
 apn_passes t some few low small =
     both _ _ (text_passes apn_limit t some few low) (ap (λ u. is_eq (text_cmp u t)) small ∙ eq_itself text_ranked t)
 

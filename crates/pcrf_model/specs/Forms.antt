@@ -9,7 +9,7 @@ use Rattle.ranked.specs.Tags.{tag_cmp}
 use Rattle.pcrf_values.specs.Limits.{session_id_limit, identity_limit, apn_limit, subscription_data_limit, subscribers_limit, filters_limit, filter_limit, rule_name_limit, operator_rule_name_limit, last_counter, site_limit}
 use Rattle.pcrf_values.specs.RuleValues.{RuleValue}
 use Rattle.pcrf_values.specs.Subscribers.{subscriber_cmp}
-use Rattle.pcrf_values.specs.Texts.{folded}
+use Rattle.pcrf_values.specs.Texts.{small_letters}
 use Rattle.pcrf_facts.specs.Places.{SessionField, FramedIpAddress, CalledStationId, SubscriptionIds, OriginHost, OriginRealm, RequestType, ComponentField, ComponentStatus, FlowField, FlowDescriptions, FlowUsage, FlowStatus, FlowRateUp, FlowRateDown, Place, OfSession, OfComponent, OfFlow, OfRuleName, Removable, Component, Flow, position_cmp}
 use Rattle.pcrf_facts.specs.Values.{Subscriber, Value, Number, Text, Address, Subscribers, Filters, Untold, Told}
 use Rattle.pcrf_facts.specs.Facts.{Fact, End, Removed, Field, position, is_shaded_by}
@@ -54,7 +54,7 @@ is_address a = length a == 4 && list_all is_byte a
 
 -- the name of an access point, in small letters
 abbrev pub is_apn : List ℕ → Bool
-is_apn t = is_text apn_limit t && is_eq (text_cmp (folded t) t)
+is_apn t = is_text apn_limit t && is_eq (text_cmp (small_letters t) t)
 
 -- the host or the realm of a client
 abbrev pub is_identity : List ℕ → Bool

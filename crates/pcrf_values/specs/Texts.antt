@@ -7,5 +7,5 @@ abbrev pub one_to : {A : Type 0} → ℕ → List A → Option (List A)
 one_to most xs = if nat_le 1 (length xs) && nat_le (length xs) most then Some xs else None
 
 -- the bytes with a small letter in the place of each ASCII capital
-abbrev pub folded : List ℕ → List ℕ
-folded = map to_ascii_lowercase
+abbrev pub small_letters : List ℕ → List ℕ
+small_letters = map to_ascii_lowercase

@@ -1,7 +1,7 @@
 //! Access point names.
 ghost use Rattle.std.specs.Prelude.{◌≡◌, ◌<◌, ◌≤◌, length, IfOk};
 ghost use Rattle.pcrf_values.specs.Limits.{apn_limit};
-ghost use Rattle.pcrf_values.specs.Texts.{one_to, folded};
+ghost use Rattle.pcrf_values.specs.Texts.{one_to, small_letters};
 
 use crate::limits::APN_LIMIT;
 use ranked::{Listed, Ranked, Text};
@@ -26,7 +26,7 @@ impl Debug for Apn {
 impl Model for Apn {
     ghost use Rattle.std.specs.Prelude.{◌≡◌, ℕ, List, ◌<◌, ◌≤◌, length};
     ghost use Rattle.pcrf_values.specs.Limits.{apn_limit};
-    ghost use Rattle.pcrf_values.specs.Texts.{folded};
+    ghost use Rattle.pcrf_values.specs.Texts.{small_letters};
 
     ghost Value = { List ℕ };
 
@@ -34,13 +34,13 @@ impl Model for Apn {
 
     ghost inverse = { λ bytes. record { text = bytes } };
 
-    ghost invariant = { λ a. (0 < length a.text) × (length a.text ≤ apn_limit) × (folded a.text ≡ a.text) };
+    ghost invariant = { λ a. (0 < length a.text) × (length a.text ≤ apn_limit) × (small_letters a.text ≡ a.text) };
 }
 
 impl Apn {
     /// The name of these bytes; `None` where there are none or more than 255 of them.
     pub fn folded(alloc: Global, bytes: &[u8]) -> Result<Option<Apn>, AllocError>
-        ensures { IfOk result (λ apn. apn ≡ one_to apn_limit (folded bytes.now)) }
+        ensures { IfOk result (λ apn. apn ≡ one_to apn_limit (small_letters bytes.now)) }
     {
         if bytes.is_empty() || bytes.len() > APN_LIMIT {
             return Ok(None);
@@ -59,7 +59,7 @@ impl Apn {
         ensures bytes { result.now ≡ self.now }
         ensures not_empty { 0 < length self.now }
         ensures within { length self.now ≤ apn_limit }
-        ensures small { folded self.now ≡ self.now }
+        ensures small { small_letters self.now ≡ self.now }
     {
         self.text.as_slice()
     }

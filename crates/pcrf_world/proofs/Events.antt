@@ -9,7 +9,7 @@ use Rattle.pcrf_model.specs.Letters.{LetterBody, LetterValue}
 use Rattle.pcrf_model.specs.Cursors.{ask, ack_letter, ack_of}
 use Rattle.pcrf_model.specs.Worlds.{ServeAt, PushAt, Letter, Merge, Ack, Restart, Replied, PushedOut, Lettered, Merged, Restarted, ClockFull, NoMemory, Gives, SiteView, WorldView, ByCursors, asked_body}
 use Rattle.pcrf_model.specs.Seen.{view_made, view_served, view_pushed, view_merged, view_in_part, view_again, view_letter, view_ack, see_change, see_change_by, world_view_after}
-use Rattle.site_machine.specs.Sites.{with_made, served, pushed}
+use Rattle.site_machine.specs.Sites.{with_made, serve_outcome, push_outcome_at}
 use Rattle.pcrf_world.specs.Members.{seen_of, with_site, started_again}
 use Rattle.pcrf_world.specs.Values.{setting}
 use Rattle.peer_cursors.specs.Writing.{letter_made}
@@ -20,13 +20,13 @@ use Rattle.pcrf_world.proofs.Members.{world_of, seen_at, seen_set}
 
 module _ (g : Tables) (ms : List Member) (ls : List LetterValue) (i : ℕ) (m : Member) (at : slice_get ms i ≡ Some m) (is : m.site.tables ≡ g) where
   -- to a request
-  pub served_gives : (q : RequestValue) (r : ReplyValue) → r ≡ (served m.site q).reply → Gives (setting g) (world_of ms ls) (ServeAt i q) (Ok (Replied r))
+  pub served_gives : (q : RequestValue) (r : ReplyValue) → r ≡ (serve_outcome m.site q).reply → Gives (setting g) (world_of ms ls) (ServeAt i q) (Ok (Replied r))
   served_gives q r so =
       let reply : r ≡ (view_served (setting g) q (seen_of m)).reply = so ∙ ap (λ (t : Tables). (view_served (setting t) q (seen_of m)).reply) is in
       rw (seen_at ms i m at) (ap (λ (x : ReplyValue). Ok (Replied x)) reply)
 
   -- what it pushed
-  pub pushed_gives : (name : Option (List ℕ)) (p : Option PushValue) → Pushed p ≡ (pushed m.site name).reply → lacks_counter m.site.tables m.site.number m.site.state.holding name ≡ false
+  pub pushed_gives : (name : Option (List ℕ)) (p : Option PushValue) → Pushed p ≡ (push_outcome_at m.site name).reply → lacks_counter m.site.tables m.site.number m.site.state.holding name ≡ false
       → Gives (setting g) (world_of ms ls) (PushAt i name) (Ok (PushedOut p))
   pushed_gives name p so room =
       let reply : (view_pushed (setting g) name (seen_of m)).reply ≡ Pushed p = sym (so ∙ ap (λ (t : Tables). (view_pushed (setting t) name (seen_of m)).reply) is) in
@@ -65,14 +65,14 @@ module _ (g : Tables) (ms : List Member) (ls : List LetterValue) (i : ℕ) (m : 
 
   module _ (is : m.site.tables ≡ g) where
     -- it served a request
-    pub served_at : (q : RequestValue) (r : ReplyValue) → world_of (slice_set ms i (with_site m (with_made m.site (served m.site q).added))) ls ≡ world_view_after (setting g) (world_of ms ls) (ServeAt i q) (Ok (Replied r))
-    served_at q r = changes (λ (x : SiteView). view_made (view_served (setting g) q x).added x) (with_site m (with_made m.site (served m.site q).added))
-        (seen_made m (served m.site q).added ∙ ap (λ (t : Tables). view_made (view_served (setting t) q (seen_of m)).added (seen_of m)) is)
+    pub served_at : (q : RequestValue) (r : ReplyValue) → world_of (slice_set ms i (with_site m (with_made m.site (serve_outcome m.site q).added))) ls ≡ world_view_after (setting g) (world_of ms ls) (ServeAt i q) (Ok (Replied r))
+    served_at q r = changes (λ (x : SiteView). view_made (view_served (setting g) q x).added x) (with_site m (with_made m.site (serve_outcome m.site q).added))
+        (seen_made m (serve_outcome m.site q).added ∙ ap (λ (t : Tables). view_made (view_served (setting t) q (seen_of m)).added (seen_of m)) is)
 
     -- it pushed
-    pub pushed_at : (name : Option (List ℕ)) (p : Option PushValue) → world_of (slice_set ms i (with_site m (with_made m.site (pushed m.site name).added))) ls ≡ world_view_after (setting g) (world_of ms ls) (PushAt i name) (Ok (PushedOut p))
-    pushed_at name p = changes (λ (x : SiteView). view_made (view_pushed (setting g) name x).added x) (with_site m (with_made m.site (pushed m.site name).added))
-        (seen_made m (pushed m.site name).added ∙ ap (λ (t : Tables). view_made (view_pushed (setting t) name (seen_of m)).added (seen_of m)) is)
+    pub pushed_at : (name : Option (List ℕ)) (p : Option PushValue) → world_of (slice_set ms i (with_site m (with_made m.site (push_outcome_at m.site name).added))) ls ≡ world_view_after (setting g) (world_of ms ls) (PushAt i name) (Ok (PushedOut p))
+    pushed_at name p = changes (λ (x : SiteView). view_made (view_pushed (setting g) name x).added x) (with_site m (with_made m.site (push_outcome_at m.site name).added))
+        (seen_made m (push_outcome_at m.site name).added ∙ ap (λ (t : Tables). view_made (view_pushed (setting t) name (seen_of m)).added (seen_of m)) is)
 
     -- it wrote to a peer
     pub lettered_at : m.cursors.site ≡ m.site.number → (j k : ℕ) → world_of ms (ls ++ letter_made m.cursors m.site j ∷ []) ≡ world_view_after (setting g) (world_of ms ls) (Letter i j) (Ok (Lettered k))

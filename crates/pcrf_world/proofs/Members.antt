@@ -8,7 +8,7 @@ use Rattle.pcrf_model.specs.Holdings.{Holding}
 use Rattle.pcrf_model.specs.Operations.{Operation}
 use Rattle.pcrf_model.specs.Tables.{Tables}
 use Rattle.pcrf_model.specs.Worlds.{SiteView, WorldView}
-use Rattle.site_machine.specs.Sites.{SiteValue, emptied, with_made, with_state}
+use Rattle.site_machine.specs.Sites.{SiteValue, emptied_site, with_made, with_state}
 use Rattle.pcrf_world.specs.Identities.{identity_of}
 use Rattle.pcrf_values.specs.Limits.{site_limit}
 use Rattle.pcrf_world.specs.Members.{AreMembers, AreSites, IsMember, new_member, seen_of, site_seen, started_again, with_site}
@@ -76,7 +76,7 @@ module _ (t : Tables) (m : Member) (is : IsMember t m) where
 
   -- it starts again
   pub again_member : IsMember t (started_again m)
-  again_member = record { site = (keeps (emptied m.site) refl refl refl).site; cursors = refl }
+  again_member = record { site = (keeps (emptied_site m.site) refl refl refl).site; cursors = refl }
 
 -- ---- what is seen of them
 

@@ -4,7 +4,7 @@ use Rattle.pcrf_values.specs.Limits.{site_limit}
 use Rattle.pcrf_model.specs.Cursors.{start_cursors}
 use Rattle.pcrf_model.specs.Tables.{Tables}
 use Rattle.pcrf_model.specs.Worlds.{SiteView}
-use Rattle.site_machine.specs.Sites.{SiteValue, new_site, emptied}
+use Rattle.site_machine.specs.Sites.{SiteValue, new_site, emptied_site}
 use Rattle.pcrf_world.specs.Identities.{identity_of}
 use Rattle.pcrf_world.specs.declared.site.Member.{Member}
 
@@ -41,4 +41,4 @@ with_site m s = record { cursors = m.cursors; site = s }
 
 -- empty, in the next epoch
 abbrev pub started_again : Member → Member
-started_again m = record { cursors = start_cursors m.site.number (m.cursors.epoch + 1); site = emptied m.site }
+started_again m = record { cursors = start_cursors m.site.number (m.cursors.epoch + 1); site = emptied_site m.site }

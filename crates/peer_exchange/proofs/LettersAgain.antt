@@ -21,7 +21,7 @@ use Rattle.fact_codec.proofs.ValuesAgain.{many_again, text_again}
 use Rattle.fact_codec.proofs.FactsAgain.{is_made, gx_facts_again, af_facts_again}
 use Rattle.fact_codec.proofs.HeldAgain.{may_hold, held_gx_facts_again, held_af_facts_again}
 use Rattle.fact_codec.proofs.FactLengths.{facts_no_more, held_facts_no_more}
-use Rattle.site_join.specs.Groups.{Group, held_in, is_group, are_groups, grouped}
+use Rattle.site_join.specs.Groups.{Group, held_in, is_group, are_groups, groups_of_facts}
 use Rattle.site_join.proofs.HeldGroups.{groups_by_test}
 use Rattle.site_join.proofs.FormedGroups.{ungrouped_again}
 use Rattle.peer_exchange.specs.Limits.{longest_letter}
@@ -156,7 +156,7 @@ body_again (Range from os) rest formed placed fits =
     append_assoc (long_bytes from) (operations_bytes os) rest ∙ ap (λ (x : List ℕ). long_bytes from ++ x) (append_assoc (word_bytes (length os)) each rest) in
     rw (parts, long_again from (word_bytes (length os) ++ (each ++ rest)) (omega (arith, last)), word_again (length os) (each ++ rest) few, many_again operation operation_bytes is_countable operation_again os rest (each_countable os formed low)) refl
 body_again (Snapshot h n) rest formed placed fits =
-    let gs = grouped h.facts in
+    let gs = groups_of_facts h.facts in
     let form = groups_by_test h.clock gs formed in
     let each = flat_map held_group_bytes gs in
     let last : n ≤ last_counter = passes_le n last_counter placed in

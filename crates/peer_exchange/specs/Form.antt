@@ -4,7 +4,7 @@ use Rattle.std.specs.List.{list_all}
 use Rattle.pcrf_values.specs.Limits.{last_counter, last_epoch, range_limit, site_limit}
 use Rattle.pcrf_model.specs.Forms.{is_within, is_unsigned, is_operation}
 use Rattle.pcrf_model.specs.Letters.{LetterBody, Range, Snapshot, Acknowledgement, LetterValue}
-use Rattle.site_join.specs.Groups.{are_groups, grouped}
+use Rattle.site_join.specs.Groups.{are_groups, groups_of_facts}
 use Rattle.peer_exchange.specs.Limits.{longest_letter}
 use Rattle.peer_exchange.specs.Spelling.{letter_bytes}
 
@@ -26,7 +26,7 @@ is_placed (Acknowledgement m e c) = is_site m && is_epoch e && nat_le c last_cou
 -- What is said has the form of what sites make and hold: each operation is one that a site may make; of each session stands what a state may hold.
 abbrev pub is_formed : LetterBody → Bool
 is_formed (Range from os) = list_all is_operation os
-is_formed (Snapshot h n) = are_groups h.clock (grouped h.facts)
+is_formed (Snapshot h n) = are_groups h.clock (groups_of_facts h.facts)
 is_formed (Acknowledgement m e c) = true
 
 -- what stands on a letter is within its range

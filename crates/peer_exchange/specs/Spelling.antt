@@ -7,7 +7,7 @@ use Rattle.pcrf_model.specs.Sessions.{Session, kind_number}
 use Rattle.pcrf_model.specs.Operations.{Operation}
 use Rattle.pcrf_model.specs.Letters.{LetterBody, Range, Snapshot, Acknowledgement, LetterValue}
 use Rattle.fact_codec.specs.Spelling.{short_bytes, word_bytes, long_bytes, text_bytes, facts_bytes, held_facts_bytes}
-use Rattle.site_join.specs.Groups.{Group, grouped}
+use Rattle.site_join.specs.Groups.{Group, groups_of_facts}
 use Rattle.peer_exchange.specs.Limits.{letter_version}
 
 -- a session by its kind and its Session-Id
@@ -41,7 +41,7 @@ held_bytes clock n gs = 2 ∷ [] ++ long_bytes clock ++ long_bytes n ++ groups_b
 -- what a letter says, by its kind
 abbrev pub body_bytes : LetterBody → List ℕ
 body_bytes (Range from os) = 1 ∷ [] ++ long_bytes from ++ operations_bytes os
-body_bytes (Snapshot h n) = held_bytes h.clock n (grouped h.facts)
+body_bytes (Snapshot h n) = held_bytes h.clock n (groups_of_facts h.facts)
 body_bytes (Acknowledgement m e c) = 3 ∷ m ∷ [] ++ short_bytes e ++ long_bytes c
 
 -- what stands before it

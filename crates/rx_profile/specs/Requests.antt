@@ -2,7 +2,7 @@
 use Rattle.std.specs.Prelude.{List, [], ◌∷◌, ◌++◌, Option, Some, option_map, map}
 use Rattle.std.specs.Net.Addr.{ipv4_octets}
 use Rattle.pcrf_values.specs.Limits.{apn_limit}
-use Rattle.pcrf_values.specs.Texts.{folded}
+use Rattle.pcrf_values.specs.Texts.{small_letters}
 use Rattle.pcrf_values.specs.declared.refusal.Refusal.{Refusal}
 use Rattle.dia_codec.specs.Fields.{AvpValue}
 use Rattle.pcrf_model.specs.Requests.{ComponentValue, AarValue}
@@ -73,7 +73,7 @@ aar_of avps = record {
   host = text_at origin_host avps;
   realm = text_at origin_realm avps;
   address = value_of framed_ip_address avps;
-  apn = option_map folded (value_of called_station_id avps);
+  apn = option_map small_letters (value_of called_station_id avps);
   subscribers = subscribers_of avps;
   components = components_of avps;
 }

@@ -1,7 +1,7 @@
 //! AA requests (TS 29.214, 5.6.1).
 ghost use Rattle.std.specs.Prelude.{◌≡◌, ◌↔◌, ◌≤◌, length, None, OnOk, IfOk, IfErr, IsTrue, option_map};
 ghost use Rattle.std.specs.Net.Addr.{ipv4_octets};
-ghost use Rattle.pcrf_values.specs.Texts.{folded};
+ghost use Rattle.pcrf_values.specs.Texts.{small_letters};
 ghost use Rattle.dia_codec.specs.Spelling.{avp_views};
 ghost use Rattle.dia_base.specs.Avps.{called_station_id, framed_ip_address};
 ghost use Rattle.dia_base.specs.Rows.{AcceptsAll, IsFaultOf, rows_refusal, value_of};
@@ -102,7 +102,7 @@ fn read_access(alloc: Global, avps: &[Avp]) -> Result<Access, ReadFault>
     ensures subscribers { IfOk result (λ access.
         access.subscribers ≡ subscribers_of (avp_views avps.now)) }
     ensures apn { IfOk result (λ access.
-        access.apn ≡ option_map folded (value_of called_station_id (avp_views avps.now))) }
+        access.apn ≡ option_map small_letters (value_of called_station_id (avp_views avps.now))) }
     ensures refused { IfErr result (IsFaultOf (rows_refusal access_rows (avp_views avps.now))) }
 {
     let address = optional_address(avps, base_key(FRAMED_IP_ADDRESS))?;

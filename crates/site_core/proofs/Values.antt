@@ -5,7 +5,7 @@ use Rattle.pcrf_model.specs.Replies.{ReplyValue}
 use Rattle.pcrf_model.specs.Requests.{RequestValue}
 use Rattle.dia_base.specs.declared.identity.Identity.{Identity}
 use Rattle.dia_codec.specs.declared.message.Header.{Header}
-use Rattle.site_machine.specs.Sites.{SiteValue, served, with_made}
+use Rattle.site_machine.specs.Sites.{SiteValue, serve_outcome, with_made}
 use Rattle.site_core.specs.Answering.{answer_to}
 use Rattle.site_core.specs.Asking.{AskedValue, ToServe, ToRefuse, Nothing, meaning_of_frame}
 use Rattle.site_core.specs.Frames.{Answers, IsServed, NeverFull, Unanswered, SiteReplies, disconnects, answer_by, ends_by, after_by, answer_of, ends, after}
@@ -26,7 +26,7 @@ Answered old asked bytes last new = (bytes ≡ answer_by old asked) × (last ≡
 -- it served a request
 serves : (old : SiteValue) (h : Header) (q : RequestValue) (r : ReplyValue) (bytes : List ℕ) (last : Bool) (new : SiteValue) → SiteReplies old q r new → bytes ≡ answer_to new.identity h q r → last ≡ disconnects q r → Answered old (ToServe h q) bytes last new
 serves old h q r bytes last new replied wrote ends =
-    let same : new.identity ≡ old.identity = ap names replied.1 ∙ same_names old (served old q).added in
+    let same : new.identity ≡ old.identity = ap names replied.1 ∙ same_names old (serve_outcome old q).added in
     (wrote ∙ ap (λ (i : Identity). answer_to i h q r) same ∙ ap (answer_to old.identity h q) replied.0, ends ∙ ap (disconnects q) replied.0, replied.1)
 
 answered_by : (old : SiteValue) (asked : AskedValue) (bytes : List ℕ) (last : Bool) (new : SiteValue) → Answers names SiteReplies NeverFull old asked bytes last new → Answered old asked bytes last new
@@ -42,7 +42,7 @@ site_answers old frame bytes last new a = answered_by old (meaning_of_frame fram
 
 unanswered_by : (old : SiteValue) (asked : AskedValue) (new : SiteValue) → Unanswered SiteReplies old asked new → (new ≡ old) ⊎ (new ≡ after_by old asked)
 unanswered_by old (ToServe h q) new (inl same) = inl same
-unanswered_by old (ToServe h q) new (inr served) = inr served.1.1
+unanswered_by old (ToServe h q) new (inr serve_outcome) = inr serve_outcome.1.1
 unanswered_by old (ToRefuse h session refusal) new same = inl same
 unanswered_by old Nothing new same = inl same
 

@@ -7,7 +7,7 @@ use Rattle.pcrf_model.specs.Requests.{RequestValue, Ccr, Aar, Str, Base}
 use Rattle.dia_codec.specs.declared.message.Header.{Header}
 use Rattle.dia_codec.specs.Fields.{MessageValue}
 use Rattle.dia_codec.specs.Limits.{longest_message}
-use Rattle.dia_codec.specs.Written.{written, written_len}
+use Rattle.dia_codec.specs.Written.{written_spelling, written_len}
 use Rattle.dia_base.specs.declared.identity.Identity.{Identity}
 use Rattle.dia_base.specs.Answers.{refusal_answer}
 use Rattle.gx_profile.specs.Answers.{cca}
@@ -16,7 +16,7 @@ use Rattle.base_profile.specs.Answers.{base_answer}
 
 -- the bytes of an answer; none where it is longer than any message
 abbrev pub answer_bytes : MessageValue → List ℕ
-answer_bytes m = if nat_lt longest_message (written_len m) then [] else written m
+answer_bytes m = if nat_lt longest_message (written_len m) then [] else written_spelling m
 
 -- the answer to a request that could not be read, with its Session-Id where one is known
 abbrev pub refusal_bytes : Identity → Header → Option (List ℕ) → Refusal → List ℕ

@@ -7,7 +7,7 @@ use Rattle.dia_codec.specs.declared.message.Header.{Header}
 use Rattle.dia_base.specs.declared.identity.Identity.{Identity}
 use Rattle.site_core.specs.Answering.{answer_to, busy_answer, refusal_bytes}
 use Rattle.site_core.specs.Asking.{AskedValue, ToServe, ToRefuse, Nothing, meaning_of_frame}
-use Rattle.site_machine.specs.Sites.{SiteValue, served, with_made}
+use Rattle.site_machine.specs.Sites.{SiteValue, serve_outcome, with_made}
 
 -- ---- the end of the connection
 
@@ -60,23 +60,23 @@ NeverFull s = ⊥
 
 -- the one reply that it gives, and the site after it
 abbrev pub SiteReplies : SiteValue → RequestValue → ReplyValue → SiteValue → Type 0
-SiteReplies s request reply new = (reply ≡ (served s request).reply) × (new ≡ with_made s (served s request).added)
+SiteReplies s request reply new = (reply ≡ (serve_outcome s request).reply) × (new ≡ with_made s (serve_outcome s request).added)
 
 -- the bytes of the answer, none where nothing is asked
 abbrev pub answer_by : SiteValue → AskedValue → List ℕ
-answer_by s (ToServe header request) = answer_to s.identity header request (served s request).reply
+answer_by s (ToServe header request) = answer_to s.identity header request (serve_outcome s request).reply
 answer_by s (ToRefuse header session refusal) = refusal_bytes s.identity header session refusal
 answer_by s Nothing = []
 
 -- the stream ends with it
 abbrev pub ends_by : SiteValue → AskedValue → Bool
-ends_by s (ToServe header request) = disconnects request (served s request).reply
+ends_by s (ToServe header request) = disconnects request (serve_outcome s request).reply
 ends_by s (ToRefuse header session refusal) = false
 ends_by s Nothing = false
 
 -- the site after it
 abbrev pub after_by : SiteValue → AskedValue → SiteValue
-after_by s (ToServe header request) = with_made s (served s request).added
+after_by s (ToServe header request) = with_made s (serve_outcome s request).added
 after_by s (ToRefuse header session refusal) = s
 after_by s Nothing = s
 

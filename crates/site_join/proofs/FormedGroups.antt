@@ -19,7 +19,7 @@ use Rattle.pcrf_model.specs.Forms.{is_session, is_rising, stand_together, fits, 
 use Rattle.pcrf_model.proofs.HoldingLaws.{session_ranked, shades_there, kept_facts-In, sorted-In, In-under}
 use Rattle.pcrf_model.proofs.FormReading.{each_passes}
 use Rattle.pcrf_model.proofs.FormLaws.{all_pass, le_passes, test_by_rises, form_by_test}
-use Rattle.site_join.specs.Groups.{Group, ungrouped, is_group, are_groups, with_first, grouped}
+use Rattle.site_join.specs.Groups.{Group, facts_of_groups, is_group, are_groups, with_first, groups_of_facts}
 use Rattle.site_join.proofs.GroupLaws.{AreGroups, of_groups}
 use Rattle.site_join.proofs.HeldGroups.{groups_by_test}
 
@@ -87,10 +87,10 @@ under_back s (f ∷ fs) r = (
 )
 
 -- the facts of each group rise where all do
-group_rises : (gs : List Group) → Rises session_fact_cmp (ungrouped gs) → (g : Group) → In g gs → Rises fact_cmp g.1
+group_rises : (gs : List Group) → Rises session_fact_cmp (facts_of_groups gs) → (g : Group) → In g gs → Rises fact_cmp g.1
 group_rises [] r g i = absurd i
-group_rises (k ∷ gs) r g (inl e) = subst (λ (x : Group). Rises fact_cmp x.1) (sym e) (under_back k.0 k.1 (rises_left session_fact_cmp (under k.0 k.1) (ungrouped gs) r))
-group_rises (k ∷ gs) r g (inr i) = group_rises gs (rises_right session_fact_cmp (under k.0 k.1) (ungrouped gs) r) g i
+group_rises (k ∷ gs) r g (inl e) = subst (λ (x : Group). Rises fact_cmp x.1) (sym e) (under_back k.0 k.1 (rises_left session_fact_cmp (under k.0 k.1) (facts_of_groups gs) r))
+group_rises (k ∷ gs) r g (inr i) = group_rises gs (rises_right session_fact_cmp (under k.0 k.1) (facts_of_groups gs) r) g i
 
 -- a list that is not empty has a member
 a_member : (fs : List Fact) → nat_le 1 (length fs) ≡ true → (f : Fact) × In f fs
@@ -99,7 +99,7 @@ a_member (f ∷ fs) h = (f, inl refl)
 
 -- ---- the groups of what is held
 
-module _ (h : Holding) (form : is_holding h ≡ true) (kept : kept_of h ≡ h) (gs : List Group) (are : AreGroups gs) (is : ungrouped gs ≡ h.facts) where
+module _ (h : Holding) (form : is_holding h ≡ true) (kept : kept_of h ≡ h) (gs : List Group) (are : AreGroups gs) (is : facts_of_groups gs ≡ h.facts) where
   -- none overshadows another
   bare : (x y : SessionFact) → In x h.facts → In y h.facts → is_shaded_there_by x y ≡ false
   bare x y i j =
@@ -146,8 +146,8 @@ module _ (h : Holding) (form : is_holding h ≡ true) (kept : kept_of h ≡ h) (
 -- ---- the groups of facts
 
 -- facts of one session before groups of others make one more group
-with_all : (s : Session) (f : Fact) (fs : List Fact) (rest : List SessionFact) (gs : List Group) → grouped rest ≡ gs → ((g : Group) → In g gs → session_cmp s g.0 ≡ Less)
-    → grouped (under s (f ∷ fs) ++ rest) ≡ (s, f ∷ fs) ∷ gs
+with_all : (s : Session) (f : Fact) (fs : List Fact) (rest : List SessionFact) (gs : List Group) → groups_of_facts rest ≡ gs → ((g : Group) → In g gs → session_cmp s g.0 ≡ Less)
+    → groups_of_facts (under s (f ∷ fs) ++ rest) ≡ (s, f ∷ fs) ∷ gs
 with_all s f [] rest [] e low = ap (with_first (s, f)) e
 with_all s f [] rest (g ∷ gs) e low =
     let before = low g (inl refl) in
@@ -157,31 +157,31 @@ with_all s f (k ∷ fs) rest gs e low =
     ap (with_first (s, f)) (with_all s k fs rest gs e low) ∙ (rw tied refl)
 
 -- Groups that rise, each with a fact, are those of their facts.
-pub grouped_again : (gs : List Group) → list_all (λ g. nat_le 1 (length g.1)) gs ≡ true → Rises session_cmp (map (λ (g : Group). g.0) gs) → grouped (ungrouped gs) ≡ gs
+pub grouped_again : (gs : List Group) → list_all (λ g. nat_le 1 (length g.1)) gs ≡ true → Rises session_cmp (map (λ (g : Group). g.0) gs) → groups_of_facts (facts_of_groups gs) ≡ gs
 grouped_again [] some r = refl
 grouped_again ((s, []) ∷ gs) some r = absurd (cc)
 grouped_again ((s, f ∷ fs) ∷ gs) some r =
-    with_all s f fs (ungrouped gs) gs (grouped_again gs (second_so _ _ some) r.1) (λ g i. r.0 g.0 (In-map (λ (k : Group). k.0) g gs i))
+    with_all s f fs (facts_of_groups gs) gs (grouped_again gs (second_so _ _ some) r.1) (λ g i. r.0 g.0 (In-map (λ (k : Group). k.0) g gs i))
 
 -- groups of the form are those of their facts
-pub formed_again : (clock : ℕ) (gs : List Group) → are_groups clock gs ≡ true → grouped (ungrouped gs) ≡ gs
+pub formed_again : (clock : ℕ) (gs : List Group) → are_groups clock gs ≡ true → groups_of_facts (facts_of_groups gs) ≡ gs
 formed_again clock gs w =
     let form = groups_by_test clock gs w in
     grouped_again gs (all_pass (λ (g : Group). nat_le 1 (length g.1)) gs (λ g i. (form.each g i).some)) form.rise
 
 -- the facts of a fact before groups
-ungrouped_first : (x : SessionFact) (gs : List Group) → ungrouped (with_first x gs) ≡ x ∷ ungrouped gs
+ungrouped_first : (x : SessionFact) (gs : List Group) → facts_of_groups (with_first x gs) ≡ x ∷ facts_of_groups gs
 ungrouped_first x [] = refl
 ungrouped_first x (g ∷ gs) = by_test (is_eq (session_cmp x.0 g.0)) refl
   where
-    by_test : (b : Bool) → is_eq (session_cmp x.0 g.0) ≡ b → ungrouped (with_first x (g ∷ gs)) ≡ x ∷ ungrouped (g ∷ gs)
-    by_test true e = rw e (ap (λ (s : Session). (s, x.1) ∷ ungrouped (g ∷ gs)) (sym (eq_is session_ranked x.0 g.0 e)))
+    by_test : (b : Bool) → is_eq (session_cmp x.0 g.0) ≡ b → facts_of_groups (with_first x (g ∷ gs)) ≡ x ∷ facts_of_groups (g ∷ gs)
+    by_test true e = rw e (ap (λ (s : Session). (s, x.1) ∷ facts_of_groups (g ∷ gs)) (sym (eq_is session_ranked x.0 g.0 e)))
     by_test false e = rw e refl
 
 -- facts are those of their groups
-pub ungrouped_again : (xs : List SessionFact) → ungrouped (grouped xs) ≡ xs
+pub ungrouped_again : (xs : List SessionFact) → facts_of_groups (groups_of_facts xs) ≡ xs
 ungrouped_again [] = refl
-ungrouped_again (x ∷ xs) = ungrouped_first x (grouped xs) ∙ ap (λ (l : List SessionFact). x ∷ l) (ungrouped_again xs)
+ungrouped_again (x ∷ xs) = ungrouped_first x (groups_of_facts xs) ∙ ap (λ (l : List SessionFact). x ∷ l) (ungrouped_again xs)
 
 -- each of these has a fact
 some_first : (x : SessionFact) (gs : List Group) → list_all (λ g. nat_le 1 (length g.1)) gs ≡ true → list_all (λ g. nat_le 1 (length g.1)) (with_first x gs) ≡ true
@@ -192,9 +192,9 @@ some_first x (g ∷ gs) h = by_test (is_eq (session_cmp x.0 g.0)) refl
     by_test true e = rw e (both _ _ (le_passes 1 (length (x.1 ∷ g.1)) (omega arith)) (second_so _ _ h))
     by_test false e = rw e (both _ _ (le_passes 1 (length (x.1 ∷ [])) (omega arith)) h)
 
-grouped_some : (xs : List SessionFact) → list_all (λ g. nat_le 1 (length g.1)) (grouped xs) ≡ true
+grouped_some : (xs : List SessionFact) → list_all (λ g. nat_le 1 (length g.1)) (groups_of_facts xs) ≡ true
 grouped_some [] = refl
-grouped_some (x ∷ xs) = some_first x (grouped xs) (grouped_some xs)
+grouped_some (x ∷ xs) = some_first x (groups_of_facts xs) (grouped_some xs)
 
 -- and they rise where the facts do
 first_rises : (x : SessionFact) (gs : List Group) → ((k : Group) → In k gs → (session_cmp x.0 k.0 ≡ Less) ⊎ (x.0 ≡ k.0)) → Rises session_cmp (map (λ (k : Group). k.0) gs)
@@ -218,9 +218,9 @@ first_rises x (g ∷ gs) low r = by_test (is_eq (session_cmp x.0 g.0)) refl
       r,
     )
 
-grouped_rises : (xs : List SessionFact) → Rises session_fact_cmp xs → Rises session_cmp (map (λ (k : Group). k.0) (grouped xs))
+grouped_rises : (xs : List SessionFact) → Rises session_fact_cmp xs → Rises session_cmp (map (λ (k : Group). k.0) (groups_of_facts xs))
 grouped_rises [] r = tt
-grouped_rises (x ∷ xs) r = first_rises x (grouped xs) low (grouped_rises xs r.1)
+grouped_rises (x ∷ xs) r = first_rises x (groups_of_facts xs) low (grouped_rises xs r.1)
   where
     by_order : (s : Session) (f : Fact) (o : Ordering) → session_cmp x.0 s ≡ o → session_fact_cmp x (s, f) ≡ Less → (session_cmp x.0 s ≡ Less) ⊎ (x.0 ≡ s)
     by_order s f Less e l = inl e
@@ -229,15 +229,15 @@ grouped_rises (x ∷ xs) r = first_rises x (grouped xs) low (grouped_rises xs r.
         let past : Greater ≡ Less = sym (ap (λ o. ordering_then o (fact_cmp x.1 f)) e) ∙ l in
         absurd (cc)
 
-    low : (k : Group) → In k (grouped xs) → (session_cmp x.0 k.0 ≡ Less) ⊎ (x.0 ≡ k.0)
+    low : (k : Group) → In k (groups_of_facts xs) → (session_cmp x.0 k.0 ≡ Less) ⊎ (x.0 ≡ k.0)
     low k i =
-        let member = a_member k.1 (each_passes (λ (g : Group). nat_le 1 (length g.1)) (grouped xs) (grouped_some xs) k i) in
-        let there : In (k.0, member.0) xs = subst (λ (l : List SessionFact). In (k.0, member.0) l) (ungrouped_again xs) (of_groups (grouped xs) k member.0 i member.1) in
+        let member = a_member k.1 (each_passes (λ (g : Group). nat_le 1 (length g.1)) (groups_of_facts xs) (grouped_some xs) k i) in
+        let there : In (k.0, member.0) xs = subst (λ (l : List SessionFact). In (k.0, member.0) l) (ungrouped_again xs) (of_groups (groups_of_facts xs) k member.0 i member.1) in
         by_order k.0 member.0 (session_cmp x.0 k.0) refl (r.0 (k.0, member.0) there)
 
 -- So what a state holds has groups of the form.
-pub held_formed : (h : Holding) → is_holding h ≡ true → kept_of h ≡ h → are_groups h.clock (grouped h.facts) ≡ true
+pub held_formed : (h : Holding) → is_holding h ≡ true → kept_of h ≡ h → are_groups h.clock (groups_of_facts h.facts) ≡ true
 held_formed h form kept =
-    groups_formed h form kept (grouped h.facts)
-    (record { some = grouped_some h.facts; rise = test_by_rises session_cmp (map (λ (k : Group). k.0) (grouped h.facts)) (grouped_rises h.facts (form_by_test h form).rises) })
+    groups_formed h form kept (groups_of_facts h.facts)
+    (record { some = grouped_some h.facts; rise = test_by_rises session_cmp (map (λ (k : Group). k.0) (groups_of_facts h.facts)) (grouped_rises h.facts (form_by_test h form).rises) })
     (ungrouped_again h.facts)

@@ -18,7 +18,7 @@ use Rattle.pcrf_model.specs.Holdings.{SessionFact, session_fact_cmp, on_session,
 use Rattle.pcrf_model.specs.Forms.{is_rising}
 use Rattle.pcrf_model.proofs.FormLaws.{all_pass, le_passes, test_by_rises}
 use Rattle.pcrf_model.proofs.HoldingLaws.{session_ranked, session_fact_ranked, on_session-is, In-facts_on, facts_on-In, In-under, under-In}
-use Rattle.site_join.specs.Groups.{Group, ungrouped, group_at}
+use Rattle.site_join.specs.Groups.{Group, facts_of_groups, group_at}
 use Rattle.site_join.specs.States.{Records, record_facts}
 
 -- Each has a fact, and they stand strictly ascending by session.
@@ -41,28 +41,28 @@ abbrev pub group_cmp : Group → Group → Ordering
 group_cmp g h = session_cmp g.0 h.0
 
 -- a fact of groups is of one of them
-pub one_group : (gs : List Group) (x : SessionFact) → In x (ungrouped gs) → (g : Group) × In g gs × (x.0 ≡ g.0) × In x.1 g.1
+pub one_group : (gs : List Group) (x : SessionFact) → In x (facts_of_groups gs) → (g : Group) × In g gs × (x.0 ≡ g.0) × In x.1 g.1
 one_group [] x i = absurd i
-one_group (g ∷ gs) x i = elim (In-cases x (under g.0 g.1) (ungrouped gs) i) [
+one_group (g ∷ gs) x i = elim (In-cases x (under g.0 g.1) (facts_of_groups gs) i) [
   | inl j ↦ let r = under-In g.0 x g.1 j in (g, inl refl, r.0, r.1)
   | inr j ↦ let r = one_group gs x j in (r.0, inr r.1, r.2, r.3)
 ]
 
 -- and a fact of one of them is theirs
-pub of_groups : (gs : List Group) (g : Group) (f : Fact) → In g gs → In f g.1 → In (g.0, f) (ungrouped gs)
+pub of_groups : (gs : List Group) (g : Group) (f : Fact) → In g gs → In f g.1 → In (g.0, f) (facts_of_groups gs)
 of_groups [] g f i j = absurd i
-of_groups (h ∷ gs) g f (inl e) j = In-left (g.0, f) (under h.0 h.1) (ungrouped gs) (subst (λ (k : Group). In (g.0, f) (under k.0 k.1)) e (In-under g.0 f g.1 j))
-of_groups (h ∷ gs) g f (inr i) j = In-right (g.0, f) (under h.0 h.1) (ungrouped gs) (of_groups gs g f i j)
+of_groups (h ∷ gs) g f (inl e) j = In-left (g.0, f) (under h.0 h.1) (facts_of_groups gs) (subst (λ (k : Group). In (g.0, f) (under k.0 k.1)) e (In-under g.0 f g.1 j))
+of_groups (h ∷ gs) g f (inr i) j = In-right (g.0, f) (under h.0 h.1) (facts_of_groups gs) (of_groups gs g f i j)
 
 -- facts rise on their session
 under_rises : (s : Session) (fs : List Fact) → Rises fact_cmp fs → Rises session_fact_cmp (under s fs)
 under_rises s fs r = map-ascending fact_cmp session_fact_cmp (λ f. (s, f)) fs (λ f g i j l. ap (λ o. ordering_then o (fact_cmp f g)) (tied_itself session_ranked.total s) ∙ l) r
 
 -- the facts of groups rise, where groups and the facts of each do
-pub groups_rise : (gs : List Group) → Rises group_cmp gs → ((g : Group) → In g gs → Rises fact_cmp g.1) → Rises session_fact_cmp (ungrouped gs)
+pub groups_rise : (gs : List Group) → Rises group_cmp gs → ((g : Group) → In g gs → Rises fact_cmp g.1) → Rises session_fact_cmp (facts_of_groups gs)
 groups_rise [] r each = tt
 groups_rise (g ∷ gs) r each =
-    rises_on session_fact_cmp (under g.0 g.1) (ungrouped gs) (under_rises g.0 g.1 (each g (inl refl))) (groups_rise gs r.1 (λ h i. each h (inr i)))
+    rises_on session_fact_cmp (under g.0 g.1) (facts_of_groups gs) (under_rises g.0 g.1 (each g (inl refl))) (groups_rise gs r.1 (λ h i. each h (inr i)))
     (λ x y i j.
     let a = under-In g.0 x g.1 i in
     let b = one_group gs y j in
@@ -187,15 +187,15 @@ module _ (h : Holding) (kept : kept_of h ≡ h) (gxs afs : Records) (gr : AreRec
   facts_rise = subst (λ (l : List SessionFact). Rises session_fact_cmp l) (ap (λ (k : Holding). k.facts) kept) (ascending-ascending session_fact_cmp session_fact_ranked (kept_facts h.facts))
 
   -- each fact is of a group
-  forth : (x : SessionFact) → In x h.facts → In x (ungrouped all_groups)
+  forth : (x : SessionFact) → In x h.facts → In x (facts_of_groups all_groups)
   forth (s, f) i = by_kind s.kind s.id i
     where
-      by_kind : (k : Kind) (id : List ℕ) → In (record { kind = k; id = id }, f) h.facts → In (record { kind = k; id = id }, f) (ungrouped all_groups)
+      by_kind : (k : Kind) (id : List ℕ) → In (record { kind = k; id = id }, f) h.facts → In (record { kind = k; id = id }, f) (facts_of_groups all_groups)
       by_kind Gx id j = of_groups all_groups (gx id, facts_on h.facts (gx id)) f (In-left (gx id, facts_on h.facts (gx id)) gx_groups af_groups (has_group gx (λ _ _ l. l) h.facts gxs gr id f j)) (In-facts_on h.facts (gx id) f j)
       by_kind Af id j = of_groups all_groups (af id, facts_on h.facts (af id)) f (In-right (af id, facts_on h.facts (af id)) gx_groups af_groups (has_group af (λ _ _ l. l) h.facts afs ar id f j)) (In-facts_on h.facts (af id) f j)
 
   -- and each of a group is held
-  back : (x : SessionFact) → In x (ungrouped all_groups) → In x h.facts
+  back : (x : SessionFact) → In x (facts_of_groups all_groups) → In x h.facts
   back x i =
       let w = one_group all_groups x i in
       let its = (all_facts w.0 w.1).0 in
@@ -203,8 +203,8 @@ module _ (h : Holding) (kept : kept_of h ≡ h) (gxs afs : Records) (gr : AreRec
       subst (λ (s : Session). In (s, x.1) h.facts) (sym w.2) there
 
   -- So the groups have just the facts,
-  pub groups_are_facts : ungrouped all_groups ≡ h.facts
-  groups_are_facts = same_ascending session_fact_cmp session_fact_ranked (ungrouped all_groups) h.facts
+  pub groups_are_facts : facts_of_groups all_groups ≡ h.facts
+  groups_are_facts = same_ascending session_fact_cmp session_fact_ranked (facts_of_groups all_groups) h.facts
       (groups_rise all_groups all_rise (λ g i. subst (λ (l : List Fact). Rises fact_cmp l) (sym (all_facts g i).0) (facts_on_rise h.facts g.0 facts_rise)))
       facts_rise (λ x. (back x, forth x))
 

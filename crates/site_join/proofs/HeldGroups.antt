@@ -20,7 +20,7 @@ use Rattle.pcrf_model.specs.Forms.{is_stamp, is_unsigned, is_session, stand_toge
 use Rattle.pcrf_model.proofs.HoldingLaws.{session_ranked, session_fact_ranked, same_session, shaded_there, kept_facts-In, In-kept_facts, kept_facts-append, kept_facts-Same, sorted-Same, sorted-In}
 use Rattle.pcrf_model.proofs.FormReading.{each_passes}
 use Rattle.pcrf_model.proofs.FormLaws.{all_pass, passes_le, rises_by_test, test_by_form}
-use Rattle.site_join.specs.Groups.{Group, ungrouped, held_in, is_group, are_groups}
+use Rattle.site_join.specs.Groups.{Group, facts_of_groups, held_in, is_group, are_groups}
 use Rattle.site_join.specs.States.{Records, facts_of, held_by, session_of, facts_in, gx_with, af_with}
 use Rattle.site_join.specs.declared.operation.SessionFacts.{SessionFacts}
 use Rattle.site_join.proofs.StateLaws.{AreKept, takes, state_kept}
@@ -94,11 +94,11 @@ same_group (x ∷ gs) r g k (inr i) (inr j) e = same_group gs r.1 g k i j e
 
 module _ (clock : ℕ) (gs : List Group) (form : HaveForm clock gs) where
   -- the facts rise
-  pub facts_rise : Rises session_fact_cmp (ungrouped gs)
+  pub facts_rise : Rises session_fact_cmp (facts_of_groups gs)
   facts_rise = groups_rise gs (by_session gs form.rise) (λ g i. by_position g.1 (form.each g i).rises)
 
   -- none overshadows another
-  none_shaded : (x y : SessionFact) → In x (ungrouped gs) → In y (ungrouped gs) → is_shaded_there_by x y ≡ false
+  none_shaded : (x y : SessionFact) → In x (facts_of_groups gs) → In y (facts_of_groups gs) → is_shaded_there_by x y ≡ false
   none_shaded x y i j = is_false (is_shaded_there_by x y) (λ h.
       let a = one_group gs x i in
       let b = one_group gs y j in
@@ -108,8 +108,8 @@ module _ (clock : ℕ) (gs : List Group) (form : HaveForm clock gs) where
       clash (is_shaded_by x.1 y.1) (shaded_there x y h) bare)
 
   -- so all are kept
-  pub all_kept : Same (ungrouped gs) (kept_facts (ungrouped gs))
-  all_kept x = (λ i. In-kept_facts x (ungrouped gs) i (λ y j. none_shaded x y i j), λ i. (kept_facts-In x (ungrouped gs) i).0)
+  pub all_kept : Same (facts_of_groups gs) (kept_facts (facts_of_groups gs))
+  all_kept x = (λ i. In-kept_facts x (facts_of_groups gs) i (λ y j. none_shaded x y i j), λ i. (kept_facts-In x (facts_of_groups gs) i).0)
 
   -- the facts are those of a holding
   pub groups_held : is_holding (held_in clock gs) ≡ true
@@ -127,13 +127,13 @@ module _ (clock : ℕ) (gs : List Group) (form : HaveForm clock gs) where
   -- of which all is kept
   pub groups_kept : kept_of (held_in clock gs) ≡ held_in clock gs
   groups_kept =
-      let same = sorted-Same (kept_facts (ungrouped gs)) (ungrouped gs) (Same-back (ungrouped gs) (kept_facts (ungrouped gs)) all_kept) ∙ ascending-itself session_fact_cmp session_fact_ranked (ungrouped gs) facts_rise in
+      let same = sorted-Same (kept_facts (facts_of_groups gs)) (facts_of_groups gs) (Same-back (facts_of_groups gs) (kept_facts (facts_of_groups gs)) all_kept) ∙ ascending-itself session_fact_cmp session_fact_ranked (facts_of_groups gs) facts_rise in
       λ i. record { facts = same i; clock = clock }
 
   -- and records that have these facts hold them
-  pub records_hold : (gxs afs : Records) → Same (facts_of gxs afs) (ungrouped gs) → held_by gxs afs clock ≡ held_in clock gs
+  pub records_hold : (gxs afs : Records) → Same (facts_of gxs afs) (facts_of_groups gs) → held_by gxs afs clock ≡ held_in clock gs
   records_hold gxs afs s =
-      let same = sorted-Same (facts_of gxs afs) (ungrouped gs) s ∙ ascending-itself session_fact_cmp session_fact_ranked (ungrouped gs) facts_rise in
+      let same = sorted-Same (facts_of gxs afs) (facts_of_groups gs) s ∙ ascending-itself session_fact_cmp session_fact_ranked (facts_of_groups gs) facts_rise in
       λ i. record { facts = same i; clock = clock }
 
 -- ---- records made of groups
@@ -195,10 +195,10 @@ first_taken gxs afs on rest all a b s =
 
 -- in the end the records have the facts of all groups
 pub all_taken : (clock : ℕ) (gs : List Group) → HaveForm clock gs → (gxs afs : Records) → AreKept gxs → AreKept afs
-    → Same (kept_facts (facts_of gxs afs ++ [])) (kept_facts (ungrouped gs)) → held_by gxs afs clock ≡ held_in clock gs
+    → Same (kept_facts (facts_of gxs afs ++ [])) (kept_facts (facts_of_groups gs)) → held_by gxs afs clock ≡ held_in clock gs
 all_taken clock gs form gxs afs a b s =
     let mine : List SessionFact = facts_of gxs afs in
-    let ours : Same (kept_facts mine) (kept_facts (ungrouped gs)) = subst (λ (l : List SessionFact). Same (kept_facts l) (kept_facts (ungrouped gs))) (append-nil mine) s in
+    let ours : Same (kept_facts mine) (kept_facts (facts_of_groups gs)) = subst (λ (l : List SessionFact). Same (kept_facts l) (kept_facts (facts_of_groups gs))) (append-nil mine) s in
     records_hold clock gs form gxs afs
-    (Same-through mine (kept_facts mine) (ungrouped gs) (state_kept gxs afs a b)
-    (Same-through (kept_facts mine) (kept_facts (ungrouped gs)) (ungrouped gs) ours (Same-back (ungrouped gs) (kept_facts (ungrouped gs)) (all_kept clock gs form))))
+    (Same-through mine (kept_facts mine) (facts_of_groups gs) (state_kept gxs afs a b)
+    (Same-through (kept_facts mine) (kept_facts (facts_of_groups gs)) (facts_of_groups gs) ours (Same-back (facts_of_groups gs) (kept_facts (facts_of_groups gs)) (all_kept clock gs form))))

@@ -10,7 +10,7 @@ use Rattle.ranked.proofs.OrderLaws.{text_ranked, eq_is, eq_itself}
 use Rattle.ranked.proofs.PartLaws.{IsMadeOf}
 use Rattle.ranked.proofs.SetLaws.{In-left, In-right, In-cases, In-filter, filter-In, Same-through, Same-turn}
 use Rattle.lattice_core.specs.Entries.{IsAscending, value_at}
-use Rattle.lattice_core.specs.Placed.{placed}
+use Rattle.lattice_core.specs.Placed.{map_with}
 use Rattle.lattice_core.proofs.MapParts.{option_facts, map_made}
 use Rattle.lattice_core.proofs.PlacedValues.{value_placed}
 use Rattle.pcrf_facts.specs.Facts.{Fact}
@@ -63,7 +63,7 @@ module _ (kind : List ℕ → Session) (named : (id : List ℕ) → (kind id).id
       let here : is_eq (session_cmp (kind id) x.0) ≡ true = subst (λ (s : Session). is_eq (session_cmp (kind id) s) ≡ true) (sym (e ∙ ap kind ids)) (eq_itself session_ranked (kind id)) in
       clash (is_eq (session_cmp (kind id) x.0)) here (not_true _ n))
 
-  module _ (es : Records) (id : List ℕ) (v : Option (List Fact)) (all os : List SessionFact) (rises : IsAscending text_cmp es) (rises_then : IsAscending text_cmp (placed text_cmp es id v)) (members : Same all (facts_under kind es ++ os)) (apart : (x : SessionFact) → In x os → is_elsewhere (kind id) x ≡ true) where
+  module _ (es : Records) (id : List ℕ) (v : Option (List Fact)) (all os : List SessionFact) (rises : IsAscending text_cmp es) (rises_then : IsAscending text_cmp (map_with text_cmp es id v)) (members : Same all (facts_under kind es ++ os)) (apart : (x : SessionFact) → In x os → is_elsewhere (kind id) x ≡ true) where
     -- the facts that stay
     abbrev others : List SessionFact
     others = filter (is_elsewhere (kind id)) all
@@ -79,36 +79,36 @@ module _ (kind : List ℕ → Session) (named : (id : List ℕ) → (kind id).id
     by_key k x false e i = stays x (In-left x (facts_under kind es) os ((made es rises).back k x i)) (differ id k x e (is_there k (value_at text_cmp es k) x i))
 
     -- a fact after the put
-    there : (x : SessionFact) → In x (facts_under kind (placed text_cmp es id v) ++ os) → In x (others ++ under (kind id) (record_facts v))
-    there x i = elim (In-cases x (facts_under kind (placed text_cmp es id v)) os i) [
-      | inl j ↦ let p = (made (placed text_cmp es id v) rises_then).into x j in
+    there : (x : SessionFact) → In x (facts_under kind (map_with text_cmp es id v) ++ os) → In x (others ++ under (kind id) (record_facts v))
+    there x i = elim (In-cases x (facts_under kind (map_with text_cmp es id v)) os i) [
+      | inl j ↦ let p = (made (map_with text_cmp es id v) rises_then).into x j in
           by_key p.0 x (is_eq (text_cmp p.0 id)) refl (subst (λ (z : Option (List Fact)). In x (its_facts p.0 z)) (value_placed text_cmp text_ranked.total id es v p.0 rises) p.1)
       | inr j ↦ stays x (In-right x (facts_under kind es) os j) (apart x j)
     ]
 
     -- what stands at a key after the put
-    stands : (k : List ℕ) (b : Bool) → is_eq (text_cmp k id) ≡ b → (if b then v else value_at text_cmp es k) ≡ value_at text_cmp (placed text_cmp es id v) k
-    stands k b e = subst (λ (c : Bool). (if c then v else value_at text_cmp es k) ≡ value_at text_cmp (placed text_cmp es id v) k) e (sym (value_placed text_cmp text_ranked.total id es v k rises))
+    stands : (k : List ℕ) (b : Bool) → is_eq (text_cmp k id) ≡ b → (if b then v else value_at text_cmp es k) ≡ value_at text_cmp (map_with text_cmp es id v) k
+    stands k b e = subst (λ (c : Bool). (if c then v else value_at text_cmp es k) ≡ value_at text_cmp (map_with text_cmp es id v) k) e (sym (value_placed text_cmp text_ranked.total id es v k rises))
 
     -- a fact that stays is in its record
-    stayed : (x : SessionFact) → In x (facts_under kind es ++ os) → is_elsewhere (kind id) x ≡ true → In x (facts_under kind (placed text_cmp es id v) ++ os)
+    stayed : (x : SessionFact) → In x (facts_under kind es ++ os) → is_elsewhere (kind id) x ≡ true → In x (facts_under kind (map_with text_cmp es id v) ++ os)
     stayed x i n = elim (In-cases x (facts_under kind es) os i) [
       | inl j ↦ let p = (made es rises).into x j in
           let other : is_eq (text_cmp p.0 id) ≡ false = same_id id p.0 x n (is_there p.0 (value_at text_cmp es p.0) x p.1) in
-          In-left x (facts_under kind (placed text_cmp es id v)) os ((made (placed text_cmp es id v) rises_then).back p.0 x (subst (λ (z : Option (List Fact)). In x (its_facts p.0 z)) (stands p.0 false other) p.1))
-      | inr j ↦ In-right x (facts_under kind (placed text_cmp es id v)) os j
+          In-left x (facts_under kind (map_with text_cmp es id v)) os ((made (map_with text_cmp es id v) rises_then).back p.0 x (subst (λ (z : Option (List Fact)). In x (its_facts p.0 z)) (stands p.0 false other) p.1))
+      | inr j ↦ In-right x (facts_under kind (map_with text_cmp es id v)) os j
     ]
 
     -- a fact that stays or was put is there
-    back : (x : SessionFact) → In x (others ++ under (kind id) (record_facts v)) → In x (facts_under kind (placed text_cmp es id v) ++ os)
+    back : (x : SessionFact) → In x (others ++ under (kind id) (record_facts v)) → In x (facts_under kind (map_with text_cmp es id v) ++ os)
     back x i = elim (In-cases x others (under (kind id) (record_facts v)) i) [
       | inl j ↦ let p = filter-In (is_elsewhere (kind id)) x all j in stayed x ((members x).0 p.0) p.1
-      | inr j ↦ In-left x (facts_under kind (placed text_cmp es id v)) os
-          ((made (placed text_cmp es id v) rises_then).back id x (subst (λ (z : Option (List Fact)). In x (its_facts id z)) (stands id true (eq_itself text_ranked id)) (subst (In x) (sym (facts_are id v)) j)))
+      | inr j ↦ In-left x (facts_under kind (map_with text_cmp es id v)) os
+          ((made (map_with text_cmp es id v) rises_then).back id x (subst (λ (z : Option (List Fact)). In x (its_facts id z)) (stands id true (eq_itself text_ranked id)) (subst (In x) (sym (facts_are id v)) j)))
     ]
 
     -- so the facts of its session are replaced
-    pub replaces : Same (facts_under kind (placed text_cmp es id v) ++ os) (others ++ under (kind id) (record_facts v))
+    pub replaces : Same (facts_under kind (map_with text_cmp es id v) ++ os) (others ++ under (kind id) (record_facts v))
     replaces x = (there x, back x)
 
 -- facts of AF sessions are of no Gx session
@@ -122,26 +122,26 @@ gx_apart gxs id x i = ap not (is_false (is_eq (session_cmp (af id) x.0)) (λ t.
     kinds_differ x.0.kind (of_kind gx Gx (λ _. refl) gxs x i) (sym (ap (λ (s : Session). s.kind) (eq_is session_ranked (af id) x.0 t)))))
 
 -- A record put in the place of a Gx session's replaces its facts.
-pub puts_gx : (gxs afs : Records) (id : List ℕ) (v : Option (List Fact)) (before clock : ℕ) → IsAscending text_cmp gxs → IsAscending text_cmp (placed text_cmp gxs id v)
-    → held_by (placed text_cmp gxs id v) afs clock ≡ with_facts_of (held_by gxs afs before) (gx id) (record_facts v) clock
+pub puts_gx : (gxs afs : Records) (id : List ℕ) (v : Option (List Fact)) (before clock : ℕ) → IsAscending text_cmp gxs → IsAscending text_cmp (map_with text_cmp gxs id v)
+    → held_by (map_with text_cmp gxs id v) afs clock ≡ with_facts_of (held_by gxs afs before) (gx id) (record_facts v) clock
 puts_gx gxs afs id v before clock a b =
     let all : List SessionFact = facts_of gxs afs in
-    let put_in : List SessionFact = facts_of (placed text_cmp gxs id v) afs in
+    let put_in : List SessionFact = facts_of (map_with text_cmp gxs id v) afs in
     let asked : List SessionFact = filter (is_elsewhere (gx id)) (ascending session_fact_cmp all) ++ under (gx id) (record_facts v) in
     let same : ascending session_fact_cmp put_in ≡ ascending session_fact_cmp asked = holding.sorted-Same put_in asked
     (replaces gx gx_named gxs id v (ascending session_fact_cmp all) (facts_under af afs) a b (holding.sorted-In all) (af_apart afs id)) in
     λ i. record { facts = same i; clock = clock }
 
 -- And in that of an AF session's.
-pub puts_af : (gxs afs : Records) (id : List ℕ) (v : Option (List Fact)) (before clock : ℕ) → IsAscending text_cmp afs → IsAscending text_cmp (placed text_cmp afs id v)
-    → held_by gxs (placed text_cmp afs id v) clock ≡ with_facts_of (held_by gxs afs before) (af id) (record_facts v) clock
+pub puts_af : (gxs afs : Records) (id : List ℕ) (v : Option (List Fact)) (before clock : ℕ) → IsAscending text_cmp afs → IsAscending text_cmp (map_with text_cmp afs id v)
+    → held_by gxs (map_with text_cmp afs id v) clock ≡ with_facts_of (held_by gxs afs before) (af id) (record_facts v) clock
 puts_af gxs afs id v before clock a b =
     let all : List SessionFact = facts_of gxs afs in
     let turned : List SessionFact = facts_under af afs ++ facts_under gx gxs in
-    let put_in : List SessionFact = facts_of gxs (placed text_cmp afs id v) in
+    let put_in : List SessionFact = facts_of gxs (map_with text_cmp afs id v) in
     let asked : List SessionFact = filter (is_elsewhere (af id)) (ascending session_fact_cmp all) ++ under (af id) (record_facts v) in
     let members : Same (ascending session_fact_cmp all) turned = Same-through (ascending session_fact_cmp all) all turned (holding.sorted-In all) (Same-turn (facts_under gx gxs) (facts_under af afs)) in
-    let put : Same (facts_under af (placed text_cmp afs id v) ++ facts_under gx gxs) asked = replaces af af_named afs id v (ascending session_fact_cmp all) (facts_under gx gxs) a b members (gx_apart gxs id) in
+    let put : Same (facts_under af (map_with text_cmp afs id v) ++ facts_under gx gxs) asked = replaces af af_named afs id v (ascending session_fact_cmp all) (facts_under gx gxs) a b members (gx_apart gxs id) in
     let same : ascending session_fact_cmp put_in ≡ ascending session_fact_cmp asked = holding.sorted-Same put_in asked
-    (Same-through put_in (facts_under af (placed text_cmp afs id v) ++ facts_under gx gxs) asked (Same-turn (facts_under gx gxs) (facts_under af (placed text_cmp afs id v))) put) in
+    (Same-through put_in (facts_under af (map_with text_cmp afs id v) ++ facts_under gx gxs) asked (Same-turn (facts_under gx gxs) (facts_under af (map_with text_cmp afs id v))) put) in
     λ i. record { facts = same i; clock = clock }

@@ -19,12 +19,12 @@ abbrev pub group_of : SessionFacts → Group
 group_of g = (session_of g, facts_in g)
 
 -- the facts of groups, each with its session
-abbrev pub ungrouped : List Group → List SessionFact
-ungrouped = flat_map (λ g. under g.0 g.1)
+abbrev pub facts_of_groups : List Group → List SessionFact
+facts_of_groups = flat_map (λ g. under g.0 g.1)
 
 -- under that clock
 abbrev pub held_in : ℕ → List Group → Holding
-held_in clock gs = record { facts = ungrouped gs; clock = clock }
+held_in clock gs = record { facts = facts_of_groups gs; clock = clock }
 
 -- What a state with that clock may hold of a session: facts as one operation's stand together, each with the tag of some operation up to the clock.
 abbrev pub is_group : ℕ → Group → Bool
@@ -40,9 +40,9 @@ with_first x [] = (x.0, x.1 ∷ []) ∷ []
 with_first x (g ∷ gs) = if is_eq (session_cmp x.0 g.0) then (g.0, x.1 ∷ g.1) ∷ gs else (x.0, x.1 ∷ []) ∷ g ∷ gs
 
 -- facts that stand by session, as groups
-abbrev pub grouped : List SessionFact → List Group
-grouped [] = []
-grouped (x ∷ xs) = with_first x (grouped xs)
+abbrev pub groups_of_facts : List SessionFact → List Group
+groups_of_facts [] = []
+groups_of_facts (x ∷ xs) = with_first x (groups_of_facts xs)
 
 -- the facts of a record by its Session-Id, if it has any
 abbrev pub group_at : (List ℕ → Session) → List ℕ × List Fact → Option Group

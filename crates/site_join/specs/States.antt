@@ -59,5 +59,5 @@ af_with afs (on.Af id facts) = put text_cmp join_of afs id (kept_list (map af_fa
 -- ---- merging
 
 -- what is kept of both
-abbrev pub merged : Holding → Holding → Holding
-merged h k = kept_of (union h k)
+abbrev pub merge_of : Holding → Holding → Holding
+merge_of h k = kept_of (union h k)

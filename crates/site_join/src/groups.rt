@@ -4,7 +4,7 @@ ghost use Rattle.std.specs.List.{filter_map, list_all};
 ghost use Rattle.std.specs.Ordering.{is_lt};
 ghost use Rattle.pcrf_model.specs.Forms.{is_rising};
 ghost use Rattle.pcrf_model.specs.Sessions.{gx, af, session_cmp};
-ghost use Rattle.site_join.specs.Groups.{are_groups, group_at, group_of, is_group, ungrouped};
+ghost use Rattle.site_join.specs.Groups.{are_groups, group_at, group_of, is_group, facts_of_groups};
 ghost use Rattle.site_join.specs.States.{session_of};
 
 use crate::form::{LAST_COUNTER, are_held};
@@ -60,7 +60,8 @@ impl State {
     /// All that is held, session by session: gateways' sessions first, each kind by Session-Id, and the facts of a session in
     /// their order. Its time and memory grow with the number of facts.
     pub fn groups(&self, alloc: Global) -> Result<Vec<SessionFacts>, AllocError>
-        ensures facts { IfOk result (λ gs. ungrouped (map group_of gs.items) ≡ self.now.facts) }
+        ensures facts { IfOk result (λ gs. facts_of_groups (map group_of gs.items)
+            ≡ self.now.facts) }
         ensures form { IfOk result (λ gs. are_groups self.now.clock (map group_of gs.items) ≡ true) }
     {
         self.note_kept();

@@ -10,7 +10,7 @@ ghost use Rattle.pcrf_model.specs.ToldTags.{ToldUpTo};
 ghost use Rattle.pcrf_model.specs.Forms.{are_up_to, is_holding, is_record, is_recorded};
 ghost use Rattle.ranked.specs.Orders.{text_cmp};
 ghost use Rattle.lattice_core.specs.Entries.{IsAscending, put, value_at};
-ghost use Rattle.site_join.specs.Groups.{are_groups, group_of, grouped, held_in};
+ghost use Rattle.site_join.specs.Groups.{are_groups, group_of, groups_of_facts, held_in};
 ghost use Rattle.site_join.specs.States.{record_facts, session_of, facts_in, gx_with, af_with};
 
 use crate::operation::{Operation, SessionFacts};
@@ -162,7 +162,7 @@ impl State {
     /// Does nothing: its contract tells a proof that of each session stands what a state with that clock may hold.
     #[tactic(auto, using(crate::proofs::FormedGroups::held_formed))]
     pub fn note_groups(&self)
-        ensures { are_groups self.now.clock (grouped self.now.facts) ≡ true }
+        ensures { are_groups self.now.clock (groups_of_facts self.now.facts) ≡ true }
     {
         self.note_kept();
         self.note_form();

@@ -19,7 +19,7 @@ use Rattle.pcrf_model.specs.Replies.{Done, Refused}
 use Rattle.pcrf_model.specs.Serving.{serve_aar, serve_str}
 use Rattle.bind_index.specs.Asking.{HasRecord}
 use Rattle.indexed_state.proofs.PlacedRecord.{facts_on-append, own_under, held-append}
-use Rattle.fact_making.specs.Call.{described}
+use Rattle.fact_making.specs.Call.{call_facts}
 use Rattle.site_machine.specs.Calls.{late_refusal}
 use Rattle.site_machine.specs.Facts.{operation_on_call}
 use Rattle.site_machine.specs.Sites.{SiteValue, aar_served, str_served}
@@ -139,7 +139,7 @@ aar_refused s q r is = rw is refl
 pub aar_accepted : (s : SiteValue) (q : AarValue) → aar_refusal s.tables s.number s.state.holding q ≡ None
     → aar_served s q ≡ record {
       reply = Done;
-      added = Some (operation_on_call s.number (s.state.holding.clock + 1) q.session (ascending fact_cmp (described s.number (s.state.holding.clock + 1) q)));
+      added = Some (operation_on_call s.number (s.state.holding.clock + 1) q.session (ascending fact_cmp (call_facts s.number (s.state.holding.clock + 1) q)));
     }
 unfolding serve_aar
 aar_accepted s q is = rw is refl

@@ -33,7 +33,7 @@ use Rattle.pcrf_model.proofs.ProvisionLaws.{first_apart}
 use Rattle.pcrf_model.proofs.RecordForms.{holding_up_to}
 use Rattle.pcrf_model.proofs.ServedForms.{ccr_parts, aar_parts, origin_parts, call_makes, fields_in_form, provision_in_form, telling_in_form}
 use Rattle.pcrf_model.proofs.ToldFacts.{IsApart}
-use Rattle.fact_making.specs.Call.{described}
+use Rattle.fact_making.specs.Call.{call_facts}
 use Rattle.fact_making.specs.Gateway.{made_facts}
 use Rattle.site_machine.specs.Facts.{opens, operation_made, operation_told, operation_pushed, operation_on_call}
 use Rattle.site_machine.proofs.Replies.{fields_made}
@@ -102,9 +102,9 @@ pushed_formed counter i session d stamp text tell some = telling_in_form counter
 -- ---- application functions
 
 -- what an AA request describes
-pub call_formed : (counter i : ℕ) (q : AarValue) → is_stamp counter i ≡ true → is_request (Aar q) ≡ true → is_operation (operation_on_call i counter q.session (ascending fact_cmp (described i counter q))) ≡ true
+pub call_formed : (counter i : ℕ) (q : AarValue) → is_stamp counter i ≡ true → is_request (Aar q) ≡ true → is_operation (operation_on_call i counter q.session (ascending fact_cmp (call_facts i counter q))) ≡ true
 call_formed counter i q stamp w =
-    stamped_in_form counter i 0 (af q.session) (described i counter q) stamp refl (origin_parts q.session q.host q.realm (aar_parts q w).0).0 (call_makes counter i q w)
+    stamped_in_form counter i 0 (af q.session) (call_facts i counter q) stamp refl (origin_parts q.session q.host q.realm (aar_parts q w).0).0 (call_makes counter i q w)
 
 -- the end of a session
 pub hung_up_formed : (counter i : ℕ) (q : StrValue) → is_stamp counter i ≡ true → is_request (Str q) ≡ true → is_operation (operation_on_call i counter q.session (End ∷ [])) ≡ true

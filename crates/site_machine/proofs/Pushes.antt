@@ -18,7 +18,7 @@ use Rattle.pcrf_model.proofs.BindLaws.{gx_is}
 use Rattle.pcrf_model.proofs.DueLaws.{first_due}
 use Rattle.rule_delta.specs.Pushed.{push_of}
 use Rattle.site_machine.specs.Facts.{operation_pushed}
-use Rattle.site_machine.specs.Sites.{pushed}
+use Rattle.site_machine.specs.Sites.{push_outcome_at}
 
 module _ (s : SiteValue) (name : Option (List ℕ)) where
   -- the operator tables
@@ -47,7 +47,7 @@ module _ (s : SiteValue) (name : Option (List ℕ)) where
   none_due (Some r) e = none_some (push_of t v r) (sym e)
 
   -- then nothing happens
-  pub nothing_is : None ≡ out → pushed s name ≡ record { reply = Pushed None; added = None }
+  pub nothing_is : None ≡ out → push_outcome_at s name ≡ record { reply = Pushed None; added = None }
   unfolding push
   nothing_is e = rw (none_due next (sym e)) refl
 
@@ -88,7 +88,7 @@ module _ (s : SiteValue) (name : Option (List ℕ)) where
   pushed_delta p e = let w = is_pushed p e in ap (λ (x : PushValue). x.delta) w.is ∙ ap (λ (r : Session). delta_of delta_limit t v r) (sym w.named)
 
   -- the push and its operation
-  pub something_is : (p : PushValue) → Some p ≡ out → pushed s name ≡ record { reply = Pushed (Some p); added = Some (operation_pushed s.number (h.clock + 1) p.session p.delta) }
+  pub something_is : (p : PushValue) → Some p ≡ out → push_outcome_at s name ≡ record { reply = Pushed (Some p); added = Some (operation_pushed s.number (h.clock + 1) p.session p.delta) }
   unfolding push
   something_is p e =
       let w = is_pushed p e in

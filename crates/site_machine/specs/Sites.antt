@@ -41,12 +41,12 @@ abbrev pub str_served : SiteValue → StrValue → Outcome
 str_served s q = serve_str s.number s.state.holding q
 
 -- and to any request
-abbrev pub served : SiteValue → RequestValue → Outcome
-served s q = serve delta_limit s.tables s.number s.state.holding q
+abbrev pub serve_outcome : SiteValue → RequestValue → Outcome
+serve_outcome s q = serve delta_limit s.tables s.number s.state.holding q
 
 -- what they push of it to the gateway of a host, any where none is named
-abbrev pub pushed : SiteValue → Option (List ℕ) → Outcome
-pushed s name = push delta_limit s.tables s.number s.state.holding name
+abbrev pub push_outcome_at : SiteValue → Option (List ℕ) → Outcome
+push_outcome_at s name = push delta_limit s.tables s.number s.state.holding name
 
 -- with one operation: what is kept of it is held
 abbrev pub with_one : SiteValue → Operation → SiteValue
@@ -74,8 +74,8 @@ abbrev pub after_event : SiteValue → SiteEvent → ReplyValue → SiteValue
 after_event s e r = record s { state = kept_state (state_after delta_limit s.tables s.number s.state e r) }
 
 -- empty
-abbrev pub emptied : SiteValue → SiteValue
-emptied s = record s { state = new_state }
+abbrev pub emptied_site : SiteValue → SiteValue
+emptied_site s = record s { state = new_state }
 
 -- with these facts in place of those of a session, under that clock
 abbrev pub with_record : SiteValue → Session → List Fact → ℕ → SiteValue

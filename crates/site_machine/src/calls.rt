@@ -17,7 +17,7 @@ ghost use Rattle.af_records.specs.RecordFacts.{fact_of};
 ghost use Rattle.site_join.specs.States.{record_facts};
 ghost use Rattle.rx_profile.specs.Requests.{aar_view};
 ghost use Rattle.rx_profile.specs.Terminations.{str_view};
-ghost use Rattle.fact_making.specs.Call.{described};
+ghost use Rattle.fact_making.specs.Call.{call_facts};
 ghost use Rattle.site_machine.specs.Calls.{late_refusal};
 ghost use Rattle.site_machine.specs.Replies.{is_plain};
 ghost use Rattle.site_machine.specs.Values.{reply_value};
@@ -72,7 +72,7 @@ impl Site {
         ensures bound { IfOk result (λ made. is_none made
             ≡ binds_to_none self.now.number self.now.state.holding (aar_view aar.now)) }
         ensures facts { IfOk result (λ made. IfSome made (λ m. map fact_of m.0.items
-            ≡ ascending fact_cmp (described self.now.number (self.now.state.holding.clock + 1)
+            ≡ ascending fact_cmp (call_facts self.now.number (self.now.state.holding.clock + 1)
             (aar_view aar.now)))) }
         ensures known { IfOk result (λ made. IfSome made (λ m. m.1 ≡ join_of
             (facts_on self.now.state.holding.facts (af aar.now.session))

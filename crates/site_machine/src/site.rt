@@ -93,7 +93,7 @@ impl Site {
     ghost use Rattle.site_machine.specs.Facts.{fields_of, opens, operation_made, operation_pushed, operation_told, operation_with};
     ghost use Rattle.site_machine.specs.Left.{LacksTheRest, fields_added, granted_opening, granted_request};
     ghost use Rattle.site_machine.specs.Replies.{told_reply};
-    ghost use Rattle.site_machine.specs.Sites.{new_site, ccr_served, emptied, pushed, served, with_made, with_one, with_record, with_state, with_taken};
+    ghost use Rattle.site_machine.specs.Sites.{new_site, ccr_served, emptied_site, push_outcome_at, serve_outcome, with_made, with_one, with_record, with_state, with_taken};
 
     /// A site that took nothing.
     pub fn start(alloc: Global, tables: Tables, identity: Identity, number: u8) -> Site
@@ -211,9 +211,9 @@ impl Site {
     /// of the difference left. An error changes nothing.
     pub fn serve(&mut self, request: &Request) -> Result<Reply, AllocError>
         ensures reply { IfOk result (λ reply.
-            reply_value reply ≡ (served self.old (request_value request.now)).reply) }
+            reply_value reply ≡ (serve_outcome self.old (request_value request.now)).reply) }
         ensures ok { OnOk result (self.new
-            ≡ with_made self.old (served self.old (request_value request.now)).added) }
+            ≡ with_made self.old (serve_outcome self.old (request_value request.now)).added) }
         ensures left { IfOk result (λ reply. IfSome (granted_request request.now reply) (λ q.
             LacksTheRest self.old (fields_added self.old q) self.new (gx q.session))) }
         ensures err { OnErr result (self.new ≡ self.old) }
@@ -554,9 +554,9 @@ impl Site {
     /// 40 entries. Its gateway lacks then just what these left. An error changes nothing.
     pub fn push(&mut self, host: Option<&[u8]>) -> Result<Option<PushOut>, StepFault>
         ensures push { IfOk result (λ push. Pushed (option_map push_view push)
-            ≡ (pushed self.old (option_copied host.entry)).reply) }
+            ≡ (push_outcome_at self.old (option_copied host.entry)).reply) }
         ensures ok { OnOk result (self.new
-            ≡ with_made self.old (pushed self.old (option_copied host.entry)).added) }
+            ≡ with_made self.old (push_outcome_at self.old (option_copied host.entry)).added) }
         ensures left { IfOk result (λ push. IfSome push (λ p.
             LacksTheRest self.old self.old.state.holding.facts self.new (gx p.session))) }
         ensures room { OnOk result (lacks_counter self.old.tables self.old.number
@@ -580,9 +580,9 @@ impl Site {
         thrice: bool,
     ) -> Result<Option<(PushOut, Option<(PushOut, PushOut)>)>, StepFault>
         ensures push { IfOk result (λ found. Pushed (option_map (λ told. push_view told.0) found)
-            ≡ (pushed self.old (option_copied host.entry)).reply) }
+            ≡ (push_outcome_at self.old (option_copied host.entry)).reply) }
         ensures ok { OnOk result (self.new
-            ≡ with_made self.old (pushed self.old (option_copied host.entry)).added) }
+            ≡ with_made self.old (push_outcome_at self.old (option_copied host.entry)).added) }
         ensures left { IfOk result (λ found. IfSome found (λ told.
             LacksTheRest self.old self.old.state.holding.facts self.new
             (gx told.0.session))) }
@@ -706,7 +706,7 @@ impl Site {
 
     /// Forgets all that it took and made.
     pub fn clear(&mut self)
-        ensures { self.new ≡ emptied self.old }
+        ensures { self.new ≡ emptied_site self.old }
     {
         self.held.clear();
         self.log = Vec::new(self.alloc);

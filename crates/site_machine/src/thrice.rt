@@ -12,7 +12,7 @@ use pcrf_values::DiameterIdentity;
 use std::alloc::AllocError;
 
 impl Site {
-    ghost use Rattle.site_machine.specs.Sites.{SiteMayReply, after_event, served, with_made};
+    ghost use Rattle.site_machine.specs.Sites.{SiteMayReply, after_event, serve_outcome, with_made};
 
     /// Makes an event happen as `step` does, and gives the reply three times. Where memory for one of them is refused, the event
     /// does not happen. A fault changes nothing.
@@ -59,11 +59,11 @@ impl Site {
     /// Serves a request. An error changes nothing.
     fn serve_thrice(&mut self, request: &Request) -> Result<(Reply, Reply, Reply), AllocError>
         ensures reply { IfOk result (λ r.
-            reply_value r.0 ≡ (served self.old (request_value request.now)).reply) }
+            reply_value r.0 ≡ (serve_outcome self.old (request_value request.now)).reply) }
         ensures second { IfOk result (λ r. reply_value r.1 ≡ reply_value r.0) }
         ensures third { IfOk result (λ r. reply_value r.2 ≡ reply_value r.0) }
         ensures ok { OnOk result (self.new
-            ≡ with_made self.old (served self.old (request_value request.now)).added) }
+            ≡ with_made self.old (serve_outcome self.old (request_value request.now)).added) }
         ensures err { OnErr result (self.new ≡ self.old) }
     {
         match request {

@@ -1,5 +1,5 @@
 use Rattle.std.proofs.Common.{◌≡◌, ◌<◌, ◌+◌, ◌++◌, [], List, ℕ, Bor, length, get_or, take, drop, rules, refl, sym, subst, ◌∙◌}
-use Rattle.dia_codec.specs.Stream.{CutsInto, end_of, frame_bytes, joined}
+use Rattle.dia_codec.specs.Stream.{CutsInto, end_of, frame_bytes, bytes_of_pieces}
 use Rattle.dia_codec.specs.declared.stream.StreamEnd.TheVariants.{Bad}
 use Rattle.dia_codec.proofs.Frames.{no_stream, piece_taken, joined-take-drop, bad_cuts, not_bad}
 use Rattle.dia_codec.proofs.stream.frames_of.Goals as goal
@@ -21,8 +21,8 @@ returns-in-Bad c =
     let fed : c.feed.new.self.bytes ≡ c.loop-piece.assembler.bytes ++ (get_or pieces i nothing).now = search rules in
     let taken = piece_taken pieces i nothing _ _ _ c.feed.new.self.bytes _ lt c.loop-piece.invariant.splits fed c.in_ok-end.ensures.splits in
     let bad : Bad c.in-Bad.field-0 ≡ end_of c.take_frames.new.assembler.bytes = sym c.in-Bad.is ∙ c.in_ok-end.ensures.end in
-    let cut = bad_cuts (joined (take (i + 1) pieces)) (joined (drop (i + 1) pieces)) _ _ c.in-Bad.field-0 taken bad in
-    subst (CutsInto (joined pieces) (frame_bytes c.take_frames.new.frames.items)) (sym c.in-Bad.is) (subst (λ (stream : List ℕ). CutsInto stream (frame_bytes c.take_frames.new.frames.items) (Bad c.in-Bad.field-0)) (joined-take-drop (i + 1) pieces) cut)
+    let cut = bad_cuts (bytes_of_pieces (take (i + 1) pieces)) (bytes_of_pieces (drop (i + 1) pieces)) _ _ c.in-Bad.field-0 taken bad in
+    subst (CutsInto (bytes_of_pieces pieces) (frame_bytes c.take_frames.new.frames.items)) (sym c.in-Bad.is) (subst (λ (stream : List ℕ). CutsInto stream (frame_bytes c.take_frames.new.frames.items) (Bad c.in-Bad.field-0)) (joined-take-drop (i + 1) pieces) cut)
 
 pub loop-piece-preserved : goal.loop-piece-preserved
 loop-piece-preserved c =

@@ -9,7 +9,7 @@ use Rattle.pcrf_model.proofs.ServedForms.{call_in_form}
 use Rattle.af_records.specs.RecordFacts.{fact_of}
 use Rattle.af_records.specs.declared.fact.AfFact.{AfFact}
 use Rattle.rx_profile.specs.Requests.{aar_view}
-use Rattle.fact_making.specs.Call.{call_fields, described}
+use Rattle.fact_making.specs.Call.{call_fields, call_facts}
 use Rattle.fact_making.proofs.Apart.{call_is_whole}
 use Rattle.fact_making.proofs.call.call_of.Goals as goal
 
@@ -19,7 +19,7 @@ returns-clause-all c =
     let tag : Tag = record { number = 0; counter = c.args.counter; site = c.args.site } in
     let fields = ap (λ (fs : List Fact). fs ++ flat_map (component_facts tag) c.as_slice-components.result.now) c.in_ok-facts.ensures in
     let components = ap (λ cs. call_fields view tag ++ flat_map (component_facts tag) cs) c.as_slice-components.ensures.components in
-    let made : map fact_of c.put_components.new.facts.items ≡ described c.args.site c.args.counter view = c.in_ok-put_components.ensures ∙ (fields ∙ components) in
+    let made : map fact_of c.put_components.new.facts.items ≡ call_facts c.args.site c.args.counter view = c.in_ok-put_components.ensures ∙ (fields ∙ components) in
     let facts = ap (λ (fs : List AfFact). kept_list (map fact_of fs)) c.as_slice.ensures.value ∙ ap kept_list made in
     subst (λ (fs : List Fact). IfOk c.of_facts.result (λ call. call ≡ fs))
     (facts ∙ call_is_whole view c.args.site c.args.counter c.as_slice-components.ensures.apart)
@@ -31,6 +31,6 @@ of_facts-requires c =
     let tag : Tag = record { number = 0; counter = c.args.counter; site = c.args.site } in
     let fields = ap (λ (fs : List Fact). fs ++ flat_map (component_facts tag) c.as_slice-components.result.now) c.in_ok-facts.ensures in
     let components = ap (λ cs. call_fields view tag ++ flat_map (component_facts tag) cs) c.as_slice-components.ensures.components in
-    let made : map fact_of c.put_components.new.facts.items ≡ described c.args.site c.args.counter view = c.in_ok-put_components.ensures ∙ (fields ∙ components) in
+    let made : map fact_of c.put_components.new.facts.items ≡ call_facts c.args.site c.args.counter view = c.in_ok-put_components.ensures ∙ (fields ∙ components) in
     let facts = ap (λ (fs : List AfFact). is_record Af (map fact_of fs)) c.as_slice.ensures.value ∙ ap (is_record Af) made in
     facts ∙ call_in_form c.args.counter c.args.site view c.requires.first c.requires.within c.note_aar.ensures

@@ -2,7 +2,7 @@ use Rattle.std.proofs.Common.{◌≡◌, ℕ, true, List, ◌∷◌, ◌++◌, l
 use Rattle.std.specs.List.{flat_map}
 use Rattle.pcrf_model.specs.Holdings.{Holding}
 use Rattle.fact_codec.specs.Spelling.{word_bytes, long_bytes}
-use Rattle.site_join.specs.Groups.{Group, group_of, are_groups, grouped}
+use Rattle.site_join.specs.Groups.{Group, group_of, are_groups, groups_of_facts}
 use Rattle.site_join.specs.declared.operation.SessionFacts.{SessionFacts}
 use Rattle.site_join.proofs.FormedGroups.{formed_again}
 use Rattle.peer_exchange.specs.Spelling.{held_group_bytes, groups_bytes, held_bytes}
@@ -28,5 +28,5 @@ returns-clause-spelled c =
     ∙ sym (append_assoc (long_bytes clock) (long_bytes n) (groups_bytes gs ++ rest))
     ∙ sym (append_assoc (long_bytes clock ++ long_bytes n) (groups_bytes gs) rest) in
     let spelled : 2 ∷ c.args.bytes.now ≡ held_bytes clock n gs ++ rest = ap (λ (x : List ℕ). 2 ∷ x) all in
-    subst (λ (h : Holding). 2 ∷ c.args.bytes.now ≡ held_bytes h.clock n (grouped h.facts) ++ rest) (sym c.in_ok-state.ensures)
+    subst (λ (h : Holding). 2 ∷ c.args.bytes.now ≡ held_bytes h.clock n (groups_of_facts h.facts) ++ rest) (sym c.in_ok-state.ensures)
     (subst (λ (ks : List Group). 2 ∷ c.args.bytes.now ≡ held_bytes clock n ks ++ rest) (sym (formed_again clock gs form)) spelled)

@@ -1,10 +1,10 @@
 use Rattle.std.proofs.Common.{◌≡◌, ap, ◌∙◌, arith, rules}
 use Rattle.std.proofs.lemmas.List.{take_all}
-use Rattle.pcrf_values.specs.Texts.{folded}
+use Rattle.pcrf_values.specs.Texts.{small_letters}
 use Rattle.pcrf_values.proofs.Folded.{folded_keeps}
 use Rattle.pcrf_values.proofs.apn.Apn.folded.Goals as goal
 
 pub invariant_of-result : goal.invariant_of-result
 invariant_of-result c =
-    let letters : c.of.result ≡ folded c.args.bytes.now = c.of.ensures ∙ c.loop-byte.invariant ∙ ap folded (take_all _ _ c.loop-byte-test.false) in
+    let letters : c.of.result ≡ small_letters c.args.bytes.now = c.of.ensures ∙ c.loop-byte.invariant ∙ ap small_letters (take_all _ _ c.loop-byte-test.false) in
     folded_keeps c.args.bytes.now c.of.result letters (search rules) (omega arith)

@@ -6,7 +6,7 @@ use Rattle.pcrf_model.specs.Replies.{Pushed}
 use Rattle.pcrf_model.specs.Worlds.{PushAt, PushedOut, ClockFull, Gives}
 use Rattle.pcrf_model.specs.Seen.{world_view_after}
 use Rattle.reply_values.specs.Replies.{push_view}
-use Rattle.site_machine.specs.Sites.{SiteValue, pushed, with_made}
+use Rattle.site_machine.specs.Sites.{SiteValue, push_outcome_at, with_made}
 use Rattle.pcrf_world.specs.Members.{IsMember, seen_of, with_site}
 use Rattle.pcrf_world.specs.Values.{WorldValue, setting}
 use Rattle.pcrf_world.specs.declared.site.Member.{Member}
@@ -24,9 +24,9 @@ invariant_of-self c =
     let is = members_at c.self.inside.tables ms c.args.i m c.self.invariant.members at in
     elim c.match-push.branch [
       | in-Ok b ↦ (
-          let made : c.push.new.self ≡ with_made m.site (pushed m.site name).added = search rules in
+          let made : c.push.new.self ≡ with_made m.site (push_outcome_at m.site name).added = search rules in
           sites_set c.self.inside.tables ms c.args.i (with_site m c.push.new.self) c.self.invariant
-          (subst (λ (x : SiteValue). IsMember c.self.inside.tables (with_site m x)) (sym made) (made_member c.self.inside.tables m is (pushed m.site name).added)))
+          (subst (λ (x : SiteValue). IsMember c.self.inside.tables (with_site m x)) (sym made) (made_member c.self.inside.tables m is (push_outcome_at m.site name).added)))
       | in-Err-ClockFull b ↦ (
           let same : c.push.new.self ≡ m.site = search rules in
           sites_set c.self.inside.tables ms c.args.i (with_site m c.push.new.self) c.self.invariant (subst (λ (x : SiteValue). IsMember c.self.inside.tables (with_site m x)) (sym same) is))
@@ -49,9 +49,9 @@ returns c =
     elim c.match-push.branch [
       | in-Ok b ↦ (
           let p = option_map push_view b.in-Ok.push in
-          let so : Pushed p ≡ (pushed m.site name).reply = search rules in
+          let so : Pushed p ≡ (push_outcome_at m.site name).reply = search rules in
           let room : lacks_counter m.site.tables m.site.number m.site.state.holding name ≡ false = search rules in
-          let made : c.push.new.self ≡ with_made m.site (pushed m.site name).added = search rules in
+          let made : c.push.new.self ≡ with_made m.site (push_outcome_at m.site name).added = search rules in
           rw (b.result-is, ← named) (record {
             answer = subst (λ (x : WorldValue). Gives (setting x.tables) x.seen (PushAt c.args.i name) (Ok (PushedOut p))) c.self.view_is
                 (pushed_gives c.self.inside.tables ms ls c.args.i m at is name p so room);

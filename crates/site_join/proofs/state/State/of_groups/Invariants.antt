@@ -2,7 +2,7 @@ use Rattle.std.proofs.Common.{◌≡◌, true, ◌++◌, length, map}
 use Rattle.std.specs.List.{list_all}
 use Rattle.ranked.specs.Sets.{Same}
 use Rattle.pcrf_model.specs.Holdings.{kept_facts}
-use Rattle.site_join.specs.Groups.{group_of, is_group, ungrouped}
+use Rattle.site_join.specs.Groups.{group_of, is_group, facts_of_groups}
 use Rattle.site_join.specs.States.{facts_of}
 use Rattle.site_join.proofs.state.State.of_groups.Given as goal
 
@@ -10,7 +10,7 @@ use Rattle.site_join.proofs.state.State.of_groups.Given as goal
 abbrev pub invariant-loop-first : goal.invariant-loop-first
 invariant-loop-first l = record {
   form : list_all (is_group l.clock) (map group_of l.left) ≡ true;
-  facts : Same (kept_facts (facts_of l.gx l.af ++ ungrouped (map group_of l.left))) (kept_facts (ungrouped (map group_of l.fn.groups.items)));
+  facts : Same (kept_facts (facts_of l.gx l.af ++ facts_of_groups (map group_of l.left))) (kept_facts (facts_of_groups (map group_of l.fn.groups.items)));
 }
 
 abbrev pub decreases-loop-first : goal.decreases-loop-first

@@ -19,7 +19,7 @@ use Rattle.site_machine.specs.Sites.{SiteValue}
 use Rattle.reply_values.specs.Replies.{push_view}
 use Rattle.site_machine.specs.Facts.{operation_pushed}
 use Rattle.site_machine.specs.Left.{LacksTheRest}
-use Rattle.site_machine.specs.Sites.{pushed, with_made}
+use Rattle.site_machine.specs.Sites.{push_outcome_at, with_made}
 use Rattle.site_machine.proofs.Pushes.{nothing_is, nothing_lacks, session_due, pushed_delta, something_is, something_lacks}
 use Rattle.site_machine.proofs.Formed.{stamped, entries_tell, pushed_formed}
 use Rattle.site_machine.proofs.Left.{pushed_leaves}
@@ -32,7 +32,7 @@ returns-in_default-found-clause-push c =
     let seen = c.in-Ok.ensures.push in
     let same = c.in-Ok.ensures.same in
     let none = sym (ap (option_map push_view) c.in_default-found.is) ∙ seen in
-    sym (ap (λ (o : Outcome). o.reply) (nothing_is s name none)) ∙ ap (λ (x : SiteValue). (pushed x name).reply) same
+    sym (ap (λ (o : Outcome). o.reply) (nothing_is s name none)) ∙ ap (λ (x : SiteValue). (push_outcome_at x name).reply) same
 
 pub returns-in_default-found-clause-ok : goal.returns-in_default-found-clause-ok
 returns-in_default-found-clause-ok c =
@@ -41,7 +41,7 @@ returns-in_default-found-clause-ok c =
     let seen = c.in-Ok.ensures.push in
     let same = c.in-Ok.ensures.same in
     let none = sym (ap (option_map push_view) c.in_default-found.is) ∙ seen in
-    sym (ap (λ (o : Outcome). with_made s o.added) (nothing_is s name none)) ∙ ap (λ (x : SiteValue). with_made x (pushed x name).added) same
+    sym (ap (λ (o : Outcome). with_made s o.added) (nothing_is s name none)) ∙ ap (λ (x : SiteValue). with_made x (push_outcome_at x name).added) same
 
 pub returns-in_default-found-clause-room : goal.returns-in_default-found-clause-room
 returns-in_default-found-clause-room c =
@@ -69,7 +69,7 @@ returns-clause-push c =
     let seen = c.in-Ok.ensures.push in
     let same = c.in-Ok.ensures.same in
     let some = sym (ap (option_map push_view) c.in-Some.is) ∙ seen in
-    sym (ap (λ (o : Outcome). o.reply) (something_is s name (push_view c.in-Some.push) some)) ∙ ap (λ (x : SiteValue). (pushed x name).reply) same
+    sym (ap (λ (o : Outcome). o.reply) (something_is s name (push_view c.in-Some.push) some)) ∙ ap (λ (x : SiteValue). (push_outcome_at x name).reply) same
 
 pub returns-clause-ok : goal.returns-clause-ok
 returns-clause-ok c =
@@ -80,11 +80,11 @@ returns-clause-ok c =
     let same = c.in-Ok.ensures.same in
     let some = sym (ap (option_map push_view) c.in-Some.is) ∙ seen in
     let told : c.tell_push.new.self ≡ with_made s (Some (operation_pushed s.number c.in-Some-next_counter.counter p.session p.delta)) = search rules in
-    let made : c.tell_push.new.self ≡ with_made s (pushed s name).added =
+    let made : c.tell_push.new.self ≡ with_made s (push_outcome_at s name).added =
     told
     ∙ ap (λ (n : ℕ). with_made s (Some (operation_pushed s.number n p.session p.delta))) c.in-Some-next_counter.ensures.some
     ∙ sym (ap (λ (o : Outcome). with_made s o.added) (something_is s name p some)) in
-    made ∙ ap (λ (x : SiteValue). with_made x (pushed x name).added) same
+    made ∙ ap (λ (x : SiteValue). with_made x (push_outcome_at x name).added) same
 
 pub returns-clause-left : goal.returns-clause-left
 returns-clause-left c =
@@ -97,7 +97,7 @@ returns-clause-left c =
     let apart : SiteValue → PushOut → Type 0 = λ x r. Distinct (map rule_name_of (session.rules x.tables (view x.state.holding.facts) (gx r.session))) in
     let names = c.in-Ok.ensures.names in
     let told : c.tell_push.new.self ≡ with_made s (Some (operation_pushed s.number c.in-Some-next_counter.counter (push_view p).session (push_view p).delta)) = search rules in
-    let made : c.tell_push.new.self ≡ with_made s (pushed s name).added =
+    let made : c.tell_push.new.self ≡ with_made s (push_outcome_at s name).added =
     told
     ∙ ap (λ (n : ℕ). with_made s (Some (operation_pushed s.number n (push_view p).session (push_view p).delta))) c.in-Some-next_counter.ensures.some
     ∙ sym (ap (λ (o : Outcome). with_made s o.added) (something_is s name (push_view p) some)) in

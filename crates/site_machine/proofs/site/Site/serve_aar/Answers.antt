@@ -6,7 +6,7 @@ use Rattle.pcrf_facts.specs.FlowWords.{or_else}
 use Rattle.pcrf_model.specs.Replies.{Outcome}
 use Rattle.af_records.specs.RecordFacts.{fact_of}
 use Rattle.rx_profile.specs.Requests.{aar_view}
-use Rattle.fact_making.specs.Call.{described}
+use Rattle.fact_making.specs.Call.{call_facts}
 use Rattle.site_machine.specs.Calls.{late_refusal}
 use Rattle.site_machine.specs.Facts.{operation_on_call}
 use Rattle.site_machine.specs.Sites.{with_made}
@@ -81,7 +81,7 @@ returns-clause-ok c =
     let late = c.early_refusal.ensures ∙ ap (λ (x : Option Refusal). or_else x (late_refusal s.number s.state.holding q)) c.in_default.is in
     let bound = sym c.in_ok-facts.ensures.bound ∙ ap is_none c.in-Some-2.is in
     let granted = late ∙ late_none s.number s.state.holding q bound c.in-Some-next_counter.ensures.open in
-    let facts = subst (λ o. IfSome o (λ made. map fact_of made.0.items ≡ ascending fact_cmp (described s.number (s.state.holding.clock + 1) q))) c.in-Some-2.is c.in_ok-facts.ensures.facts in
+    let facts = subst (λ o. IfSome o (λ made. map fact_of made.0.items ≡ ascending fact_cmp (call_facts s.number (s.state.holding.clock + 1) q))) c.in-Some-2.is c.in_ok-facts.ensures.facts in
     c.in_ok-add_on_call.ensures.ok
     ∙ ap (λ (n : ℕ). with_made s (Some (operation_on_call s.number n q.session (map fact_of c.in-Some-2.facts.items)))) c.in-Some-next_counter.ensures.some
     ∙ ap (λ (fs : List Fact). with_made s (Some (operation_on_call s.number (s.state.holding.clock + 1) q.session fs))) facts
@@ -93,7 +93,7 @@ add_on_call-requires-clause-formed c =
     let q = aar_view c.args.aar.now in
     let n = c.in-Some-next_counter.counter in
     let next = c.in-Some-next_counter.ensures.some in
-    let made = subst (λ o. IfSome o (λ made. map fact_of made.0.items ≡ ascending fact_cmp (described s.number (s.state.holding.clock + 1) q))) c.in-Some-2.is c.in_ok-facts.ensures.facts in
-    let facts = made ∙ ap (λ (m : ℕ). ascending fact_cmp (described s.number m q)) (sym next) in
+    let made = subst (λ o. IfSome o (λ made. map fact_of made.0.items ≡ ascending fact_cmp (call_facts s.number (s.state.holding.clock + 1) q))) c.in-Some-2.is c.in_ok-facts.ensures.facts in
+    let facts = made ∙ ap (λ (m : ℕ). ascending fact_cmp (call_facts s.number m q)) (sym next) in
     (λ i. is_operation (operation_on_call s.number n q.session (facts i)))
     ∙ call_formed n s.number q (stamped n s.number (omega (arith, next)) c.in-Some-next_counter.ensures.within c.note_number.ensures) c.note_aar.ensures
