@@ -77,22 +77,14 @@ fn meets(asked: Option<&(Tag, Subscribers)>, there: Option<&(Tag, Subscribers)>)
 fn shares_one(wanted: &[Subscriber], shown: &[Subscriber]) -> bool
     ensures { result ≡ shares_one wanted.now shown.now }
 {
-    for subscriber in wanted {
-        if is_among(subscriber, shown) {
-            return true;
-        }
-    }
-    false
+    wanted
+        .iter()
+        .any(|subscriber| is_among(subscriber, shown))
 }
 
 /// The subscriber is among them.
 pub(crate) fn is_among(subscriber: &Subscriber, shown: &[Subscriber]) -> bool
     ensures { result ≡ list_any (λ x. is_eq (subscriber_cmp subscriber.now x)) shown.now }
 {
-    for other in shown {
-        if subscriber == other {
-            return true;
-        }
-    }
-    false
+    shown.iter().any(|other| subscriber == other)
 }

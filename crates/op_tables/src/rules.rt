@@ -115,12 +115,7 @@ impl OperatorRule {
 fn has_rule(rules: &[OperatorRule], name: &OperatorRuleName) -> bool
     ensures { result ≡ has_rule rules.now name.now }
 {
-    for rule in rules {
-        if rule.is_named(name) {
-            return true;
-        }
-    }
-    false
+    rules.iter().any(|rule| rule.is_named(name))
 }
 
 /// Reads what picks the packets of a rule.

@@ -61,10 +61,7 @@ fn add_rules(pairs: &mut Vec<(RuleName, Rule)>, rules: &[Rule]) -> Result<(), Al
 fn has_name(rules: &[Rule], name: &RuleName) -> bool
     ensures { result ≡ list_any (has_name name.now) rules.now }
 {
-    for rule in rules {
-        if rule.name().cmp(name) == Ordering::Equal {
-            return true;
-        }
-    }
-    false
+    rules
+        .iter()
+        .any(|rule| rule.name().cmp(name) == Ordering::Equal)
 }

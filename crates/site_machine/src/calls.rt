@@ -223,10 +223,7 @@ fn lacks_class(tables: &Tables, component: &Component) -> bool
 fn lack_class(tables: &Tables, components: &[Component]) -> bool
     ensures { result ≡ list_any (has_no_class tables.now) components.now }
 {
-    for component in components {
-        if lacks_class(tables, component) {
-            return true;
-        }
-    }
-    false
+    components
+        .iter()
+        .any(|component| lacks_class(tables, component))
 }
