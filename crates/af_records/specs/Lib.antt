@@ -1,8 +1,10 @@
 pub mod FactLists
 pub mod FlowLists
 pub mod Joins
+pub mod Numbers
 pub mod Parts
 pub mod RecordFacts
 pub mod RemovedLists
 pub mod Singles
 pub mod Subsets
+pub mod laws

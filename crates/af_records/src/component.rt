@@ -2,10 +2,11 @@
 ghost use Rattle.std.specs.Prelude.{◌≡◌, IfOk};
 ghost use Rattle.af_records.specs.Singles.{no_component, one_component_field, with_flow};
 
-use crate::fact::{ComponentValue, OpenStatusNumber};
+use crate::fact::ComponentValue;
 use crate::flow::FlowParts;
 use crate::rates::Rates;
 use lattice_core::{FactSet, Join, JoinMap, Reg, Tag, Tombed};
+use pcrf_values::{Enumerated, FlowStatus};
 use session_records::map_of;
 use std::alloc::{AllocError, Global};
 
@@ -13,7 +14,7 @@ use std::alloc::{AllocError, Global};
 #[derive(Drop)]
 pub struct ComponentParts {
     pub media_type: Reg<u32>,
-    pub status: Reg<OpenStatusNumber>,
+    pub status: Reg<Enumerated<FlowStatus>>,
     pub rates: Rates,
     pub flows: JoinMap<u32, Tombed<FlowParts>>,
 }

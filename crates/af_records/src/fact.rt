@@ -1,19 +1,11 @@
 //! The facts of AF sessions.
 ghost use Rattle.std.specs.Prelude.{◌≡◌, IfOk};
 
+use crate::af_request_type::AfRequestType;
 use lattice_core::{Ranked, Tag};
-use pcrf_values::{BoundedNumber, Filters};
+use pcrf_values::{Enumerated, Filters, FlowStatus, FlowUsage};
 use session_records::SessionValue;
 use std::alloc::AllocError;
-
-/// The number of a Flow-Status that isn't REMOVED, 0 to 3 (TS 29.214, 5.3.11). Values of one tag are ranked by it.
-pub type OpenStatusNumber = BoundedNumber<0, 3>;
-
-/// The number of a Flow-Usage, 0 to 2 (TS 29.214, 5.3.12).
-pub type FlowUsageNumber = BoundedNumber<0, 2>;
-
-/// What stands for the type of the last request: Rx has one kind of request, 0 (this project's profile).
-pub type AfRequestType = BoundedNumber<0, 0>;
 
 /// What a fact says of a media component (TS 29.214, 5.3.16). Rates are in bit/s.
 #[derive(Clone, Copy, Debug)]
@@ -21,7 +13,7 @@ pub enum ComponentValue {
     /// Media-Type.
     MediaType(u32),
     /// Flow-Status.
-    Status(OpenStatusNumber),
+    Status(Enumerated<FlowStatus>),
     /// Max-Requested-Bandwidth-UL.
     RateUp(u32),
     /// Max-Requested-Bandwidth-DL.
@@ -34,9 +26,9 @@ pub enum FlowValue {
     /// Flow-Description.
     Descriptions(Filters),
     /// Flow-Usage.
-    Usage(FlowUsageNumber),
+    Usage(Enumerated<FlowUsage>),
     /// Flow-Status.
-    Status(OpenStatusNumber),
+    Status(Enumerated<FlowStatus>),
     /// Max-Requested-Bandwidth-UL.
     RateUp(u32),
     /// Max-Requested-Bandwidth-DL.
@@ -53,7 +45,7 @@ pub enum AfFact {
     /// A flow of a component is removed.
     FlowRemoved(u32, u32),
     /// A field of the session.
-    Session(Tag, SessionValue<AfRequestType>),
+    Session(Tag, SessionValue<Enumerated<AfRequestType>>),
     /// A field of a component.
     Component(u32, Tag, ComponentValue),
     /// A field of a flow of a component.

@@ -3,18 +3,18 @@ ghost use Rattle.std.specs.Prelude.{◌≡◌, IfOk};
 ghost use Rattle.af_records.specs.FlowLists.{has_field};
 ghost use Rattle.af_records.specs.Singles.{no_flow, one_flow_field};
 
-use crate::fact::{FlowUsageNumber, FlowValue, OpenStatusNumber};
+use crate::fact::FlowValue;
 use crate::rates::Rates;
 use lattice_core::{FactSet, Join, Ranked, Reg, Tag};
-use pcrf_values::Filters;
+use pcrf_values::{Enumerated, Filters, FlowStatus, FlowUsage};
 use std::alloc::AllocError;
 
 /// The fields of a flow.
 #[derive(Drop)]
 pub struct FlowParts {
     pub descriptions: Reg<Filters>,
-    pub usage: Reg<FlowUsageNumber>,
-    pub status: Reg<OpenStatusNumber>,
+    pub usage: Reg<Enumerated<FlowUsage>>,
+    pub status: Reg<Enumerated<FlowStatus>>,
     pub rates: Rates,
 }
 

@@ -5,10 +5,10 @@ ghost use Rattle.af_records.specs.FactLists.{flow_listed, flow_or_none, flows_or
 ghost use Rattle.af_records.specs.declared.fact.FlowValue.TheVariants as of_flow;
 
 use crate::component::ComponentParts;
-use crate::fact::{AfFact, FlowUsageNumber, FlowValue, OpenStatusNumber};
+use crate::fact::{AfFact, FlowValue};
 use crate::flow::FlowParts;
 use lattice_core::{Ranked, Reg, Tag, Tombed};
-use pcrf_values::Filters;
+use pcrf_values::{Enumerated, Filters, FlowStatus, FlowUsage};
 use std::alloc::AllocError;
 
 /// Adds what the flows of components say.
@@ -121,7 +121,7 @@ fn descriptions(held: &Reg<Filters>) -> Result<Option<(Tag, FlowValue)>, AllocEr
 }
 
 /// A Flow-Usage.
-fn usage(held: &Reg<FlowUsageNumber>) -> Option<(Tag, FlowValue)>
+fn usage(held: &Reg<Enumerated<FlowUsage>>) -> Option<(Tag, FlowValue)>
     ensures { result ≡ value_by of_flow.Usage held.now }
 {
     let (tag, value) = held.get()?;
@@ -129,7 +129,7 @@ fn usage(held: &Reg<FlowUsageNumber>) -> Option<(Tag, FlowValue)>
 }
 
 /// The Flow-Status of a flow.
-fn status(held: &Reg<OpenStatusNumber>) -> Option<(Tag, FlowValue)>
+fn status(held: &Reg<Enumerated<FlowStatus>>) -> Option<(Tag, FlowValue)>
     ensures { result ≡ value_by of_flow.Status held.now }
 {
     let (tag, value) = held.get()?;

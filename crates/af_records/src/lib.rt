@@ -1,6 +1,7 @@
 //! What a site holds of one AF session, joined from facts in any order.
 #![tactic(auto)]
 
+mod af_request_type;
 mod component;
 mod fact;
 mod flow;
@@ -12,9 +13,8 @@ mod record;
 mod removed;
 mod session;
 
-pub use fact::{
-    AfFact, AfRequestType, ComponentValue, FlowUsageNumber, FlowValue, OpenStatusNumber,
-};
+pub use af_request_type::AfRequestType;
+pub use fact::{AfFact, ComponentValue, FlowValue};
 pub use flows::Flows;
 pub use rates::GivenRates;
 pub use record::AfRec;

@@ -4,12 +4,14 @@ ghost use Rattle.std.specs.List.{flat_map};
 ghost use Rattle.af_records.specs.FactLists.{component_listed, component_or_none, field_fact, parts_listed, removed_fact, said_component, session_listed, value_by};
 ghost use Rattle.af_records.specs.declared.fact.ComponentValue.TheVariants as of_component;
 
+use crate::af_request_type::AfRequestType;
 use crate::component::ComponentParts;
-use crate::fact::{AfFact, AfRequestType, ComponentValue, OpenStatusNumber};
+use crate::fact::{AfFact, ComponentValue};
 use crate::flow_listing::add_flows;
 use crate::removed::{RemovedPart, RemovedParts};
 use crate::session::SessionParts;
 use lattice_core::{Reg, Tag, Tombed};
+use pcrf_values::{Enumerated, FlowStatus};
 use session_records::SessionValue;
 use std::alloc::{AllocError, Global};
 
@@ -26,7 +28,7 @@ pub(crate) fn facts_of(alloc: Global, session: &SessionParts) -> Result<Vec<AfFa
 /// The facts of fields.
 fn fields_of(
     alloc: Global,
-    values: Vec<(Tag, SessionValue<AfRequestType>)>,
+    values: Vec<(Tag, SessionValue<Enumerated<AfRequestType>>)>,
 ) -> Result<Vec<AfFact>, AllocError>
     ensures { IfOk result (λ facts. facts.items ≡ map field_fact values.items) }
 {
@@ -142,7 +144,7 @@ fn media_type(held: &Reg<u32>) -> Option<(Tag, ComponentValue)>
 }
 
 /// The Flow-Status of a component.
-fn status(held: &Reg<OpenStatusNumber>) -> Option<(Tag, ComponentValue)>
+fn status(held: &Reg<Enumerated<FlowStatus>>) -> Option<(Tag, ComponentValue)>
     ensures { result ≡ value_by of_component.Status held.now }
 {
     let (tag, value) = held.get()?;

@@ -22,8 +22,9 @@ ghost use Rattle.af_records.specs.RecordFacts.{fact_of, known_facts};
 ghost use Rattle.af_records.specs.Singles.{single, with_component, with_flow};
 ghost use Rattle.lattice_core.specs.declared.tombed.Tombed.TheVariants.{Live};
 
+use crate::af_request_type::AfRequestType;
 use crate::component::ComponentParts;
-use crate::fact::{AfFact, AfRequestType, FlowUsageNumber, OpenStatusNumber};
+use crate::fact::AfFact;
 use crate::flow::FlowParts;
 use crate::flows::Flows;
 use crate::listing::facts_of;
@@ -31,14 +32,11 @@ use crate::rates::GivenRates;
 use crate::removed::RemovedParts;
 use crate::session::SessionParts;
 use lattice_core::{FactSet, Join, Tag, Tombed};
-use pcrf_values::{Apn, DiameterIdentity, Filters, FlowStatus, Subscribers};
+use pcrf_values::{Apn, DiameterIdentity, Enumerated, Filters, FlowStatus, FlowUsage, Subscribers};
 use session_records::{SessionFields, join_into};
 use std::alloc::{AllocError, Global};
 use std::marker::Model;
 use std::net::Ipv4Addr;
-
-/// The number of Flow-Usage RTCP (TS 29.214, 5.3.12).
-const RTCP: u32 = 1;
 
 /// What is known of an application function's session, at least one fact, which contracts see as the facts that are kept, ascending. Each is one that an
 /// operation gives.
@@ -178,7 +176,7 @@ fn with_flow(
 }
 
 /// The fields, where the session isn't ended.
-fn fields_at(parts: &Tombed<SessionParts>) -> Option<&SessionFields<AfRequestType>>
+fn fields_at(parts: &Tombed<SessionParts>) -> Option<&SessionFields<Enumerated<AfRequestType>>>
     ensures { option_copied result ≡ fields_at parts.now }
 {
     match parts {
@@ -287,7 +285,7 @@ impl AfRec {
     }
 
     /// The fields, where they show.
-    fn fields(&self) -> Option<&SessionFields<AfRequestType>>
+    fn fields(&self) -> Option<&SessionFields<Enumerated<AfRequestType>>>
         ensures { (f : SessionField) →
             session_says (option_copied result) f ≡ entry_shown self.now (OfSession f) }
     {
@@ -366,7 +364,7 @@ impl AfRec {
     }
 
     /// What stands for the type of the last request, with its tag.
-    pub fn last(&self) -> Option<&(Tag, AfRequestType)>
+    pub fn last(&self) -> Option<&(Tag, Enumerated<AfRequestType>)>
         ensures { entry_by Number (option_copied result) ≡ entry_shown self.now places.last }
     {
         match self.fields() {
@@ -387,7 +385,7 @@ impl AfRec {
     }
 
     /// The Flow-Status of a component, with its tag.
-    pub fn component_status(&self, component: u32) -> Option<&(Tag, OpenStatusNumber)>
+    pub fn component_status(&self, component: u32) -> Option<&(Tag, Enumerated<FlowStatus>)>
         ensures { entry_by Number (option_copied result)
             ≡ entry_shown self.now (OfComponent component places.ComponentStatus) }
     {
@@ -431,7 +429,7 @@ impl AfRec {
     }
 
     /// The Flow-Usage of a flow, with its tag.
-    pub fn flow_usage(&self, component: u32, flow: u32) -> Option<&(Tag, FlowUsageNumber)>
+    pub fn flow_usage(&self, component: u32, flow: u32) -> Option<&(Tag, Enumerated<FlowUsage>)>
         ensures { entry_by Number (option_copied result)
             ≡ entry_shown self.now (OfFlow component flow places.FlowUsage) }
     {
@@ -442,7 +440,11 @@ impl AfRec {
     }
 
     /// The Flow-Status of a flow itself, with its tag.
-    pub fn flow_own_status(&self, component: u32, flow: u32) -> Option<&(Tag, OpenStatusNumber)>
+    pub fn flow_own_status(
+        &self,
+        component: u32,
+        flow: u32,
+    ) -> Option<&(Tag, Enumerated<FlowStatus>)>
         ensures { entry_by Number (option_copied result)
             ≡ entry_shown self.now (OfFlow component flow places.FlowStatus) }
     {
@@ -479,7 +481,7 @@ impl AfRec {
         ensures { result ≡ words.is_rtcp (entry_shown self.now) component flow }
     {
         match self.flow_usage(component, flow) {
-            Some(told) => told.1.get() == RTCP,
+            Some(told) => matches!(told.1.value(), FlowUsage::Rtcp),
             None => false,
         }
     }
@@ -544,8 +546,8 @@ fn listed(alloc: Global, parts: &Tombed<SessionParts>) -> Result<Vec<AfFact>, Al
 
 /// The Flow-Status of a flow, by what it and its component say.
 fn status_of(
-    own: Option<&(Tag, OpenStatusNumber)>,
-    whole: Option<&(Tag, OpenStatusNumber)>,
+    own: Option<&(Tag, Enumerated<FlowStatus>)>,
+    whole: Option<&(Tag, Enumerated<FlowStatus>)>,
 ) -> FlowStatus
     ensures { flow_status_number result ≡ unwrap_or
         (words.or_else (held_number (option_copied own.entry)) (held_number (option_copied whole.entry))) 2 }
@@ -558,7 +560,7 @@ fn status_of(
         },
     };
     match told {
-        Some(number) => FlowStatus::from_number(number.get()).unwrap_or(FlowStatus::Enabled),
+        Some(told) => told.value(),
         None => FlowStatus::Enabled,
     }
 }

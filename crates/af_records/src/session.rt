@@ -2,16 +2,17 @@
 ghost use Rattle.std.specs.Prelude.{◌≡◌, IfOk};
 ghost use Rattle.af_records.specs.Singles.{no_session, one_session_field, with_component};
 
+use crate::af_request_type::AfRequestType;
 use crate::component::ComponentParts;
-use crate::fact::AfRequestType;
 use lattice_core::{FactSet, Join, JoinMap, Tag, Tombed};
+use pcrf_values::Enumerated;
 use session_records::{SessionFields, SessionValue, map_of};
 use std::alloc::{AllocError, Global};
 
 /// The fields of a session, and its components.
 #[derive(Drop)]
 pub struct SessionParts {
-    pub fields: SessionFields<AfRequestType>,
+    pub fields: SessionFields<Enumerated<AfRequestType>>,
     pub components: JoinMap<u32, Tombed<ComponentParts>>,
 }
 
@@ -30,7 +31,7 @@ impl SessionParts {
     pub fn of(
         alloc: Global,
         tag: Tag,
-        value: &SessionValue<AfRequestType>,
+        value: &SessionValue<Enumerated<AfRequestType>>,
     ) -> Result<SessionParts, AllocError>
         ensures { IfOk result (λ r. r ≡ one_session_field tag value.now) }
     {

@@ -1,13 +1,11 @@
 //! The facts of Gx sessions.
 ghost use Rattle.std.specs.Prelude.{◌≡◌, IfOk};
 
+use crate::open_request_type::OpenRequestType;
 use lattice_core::{Ranked, Tag};
-use pcrf_values::{BoundedNumber, Rule, RuleName};
+use pcrf_values::{Enumerated, Rule, RuleName};
 use session_records::SessionValue;
 use std::alloc::AllocError;
-
-/// The CC-Request-Type of a request that leaves a session open: INITIAL_REQUEST, 1, or UPDATE_REQUEST, 2 (RFC 8506, 8.3).
-pub type OpenRequestType = BoundedNumber<1, 2>;
 
 /// A fact of a Gx session.
 #[derive(Debug, Drop)]
@@ -15,7 +13,7 @@ pub enum GxFact {
     /// The session is ended.
     End,
     /// A field of the session.
-    Field(Tag, SessionValue<OpenRequestType>),
+    Field(Tag, SessionValue<Enumerated<OpenRequestType>>),
     /// What the gateway was told under the name of a rule: the rule, or nothing where it was told to remove it.
     Told(Tag, RuleName, Option<Rule>),
 }

@@ -3,11 +3,13 @@
 
 mod fact;
 mod listing;
+mod open_request_type;
 mod parts;
 mod record;
 mod told;
 
-pub use fact::{GxFact, OpenRequestType};
+pub use fact::GxFact;
+pub use open_request_type::OpenRequestType;
 pub use record::GxRec;
 pub use session_records::SessionValue;
 pub use told::Told;

@@ -3,10 +3,11 @@ ghost use Rattle.std.specs.Prelude.{◌≡◌, ◌++◌, IfOk, OnOk, map};
 ghost use Rattle.std.specs.List.{flat_map};
 ghost use Rattle.gx_records.specs.FactLists.{field_fact, parts_listed, told_facts};
 
-use crate::fact::{GxFact, OpenRequestType};
+use crate::fact::GxFact;
+use crate::open_request_type::OpenRequestType;
 use crate::parts::GxParts;
 use lattice_core::{Ranked, Reg, Tag};
-use pcrf_values::{Rule, RuleName};
+use pcrf_values::{Enumerated, Rule, RuleName};
 use session_records::SessionValue;
 use std::alloc::{AllocError, Global};
 
@@ -23,7 +24,7 @@ pub(crate) fn facts_of(alloc: Global, parts: &GxParts) -> Result<Vec<GxFact>, Al
 /// The facts of fields.
 fn fields_of(
     alloc: Global,
-    values: Vec<(Tag, SessionValue<OpenRequestType>)>,
+    values: Vec<(Tag, SessionValue<Enumerated<OpenRequestType>>)>,
 ) -> Result<Vec<GxFact>, AllocError>
     ensures { IfOk result (λ facts. facts.items ≡ map field_fact values.items) }
 {

@@ -2,16 +2,16 @@
 ghost use Rattle.std.specs.Prelude.{◌≡◌, IfOk, Some};
 ghost use Rattle.gx_records.specs.GxFacts.{no_parts, one_field_of, one_told};
 
-use crate::fact::OpenRequestType;
+use crate::open_request_type::OpenRequestType;
 use lattice_core::{FactSet, Join, JoinMap, Ranked, Reg, Tag};
-use pcrf_values::{Rule, RuleName};
+use pcrf_values::{Enumerated, Rule, RuleName};
 use session_records::{SessionFields, SessionValue, map_of};
 use std::alloc::{AllocError, Global};
 
 /// The fields of a session, and what its gateway was told of rules.
 #[derive(Drop)]
 pub struct GxParts {
-    pub fields: SessionFields<OpenRequestType>,
+    pub fields: SessionFields<Enumerated<OpenRequestType>>,
     pub told: JoinMap<RuleName, Reg<Option<Rule>>>,
 }
 
@@ -30,7 +30,7 @@ impl GxParts {
     pub fn of(
         alloc: Global,
         tag: Tag,
-        value: &SessionValue<OpenRequestType>,
+        value: &SessionValue<Enumerated<OpenRequestType>>,
     ) -> Result<GxParts, AllocError>
         ensures { IfOk result (λ r. r ≡ one_field_of tag value.now) }
     {

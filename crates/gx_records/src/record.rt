@@ -16,12 +16,13 @@ ghost use Rattle.session_records.specs.SessionFacts.{address_value, session_says
 ghost use Rattle.gx_records.specs.FactLists.{record_listed};
 ghost use Rattle.gx_records.specs.GxFacts.{fact_of, fields_at, known_facts, rule_under, single, told_held};
 
-use crate::fact::{GxFact, OpenRequestType};
+use crate::fact::GxFact;
 use crate::listing::facts_of;
+use crate::open_request_type::OpenRequestType;
 use crate::parts::GxParts;
 use crate::told::Told;
 use lattice_core::{FactSet, Join, Ranked, Reg, Tag, Tombed};
-use pcrf_values::{Apn, DiameterIdentity, Rule, RuleName, Subscribers};
+use pcrf_values::{Apn, DiameterIdentity, Enumerated, Rule, RuleName, Subscribers};
 use session_records::{SessionFields, join_into};
 use std::alloc::{AllocError, Global};
 use std::marker::Model;
@@ -193,7 +194,7 @@ impl GxRec {
     }
 
     /// The fields, where they show.
-    fn fields(&self) -> Option<&SessionFields<OpenRequestType>>
+    fn fields(&self) -> Option<&SessionFields<Enumerated<OpenRequestType>>>
         ensures { (f : SessionField) →
             session_says (option_copied result) f ≡ entry_shown self.now (OfSession f) }
     {
@@ -263,7 +264,7 @@ impl GxRec {
     }
 
     /// The CC-Request-Type of the last request, with its tag.
-    pub fn last(&self) -> Option<&(Tag, OpenRequestType)>
+    pub fn last(&self) -> Option<&(Tag, Enumerated<OpenRequestType>)>
         ensures { entry_by Number (option_copied result) ≡ entry_shown self.now places.last }
     {
         match self.fields() {
@@ -333,7 +334,7 @@ fn rule_under(told: &Reg<Option<Rule>>) -> Option<&Rule>
 }
 
 /// The fields, where the session isn't ended.
-fn fields_at(parts: &Tombed<GxParts>) -> Option<&SessionFields<OpenRequestType>>
+fn fields_at(parts: &Tombed<GxParts>) -> Option<&SessionFields<Enumerated<OpenRequestType>>>
     ensures { option_copied result ≡ fields_at parts.now }
 {
     match parts {

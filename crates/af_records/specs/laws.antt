@@ -1,0 +1,2 @@
+-- Laws of the numbers of enumerations.
+pub mod Numbers
