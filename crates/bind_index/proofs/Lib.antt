@@ -1,3 +1,4 @@
 pub mod Entries
+pub mod Alike
 pub mod Bound
 pub mod Listed

@@ -1,11 +1,9 @@
--- The facts among which an AF session asks for a binding.
-use Rattle.std.specs.Prelude.{◌≡◌, ℕ, List}
+-- What is held, were this the record of a session that asks for a binding.
+use Rattle.std.specs.Prelude.{List}
 use Rattle.pcrf_facts.specs.Facts.{Fact}
-use Rattle.pcrf_facts.specs.Held.{kept_list}
-use Rattle.pcrf_model.specs.Holdings.{SessionFact, facts_on}
-use Rattle.pcrf_model.specs.Sessions.{gx, af}
+use Rattle.pcrf_model.specs.Holdings.{Holding, with_facts_of}
+use Rattle.pcrf_model.specs.Sessions.{Session}
 
--- The second facts say of Gx sessions what the first say, and of that AF session what the record says.
-pub record HasRecord (first : List SessionFact) (asking : List Fact) (second : List SessionFact) (a : List ℕ) : Type 0 where
-  pub gateways : (id : List ℕ) → facts_on first (gx id) ≡ facts_on second (gx id)
-  pub own : asking ≡ kept_list (facts_on second (af a))
+-- with the facts of this record in place of those that the session had
+abbrev pub with_record : Holding → Session → List Fact → Holding
+with_record h s facts = with_facts_of h s facts h.clock

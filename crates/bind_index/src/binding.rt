@@ -2,17 +2,15 @@
 ghost use Rattle.std.specs.Prelude.{◌≡◌, ℕ, List, Some, option_map};
 ghost use Rattle.std.specs.Option.{option_copied};
 ghost use Rattle.pcrf_model.specs.Sessions.{gx, af};
-ghost use Rattle.pcrf_model.specs.Holdings.{SessionFact};
 ghost use Rattle.pcrf_model.specs.Views.{view};
 ghost use Rattle.pcrf_model.specs.Bindings.{bind, candidate_cmp};
 ghost use Rattle.ranked.specs.Sets.{greatest};
-ghost use Rattle.bind_index.specs.Asking.{HasRecord};
+ghost use Rattle.bind_index.specs.Asking.{with_record};
 ghost use Rattle.bind_index.specs.Matches.{best_from, match_value, matches_among, one};
 
 use crate::matching::{Match, match_of};
 use af_records::AfRec;
 use gx_records::GxRec;
-use lattice_core::Join;
 use pcrf_values::{AfSid, GxSid};
 use site_join::State;
 use std::cmp::Ordering;
@@ -29,16 +27,14 @@ pub fn bind<'s>(state: &'s State, session: &AfSid) -> Option<&'s GxSid>
     let Some(asking) = state.af(session) else {
         return None;
     };
-    asking.note_valid();
     bind_by(state, asking)
 }
 
 /// The gateway's session to which an application function's session would be bound, were this its record. Its time grows with
 /// the number of gateways' sessions; it takes no memory.
 pub fn bind_by<'s>(state: &'s State, asking: &AfRec) -> Option<&'s GxSid>
-    ensures { (facts : List SessionFact) (a : List ℕ)
-        → HasRecord state.now.facts asking.now facts a
-        → option_map gx (option_copied result) ≡ bind (view facts) (af a) }
+    ensures { (a : List ℕ) → option_map gx (option_copied result)
+        ≡ bind (view (with_record state.now (af a) asking.now).facts) (af a) }
 {
     let Some(found) = greatest_match(asking, state.all_gx()) else {
         return None;

@@ -77,9 +77,7 @@ fn meets(asked: Option<&(Tag, Subscribers)>, there: Option<&(Tag, Subscribers)>)
 fn shares_one(wanted: &[Subscriber], shown: &[Subscriber]) -> bool
     ensures { result ≡ shares_one wanted.now shown.now }
 {
-    wanted
-        .iter()
-        .any(|subscriber| is_among(subscriber, shown))
+    wanted.iter().any(|subscriber| is_among(subscriber, shown))
 }
 
 /// The subscriber is among them.

@@ -1,12 +1,12 @@
 //! A state with its index.
 ghost use Rattle.std.specs.Prelude.{◌≡◌, ℕ, List, [], ◌<◌, ◌≤◌, Some, true, IfOk, IfSome, IsSome, OnOk, OnErr, map, option_map};
 ghost use Rattle.std.specs.Option.{option_copied};
-ghost use Rattle.bind_index.specs.Asking.{HasRecord};
+ghost use Rattle.bind_index.specs.Asking.{with_record};
 ghost use Rattle.reply_values.specs.Replies.{push_view};
 ghost use Rattle.pcrf_model.specs.Bindings.{bind};
 ghost use Rattle.pcrf_model.specs.Differences.{rule_name_of};
 ghost use Rattle.pcrf_model.specs.Forms.{are_up_to};
-ghost use Rattle.pcrf_model.specs.Holdings.{SessionFact, facts_on, kept_of, nothing_held, with_facts_of, union};
+ghost use Rattle.pcrf_model.specs.Holdings.{facts_on, kept_of, nothing_held, with_facts_of, union};
 ghost use Rattle.pcrf_values.specs.Limits.{last_counter};
 ghost use Rattle.pcrf_model.specs.OperatorValues.{bindings_of};
 ghost use Rattle.pcrf_model.specs.Operations.{with_operation};
@@ -198,9 +198,8 @@ impl IndexedState {
 
     /// The gateway's session to which an application function's session would be bound, were this its record.
     pub fn bind_by(&self, asking: &AfRec) -> Option<&GxSid>
-        ensures { (facts : List SessionFact) (a : List ℕ)
-            → HasRecord self.now.holding.facts asking.now facts a
-            → option_map gx (option_copied result) ≡ bind (view facts) (af a) }
+        ensures { (a : List ℕ) → option_map gx (option_copied result)
+            ≡ bind (view (with_record self.now.holding (af a) asking.now).facts) (af a) }
     {
         if self.is_whole {
             return self.index.bind_by(&self.state, asking);

@@ -26,7 +26,7 @@ use Rattle.pcrf_model.specs.Rules.{flow_at, rule_of, rule_at, flow_rules}
 use Rattle.pcrf_model.proofs.ViewLaws.{In-all, all-shows}
 use Rattle.pcrf_model.proofs.RuleNames.{BoundFlowsAreLow, and_then, filters_at, bound_kind}
 use Rattle.site_join.specs.States.{Records}
-use Rattle.bind_index.proofs.Bound.{was_there}
+use Rattle.bind_index.proofs.Alike.{was_there}
 use Rattle.bind_index.proofs.Entries.{AreRecordsOf, its_facts, has_record}
 use Rattle.pcc_rules.specs.Listed.{HasBound}
 use Rattle.pcc_rules.specs.FlowsAlone.{alone, flow_of, rules_of_flows, rules_of_sessions, IsLow, AreLow, AreLowWhereBound}

@@ -11,7 +11,7 @@ use Rattle.pcrf_model.specs.Sessions.{Kind, Gx, Af, Session, gx, af}
 use Rattle.pcrf_model.specs.Views.{view, value}
 use Rattle.site_join.specs.States.{Records}
 use Rattle.session_index.specs.Index.{IndexValue, listed_at, Covers, Grows, ListsAddress, ListsSubscribers, ListAddresses, ListSubscribers}
-use Rattle.bind_index.proofs.Bound.{was_there}
+use Rattle.bind_index.proofs.Alike.{was_there}
 use Rattle.session_index.proofs.Covering.{grows_through, grows_itself, under_grows}
 use Rattle.bind_index.proofs.Entries.{AreRecordsOf, has_record}
 

@@ -2,18 +2,17 @@
 ghost use Rattle.std.specs.Prelude.{◌≡◌, ℕ, List, option_map};
 ghost use Rattle.std.specs.Option.{option_copied};
 ghost use Rattle.pcrf_model.specs.Bindings.{bind, candidate_cmp};
-ghost use Rattle.pcrf_model.specs.Holdings.{SessionFact, facts_on};
+ghost use Rattle.pcrf_model.specs.Holdings.{facts_on};
 ghost use Rattle.pcrf_model.specs.Sessions.{gx, af};
 ghost use Rattle.pcrf_model.specs.Views.{view};
 ghost use Rattle.ranked.specs.Sets.{greatest};
-ghost use Rattle.bind_index.specs.Asking.{HasRecord};
+ghost use Rattle.bind_index.specs.Asking.{with_record};
 ghost use Rattle.session_index.specs.Index.{Covers, matches_listed};
 ghost use Rattle.bind_index.specs.Matches.{match_of, match_value};
 
 use crate::index::Index;
 use af_records::AfRec;
 use bind_index::{Match, greater, match_of};
-use lattice_core::Join;
 use pcrf_values::{AfSid, GxSid};
 use session_lists::SessionIds;
 use site_join::State;
@@ -29,7 +28,6 @@ impl Index {
         let Some(asking) = state.af(session) else {
             return None;
         };
-        asking.note_valid();
         self.bind_by(state, asking)
     }
 
@@ -37,10 +35,9 @@ impl Index {
     /// that covers the state. Its time grows with the number of gateways' sessions that are listed under the address; it
     /// takes no memory.
     pub fn bind_by(&self, state: &State, asking: &AfRec) -> Option<&GxSid>
-        ensures { (facts : List SessionFact) (a : List ℕ)
-            → HasRecord state.now.facts asking.now facts a
-            → Covers (view state.now.facts) self.now
-            → option_map gx (option_copied result) ≡ bind (view facts) (af a) }
+        ensures { Covers (view state.now.facts) self.now → (a : List ℕ)
+            → option_map gx (option_copied result)
+            ≡ bind (view (with_record state.now (af a) asking.now).facts) (af a) }
     {
         let Some((_, address)) = asking.address() else {
             return None;

@@ -17,7 +17,7 @@ use Rattle.pcrf_model.specs.Requests.{AarValue, StrValue}
 use Rattle.pcrf_model.specs.Refusals.{first_cause, aar_refusal, str_refusal, binds_to_none, has_no_class, is_clock_full}
 use Rattle.pcrf_model.specs.Replies.{Done, Refused}
 use Rattle.pcrf_model.specs.Serving.{serve_aar, serve_str}
-use Rattle.bind_index.specs.Asking.{HasRecord}
+use Rattle.bind_index.proofs.Alike.{HasRecord, kept_record}
 use Rattle.indexed_state.proofs.PlacedRecord.{facts_on-append, own_under, held-append}
 use Rattle.fact_making.specs.Call.{call_facts}
 use Rattle.site_machine.specs.Calls.{late_refusal}
@@ -33,14 +33,13 @@ other_under id a (f ∷ fs) = other_under id a fs
 
 -- so with a request's facts the session asks for a binding by that record
 pub asks_with : (facts : List SessionFact) (a : List ℕ) (fs asking : List Fact) → asking ≡ join_of (facts_on facts (af a)) (kept_list fs) → HasRecord facts asking (facts ++ under (af a) fs) a
-asks_with facts a fs asking is = record {
-  gateways = λ id.
-      sym (facts_on-append facts (under (af a) fs) (gx id)
-      ∙ ap (λ (l : List Fact). facts_on facts (gx id) ++ l) (other_under id a fs)
-      ∙ append-nil (facts_on facts (gx id)));
-  own = is ∙ held-append (facts_on facts (af a)) fs
-      ∙ ap kept_list (sym (facts_on-append facts (under (af a) fs) (af a) ∙ ap (λ (l : List Fact). facts_on facts (af a) ++ l) (own_under (af a) fs)));
-}
+asks_with facts a fs asking is = kept_record facts asking (facts ++ under (af a) fs) a
+    (λ id.
+    sym (facts_on-append facts (under (af a) fs) (gx id)
+    ∙ ap (λ (l : List Fact). facts_on facts (gx id) ++ l) (other_under id a fs)
+    ∙ append-nil (facts_on facts (gx id))))
+    (is ∙ held-append (facts_on facts (af a)) fs
+    ∙ ap kept_list (sym (facts_on-append facts (under (af a) fs) (af a) ∙ ap (λ (l : List Fact). facts_on facts (af a) ++ l) (own_under (af a) fs))))
 
 -- what is there is the opposite of what is none
 turned : (a b : Bool) → a ≡ not b → b ≡ not a
