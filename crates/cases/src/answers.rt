@@ -1,6 +1,7 @@
 //! Answers as bytes.
 use dia_base::{Identity, Refusal, base_key, refusal_answer};
 use dia_codec::{Flags, Header, Message, write_message};
+use pcrf_values::limits::SESSION_ID_LIMIT;
 use pcrf_values::{AfSid, DiameterIdentity, SessionId};
 use rx_profile::{write_aaa, write_sta};
 use std::alloc::{AllocError, Global};
@@ -125,7 +126,7 @@ fn session_of(request: &Message) -> Option<&[u8]> {
     for avp in &request.avps {
         if avp.key() == base_key(263) {
             let id = avp.text();
-            return if id.is_empty() || id.len() > 512 {
+            return if id.is_empty() || id.len() > SESSION_ID_LIMIT {
                 None
             } else {
                 Some(id)

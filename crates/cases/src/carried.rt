@@ -4,15 +4,13 @@ use crate::outcomes::{Outcomes, put_state};
 use dia_base::Identity;
 use dia_codec::{Message, write_message};
 use gx_profile::{PushOut, write_rar};
+use pcrf_values::limits::SITE_LIMIT;
 use pcrf_world::{World, WorldEvent, WorldOutcome};
 use peer_cursors::{Cursor, Cursors};
 use peer_exchange::{Body, Letter, LetterFault, read_letter, write_letter};
 use site_join::{Operation, State};
 use std::alloc::{AllocError, Global};
 use std::fmt::Write as _;
-
-/// How many sites there may be.
-const SITE_LIMIT: u8 = 16;
 
 /// Bytes as one number of 32 bits (Fowler, Noll and Vo, FNV-1a).
 fn mixed(bytes: &[u8]) -> u32 {

@@ -4,6 +4,7 @@ ghost use Rattle.pcrf_values.specs.Limits.{site_limit};
 
 use dia_codec::{HEADER_BYTES, frames_of};
 use pcrf_values::DiameterIdentity;
+use pcrf_values::limits::SITE_LIMIT;
 use pcrf_world::WorldEvent;
 use site_core::{Asked, read_request};
 use std::alloc::{AllocError, Global};
@@ -47,7 +48,7 @@ pub fn site_count(script: &str) -> u8
     let Ok(n) = u8::try_from(Words::of(first).number()) else {
         return 1;
     };
-    if n == 0 || n > 16 {
+    if n == 0 || n > SITE_LIMIT {
         return 1;
     }
     n

@@ -6,6 +6,7 @@ use gx_profile::PushOut;
 use op_tables::Tables;
 use operator_view::{put_text, put_value, value};
 use pcrf_values::Rule;
+use pcrf_values::limits::SITE_LIMIT;
 use pcrf_world::{World, WorldEvent, WorldFault, WorldOutcome};
 use site_core::{Asked, Request, read_request, write_refusal, write_reply};
 use site_join::State;
@@ -187,7 +188,7 @@ impl<'a> Outcomes<'a> {
     /// Puts what a site shows after the events whose answers were printed.
     fn put_show(&self, site: usize, out: &mut String) -> Result<(), AllocError> {
         let sites = self.sites;
-        if sites == 0 || sites > 16 {
+        if sites == 0 || sites > SITE_LIMIT {
             return out.push_str("no world\n");
         }
         let events = self.events.get(..self.next).unwrap_or(self.events);

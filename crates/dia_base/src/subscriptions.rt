@@ -11,11 +11,9 @@ use crate::read_fault::ReadFault;
 use crate::repeated::{FromValue, read_avps, read_each};
 use crate::rows::{base_key, required_number_within, required_text};
 use dia_codec::Avp;
+use pcrf_values::limits::SUBSCRIBERS_LIMIT;
 use pcrf_values::{Refusal, Subscriber, Subscribers, SubscriptionType};
 use std::alloc::Global;
-
-/// How many Subscription-Ids a request may have: this project's own limit.
-const MOST: usize = 16;
 
 /// Reads the Subscription-Id-Type.
 fn read_subscription_type(avps: &[Avp]) -> Result<SubscriptionType, Refusal>
@@ -64,7 +62,7 @@ pub fn read_subscribers(alloc: Global, avps: &[Avp]) -> Result<Option<Subscriber
     ensures refused { IfErr result (FaultsWith subscription_row (avp_views avps.now)) }
 {
     let key = base_key(SUBSCRIPTION_ID);
-    let given = read_each::<Subscriber>(alloc, avps, key, Some(MOST))?;
+    let given = read_each::<Subscriber>(alloc, avps, key, Some(SUBSCRIBERS_LIMIT))?;
     let set = Subscribers::of(alloc, given)?;
     Ok(set)
 }

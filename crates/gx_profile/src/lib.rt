@@ -16,4 +16,4 @@ pub use ccr::{Ccr, read_ccr};
 pub use pcrf_values::{DefaultQuality, RequestKind};
 pub use push::write_rar;
 pub use raa::{Raa, read_raa};
-pub use reply_values::{DELTA_LIMIT, FirstEntries, GxReply, PushOut};
+pub use reply_values::{FirstEntries, GxReply, PushOut};

@@ -9,4 +9,6 @@ mod pushes;
 pub use end::LinkEnd;
 pub use gate::Gate;
 pub use pushes::Pushes;
-pub use site_lock::{Event, LockedSite, Reply, Request, Seat, Site, StepFault};
+pub use site_lock::{
+    Event, HISTORY_LIMIT, LockedSite, Reply, Request, SEAT_LIMIT, Seat, Site, StepFault,
+};

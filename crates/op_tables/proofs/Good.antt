@@ -4,7 +4,7 @@ use Rattle.std.specs.Prelude.{find}
 use Rattle.toml.specs.Data.{Data, Members, no_members, boolean, get_member, as_table}
 use Rattle.std.specs.Ordering.{nat_cmp}
 use Rattle.ranked.specs.Orders.{text_cmp}
-use Rattle.op_tables.specs.Places.{Shape, Key, Keys, no_more, ◌▸◌, optional, Rows, rule_name_shape, rule_keys, apn_name_shape, apn_keys, edition_key, rtcp_key, signalling_key, media_key, apns_key, default_key, rules_key, top_keys, number_32, class_keys}
+use Rattle.op_tables.specs.Places.{Shape, Key, Keys, no_more, ◌▸◌, optional, Rows, rule_name_shape, rule_keys, apn_name_shape, apn_keys, edition_key, rtcp_key, signalling_key, media_key, apns_key, default_key, rules_key, top_keys, number_32, class_keys, media_limit, apns_limit, rules_limit}
 use Rattle.op_tables.specs.Values.{as_list, list_in, table_in, rows_at}
 use Rattle.op_tables.specs.Judgement.{or_else, fault_if_present, fault_of_array, fault_of_rows, fault_of_table, fault_of_row, shape_fault, key_fault, keys_fault, row_fault, row_judged, media_fault, rule_fault, apn_fault}
 use Rattle.op_tables.specs.Meaning.{media_type, rule_name, apn_name}
@@ -52,7 +52,7 @@ media_good ms good =
     let second = keys_both rtcp_key (signalling_key ▸ media_key ▸ apns_key ▸ no_more) ms first.1 in
     let third = keys_both signalling_key (media_key ▸ apns_key ▸ no_more) ms second.1 in
     let fourth = keys_both media_key (apns_key ▸ no_more) ms third.1 in
-    rows_good key.Media key.MediaType 64 number_32 class_keys ms fourth.0
+    rows_good key.Media key.MediaType media_limit number_32 class_keys ms fourth.0
 
 pub apns_good : (ms : Members) → keys_fault top_keys ms ≡ None → fault_of_rows key.Apn apn_fault [] (rows_at (codes "apn") ms) ≡ None
 apns_good ms good =
@@ -61,13 +61,13 @@ apns_good ms good =
     let third = keys_both signalling_key (media_key ▸ apns_key ▸ no_more) ms second.1 in
     let fourth = keys_both media_key (apns_key ▸ no_more) ms third.1 in
     let fifth = keys_both apns_key no_more ms fourth.1 in
-    rows_good key.Apn key.Name 1000 apn_name_shape apn_keys ms fifth.0
+    rows_good key.Apn key.Name apns_limit apn_name_shape apn_keys ms fifth.0
 
 pub rules_good : (ms : Members) → keys_fault apn_keys ms ≡ None → fault_of_rows key.Rule rule_fault [] (rows_at (codes "rule") ms) ≡ None
 rules_good ms good =
     let first = keys_both default_key (rules_key ▸ no_more) ms good in
     let second = keys_both rules_key no_more ms first.1 in
-    rows_good key.Rule key.Name 64 rule_name_shape rule_keys ms second.0
+    rows_good key.Rule key.Name rules_limit rule_name_shape rule_keys ms second.0
 
 -- ---- rows differ
 

@@ -1,8 +1,11 @@
 -- The keys of the operator tables, place by place, in the order in which they are judged (this project's profile).
 use Rattle.std.specs.Prelude.{ℕ}
-use Rattle.pcrf_values.specs.Limits.{apn_limit}
+use Rattle.pcrf_values.specs.Limits.{apn_limit, filters_limit, operator_rule_name_limit}
+use Rattle.op_tables.specs.declared.apns.TheConstants.{MOST_APNS}
+use Rattle.op_tables.specs.declared.media.TheConstants.{MOST_MEDIA}
 use Rattle.op_tables.specs.declared.place.TableKey.{TableKey}
 use Rattle.op_tables.specs.declared.place.TableKey.TheVariants as key
+use Rattle.op_tables.specs.declared.rules.TheConstants.{MOST_RULES}
 
 infixr 5 ◌▸◌
 mutual
@@ -34,23 +37,15 @@ mutual
 
 -- how many kinds of media the tables may have
 abbrev pub media_limit : ℕ
-media_limit = 64
+media_limit = MOST_MEDIA
 
 -- how many access points
 abbrev pub apns_limit : ℕ
-apns_limit = 1000
+apns_limit = MOST_APNS
 
 -- how many rules an access point may have
 abbrev pub rules_limit : ℕ
-rules_limit = 64
-
--- bytes of a rule's name
-abbrev pub rule_name_limit : ℕ
-rule_name_limit = 64
-
--- filters of a rule: one for each direction (Flow-Description, TS 29.214, 5.3.8)
-abbrev pub filters_limit : ℕ
-filters_limit = 2
+rules_limit = MOST_RULES
 
 -- ---- places
 
@@ -95,7 +90,7 @@ abbrev pub rule_keys : Keys
 rule_keys = class_then flow_keys
 
 abbrev pub rule_name_shape : Shape
-rule_name_shape = Word rule_name_limit
+rule_name_shape = Word operator_rule_name_limit
 
 abbrev pub default_key : Key
 default_key = optional key.Default (Table quality_keys)

@@ -16,6 +16,7 @@ use crate::place::{Step, TableKey};
 use crate::reading::{rows_at, status_at, table};
 use crate::texts::{filters_at, word_at};
 use crate::word::Word;
+use pcrf_values::limits::OPERATOR_RULE_NAME_LIMIT;
 use pcrf_values::{FlowStatus, PermitFilters};
 use ranked::Ranked;
 use std::alloc::{AllocError, Global};
@@ -23,7 +24,7 @@ use std::marker::Model;
 use toml::{Table, Value};
 
 /// The name that the operator gives a rule. Gateways know it with `op/` in front.
-pub type OperatorRuleName = Word<64>;
+pub type OperatorRuleName = Word<OPERATOR_RULE_NAME_LIMIT>;
 
 /// The most rules that an access point may have.
 const MOST_RULES: usize = 64;

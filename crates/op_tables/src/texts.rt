@@ -1,9 +1,10 @@
 //! Texts of a document, each judged by its length and bytes, and what stands at a key of a table.
 ghost use Rattle.std.specs.Prelude.{◌≡◌, [], IfOk, IfErr, Some, None, map};
+ghost use Rattle.pcrf_values.specs.Limits.{filters_limit};
 ghost use Rattle.pcrf_values.specs.Texts.{small_letters};
 ghost use Rattle.toml.specs.View.{view, table_view};
 ghost use Rattle.op_tables.specs.Keys.{key_text};
-ghost use Rattle.op_tables.specs.Places.{apn_name_shape, Word as WordShape, Filters, filters_limit, required};
+ghost use Rattle.op_tables.specs.Places.{apn_name_shape, Word as WordShape, Filters, required};
 ghost use Rattle.op_tables.specs.Judgement.{shape_fault, key_fault, bad_unless, IsPlaced};
 ghost use Rattle.op_tables.specs.Values.{filter as filter_in, filters as filters_among, all_of, text_in, data_at};
 ghost use Rattle.op_tables.specs.Meaning.{filters_in};

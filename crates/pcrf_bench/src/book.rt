@@ -4,7 +4,7 @@ ghost use Rattle.std.specs.Prelude.{◌≡◌, ◌≤◌};
 ghost use Rattle.site_book.specs.Limits.{most_seats};
 
 use crate::figures::Figures;
-use site_book::Seat;
+use site_book::{HISTORY_LIMIT, SEAT_LIMIT, Seat};
 use site_core::{Event, Site};
 use site_lock::LockedSite;
 use std::alloc::AllocGlobal;
@@ -14,12 +14,6 @@ use std::sync::Wait;
 use std::sync::ledger::{Blank, Ledger};
 use std::thread::{Threads, for_each_mut};
 use std::time::{Clock, Duration, Instant};
-
-/// The most threads: there is a seat for each.
-const MOST_THREADS: usize = 64;
-
-/// How many entries a history has room for.
-const LIMIT: usize = 1_000_000;
 
 /// How many of these events, so many times over, a site steps.
 fn step_each(site: &mut Site, events: &[Event], rounds: u32) -> usize {
@@ -148,8 +142,13 @@ fn time_locked<L: Ledger + Send + Sync, R: AllocGlobal + Clock + Threads + Wait 
     requires one_each { blank.parts ≡ load.threads }
     requires seats { (1 ≤ load.threads) × (load.threads ≤ most_seats) }
 {
-    let Ok((site, mut seats)) = LockedSite::<L>::start(rt.alloc(), blank, site, load.threads, LIMIT)
-    else {
+    let Ok((site, mut seats)) = LockedSite::<L>::start(
+        rt.alloc(),
+        blank,
+        site,
+        load.threads,
+        HISTORY_LIMIT,
+    ) else {
         return Err(io::Error::other("no memory"));
     };
     let calls = time_calls(rt, &site, seats.as_mut_slice(), events, load.rounds);
@@ -172,7 +171,7 @@ pub fn measure_threads<R: AllocGlobal + Clock + Threads + Wait + Sync>(
     name: &str,
     figures: &mut Figures,
 ) -> io::Result<()> {
-    if load.threads == 0 || load.threads > MOST_THREADS {
+    if load.threads == 0 || load.threads > SEAT_LIMIT {
         drop(site);
         return Err(io::Error::other("1 to 64 threads"));
     }

@@ -1,12 +1,14 @@
 //! What the words of the command line ask for.
 use clap::{Arg, ArgAction, ArgMatches, Command, Error, value_parser};
+use pcrf_serve::SEAT_LIMIT;
+use pcrf_values::limits::SITE_LIMIT;
 use std::alloc::{AllocError, Global};
 
 /// The number of the first site that there isn't.
-const SITES: i64 = 16;
+const SITES: i64 = SITE_LIMIT as i64;
 
 /// One more connection than a server has seats.
-const CONNECTIONS: i64 = 65;
+const CONNECTIONS: i64 = SEAT_LIMIT as i64 + 1;
 
 /// What a run is asked to do.
 #[derive(Drop)]

@@ -1,13 +1,17 @@
 //! The lines of a script.
 use crate::fault::{BadLine, Unobeyed};
 use pcrf_values::BoundedNumber;
+use pcrf_values::limits::SITE_LIMIT;
 use std::alloc::Global;
 
 /// A site or a letter as a script names it: any decimal number. Those that no world has are `usize::MAX`.
 pub(crate) type Named = usize;
 
+/// How many sites a world may have.
+const SITES: u32 = SITE_LIMIT as u32;
+
 /// How many sites a world has.
-pub(crate) type SiteCount = BoundedNumber<1, 16>;
+pub(crate) type SiteCount = BoundedNumber<1, SITES>;
 
 /// What a line asks for.
 #[derive(Drop)]

@@ -13,6 +13,6 @@ mod workers;
 pub use conversing::serve_connection;
 pub use gateway_links::{Gateways, Observer};
 pub use link::Server;
-pub use link_ends::{Gate, LinkEnd, LockedSite, Pushes, Seat, Site};
+pub use link_ends::{Gate, HISTORY_LIMIT, LinkEnd, LockedSite, Pushes, SEAT_LIMIT, Seat, Site};
 pub use seat_at_site::SeatAtSite;
 pub use workers::{KeepsEarlier, serve_sessions};

@@ -8,11 +8,12 @@ ghost use Rattle.peer_cursors.specs.Writing.{if_placed};
 
 use crate::ack::Ack;
 use crate::cursor::Cursor;
+use pcrf_values::limits::SITE_LIMIT;
 use peer_exchange::{Body, Letter};
 use std::marker::Model;
 
-/// How many sites there may be: this project's own limit.
-const SITE_LIMIT: usize = 16;
+/// How many sites there may be.
+const SITES: usize = SITE_LIMIT as usize;
 
 /// What a site took of each maker, and what each peer said that it took of the site; all begins anew with each epoch of the
 /// site. Contracts see it as a `CursorsValue`.
@@ -20,8 +21,8 @@ const SITE_LIMIT: usize = 16;
 pub struct Cursors {
     site: u8,
     epoch: u16,
-    makers: [Cursor; SITE_LIMIT],
-    peers: [Option<Cursor>; SITE_LIMIT],
+    makers: [Cursor; SITES],
+    peers: [Option<Cursor>; SITES],
 }
 
 impl Model for Cursors {
@@ -45,8 +46,8 @@ impl Cursors {
         Cursors {
             site,
             epoch,
-            makers: [Cursor::NOTHING; SITE_LIMIT],
-            peers: [None; SITE_LIMIT],
+            makers: [Cursor::NOTHING; SITES],
+            peers: [None; SITES],
         }
     }
 

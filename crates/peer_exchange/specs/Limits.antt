@@ -1,14 +1,15 @@
--- Sizes of letters and of their frames: this project's own profile.
-use Rattle.std.specs.Prelude.{ℕ, ◌^◌}
+-- Sizes of letters and of their frames, as the code has them: this project's own profile.
+use Rattle.std.specs.Prelude.{ℕ}
+use Rattle.peer_exchange.specs.declared.limits.TheConstants as limit
 
 -- the bytes before a letter, which say how many it has
 abbrev pub length_bytes : ℕ
-length_bytes = 4
+length_bytes = limit.LENGTH_BYTES
 
 -- the most bytes of a letter
 abbrev pub longest_letter : ℕ
-longest_letter = 2 ^ 30
+longest_letter = limit.MOST_BYTES
 
 -- the version of the format
 abbrev pub letter_version : ℕ
-letter_version = 1
+letter_version = limit.VERSION

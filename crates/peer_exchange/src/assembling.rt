@@ -5,15 +5,10 @@ ghost use Rattle.peer_exchange.specs.Frames.{IsFrame, body_length, front_of};
 ghost use Rattle.peer_exchange.specs.declared.fault.FrameFault.TheVariants as faults;
 
 use crate::fault::FrameFault;
+use crate::limits::{LENGTH_BYTES, MOST_BYTES};
 use bytes::{Buf, BytesMut};
 use std::alloc::Global;
 use std::marker::Model;
-
-/// The bytes before a letter, which say how many it has.
-pub(crate) const LENGTH_BYTES: usize = 4;
-
-/// The most bytes of a letter.
-const MOST_BYTES: u32 = 1 << 30;
 
 /// The number that the first four bytes are, big-endian.
 #[tactic(auto, unfolding(crate::specs::Frames::body_length))]

@@ -7,14 +7,9 @@ ghost use Rattle.peer_exchange.specs.Form.{is_site, is_placed, is_formed, is_add
 ghost use Rattle.peer_exchange.specs.Values.{body_value, letter_value};
 
 use crate::body::{Acknowledgement, Body};
-use site_join::{LAST_COUNTER, Operation};
+use pcrf_values::limits::{LAST_COUNTER, RANGE_LIMIT, SITE_LIMIT};
+use site_join::Operation;
 use std::marker::Model;
-
-/// How many sites there may be: this project's own limit.
-const SITE_LIMIT: u8 = 16;
-
-/// How many operations a range has at most: this project's own limit.
-const RANGE_LIMIT: usize = 100;
 
 /// What one site tells another: the edition of its operator tables, its number, its epoch, and what it says. Contracts see
 /// it as a `LetterValue`.

@@ -8,6 +8,7 @@ pub mod examples;
 mod fault;
 pub mod laws;
 mod letter;
+mod limits;
 mod reading;
 mod writing;
 

@@ -17,6 +17,7 @@ ghost use Rattle.peer_exchange.specs.Values.{body_value};
 use crate::body::{Acknowledgement, Body, Range, Snapshot};
 use crate::fault::LetterFault;
 use crate::letter::Letter;
+use crate::limits::{MOST_BYTES, VERSION};
 use fact_codec::{
     Unread, af_facts_at, byte_at, gx_facts_at, held_af_facts_at, held_gx_facts_at, long_at,
     short_at, text_at, word_at,
@@ -25,12 +26,6 @@ use lattice_core::Tag;
 use pcrf_values::{AfSid, GxSid};
 use site_join::{Operation, SessionFacts, State, are_groups};
 use std::alloc::Global;
-
-/// The version of the format.
-pub(crate) const VERSION: u8 = 1;
-
-/// The most bytes of a letter.
-pub(crate) const MOST_BYTES: u32 = 1 << 30;
 
 /// The facts of an operation on a gateway's session, behind the kind of the session.
 #[tactic(auto, using(crate::proofs::Added::added), unfolding(crate::specs::Spelling::group_bytes))]

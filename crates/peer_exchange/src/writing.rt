@@ -9,11 +9,10 @@ ghost use Rattle.peer_exchange.specs.Spelling.{group_bytes, operation_bytes, ope
 ghost use Rattle.peer_exchange.specs.Reading.{letter_of};
 ghost use Rattle.peer_exchange.specs.Values.{body_value};
 
-use crate::assembling::LENGTH_BYTES;
 use crate::body::{Acknowledgement, Body, Range, Snapshot};
 use crate::fault::LetterFault;
 use crate::letter::Letter;
-use crate::reading::{MOST_BYTES, VERSION};
+use crate::limits::{LENGTH_BYTES, MOST_BYTES, VERSION};
 use fact_codec::{
     Unwritten, put_af_facts, put_gx_facts, put_held_af_facts, put_held_gx_facts, put_long,
     put_short, put_text, put_word,

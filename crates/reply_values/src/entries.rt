@@ -5,13 +5,11 @@ ghost use Rattle.pcrf_values.specs.Limits.{delta_limit};
 ghost use Rattle.pcrf_model.specs.Serving.{empty_delta};
 
 use exact_values::{Exact, same};
+use pcrf_values::limits::DELTA_LIMIT;
 use pcrf_values::{Delta, Rule, RuleName};
 use ranked::Ranked;
 use std::alloc::{AllocError, Global};
 use std::marker::Model;
-
-/// How many entries of a difference a message carries at most, so that every message has room for them.
-pub const DELTA_LIMIT: usize = 40;
 
 /// The entries of a difference that a message carries: the first ones, 40 at most. Contracts see it as a `DeltaValue`.
 #[derive(Debug, Drop, PartialEq, Eq)]

@@ -6,5 +6,5 @@ mod entries;
 mod push;
 
 pub use answer::GxReply;
-pub use entries::{DELTA_LIMIT, FirstEntries};
+pub use entries::FirstEntries;
 pub use push::PushOut;

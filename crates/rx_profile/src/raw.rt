@@ -15,15 +15,10 @@ use dia_base::{
     FromValue, ReadFault, Refusal, optional_number, read_avps, read_each, required_number, tgpp_key,
 };
 use dia_codec::Avp;
+use pcrf_values::limits::{FILTERS_LIMIT, FLOWS_LIMIT};
 use ranked::Text;
 use std::alloc::Global;
 use std::marker::Model;
-
-/// How many filters a flow may have.
-const FILTERS: usize = 2;
-
-/// How many flows a component may have.
-const FLOWS: usize = 64;
 
 /// A flow whose filters may be any texts.
 #[derive(Drop)]
@@ -89,7 +84,7 @@ fn read_flow(alloc: Global, avps: &[Avp]) -> Result<RawFlow, ReadFault>
     ensures refused { IfErr result (IsFaultOf (rows_refusal flow_rows (avp_views avps.now))) }
 {
     let number = required_number(avps, tgpp_key(FLOW_NUMBER))?;
-    let filters = read_each::<Text>(alloc, avps, tgpp_key(FLOW_DESCRIPTION), Some(FILTERS))?;
+    let filters = read_each::<Text>(alloc, avps, tgpp_key(FLOW_DESCRIPTION), Some(FILTERS_LIMIT))?;
     let status = read_status(avps)?;
     let usage = read_usage(avps)?;
     let rates = read_rates(avps)?;
@@ -152,7 +147,12 @@ fn read_component(alloc: Global, avps: &[Avp]) -> Result<RawComponent, ReadFault
         (IsFaultOf (rows_refusal component_rows (avp_views avps.now))) }
 {
     let parts = read_component_parts(avps)?;
-    let flows = read_each::<RawFlow>(alloc, avps, tgpp_key(MEDIA_SUB_COMPONENT), Some(FLOWS))?;
+    let flows = read_each::<RawFlow>(
+        alloc,
+        avps,
+        tgpp_key(MEDIA_SUB_COMPONENT),
+        Some(FLOWS_LIMIT),
+    )?;
     Ok(RawComponent { parts, flows })
 }
 

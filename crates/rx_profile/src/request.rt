@@ -19,13 +19,11 @@ use dia_base::{
 };
 use dia_codec::{Avp, Message};
 use exact_values::{Exact, same, same_address};
+use pcrf_values::limits::COMPONENTS_LIMIT;
 use pcrf_values::{AfSid, Apn, Subscribers};
 use ranked::Ranked;
 use std::alloc::{AllocError, Global};
 use std::net::Ipv4Addr;
-
-/// How many components a request may have.
-const COMPONENTS: usize = 64;
 
 /// An AA request as it was read: what this profile asks of it, and nothing else.
 #[derive(Debug, Drop)]
@@ -126,7 +124,7 @@ fn read_rows(alloc: Global, avps: &[Avp]) -> Result<RawAar, ReadFault>
     let origin = read_origin(alloc, avps)?;
     let access = read_access(alloc, avps)?;
     let key = tgpp_key(MEDIA_COMPONENT_DESCRIPTION);
-    let components = read_each::<RawComponent>(alloc, avps, key, Some(COMPONENTS))?;
+    let components = read_each::<RawComponent>(alloc, avps, key, Some(COMPONENTS_LIMIT))?;
     Ok(RawAar {
         session,
         origin,

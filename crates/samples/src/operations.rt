@@ -3,9 +3,10 @@ use crate::fault::SampleFault;
 use crate::values::{filters, lettered, subscribers, text};
 use af_records::{AfFact, AfRequestType, ComponentValue, FlowValue};
 use gx_records::{GxFact, OpenRequestType, SessionValue};
+use pcrf_values::limits::LAST_COUNTER;
 use pcrf_values::{AfSid, Apn, GxSid};
 use ranked::Tag;
-use site_join::{LAST_COUNTER, Operation, SessionFacts};
+use site_join::{Operation, SessionFacts};
 use std::alloc::{AllocError, Global};
 use std::net::Ipv4Addr;
 

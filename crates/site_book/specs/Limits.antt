@@ -1,10 +1,11 @@
--- How large a book may be: this project's own limits.
+-- How large a book may be, as the code has it: this project's own limits.
 use Rattle.std.specs.Prelude.{ℕ}
+use Rattle.site_book.specs.declared.limits.TheConstants as limit
 
 -- the most seats
 abbrev pub most_seats : ℕ
-most_seats = 64
+most_seats = limit.SEAT_LIMIT
 
 -- the most entries
 abbrev pub most_entries : ℕ
-most_entries = 1000000
+most_entries = limit.HISTORY_LIMIT

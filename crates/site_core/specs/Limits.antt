@@ -1,6 +1,7 @@
--- The most reads of a conversation. It stands apart from that of the code, so that it is a check on it.
-use Rattle.std.specs.Prelude.{ℕ, ◌^◌}
+-- The most reads of a conversation, as the code has them: this project's own limit.
+use Rattle.std.specs.Prelude.{ℕ}
+use Rattle.site_core.specs.declared.conversing.TheConstants as limit
 
 -- a reader that gives no end is read so often
 abbrev pub most_reads : ℕ
-most_reads = 2 ^ 40
+most_reads = limit.READ_LIMIT

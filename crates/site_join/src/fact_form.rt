@@ -12,8 +12,7 @@ ghost use Rattle.af_records.specs.RecordFacts as af_facts;
 ghost use Rattle.af_records.specs.declared.fact.AfFact.TheVariants.{Component, Flow};
 
 use crate::form::{
-    Beneath, COMPONENT_FIELD, FLOW_FIELD, FormFact, Position, RULE_NAME, SESSION_FIELD, SITE_LIMIT,
-    is_stamp,
+    Beneath, COMPONENT_FIELD, FLOW_FIELD, FormFact, Position, RULE_NAME, SESSION_FIELD, is_stamp,
 };
 use crate::ranges::{
     note_af_value, note_component_value, note_flow_value, note_gx_value, note_unsigned,
@@ -22,6 +21,7 @@ use af_records::{AfFact, ComponentValue, FlowValue, SessionValue};
 use gx_records::GxFact;
 use lattice_core::Tag;
 use pcrf_model::ranges::{note_rule, note_text};
+use pcrf_values::limits::SITE_LIMIT;
 use pcrf_values::{BoundedNumber, Rule, RuleName};
 
 /// The tag is that of these parts.

@@ -13,14 +13,9 @@ ghost use Rattle.site_join.specs.Formed.{operation_of};
 
 use crate::operation::SessionFacts;
 use pcrf_model::ranges::note_text;
+use pcrf_values::limits::{LAST_COUNTER, SITE_LIMIT};
 use std::cmp::Ordering;
 use std::marker::Model;
-
-/// The last counter of any operation: this project's own limit.
-pub const LAST_COUNTER: u64 = (1 << 63) - 1;
-
-/// How many sites there may be.
-pub(crate) const SITE_LIMIT: u8 = 16;
 
 /// The kinds of facts, in the order in which they stand.
 const END: u8 = 1;

@@ -7,12 +7,13 @@ ghost use Rattle.pcrf_model.specs.Sessions.{gx, af, session_cmp};
 ghost use Rattle.site_join.specs.Groups.{are_groups, group_at, group_of, is_group, facts_of_groups};
 ghost use Rattle.site_join.specs.States.{session_of};
 
-use crate::form::{LAST_COUNTER, are_held};
+use crate::form::are_held;
 use crate::operation::SessionFacts;
 use crate::state::State;
 use af_records::AfRec;
 use gx_records::GxRec;
 use pcrf_model::ranges::note_text;
+use pcrf_values::limits::LAST_COUNTER;
 use pcrf_values::{AfSid, GxSid};
 use ranked::Ranked;
 use std::alloc::{AllocError, Global};

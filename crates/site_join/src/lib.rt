@@ -9,7 +9,6 @@ mod operation;
 mod ranges;
 mod state;
 
-pub use form::LAST_COUNTER;
 pub use groups::are_groups;
 pub use operation::{Operation, SessionFacts, are_af_facts, are_gx_facts};
 pub use state::State;

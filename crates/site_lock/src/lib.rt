@@ -4,5 +4,5 @@
 mod locked;
 
 pub use locked::LockedSite;
-pub use site_book::Seat;
+pub use site_book::{HISTORY_LIMIT, SEAT_LIMIT, Seat};
 pub use site_machine::{Event, Reply, Request, Site, StepFault};

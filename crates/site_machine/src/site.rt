@@ -49,15 +49,13 @@ use lattice_core::Join;
 use op_tables::Tables;
 use operator_view::{OperatorValue, value};
 use pcrf_model::ranges::note_text;
+use pcrf_values::limits::{LAST_COUNTER, RANGE_LIMIT};
 use pcrf_values::{AfSid, Apn, DefaultQuality, Delta, GxSid, Refusal, RequestKind, Rule};
 use ranked::{Ranked, Tag};
 use reply_values::{FirstEntries, GxReply, PushOut};
-use site_join::{LAST_COUNTER, Operation, SessionFacts, State};
+use site_join::{Operation, SessionFacts, State};
 use std::alloc::{AllocError, Global};
 use std::marker::Model;
-
-/// The most operations that are told at once.
-const RANGE_LIMIT: usize = 100;
 
 /// A site: the operator tables that it decides by, the names that it answers under, its number, what it holds, and the
 /// operations that it made itself since it began, in order.

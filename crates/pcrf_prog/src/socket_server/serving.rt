@@ -12,7 +12,9 @@ use crate::socket_server::sockets::{Sockets, open_sockets};
 use dia_base::Identity;
 use log::Log;
 use op_tables::Tables;
-use pcrf_serve::{Gateways, LinkEnd, LockedSite, Observer, Pushes, Seat, Site, serve_sessions};
+use pcrf_serve::{
+    Gateways, HISTORY_LIMIT, LinkEnd, LockedSite, Observer, Pushes, Seat, Site, serve_sessions,
+};
 use std::alloc::{AllocError, Global};
 use std::io::{Read, Write};
 use std::marker::Brand;
@@ -21,9 +23,6 @@ use std::sync::Wait;
 use std::sync::ledger::{Blank, Ledger};
 use std::thread::{self, Scope, Threads};
 use std::time::Clock;
-
-/// How many entries the history of a server has room for.
-const HISTORY_LIMIT: usize = 1_000_000;
 
 /// What the workers of a server begin with, and room for what they give back.
 #[derive(Drop)]

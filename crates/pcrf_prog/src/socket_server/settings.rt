@@ -3,11 +3,8 @@ ghost use Rattle.std.specs.Prelude.{◌≡◌, ◌≤◌, ◌<◌, ◌+◌, ◌*
 ghost use Rattle.pcrf_values.specs.Limits.{site_limit};
 ghost use Rattle.pcrf_serve.specs.Limits.{most_seats};
 
-/// How many sites there are at most.
-const SITE_LIMIT: u8 = 16;
-
-/// How many seats a history has at most.
-const SEAT_LIMIT: usize = 64;
+use pcrf_serve::SEAT_LIMIT;
+use pcrf_values::limits::SITE_LIMIT;
 
 /// A site's number, and the epoch that it begins: how often it has started.
 #[derive(Clone, Copy, Debug, PartialEq, Eq)]

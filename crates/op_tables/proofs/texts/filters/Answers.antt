@@ -4,7 +4,7 @@ use Rattle.std.specs.Option.{option_and_then}
 use Rattle.pcrf_values.specs.Texts.{one_to}
 use Rattle.toml.specs.Data.{Data}
 use Rattle.toml.specs.View.{view}
-use Rattle.op_tables.specs.Places.{filters_limit}
+use Rattle.pcrf_values.specs.Limits.{filters_limit}
 use Rattle.op_tables.specs.Values.{all_of, filter, filters}
 use Rattle.op_tables.proofs.Faults.{before_is, around_is, one_bad}
 use Rattle.op_tables.proofs.Lists.{all_of-push, one_missing}
