@@ -3,26 +3,26 @@
 //! or `removed` in the place of a field; `end`. Behind a word `@NUMBER.COUNTER.SITE` facts have this tag.
 use crate::fault::Fault;
 use crate::rules::named_rule;
-use crate::words::{address, apn, bounded, filters, number, parted, subscribers, tag, text};
+use crate::words::{address, apn, enumerated, filters, number, parted, subscribers, tag, text};
 use af_records::{AfFact, ComponentValue, FlowValue};
 use gx_records::{GxFact, SessionValue};
-use pcrf_values::BoundedNumber;
+use pcrf_values::{Enumerated, Enumeration};
 use ranked::Tag;
 use std::alloc::Global;
 
 /// What a field of a session is.
-fn session_value<const LEAST: u32, const MOST: u32>(
+fn session_value<E: Enumeration>(
     alloc: Global,
     field: &str,
     value: &str,
-) -> Result<SessionValue<BoundedNumber<LEAST, MOST>>, Fault> {
+) -> Result<SessionValue<Enumerated<E>>, Fault> {
     match field {
         "address" => Ok(SessionValue::Address(address(value)?)),
         "apn" => Ok(SessionValue::Apn(apn(alloc, value)?)),
         "subscribers" => Ok(SessionValue::Subscribers(subscribers(alloc, value)?)),
         "host" => Ok(SessionValue::Host(text(alloc, value)?)),
         "realm" => Ok(SessionValue::Realm(text(alloc, value)?)),
-        "last" => Ok(SessionValue::Last(bounded(value)?)),
+        "last" => Ok(SessionValue::Last(enumerated(value)?)),
         _ => Err(Fault::NoFieldOfASession),
     }
 }
@@ -32,7 +32,7 @@ fn component_value(says: &str) -> Result<ComponentValue, Fault> {
     let (field, value) = parted(says, '=')?;
     match field {
         "media" => Ok(ComponentValue::MediaType(number(value)?)),
-        "status" => Ok(ComponentValue::Status(bounded(value)?)),
+        "status" => Ok(ComponentValue::Status(enumerated(value)?)),
         "up" => Ok(ComponentValue::RateUp(number(value)?)),
         "down" => Ok(ComponentValue::RateDown(number(value)?)),
         _ => Err(Fault::NoFieldOfAComponent),
@@ -44,8 +44,8 @@ fn flow_value(alloc: Global, says: &str) -> Result<FlowValue, Fault> {
     let (field, value) = parted(says, '=')?;
     match field {
         "filters" => Ok(FlowValue::Descriptions(filters(alloc, value)?)),
-        "usage" => Ok(FlowValue::Usage(bounded(value)?)),
-        "status" => Ok(FlowValue::Status(bounded(value)?)),
+        "usage" => Ok(FlowValue::Usage(enumerated(value)?)),
+        "status" => Ok(FlowValue::Status(enumerated(value)?)),
         "up" => Ok(FlowValue::RateUp(number(value)?)),
         "down" => Ok(FlowValue::RateDown(number(value)?)),
         _ => Err(Fault::NoFieldOfAFlow),

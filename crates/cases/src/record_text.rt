@@ -86,7 +86,7 @@ fn put_gx_fields(out: &mut String, record: &GxRec) -> Result<(), AllocError> {
     put_user(out, record.address(), record.apn(), record.subscribers())?;
     put_client(out, record.host(), record.realm())?;
     if let Some((tag, last)) = record.last() {
-        put_number(out, "last", *tag, last.get())?;
+        put_number(out, "last", *tag, last.number())?;
     }
     if let Some(home) = record.home() {
         write!(out, " home {home}")?;
@@ -131,7 +131,7 @@ fn put_af_fields(out: &mut String, record: &AfRec) -> Result<(), AllocError> {
     put_user(out, record.address(), record.apn(), record.subscribers())?;
     put_client(out, record.host(), record.realm())?;
     if let Some((tag, last)) = record.last() {
-        put_number(out, "last", *tag, last.get())?;
+        put_number(out, "last", *tag, last.number())?;
     }
     Ok(())
 }
@@ -157,7 +157,7 @@ fn put_component(out: &mut String, record: &AfRec, number: u32) -> Result<(), Al
         put_number(out, "type", *tag, *kind)?;
     }
     if let Some((tag, status)) = record.component_status(number) {
-        put_number(out, "status", *tag, status.get())?;
+        put_number(out, "status", *tag, status.number())?;
     }
     let up = record.component_rate_up(number);
     put_rates(out, up, record.component_rate_down(number))
@@ -173,10 +173,10 @@ fn put_flow_fields(
         put_filters(out, *tag, filters)?;
     }
     if let Some((tag, usage)) = record.flow_usage(component, flow) {
-        put_number(out, "usage", *tag, usage.get())?;
+        put_number(out, "usage", *tag, usage.number())?;
     }
     if let Some((tag, status)) = record.flow_own_status(component, flow) {
-        put_number(out, "status", *tag, status.get())?;
+        put_number(out, "status", *tag, status.number())?;
     }
     let up = record.flow_rate_up(component, flow);
     put_rates(out, up, record.flow_rate_down(component, flow))

@@ -65,7 +65,7 @@ fn put_user(out: &mut String, user: &GxUser) -> Result<(), AllocError> {
 fn put_client(out: &mut String, client: &GxClient) -> Result<(), AllocError> {
     put_word(out, "", client.host.as_slice())?;
     put_word(out, "", client.realm.as_slice())?;
-    write!(out, " {}", client.last.get())
+    write!(out, " {}", client.last.number())
 }
 
 /// The rules that a gateway was told.
@@ -103,7 +103,7 @@ fn put_session_field<L>(out: &mut String, value: &SessionValue<L>) -> Result<(),
 fn put_component_field(out: &mut String, value: ComponentValue) -> Result<(), AllocError> {
     match value {
         ComponentValue::MediaType(kind) => write!(out, "media {kind}"),
-        ComponentValue::Status(status) => write!(out, "status {}", status.get()),
+        ComponentValue::Status(status) => write!(out, "status {}", status.number()),
         ComponentValue::RateUp(rate) => write!(out, "up {rate}"),
         ComponentValue::RateDown(rate) => write!(out, "down {rate}"),
     }
@@ -113,8 +113,8 @@ fn put_component_field(out: &mut String, value: ComponentValue) -> Result<(), Al
 fn put_flow_field(out: &mut String, value: &FlowValue) -> Result<(), AllocError> {
     match value {
         FlowValue::Descriptions(filters) => write!(out, "filters {}", filters.as_slice().len()),
-        FlowValue::Usage(usage) => write!(out, "usage {}", usage.get()),
-        FlowValue::Status(status) => write!(out, "status {}", status.get()),
+        FlowValue::Usage(usage) => write!(out, "usage {}", usage.number()),
+        FlowValue::Status(status) => write!(out, "status {}", status.number()),
         FlowValue::RateUp(rate) => write!(out, "up {rate}"),
         FlowValue::RateDown(rate) => write!(out, "down {rate}"),
     }

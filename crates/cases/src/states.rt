@@ -48,7 +48,7 @@ fn put_gateway(out: &mut String, record: &GxRec) -> Result<(), AllocError> {
         put_tag(out, *tag)?;
     }
     if let Some((tag, last)) = record.last() {
-        write!(out, " last {}", last.get())?;
+        write!(out, " last {}", last.number())?;
         put_tag(out, *tag)?;
     }
     Ok(())

@@ -1,7 +1,7 @@
 //! Values by words.
 use crate::fault::Fault;
 use pcrf_values::{
-    Apn, BoundedNumber, BoundedText, Filters, Subscriber, Subscribers, SubscriptionType,
+    Apn, BoundedText, Enumerated, Enumeration, Filters, Subscriber, Subscribers, SubscriptionType,
 };
 use ranked::Tag;
 use std::alloc::{AllocError, Global};
@@ -15,12 +15,10 @@ pub fn number(word: &str) -> Result<u32, Fault> {
     }
 }
 
-/// A number of a range.
-pub fn bounded<const LEAST: u32, const MOST: u32>(
-    word: &str,
-) -> Result<BoundedNumber<LEAST, MOST>, Fault> {
-    match BoundedNumber::of(number(word)?) {
-        Some(number) => Ok(number),
+/// A value of an enumeration, by its number.
+pub fn enumerated<E: Enumeration>(word: &str) -> Result<Enumerated<E>, Fault> {
+    match Enumerated::from_number(number(word)?) {
+        Some(value) => Ok(value),
         None => Err(Fault::NoNumberOfItsRange),
     }
 }

@@ -8,7 +8,7 @@ ghost use Rattle.gx_records.specs.GxFacts as gx_facts;
 ghost use Rattle.session_records.specs.SessionFacts.{address_value};
 
 use af_records::{ComponentValue, FlowValue};
-use pcrf_values::{BoundedNumber, Filters, Rule, RuleQos, Subscriber, Subscribers};
+use pcrf_values::{Enumerated, Enumeration, Filters, Rule, RuleQos, Subscriber, Subscribers};
 use session_records::SessionValue;
 use std::alloc::AllocError;
 use std::net::Ipv4Addr;
@@ -146,9 +146,9 @@ pub(crate) fn put_told(out: &mut Vec<u8>, rule: &Option<Rule>) -> Result<(), All
 
 /// Adds what a field of a session says.
 #[tactic(auto, using(crate::proofs::Added::added), unfolding(crate::specs::Spelling::value_bytes))]
-fn put_session_said<const LEAST: u32, const MOST: u32>(
+fn put_session_said<E: Enumeration>(
     out: &mut Vec<u8>,
-    value: &SessionValue<BoundedNumber<LEAST, MOST>>,
+    value: &SessionValue<Enumerated<E>>,
 ) -> Result<(), AllocError>
     ensures { OnOk result (out.new.items ≡ out.old.items ++ value_bytes (session_says value.now).1) }
 {
@@ -158,14 +158,12 @@ fn put_session_said<const LEAST: u32, const MOST: u32>(
         SessionValue::Subscribers(subscribers) => put_subscribers(out, subscribers),
         SessionValue::Host(host) => put_text(out, host.as_slice()),
         SessionValue::Realm(realm) => put_text(out, realm.as_slice()),
-        SessionValue::Last(last) => put_word(out, last.get()),
+        SessionValue::Last(last) => put_word(out, last.number()),
     }
 }
 
 /// The number of a field of a session.
-fn session_number<const LEAST: u32, const MOST: u32>(
-    value: &SessionValue<BoundedNumber<LEAST, MOST>>,
-) -> u8
+fn session_number<E: Enumeration>(value: &SessionValue<Enumerated<E>>) -> u8
     ensures { result ≡ session_field_number (session_says value.now).0 }
 {
     match value {
@@ -180,9 +178,9 @@ fn session_number<const LEAST: u32, const MOST: u32>(
 
 /// Adds a field of a session by its number, and what it says.
 #[tactic(auto, using(crate::proofs::Added::added))]
-pub(crate) fn put_session_value<const LEAST: u32, const MOST: u32>(
+pub(crate) fn put_session_value<E: Enumeration>(
     out: &mut Vec<u8>,
-    value: &SessionValue<BoundedNumber<LEAST, MOST>>,
+    value: &SessionValue<Enumerated<E>>,
 ) -> Result<(), AllocError>
     ensures { OnOk result (out.new.items ≡ out.old.items
         ++ (session_field_number (session_says value.now).0 ∷ []
@@ -205,7 +203,7 @@ pub(crate) fn put_component_value(
 {
     match value {
         ComponentValue::MediaType(kind) => put_numbered(out, 1, *kind),
-        ComponentValue::Status(status) => put_numbered(out, 2, status.get()),
+        ComponentValue::Status(status) => put_numbered(out, 2, status.number()),
         ComponentValue::RateUp(rate) => put_numbered(out, 3, *rate),
         ComponentValue::RateDown(rate) => put_numbered(out, 4, *rate),
     }
@@ -240,8 +238,8 @@ pub(crate) fn put_flow_value(out: &mut Vec<u8>, value: &FlowValue) -> Result<(),
 {
     match value {
         FlowValue::Descriptions(filters) => put_descriptions(out, filters),
-        FlowValue::Usage(usage) => put_numbered(out, 2, usage.get()),
-        FlowValue::Status(status) => put_numbered(out, 3, status.get()),
+        FlowValue::Usage(usage) => put_numbered(out, 2, usage.number()),
+        FlowValue::Status(status) => put_numbered(out, 3, status.number()),
         FlowValue::RateUp(rate) => put_numbered(out, 4, *rate),
         FlowValue::RateDown(rate) => put_numbered(out, 5, *rate),
     }

@@ -10,19 +10,19 @@ use crate::fault::Unread;
 use crate::numbers::{byte_at, word_at};
 use crate::texts::{apn_at, text_at};
 use crate::values::{address_at, filters_at, subscribers_at};
-use af_records::{ComponentValue, FlowUsageNumber, FlowValue, OpenStatusNumber};
-use pcrf_values::BoundedNumber;
+use af_records::{ComponentValue, FlowValue};
+use pcrf_values::{Enumerated, Enumeration};
 use session_records::SessionValue;
 use std::alloc::Global;
 
 /// A value of a field of a session, in whichever kind of session the type of the last request is that.
 #[tactic(auto, unfolding(crate::specs::Said::session_said, crate::specs::Said::word_within, crate::specs::Spelling::value_bytes))]
-pub(crate) fn session_value_at<const LEAST: u32, const MOST: u32>(
+pub(crate) fn session_value_at<E: Enumeration>(
     alloc: Global,
     bytes: &[u8],
-) -> Result<(SessionValue<BoundedNumber<LEAST, MOST>>, &[u8]), Unread>
+) -> Result<(SessionValue<Enumerated<E>>, &[u8]), Unread>
     ensures read { Gives (λ x. (session_says x.0, x.1.now)) result
-        (session_said LEAST MOST bytes.now) }
+        (session_said E.LEAST E.MOST bytes.now) }
     ensures spelled { IfOk result (λ x. bytes.now ≡ session_field_number (session_says x.0).0
         ∷ [] ++ value_bytes (session_says x.0).1 ++ x.1.now) }
 {
@@ -50,7 +50,7 @@ pub(crate) fn session_value_at<const LEAST: u32, const MOST: u32>(
         }
         6 => {
             let (number, rest) = word_at(rest)?;
-            let Some(last) = BoundedNumber::<LEAST, MOST>::of(number) else {
+            let Some(last) = Enumerated::from_number(number) else {
                 return Err(Unread::BadShape);
             };
             Ok((SessionValue::Last(last), rest))
@@ -74,7 +74,7 @@ pub(crate) fn component_value_at(bytes: &[u8]) -> Result<(ComponentValue, &[u8])
         }
         2 => {
             let (number, rest) = word_at(rest)?;
-            let Some(status) = OpenStatusNumber::of(number) else {
+            let Some(status) = Enumerated::from_number(number) else {
                 return Err(Unread::BadShape);
             };
             Ok((ComponentValue::Status(status), rest))
@@ -106,14 +106,14 @@ pub(crate) fn flow_value_at(alloc: Global, bytes: &[u8]) -> Result<(FlowValue, &
         }
         2 => {
             let (number, rest) = word_at(rest)?;
-            let Some(usage) = FlowUsageNumber::of(number) else {
+            let Some(usage) = Enumerated::from_number(number) else {
                 return Err(Unread::BadShape);
             };
             Ok((FlowValue::Usage(usage), rest))
         }
         3 => {
             let (number, rest) = word_at(rest)?;
-            let Some(status) = OpenStatusNumber::of(number) else {
+            let Some(status) = Enumerated::from_number(number) else {
                 return Err(Unread::BadShape);
             };
             Ok((FlowValue::Status(status), rest))

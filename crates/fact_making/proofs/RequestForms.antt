@@ -3,14 +3,14 @@ use Rattle.std.proofs.Common.{◌≡◌, ℕ, Bool, true, false, not, ◌&&◌, 
 use Rattle.std.specs.List.{list_any, list_all}
 use Rattle.ranked.proofs.Plain.{both}
 use Rattle.pcrf_values.specs.Results.{invalid_service_information}
-use Rattle.pcrf_values.specs.Numbers.{flow_status_number}
+use Rattle.pcrf_values.specs.Numbers.{flow_status_number, flow_usage_number}
 use Rattle.pcrf_values.specs.declared.rule.FlowStatus.{FlowStatus}
 use Rattle.pcrf_values.specs.declared.rule.FlowStatus.TheVariants as flow_status
+use Rattle.pcrf_values.specs.declared.flow_usage.FlowUsage.{FlowUsage}
+use Rattle.pcrf_values.specs.declared.flow_usage.FlowUsage.TheVariants as usage
 use Rattle.pcrf_model.specs.Requests.{FlowValue, ComponentValue}
 use Rattle.pcrf_model.specs.Forms.{is_within, is_unsigned, is_none_or, are_filters, is_usage, is_flow, are_apart, is_component}
-use Rattle.rx_profile.specs.Numbers.{flow_usage_number, media_status_number}
-use Rattle.rx_profile.specs.declared.media.FlowUsage.{FlowUsage}
-use Rattle.rx_profile.specs.declared.media.FlowUsage.TheVariants as usage
+use Rattle.rx_profile.specs.Numbers.{media_status_number}
 use Rattle.rx_profile.specs.declared.media.MediaStatus.{MediaStatus}
 use Rattle.rx_profile.specs.declared.media.MediaStatus.TheVariants as status
 use Rattle.rx_profile.specs.declared.media.FlowParts.{FlowParts}

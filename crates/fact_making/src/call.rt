@@ -13,6 +13,7 @@ use crate::component::put_components;
 use crate::forms::note_aar;
 use crate::session::session_values;
 use af_records::{AfFact, AfRec, AfRequestType, SessionValue};
+use pcrf_values::Enumerated;
 use ranked::Tag;
 use rx_profile::Aar;
 use std::alloc::{AllocError, Global};
@@ -21,7 +22,7 @@ use std::alloc::{AllocError, Global};
 fn of_values(
     alloc: Global,
     tag: Tag,
-    values: Vec<SessionValue<AfRequestType>>,
+    values: Vec<SessionValue<Enumerated<AfRequestType>>>,
 ) -> Result<Vec<AfFact>, AllocError>
     ensures { IfOk result (λ facts.
         map fact_of facts.items ≡ map (session_fact tag) values.items) }
@@ -33,13 +34,11 @@ fn of_values(
     Ok(facts)
 }
 
-/// The fields of the session that a request sets. Rx has one type of request, 0 (this project's profile).
+/// The fields of the session that a request sets.
 fn fields_of(alloc: Global, aar: &Aar, tag: Tag) -> Result<Vec<AfFact>, AllocError>
     ensures { IfOk result (λ facts. map fact_of facts.items ≡ call_fields (aar_view aar.now) tag) }
 {
-    let Some(last) = AfRequestType::of(0) else {
-        unreachable!()
-    };
+    let last = Enumerated::of(AfRequestType::AaRequest);
     let user = (aar.address, &aar.apn, &aar.subscribers);
     let values = session_values(alloc, user, &aar.origin, last)?;
     of_values(alloc, tag, values)

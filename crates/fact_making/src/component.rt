@@ -1,6 +1,7 @@
 //! The facts of media components (TS 29.214, 4.4.2): what a description leaves out stays.
 ghost use Rattle.std.specs.Prelude.{◌≡◌, ◌++◌, false, OnOk, map, option_map, option_to_list};
 ghost use Rattle.std.specs.List.{flat_map};
+ghost use Rattle.pcrf_values.specs.Numbers.{flow_status_number};
 ghost use Rattle.pcrf_facts.specs.Facts.{Field};
 ghost use Rattle.pcrf_facts.specs.Places.{OfComponent};
 ghost use Rattle.pcrf_facts.specs.Places as places;
@@ -11,7 +12,8 @@ ghost use Rattle.rx_profile.specs.Numbers.{media_status_number};
 ghost use Rattle.rx_profile.specs.Values.{component_value};
 
 use crate::flow::put_flows;
-use af_records::{AfFact, ComponentValue, OpenStatusNumber};
+use af_records::{AfFact, ComponentValue};
+use pcrf_values::{Enumerated, FlowStatus};
 use ranked::Tag;
 use rx_profile::{Component, ComponentParts, Flow, MediaStatus, is_removed};
 use std::alloc::AllocError;
@@ -73,13 +75,13 @@ pub(crate) fn put(facts: &mut Vec<AfFact>, fact: Option<AfFact>) -> Result<(), A
     Ok(())
 }
 
-/// The number of the Flow-Status of what stays, if one is given.
-pub(crate) fn open_status(status: Option<MediaStatus>) -> Option<OpenStatusNumber>
+/// The Flow-Status of what stays, if one is given.
+pub(crate) fn open_status(status: Option<MediaStatus>) -> Option<FlowStatus>
     requires { is_removed (option_map media_status_number status) ≡ false }
-    ensures { result ≡ option_map media_status_number status }
+    ensures { option_map flow_status_number result ≡ option_map media_status_number status }
 {
     match status {
-        Some(MediaStatus::Open(open)) => OpenStatusNumber::of(open.number()),
+        Some(MediaStatus::Open(open)) => Some(open),
         Some(MediaStatus::Removed) | None => None,
     }
 }
@@ -93,11 +95,13 @@ fn media_type(component: u32, tag: Tag, given: Option<u32>) -> Option<AfFact>
 }
 
 /// The fact of a component's Flow-Status.
-fn status(component: u32, tag: Tag, given: Option<OpenStatusNumber>) -> Option<AfFact>
+fn status(component: u32, tag: Tag, given: Option<FlowStatus>) -> Option<AfFact>
     ensures { option_map fact_of result ≡ option_map
-        (λ x. Field (OfComponent component places.ComponentStatus) tag (Number x)) given }
+        (λ x. Field (OfComponent component places.ComponentStatus) tag (Number x))
+        (option_map flow_status_number given) }
 {
-    Some(AfFact::Component(component, tag, ComponentValue::Status(given?)))
+    let status = Enumerated::of(given?);
+    Some(AfFact::Component(component, tag, ComponentValue::Status(status)))
 }
 
 /// The fact of a component's Max-Requested-Bandwidth-UL.

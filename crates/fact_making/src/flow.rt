@@ -1,20 +1,21 @@
 //! The facts of flows (TS 29.214, 4.4.2): what a description leaves out stays.
 ghost use Rattle.std.specs.Prelude.{◌≡◌, ◌++◌, false, IfOk, OnOk, map, option_map, option_copied};
 ghost use Rattle.std.specs.List.{flat_map};
+ghost use Rattle.pcrf_values.specs.Numbers.{flow_status_number, flow_usage_number};
 ghost use Rattle.pcrf_facts.specs.Facts.{Field};
 ghost use Rattle.pcrf_facts.specs.Places.{OfFlow};
 ghost use Rattle.pcrf_facts.specs.Places as places;
 ghost use Rattle.pcrf_facts.specs.Values.{Number, Filters};
 ghost use Rattle.af_records.specs.RecordFacts.{fact_of};
 ghost use Rattle.pcrf_model.specs.Making.{flow_facts, is_removed};
-ghost use Rattle.rx_profile.specs.Numbers.{flow_usage_number, media_status_number};
+ghost use Rattle.rx_profile.specs.Numbers.{media_status_number};
 ghost use Rattle.rx_profile.specs.Values.{flow_value};
 
 use crate::component::{open_status, put};
-use af_records::{AfFact, FlowUsageNumber, FlowValue, OpenStatusNumber};
-use pcrf_values::{PermitFilters, texts_of};
+use af_records::{AfFact, FlowValue};
+use pcrf_values::{Enumerated, FlowStatus, FlowUsage, PermitFilters, texts_of};
 use ranked::Tag;
-use rx_profile::{Flow, FlowParts, FlowUsage, is_removed};
+use rx_profile::{Flow, FlowParts, is_removed};
 use std::alloc::{AllocError, Global};
 
 /// Which flow a fact is of: the Media-Component-Number and the Flow-Number.
@@ -68,17 +69,10 @@ fn put_said(
     let numbers = (component, parts.number);
     let alloc = *facts.allocator();
     put(facts, descriptions(alloc, numbers, tag, filters)?)?;
-    put(facts, usage(numbers, tag, usage_number(parts.usage)))?;
+    put(facts, usage(numbers, tag, parts.usage))?;
     put(facts, status(numbers, tag, open_status(parts.status)))?;
     put(facts, rate_up(numbers, tag, parts.rates.up))?;
     put(facts, rate_down(numbers, tag, parts.rates.down))
-}
-
-/// The number of a Flow-Usage, if one is given.
-fn usage_number(usage: Option<FlowUsage>) -> Option<FlowUsageNumber>
-    ensures { result ≡ option_map flow_usage_number usage }
-{
-    FlowUsageNumber::of(usage?.number())
 }
 
 /// The fact of the Flow-Descriptions.
@@ -100,19 +94,23 @@ fn descriptions(
 }
 
 /// The fact of a Flow-Usage.
-fn usage(flow: Numbers, tag: Tag, given: Option<FlowUsageNumber>) -> Option<AfFact>
+fn usage(flow: Numbers, tag: Tag, given: Option<FlowUsage>) -> Option<AfFact>
     ensures { option_map fact_of result ≡ option_map
-        (λ x. Field (OfFlow flow.0 flow.1 places.FlowUsage) tag (Number x)) given }
+        (λ x. Field (OfFlow flow.0 flow.1 places.FlowUsage) tag (Number x))
+        (option_map flow_usage_number given) }
 {
-    Some(AfFact::Flow(flow.0, flow.1, tag, FlowValue::Usage(given?)))
+    let usage = Enumerated::of(given?);
+    Some(AfFact::Flow(flow.0, flow.1, tag, FlowValue::Usage(usage)))
 }
 
 /// The fact of a flow's own Flow-Status.
-fn status(flow: Numbers, tag: Tag, given: Option<OpenStatusNumber>) -> Option<AfFact>
+fn status(flow: Numbers, tag: Tag, given: Option<FlowStatus>) -> Option<AfFact>
     ensures { option_map fact_of result ≡ option_map
-        (λ x. Field (OfFlow flow.0 flow.1 places.FlowStatus) tag (Number x)) given }
+        (λ x. Field (OfFlow flow.0 flow.1 places.FlowStatus) tag (Number x))
+        (option_map flow_status_number given) }
 {
-    Some(AfFact::Flow(flow.0, flow.1, tag, FlowValue::Status(given?)))
+    let status = Enumerated::of(given?);
+    Some(AfFact::Flow(flow.0, flow.1, tag, FlowValue::Status(status)))
 }
 
 /// The fact of a flow's Max-Requested-Bandwidth-UL.

@@ -3,13 +3,14 @@ ghost use Rattle.std.specs.Prelude.{◌≡◌, ◌∷◌, [], IfOk, map};
 ghost use Rattle.pcrf_facts.specs.Facts.{End};
 ghost use Rattle.session_records.specs.SessionFacts.{session_fact};
 ghost use Rattle.gx_records.specs.GxFacts.{fact_of};
+ghost use Rattle.gx_records.specs.Numbers.{open_request_number};
 ghost use Rattle.gx_profile.specs.Requests.{ccr_view};
 ghost use Rattle.fact_making.specs.Gateway.{fields_set, made_facts};
 
 use crate::session::session_values;
 use gx_profile::Ccr;
 use gx_records::{GxFact, GxRec, OpenRequestType, SessionValue};
-use pcrf_values::RequestKind;
+use pcrf_values::{Enumerated, RequestKind};
 use ranked::Tag;
 use std::alloc::{AllocError, Global};
 
@@ -17,7 +18,7 @@ use std::alloc::{AllocError, Global};
 fn of_values(
     alloc: Global,
     tag: Tag,
-    values: Vec<SessionValue<OpenRequestType>>,
+    values: Vec<SessionValue<Enumerated<OpenRequestType>>>,
 ) -> Result<Vec<GxFact>, AllocError>
     ensures { IfOk result (λ facts.
         map fact_of facts.items ≡ map (session_fact tag) values.items) }
@@ -37,10 +38,10 @@ fn fields_of(
     last: OpenRequestType,
 ) -> Result<Vec<GxFact>, AllocError>
     ensures { IfOk result (λ facts.
-        map fact_of facts.items ≡ fields_set (ccr_view ccr.now) tag last) }
+        map fact_of facts.items ≡ fields_set (ccr_view ccr.now) tag (open_request_number last)) }
 {
     let user = (ccr.address, &ccr.apn, &ccr.subscribers);
-    let values = session_values(alloc, user, &ccr.origin, last)?;
+    let values = session_values(alloc, user, &ccr.origin, Enumerated::of(last))?;
     of_values(alloc, tag, values)
 }
 
@@ -58,13 +59,11 @@ pub fn facts_made(alloc: Global, ccr: &Ccr, tag: Tag) -> Result<Vec<GxFact>, All
     ensures { IfOk result (λ facts.
         map fact_of facts.items ≡ made_facts (ccr_view ccr.now) ccr.now.kind tag) }
 {
-    if let RequestKind::Termination = ccr.kind {
-        return end_of(alloc);
+    match ccr.kind {
+        RequestKind::Initial => fields_of(alloc, ccr, tag, OpenRequestType::Initial),
+        RequestKind::Update => fields_of(alloc, ccr, tag, OpenRequestType::Update),
+        RequestKind::Termination => end_of(alloc),
     }
-    let Some(last) = OpenRequestType::of(ccr.kind.number()) else {
-        unreachable!()
-    };
-    fields_of(alloc, ccr, tag, last)
 }
 
 /// The record of a session that has ended.

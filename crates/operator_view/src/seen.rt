@@ -1,7 +1,7 @@
 //! What an operator sees of sessions.
 use af_records::{AfRequestType, ComponentValue, FlowValue};
 use gx_records::{OpenRequestType, Told};
-use pcrf_values::{AfSid, Apn, DiameterIdentity, GxSid, Rule, Subscribers};
+use pcrf_values::{AfSid, Apn, DiameterIdentity, Enumerated, GxSid, Rule, Subscribers};
 use session_records::SessionValue;
 use std::net::Ipv4Addr;
 
@@ -35,7 +35,7 @@ pub struct GxClient {
     /// Origin-Realm.
     pub realm: DiameterIdentity,
     /// CC-Request-Type of the last request.
-    pub last: OpenRequestType,
+    pub last: Enumerated<OpenRequestType>,
 }
 
 /// What a gateway's live session shows.
@@ -55,7 +55,7 @@ pub struct GxSeen {
 /// and its Flow-Number.
 #[derive(Drop)]
 pub enum AfField {
-    Session(SessionValue<AfRequestType>),
+    Session(SessionValue<Enumerated<AfRequestType>>),
     Component(u32, ComponentValue),
     Flow(u32, u32, FlowValue),
 }

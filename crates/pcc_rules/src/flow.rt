@@ -1,7 +1,7 @@
 //! The rule of one flow of an application function's session (TS 29.213, 6.3).
 ghost use Rattle.std.specs.Prelude.{◌≡◌, IfOk, if◌then◌else◌, min};
 ghost use Rattle.std.proofs.Common.{unwrap_or};
-ghost use Rattle.pcrf_values.specs.Numbers.{preemption_number};
+ghost use Rattle.pcrf_values.specs.Numbers.{flow_usage_number, preemption_number};
 ghost use Rattle.pcrf_facts.specs.Held.{entry_shown};
 ghost use Rattle.pcrf_facts.specs.FlowWords.{has_usage};
 ghost use Rattle.pcrf_model.specs.Flows.{class_of, flow_rate, Uplink, Downlink};
@@ -11,15 +11,9 @@ ghost use Rattle.pcc_rules.specs.FlowsAlone.{alone, flow_id, flow_facts};
 use crate::naming::flow_name;
 use af_records::AfRec;
 use op_tables::{Class, Tables};
-use pcrf_values::{AfSid, Rule, RuleQos};
+use pcrf_values::{AfSid, FlowUsage, Rule, RuleQos};
 use ranked::Ranked;
 use std::alloc::{AllocError, Global};
-
-/// Flow-Usage RTCP (TS 29.214, 5.3.12).
-const RTCP: u32 = 1;
-
-/// Flow-Usage AF_SIGNALLING.
-const AF_SIGNALLING: u32 = 2;
 
 /// The Media-Type of a component that shows none.
 const NO_MEDIA_TYPE: u32 = 0xFFFF_FFFF;
@@ -59,7 +53,7 @@ impl Flow<'_> {
     fn class(&self, tables: &Tables) -> Option<Class>
         ensures { result ≡ class_of tables.now (alone (flow_facts self.now)) (flow_id self.now) }
     {
-        if self.has_usage(AF_SIGNALLING) {
+        if self.has_usage(FlowUsage::AfSignalling) {
             return Some(tables.signalling());
         }
         match self.known.component_media_type(self.component) {
@@ -69,13 +63,13 @@ impl Flow<'_> {
     }
 
     /// The flow shows this Flow-Usage.
-    fn has_usage(&self, usage: u32) -> bool
+    fn has_usage(&self, usage: FlowUsage) -> bool
         ensures { result
-            ≡ has_usage (entry_shown (flow_facts self.now))
-            self.now.component self.now.number usage }
+            ≡ has_usage (entry_shown (flow_facts self.now)) self.now.component self.now.number
+            (flow_usage_number usage) }
     {
         match self.known.flow_usage(self.component, self.number) {
-            Some((_, told)) => told.get() == usage,
+            Some((_, told)) => told.value() == usage,
             None => false,
         }
     }
@@ -94,7 +88,7 @@ impl Flow<'_> {
     {
         let caps = class.qos();
         let given = self.known.flow_rates(self.component, self.number);
-        let is_rtcp = self.has_usage(RTCP);
+        let is_rtcp = self.has_usage(FlowUsage::Rtcp);
         RuleQos {
             class: caps.class,
             priority: caps.priority,

@@ -1,19 +1,12 @@
 -- The numbers by which the standard names the values of an enumeration (TS 29.214).
 use Rattle.std.specs.Prelude.{ℕ, List, [], ◌∷◌}
-use Rattle.pcrf_values.specs.Numbers.{flow_status_number}
+use Rattle.pcrf_values.specs.Numbers.{flow_status_number, flow_usage_number}
 use Rattle.pcrf_values.specs.declared.rule.FlowStatus.TheVariants.{EnabledUplink}
+use Rattle.pcrf_values.specs.declared.flow_usage.FlowUsage.TheVariants.{NoInformation, AfSignalling}
 use Rattle.dia_base.specs.Rows.{Row, optional, enumerated, unsigned32}
 use Rattle.rx_profile.specs.Avps.{flow_status, flow_usage, max_requested_bandwidth_ul, max_requested_bandwidth_dl}
-use Rattle.rx_profile.specs.declared.media.FlowUsage.{FlowUsage}
-use Rattle.rx_profile.specs.declared.media.FlowUsage.TheVariants.{NoInformation, Rtcp, AfSignalling}
 use Rattle.rx_profile.specs.declared.media.MediaStatus.{MediaStatus}
 use Rattle.rx_profile.specs.declared.media.MediaStatus.TheVariants.{Open, Removed}
-
--- Flow-Usage (5.3.12)
-abbrev pub flow_usage_number : FlowUsage → ℕ
-flow_usage_number NoInformation = 0
-flow_usage_number Rtcp = 1
-flow_usage_number AfSignalling = 2
 
 -- Flow-Status (5.3.11): that of a rule, or REMOVED
 abbrev pub media_status_number : MediaStatus → ℕ

@@ -1,7 +1,8 @@
 -- Flows and components as plain values, by their parts.
 use Rattle.std.specs.Prelude.{ℕ, List, Option, option_map}
+use Rattle.pcrf_values.specs.Numbers.{flow_usage_number}
 use Rattle.pcrf_model.specs.Requests.{FlowValue, ComponentValue}
-use Rattle.rx_profile.specs.Numbers.{flow_usage_number, media_status_number}
+use Rattle.rx_profile.specs.Numbers.{media_status_number}
 use Rattle.rx_profile.specs.declared.media.FlowParts.{FlowParts}
 use Rattle.rx_profile.specs.declared.media.ComponentParts.{ComponentParts}
 

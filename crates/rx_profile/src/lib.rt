@@ -15,6 +15,7 @@ mod termination;
 
 pub use answer::{write_aaa, write_sta};
 pub use component::{Component, Components, Flow};
-pub use media::{ComponentParts, FlowParts, FlowUsage, MediaStatus, Rates, is_removed};
+pub use media::{ComponentParts, FlowParts, MediaStatus, Rates, is_removed};
+pub use pcrf_values::FlowUsage;
 pub use request::{Aar, read_aar};
 pub use termination::{Str, read_str};

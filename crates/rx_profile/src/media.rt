@@ -1,11 +1,11 @@
 //! What a media component and a flow say besides their flows and filters (TS 29.214, 5.3).
 ghost use Rattle.std.specs.Prelude.{◌≡◌, ◌↔◌, ◌<◌, ◌≤◌, OnOk, IfOk, IfErr, IfSome, IfNone, IsTrue, Some, option_map};
 ghost use Rattle.dia_codec.specs.Spelling.{avp_views};
+ghost use Rattle.pcrf_values.specs.Numbers.{flow_usage_number};
 ghost use Rattle.pcrf_model.specs.Making.{is_removed};
 ghost use Rattle.dia_base.specs.Rows.{Accepts, AcceptsAll, RefusesWith, number_at, rows_refusal};
 ghost use Rattle.rx_profile.specs.Avps.{flow_status, flow_usage, max_requested_bandwidth_dl, max_requested_bandwidth_ul};
-ghost use Rattle.rx_profile.specs.Numbers.{flow_usage_number, media_status_number, rate_rows, status_row, usage_row};
-ghost use Rattle.rx_profile.specs.declared.media.FlowUsage.TheVariants as usage;
+ghost use Rattle.rx_profile.specs.Numbers.{media_status_number, rate_rows, status_row, usage_row};
 ghost use Rattle.rx_profile.specs.declared.media.MediaStatus.TheVariants as status;
 
 use crate::codes::avps::{
@@ -13,44 +13,7 @@ use crate::codes::avps::{
 };
 use dia_base::{Refusal, optional_number, optional_number_within, tgpp_key};
 use dia_codec::Avp;
-use pcrf_values::FlowStatus;
-
-/// What a flow is used for (Flow-Usage, TS 29.214, 5.3.12).
-#[derive(Clone, Copy, Debug, PartialEq, Eq)]
-pub enum FlowUsage {
-    /// Nothing is said.
-    NoInformation,
-    /// The control of a stream of media (RTCP).
-    Rtcp,
-    /// Signalling between the subscriber and the application function.
-    AfSignalling,
-}
-
-impl FlowUsage {
-    /// The usage that has a number.
-    pub fn from_number(number: u32) -> Option<FlowUsage>
-        ensures known { IfSome result (λ usage. flow_usage_number usage ≡ number) }
-        ensures unknown { IfNone result (flow_usage_number usage.AfSignalling < number) }
-    {
-        match number {
-            0 => Some(FlowUsage::NoInformation),
-            1 => Some(FlowUsage::Rtcp),
-            2 => Some(FlowUsage::AfSignalling),
-            _ => None,
-        }
-    }
-
-    /// The number of the usage.
-    pub fn number(self) -> u32
-        ensures { result ≡ flow_usage_number self }
-    {
-        match self {
-            FlowUsage::NoInformation => 0,
-            FlowUsage::Rtcp => 1,
-            FlowUsage::AfSignalling => 2,
-        }
-    }
-}
+use pcrf_values::{FlowStatus, FlowUsage};
 
 /// What an application function says of the directions of media or of a flow (Flow-Status, TS 29.214, 5.3.11).
 #[derive(Clone, Copy, Debug, PartialEq, Eq)]

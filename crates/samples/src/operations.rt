@@ -4,7 +4,7 @@ use crate::values::{filters, lettered, subscribers, text};
 use af_records::{AfFact, AfRequestType, ComponentValue, FlowValue};
 use gx_records::{GxFact, OpenRequestType, SessionValue};
 use pcrf_values::limits::LAST_COUNTER;
-use pcrf_values::{AfSid, Apn, GxSid};
+use pcrf_values::{AfSid, Apn, Enumerated, GxSid};
 use ranked::Tag;
 use site_join::{Operation, SessionFacts};
 use std::alloc::{AllocError, Global};
@@ -19,8 +19,8 @@ pub struct Given {
     pub apn: &'static str,
     /// Origin-Host.
     pub host: &'static str,
-    /// CC-Request-Type: 1 or 2.
-    pub kind: u32,
+    /// CC-Request-Type.
+    pub kind: OpenRequestType,
 }
 
 /// The operation of a site that has these facts, by the tag of its values.
@@ -35,7 +35,7 @@ pub fn operation(at: Tag, facts: SessionFacts) -> Result<Operation, SampleFault>
 fn put(
     facts: &mut Vec<GxFact>,
     at: Tag,
-    value: SessionValue<OpenRequestType>,
+    value: SessionValue<Enumerated<OpenRequestType>>,
 ) -> Result<(), AllocError> {
     Ok(facts.push(GxFact::Field(at, value))?)
 }
@@ -72,10 +72,8 @@ fn put_given(
     }
     put_user(alloc, facts, at, given.apn)?;
     put_gateway(alloc, facts, at, given.host)?;
-    let Some(last) = OpenRequestType::of(given.kind) else {
-        return Err(SampleFault::BadValue);
-    };
-    Ok(put(facts, at, SessionValue::Last(last))?)
+    let last = SessionValue::Last(Enumerated::of(given.kind));
+    Ok(put(facts, at, last)?)
 }
 
 /// The request of a gateway of the subscriber, on a session.
@@ -111,7 +109,7 @@ pub fn last_end(alloc: Global, letter: u8) -> Result<Operation, SampleFault> {
 fn put_field(
     facts: &mut Vec<AfFact>,
     at: Tag,
-    value: SessionValue<AfRequestType>,
+    value: SessionValue<Enumerated<AfRequestType>>,
 ) -> Result<(), AllocError> {
     Ok(facts.push(AfFact::Session(at, value))?)
 }
@@ -120,10 +118,8 @@ fn put_field(
 fn put_function(alloc: Global, facts: &mut Vec<AfFact>, at: Tag) -> Result<(), SampleFault> {
     put_field(facts, at, SessionValue::Host(text(alloc, b"af")?))?;
     put_field(facts, at, SessionValue::Realm(text(alloc, b"r")?))?;
-    let Some(last) = AfRequestType::of(0) else {
-        return Err(SampleFault::BadValue);
-    };
-    Ok(put_field(facts, at, SessionValue::Last(last))?)
+    let last = SessionValue::Last(Enumerated::of(AfRequestType::AaRequest));
+    Ok(put_field(facts, at, last)?)
 }
 
 /// Adds a component of audio with one flow.

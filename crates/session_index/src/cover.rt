@@ -11,7 +11,7 @@ ghost use Rattle.session_index.specs.Index.{Covers, Grows, ListAddresses, ListSu
 use crate::index::Index;
 use af_records::{AfFact, AfRec, AfRequestType};
 use gx_records::{GxFact, GxRec, OpenRequestType};
-use pcrf_values::{AfSid, GxSid};
+use pcrf_values::{AfSid, Enumerated, GxSid};
 use session_records::SessionValue;
 use site_join::{Operation, SessionFacts, State};
 use std::alloc::AllocError;
@@ -80,7 +80,7 @@ impl Index {
     fn list_gateway_value(
         &mut self,
         id: &GxSid,
-        value: &SessionValue<OpenRequestType>,
+        value: &SessionValue<Enumerated<OpenRequestType>>,
     ) -> Result<(), AllocError>
         ensures grows { Grows self.old self.new }
         ensures lists { OnOk result ((t : Tag) →
@@ -123,7 +123,7 @@ impl Index {
     fn list_call_value(
         &mut self,
         id: &AfSid,
-        value: &SessionValue<AfRequestType>,
+        value: &SessionValue<Enumerated<AfRequestType>>,
     ) -> Result<(), AllocError>
         ensures grows { Grows self.old self.new }
         ensures lists { OnOk result ((t : Tag) →

@@ -22,7 +22,7 @@ use gx_records::GxFact;
 use lattice_core::Tag;
 use pcrf_model::ranges::{note_rule, note_text};
 use pcrf_values::limits::SITE_LIMIT;
-use pcrf_values::{BoundedNumber, Rule, RuleName};
+use pcrf_values::{Enumerated, Enumeration, Rule, RuleName};
 
 /// The tag is that of these parts.
 fn is_tag(tag: &Tag, number: u32, counter: u64, site: u8) -> bool
@@ -56,9 +56,7 @@ fn is_counted(tag: &Tag, clock: u64, number: u32) -> bool
 }
 
 /// Where a field of a session stands.
-fn session_position<'a, const LEAST: u32, const MOST: u32>(
-    value: &SessionValue<BoundedNumber<LEAST, MOST>>,
-) -> Position<'a>
+fn session_position<'a, E: Enumeration>(value: &SessionValue<Enumerated<E>>) -> Position<'a>
     ensures { (t : Tag) → result ≡ position (session_fact t value.now) }
 {
     let field = match value {

@@ -12,6 +12,7 @@ ghost use Rattle.pcrf_model.specs.Forms.{fits, is_unsigned};
 use af_records::{AfRequestType, ComponentValue, FlowValue, SessionValue};
 use gx_records::OpenRequestType;
 use pcrf_model::ranges::{note_address, note_apn, note_filters, note_subscribers, note_text};
+use pcrf_values::Enumerated;
 
 /// A number has 32 bits.
 pub(crate) fn note_unsigned(number: u32)
@@ -21,7 +22,7 @@ pub(crate) fn note_unsigned(number: u32)
 }
 
 /// A value of a gateway's session fits its field.
-pub(crate) fn note_gx_value(value: &SessionValue<OpenRequestType>)
+pub(crate) fn note_gx_value(value: &SessionValue<Enumerated<OpenRequestType>>)
     ensures { (t : Tag) → fits Gx (session_fact t value.now) ≡ true }
 {
     match value {
@@ -31,13 +32,13 @@ pub(crate) fn note_gx_value(value: &SessionValue<OpenRequestType>)
         SessionValue::Host(host) => note_text(host),
         SessionValue::Realm(realm) => note_text(realm),
         SessionValue::Last(last) => {
-            let _number = last.get();
+            let _number = last.number();
         }
     }
 }
 
 /// A value of an application function's session fits its field.
-pub(crate) fn note_af_value(value: &SessionValue<AfRequestType>)
+pub(crate) fn note_af_value(value: &SessionValue<Enumerated<AfRequestType>>)
     ensures { (t : Tag) → fits Af (session_fact t value.now) ≡ true }
 {
     match value {
@@ -47,7 +48,7 @@ pub(crate) fn note_af_value(value: &SessionValue<AfRequestType>)
         SessionValue::Host(host) => note_text(host),
         SessionValue::Realm(realm) => note_text(realm),
         SessionValue::Last(last) => {
-            let _number = last.get();
+            let _number = last.number();
         }
     }
 }
@@ -61,7 +62,7 @@ pub(crate) fn note_component_value(component: u32, value: &ComponentValue)
             let _kind = *kind;
         }
         ComponentValue::Status(status) => {
-            let _status = status.get();
+            let _status = status.number();
         }
         ComponentValue::RateUp(rate) => {
             let _rate = *rate;
@@ -79,10 +80,10 @@ pub(crate) fn note_flow_value(component: u32, flow: u32, value: &FlowValue)
     match value {
         FlowValue::Descriptions(filters) => note_filters(filters),
         FlowValue::Usage(usage) => {
-            let _usage = usage.get();
+            let _usage = usage.number();
         }
         FlowValue::Status(status) => {
-            let _status = status.get();
+            let _status = status.number();
         }
         FlowValue::RateUp(rate) => {
             let _rate = *rate;

@@ -6,6 +6,7 @@ use crate::indexes::compared::{
 };
 use crate::indexes::draws::Draws;
 use crate::indexes::making::{address, call, call_end, gateway_end, host, request, told};
+use gx_records::OpenRequestType;
 use indexed_state::IndexedState;
 use ranked::{Ranked, Tag};
 use reply_values::PushOut;
@@ -42,7 +43,11 @@ fn drawn_request(rt: &(impl AllocGlobal + Abort), draws: &mut Draws, at: Tag) ->
         },
         apn: if draws.below(4) > 0 { "ims" } else { "net" },
         host: host(number % 3),
-        kind: if draws.below(2) == 0 { 1 } else { 2 },
+        kind: if draws.below(2) == 0 {
+            OpenRequestType::Initial
+        } else {
+            OpenRequestType::Update
+        },
     };
     request(rt, number, at, given)
 }

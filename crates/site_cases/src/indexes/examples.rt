@@ -1,6 +1,7 @@
 //! What an index lists, and which rules are kept, of states of which the answers are known. What comes of a site's index is seen by
 //! what the site answers and pushes (`cases`).
 use crate::indexes::making::{address, call, call_id, gateway_id, host, request};
+use gx_records::OpenRequestType;
 use kept_rules::Rules;
 use pcc_rules::derive;
 use pcrf_values::{GxSid, Subscriber};
@@ -26,7 +27,7 @@ fn initial(rt: &(impl AllocGlobal + Abort), number: u8, counter: u64, place: u8)
         address: Some(address(place)),
         apn: "ims",
         host: host(0),
-        kind: 1,
+        kind: OpenRequestType::Initial,
     };
     request(rt, number, at(counter), given)
 }

@@ -1,5 +1,6 @@
 //! States of many gateways' sessions, each with an address of its own, and of as many calls, of which one is bound to each.
 use af_records::{AfFact, FlowValue};
+use gx_records::OpenRequestType;
 use pcrf_values::{AfSid, GxSid};
 use ranked::Tag;
 use samples::{Given, call, filters, gateway_end, gateway_request, operation, text};
@@ -51,7 +52,7 @@ fn initial(rt: &impl Abort, alloc: Global, number: u16, counter: u64) -> Operati
         address: Some(address(number)),
         apn: "ims",
         host: "gw",
-        kind: 1,
+        kind: OpenRequestType::Initial,
     };
     let made = gateway_request(alloc, gateway_id(rt, alloc, number), tag(counter), given);
     made.expect(rt, "a request")

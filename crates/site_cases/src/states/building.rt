@@ -6,9 +6,9 @@ ghost use Rattle.pcrf_values.specs.Limits.{last_counter};
 ghost use Rattle.site_join.specs.States.{record_facts};
 
 use af_records::{AfFact, AfRec, ComponentValue};
-use gx_records::{GxFact, GxRec, SessionValue};
+use gx_records::{GxFact, GxRec, OpenRequestType, SessionValue};
 use lattice_core::{Join, Tag};
-use pcrf_values::{AfSid, BoundedNumber, BoundedText, DiameterIdentity, GxSid, RuleName};
+use pcrf_values::{AfSid, BoundedText, DiameterIdentity, Enumerated, GxSid, RuleName};
 use site_join::{Operation, SessionFacts, State};
 use std::alloc::AllocGlobal;
 use std::process::Abort;
@@ -35,8 +35,7 @@ pub fn update_facts(rt: &(impl AllocGlobal + Abort), at: Tag, host: &str) -> Vec
     let mut facts = Vec::new(rt.alloc());
     let host = SessionValue::Host(identity(rt, host));
     facts.push(GxFact::Field(at, host)).expect(rt, "memory");
-    let last = BoundedNumber::of(2).expect(rt, "an update");
-    let last = SessionValue::Last(last);
+    let last = SessionValue::Last(Enumerated::of(OpenRequestType::Update));
     facts.push(GxFact::Field(at, last)).expect(rt, "memory");
     facts
 }

@@ -46,7 +46,7 @@ fn check_update(rt: &impl Abort, record: &GxRec, counter: u64, name: &str) {
     assert_eq!(rt; host.as_slice(), name.as_bytes());
     let (tag, last) = record.last().expect(rt, "an update");
     assert!(rt; *tag == at(counter));
-    assert_eq!(rt; last.get(), 2);
+    assert_eq!(rt; last.number(), 2);
 }
 
 /// Whether a state shows this clock, and of gateways' sessions that update alone, or none, and no call.

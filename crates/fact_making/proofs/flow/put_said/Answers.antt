@@ -1,6 +1,6 @@
 use Rattle.std.proofs.Common.{◌≡◌, ℕ, List, ◌++◌, OnOk, map, Option, option_map, option_copied, option_to_list, ap, ◌∙◌, subst}
 use Rattle.pcrf_facts.specs.Facts.{Fact, Field}
-use Rattle.pcrf_facts.specs.Places.{OfFlow, FlowUsage, FlowStatus}
+use Rattle.pcrf_facts.specs.Places.{OfFlow, FlowStatus}
 use Rattle.pcrf_facts.specs.Values.{Number}
 use Rattle.af_records.specs.RecordFacts.{fact_of}
 use Rattle.rx_profile.specs.Values.{flow_value}
@@ -13,7 +13,7 @@ returns c =
     let n = c.args.parts.now.number in
     let os : List Fact = map fact_of c.args.facts.now.items in
     let after = λ (fs : List Fact). λ (l : List Fact). fs ++ l in
-    let usage = ap option_to_list (c.usage.ensures ∙ ap (λ (x : Option ℕ). option_map (λ y. Field (OfFlow c.args.component n FlowUsage) t (Number y)) x) c.usage_number.ensures) in
+    let usage = ap option_to_list c.usage.ensures in
     let status = ap option_to_list (c.status.ensures ∙ ap (λ (x : Option ℕ). option_map (λ y. Field (OfFlow c.args.component n FlowStatus) t (Number y)) x) c.open_status.ensures) in
     let first = c.in_ok-put.ensures ∙ ap (after os) (ap option_to_list c.in_ok-descriptions.ensures) in
     let second = c.in_ok-put-2.ensures ∙ ap (after (map fact_of c.put.new.facts.items)) usage in
