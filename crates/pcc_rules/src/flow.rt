@@ -69,7 +69,7 @@ impl Flow<'_> {
             (flow_usage_number usage) }
     {
         match self.known.flow_usage(self.component, self.number) {
-            Some((_, told)) => told.number() == usage.number(),
+            Some((_, told)) => told.value() == usage,
             None => false,
         }
     }
