@@ -15,5 +15,5 @@ returns c =
       fields = fields i;
       home = c.home_of-home.ensures i;
       rules = c.in_ok-rules.ensures.derived i;
-      told = c.in_ok-told_rules.ensures i;
+      told = c.in_ok-told.ensures i;
     }
