@@ -150,7 +150,8 @@ fn put_session_said<E: Enumeration>(
     out: &mut Vec<u8>,
     value: &SessionValue<Enumerated<E>>,
 ) -> Result<(), AllocError>
-    ensures { OnOk result (out.new.items ≡ out.old.items ++ value_bytes (session_says value.now).1) }
+    ensures { OnOk result (out.new.items
+        ≡ out.old.items ++ value_bytes (session_says value.now).1) }
 {
     match value {
         SessionValue::Address(address) => put_address(out, address),

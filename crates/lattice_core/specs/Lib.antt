@@ -1,6 +1,5 @@
 pub mod Entries
 pub mod Lookups
-pub mod Pages
 pub mod Placed
 pub mod Registers
 pub mod Subsets

@@ -2,7 +2,6 @@
 ghost use Rattle.std.specs.Prelude.{◌≡◌, [], length, IfOk, IfErr, OnErr, None, IsSome};
 ghost use Rattle.std.specs.Option.{option_copied};
 ghost use Rattle.lattice_core.specs.Entries.{value_at, IsAscending, AllValues, put, map_joined};
-ghost use Rattle.lattice_core.specs.Pages.{entries_after};
 ghost use Rattle.lattice_core.specs.Placed.{map_with};
 
 use crate::fact_set::{FactSet, is_subset_at};
@@ -10,10 +9,9 @@ use crate::join::Join;
 use ranked::Ranked;
 use std::alloc::{AllocError, Global};
 use std::collections::BTreeMap;
-use std::collections::btree_map::{Iter, Range};
+use std::collections::btree_map::Iter;
 use std::marker::Model;
 use std::mem::replace;
-use std::ops::Bound;
 
 /// A map over a B-tree, in which an insert takes a few microseconds at a million entries. Contracts see it as they see a
 /// `JoinMap`: as the list of its entries in the order of their keys.
@@ -52,13 +50,6 @@ impl<K: Ranked, V: Join> JoinTree<K, V> {
         ensures valid { AllValues V.valid self.now }
     {
         self.tree.iter()
-    }
-
-    /// The entries whose keys are above a key, in the order of their keys.
-    pub fn iter_after(&self, key: &K) -> Range<'_, K, V>
-        ensures { result ≡ entries_after K.cmp key.now self.now }
-    {
-        self.tree.range((Bound::Excluded(key), Bound::Unbounded))
     }
 
     /// How many entries there are.

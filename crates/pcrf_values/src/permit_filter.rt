@@ -103,15 +103,6 @@ impl PermitFilter {
     {
         &self.text
     }
-
-    /// The text, out of the filter.
-    pub fn into_text(self) -> FilterText
-        ensures text { result ≡ self }
-        ensures filter { is_filter self ≡ true }
-    {
-        let PermitFilter { text } = self;
-        text
-    }
 }
 
 /// The texts of filters.

@@ -191,7 +191,8 @@ fn put_body(out: &mut Vec<u8>, body: &Body) -> Result<(), Unwritten>
 #[tactic(auto, using(crate::proofs::Added::added), unfolding(crate::specs::Spelling::letter_bytes))]
 fn put_letter(out: &mut Vec<u8>, letter: &Letter) -> Result<(), Unwritten>
     ensures written { OnOk result (out.new.items ≡ out.old.items ++ letter_bytes letter.now) }
-    ensures too_long { IsErrOf result Unwritten.TooLong → 2 ^ 32 ≤ length (letter_bytes letter.now) }
+    ensures too_long { IsErrOf result Unwritten.TooLong
+        → 2 ^ 32 ≤ length (letter_bytes letter.now) }
 {
     out.push(VERSION)?;
     put_word(out, letter.edition())?;

@@ -21,7 +21,8 @@ impl Heading {
     /// Opens a letter. An acknowledgement brings nothing.
     pub(crate) fn open(letter: Letter) -> Option<(Heading, Event)>
         ensures opened { IfSome result (λ opened. IsOpened opened.0 (event_value opened.1)) }
-        ensures same { IfSome result (λ opened. letter_with opened.0 (event_value opened.1) ≡ letter) }
+        ensures same { IfSome result (λ opened. letter_with opened.0 (event_value opened.1)
+            ≡ letter) }
     {
         letter.note_kept();
         let (edition, site, epoch) = (letter.edition(), letter.site(), letter.epoch());

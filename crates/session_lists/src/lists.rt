@@ -82,7 +82,8 @@ impl<K: Ranked, S: Ranked> SessionLists<K, S> {
 
     /// Takes a session out of the list under a key, where it is there.
     pub fn remove(&mut self, key: &K, id: &S)
-        ensures { (k : K) → ids_at K.cmp self.new k ≡ without_id K.cmp S.cmp self.old key.now id.now k }
+        ensures { (k : K) → ids_at K.cmp self.new k
+            ≡ without_id K.cmp S.cmp self.old key.now id.now k }
     {
         let Some(ids) = self.lists.get_mut(key) else {
             return;

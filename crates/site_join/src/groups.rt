@@ -63,7 +63,8 @@ impl State {
     pub fn groups(&self, alloc: Global) -> Result<Vec<SessionFacts>, AllocError>
         ensures facts { IfOk result (λ gs. facts_of_groups (map group_of gs.items)
             ≡ self.now.facts) }
-        ensures form { IfOk result (λ gs. are_groups self.now.clock (map group_of gs.items) ≡ true) }
+        ensures form { IfOk result (λ gs. are_groups self.now.clock (map group_of gs.items)
+            ≡ true) }
     {
         self.note_kept();
         self.note_form();
