@@ -28,7 +28,7 @@ use Rattle.session_index.proofs.Covering.{address_itself}
 -- ---- lists without one
 
 -- any other stays
-stays : (id x : List ℕ) (ids : List (List ℕ)) → (x ≡ id → ⊥) → In x ids → In x (without text_cmp id ids)
+pub stays : (id x : List ℕ) (ids : List (List ℕ)) → (x ≡ id → ⊥) → In x ids → In x (without text_cmp id ids)
 stays id x ids apart i = In-filter (λ y. not (is_eq (text_cmp id y))) x ids i (ap not (is_false _ (λ e. apart (sym (eq_is text_ranked id x e)))))
 
 -- what is left out twice is left out once
@@ -40,7 +40,7 @@ left_out_once id (x ∷ xs) = elim (is_eq (text_cmp id x)) as (λ b. is_eq (text
 ] refl
 
 -- a subscriber is among others, or it isn't
-among_or_not : (x : Subscriber) (xs : List Subscriber) → In x xs ⊎ ¬ In x xs
+pub among_or_not : (x : Subscriber) (xs : List Subscriber) → In x xs ⊎ ¬ In x xs
 among_or_not x xs = by (list_any (λ y. is_eq (subscriber_cmp x y)) xs) refl
   where
     by : (b : Bool) → list_any (λ y. is_eq (subscriber_cmp x y)) xs ≡ b → In x xs ⊎ ¬ In x xs

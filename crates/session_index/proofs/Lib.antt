@@ -3,3 +3,4 @@ pub mod Covering
 pub mod Covered
 pub mod Records
 pub mod Forgotten
+pub mod BySubscriber

@@ -1,5 +1,5 @@
 -- What an index no longer lists once a session is forgotten.
-use Rattle.std.specs.Prelude.{◌≡◌, ℕ, true, Some, None, List}
+use Rattle.std.specs.Prelude.{◌≡◌, ℕ, Bool, true, false, Some, None, List}
 use Rattle.std.specs.Net.Addr.{ipv4_octets}
 use Rattle.std.specs.declared.net.ipv4_addr.Ipv4Addr.{Ipv4Addr}
 use Rattle.ranked.specs.Orders.{text_cmp}
@@ -13,6 +13,7 @@ use Rattle.pcrf_facts.specs.Values.{Subscriber, Address, Subscribers}
 use Rattle.pcrf_model.specs.Holdings.{SessionFact}
 use Rattle.pcrf_model.specs.Sessions.{Session}
 use Rattle.pcrf_model.specs.Views.{View, view, value}
+use Rattle.bind_index.specs.Listings.{HasSubscriber, shows_asked}
 use Rattle.session_lists.specs.Lists.{ids_at, without}
 use Rattle.session_index.specs.Index.{BySubscriber, IndexValue, listed_at}
 
@@ -50,3 +51,13 @@ GivesSubscriber facts x = (xs : List Subscriber) × (value_at (entry_shown facts
 pub record ForgetsSubscribers (before after : BySubscriber) (id : List ℕ) (facts : List Fact) : Type 0 where
   pub gone : (x : Subscriber) → GivesSubscriber facts x → ids_at subscriber_cmp after x ≡ without text_cmp id (ids_at subscriber_cmp before x)
   pub others : (x : Subscriber) → ¬ GivesSubscriber facts x → ids_at subscriber_cmp after x ≡ ids_at subscriber_cmp before x
+
+-- these facts of a session show the subscriber among its own
+abbrev pub shows_subscriber : List Fact → Subscriber → Bool
+shows_subscriber facts x = shows_asked (HasSubscriber x) (entry_shown facts)
+
+-- the session is taken out from under those of these subscribers that the facts don't show, and from under no others
+pub record ForgetsUnshown (before after : BySubscriber) (id : List ℕ) (xs : List Subscriber) (facts : List Fact) : Type 0 where
+  pub gone : (x : Subscriber) → In x xs → shows_subscriber facts x ≡ false → ids_at subscriber_cmp after x ≡ without text_cmp id (ids_at subscriber_cmp before x)
+  pub shown : (x : Subscriber) → shows_subscriber facts x ≡ true → ids_at subscriber_cmp after x ≡ ids_at subscriber_cmp before x
+  pub others : (x : Subscriber) → ¬ In x xs → ids_at subscriber_cmp after x ≡ ids_at subscriber_cmp before x

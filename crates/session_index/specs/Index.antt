@@ -1,5 +1,5 @@
 -- Which sessions an index lists, and when that is enough to find every binding.
-use Rattle.std.specs.Prelude.{◌≡◌, ℕ, List, Some}
+use Rattle.std.specs.Prelude.{◌≡◌, ℕ, List, [], Some}
 use Rattle.std.specs.List.{filter_map}
 use Rattle.std.specs.declared.cmp.Ordering.{Ordering}
 use Rattle.std.specs.declared.net.ipv4_addr.Ipv4Addr.{Ipv4Addr}
@@ -19,6 +19,8 @@ use Rattle.pcrf_model.specs.Operations.{Operation, with_operation}
 use Rattle.pcrf_model.specs.Sessions.{Kind, Gx, Af, Session, gx}
 use Rattle.pcrf_model.specs.Views.{View, view, value}
 use Rattle.site_join.specs.States.{Records}
+use Rattle.bind_index.specs.Beside.{beside}
+use Rattle.bind_index.specs.Listings.{Question, listed}
 use Rattle.bind_index.specs.Matches.{match_of}
 use Rattle.session_lists.specs.Lists.{ids_at}
 
@@ -91,6 +93,10 @@ pub record ListSubscribers (i : IndexValue) (es : Records) : Type 0 where
 -- the matches of an AF session among these Gx sessions
 abbrev pub matches_listed : List Fact → List SessionFact → List (List ℕ) → List Candidate
 matches_listed asking facts = filter_map (λ (id : List ℕ). match_of asking id (facts_on facts (gx id)))
+
+-- those of these Gx sessions that are live and show what is asked
+abbrev pub asked_among : Question → List SessionFact → List (List ℕ) → List (List ℕ)
+asked_among q facts = filter_map (λ (id : List ℕ). listed (beside (facts_on facts (gx id)) []) q (gx id))
 
 -- ---- what an index covers after more was taken
 

@@ -24,7 +24,7 @@ use std::net::Ipv4Addr;
 pub struct Index {
     gateways: SessionLists<Ipv4Addr, GxSid>,
     calls: SessionLists<Ipv4Addr, AfSid>,
-    subscribed: SessionLists<Subscriber, GxSid>,
+    pub(crate) subscribed: SessionLists<Subscriber, GxSid>,
 }
 
 impl Model for Index {

@@ -7,6 +7,7 @@ mod forget;
 mod index;
 mod laws;
 mod lookup;
+mod subscribed;
 
 pub use index::Index;
 pub use laws::{covering_goes_on, ended_sessions_show_nothing};
