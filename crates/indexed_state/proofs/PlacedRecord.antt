@@ -1,9 +1,9 @@
 -- The facts of an operation joined into the record of its session, and that put in its place: what is held is what taking the operation holds.
-use Rattle.std.proofs.Common.{◌≡◌, ℕ, max, Bool, true, false, not, List, [], ◌∷◌, ◌++◌, ◌↔◌, refl, sym, ap, ◌∙◌, subst, filter, Ordering, Less, Equal}
+use Rattle.std.proofs.Common.{◌≡◌, ℕ, max, Bool, true, false, not, List, [], ◌∷◌, ◌++◌, ◌↔◌, refl, sym, ap, ◌∙◌, subst, filter, Equal}
 use Rattle.std.proofs.lemmas.List.Elements.{filter_map-append}
 use Rattle.std.specs.Cmp.{tied_itself}
 use Rattle.std.specs.Ordering.{is_eq, ordering_then}
-use Rattle.ranked.specs.Ascending.{ascending, Rises}
+use Rattle.ranked.specs.Ascending.{Rises}
 use Rattle.ranked.specs.Sets.{In, Same}
 use Rattle.ranked.proofs.Plain.{clash}
 use Rattle.ranked.proofs.AscendingLaws.{ascending-ascending, same_ascending, filter_map-ascending}

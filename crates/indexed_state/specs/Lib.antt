@@ -1,1 +1,4 @@
 pub mod Indexed
+pub use Rattle.kept_rules.specs.Kept
+pub use Rattle.many_rules.specs.Many
+pub use Rattle.session_index.specs.Index

@@ -12,6 +12,7 @@ ghost use Rattle.site_join.specs.States.{record_facts};
 ghost use Rattle.indexed_state.specs.Indexed.{Agree};
 
 use crate::addresses::{address_in, forget_gateway, touch_both, wait_both, wait_gateway};
+use crate::forgetting::forget_subscribers;
 use gx_records::GxRec;
 use kept_rules::Rules;
 use pcrf_values::GxSid;
@@ -52,6 +53,7 @@ pub(crate) fn follow(
     wait_gateway(state, waiting, id, after);
     wait_both(state, index, waiting, before, after);
     forget_gateway(index, id, before, after);
+    forget_subscribers(index, id, stood.as_ref(), known);
 }
 
 /// The index isn't whole, no list of rules is kept, and all sessions wait.

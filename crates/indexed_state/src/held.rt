@@ -1,17 +1,20 @@
 //! What is read of the state as it stands.
-ghost use Rattle.std.specs.Prelude.{◌≡◌, ◌≤◌, true};
+ghost use Rattle.std.specs.Prelude.{◌≡◌, ◌≤◌, true, IfSome};
 ghost use Rattle.std.specs.Option.{option_copied};
 ghost use Rattle.pcrf_model.specs.Forms.{is_holding};
 ghost use Rattle.pcrf_model.specs.Holdings.{facts_on, kept_of};
 ghost use Rattle.pcrf_values.specs.Limits.{last_counter};
 ghost use Rattle.pcrf_model.specs.Sessions.{gx, af};
 ghost use Rattle.pcrf_model.specs.ToldTags.{ToldUpTo};
+ghost use Rattle.pcrf_model.specs.Views.{view};
+ghost use Rattle.session_index.specs.Index.{Covers};
 ghost use Rattle.site_join.specs.States.{record_facts};
 
 use crate::indexed::IndexedState;
 use af_records::AfRec;
 use gx_records::GxRec;
 use pcrf_values::{AfSid, GxSid};
+use session_index::Index;
 
 impl IndexedState {
     /// The greatest counter of the operations that were taken, 0 at first.
@@ -20,6 +23,16 @@ impl IndexedState {
         ensures bounded { result ≤ last_counter }
     {
         self.state.clock()
+    }
+
+    /// The index of the sessions, where it is whole.
+    pub fn index(&self) -> Option<&Index>
+        ensures { IfSome result (λ index. Covers (view self.now.holding.facts) index.now) }
+    {
+        if !self.is_whole {
+            return None;
+        }
+        Some(&self.index)
     }
 
     /// The record of a gateway's session, if a fact of it is known.

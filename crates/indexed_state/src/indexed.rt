@@ -2,6 +2,7 @@
 ghost use Rattle.std.specs.Prelude.{◌≡◌, ℕ, List, [], ◌<◌, ◌≤◌, Some, true, IfOk, IfSome, IsSome, OnOk, OnErr, map, option_map};
 ghost use Rattle.std.specs.Option.{option_copied};
 ghost use Rattle.bind_index.specs.Asking.{with_record};
+ghost use Rattle.bind_index.specs.Listings.{sessions_of};
 ghost use Rattle.reply_values.specs.Replies.{push_view};
 ghost use Rattle.pcrf_model.specs.Bindings.{bind};
 ghost use Rattle.pcrf_model.specs.Differences.{rule_name_of};
@@ -17,20 +18,22 @@ ghost use Rattle.pcrf_model.specs.Tables.{Tables as TablesValue};
 ghost use Rattle.pcrf_model.specs.Views.{View, view};
 ghost use Rattle.ranked.specs.Sets.{Distinct};
 ghost use Rattle.rule_delta.specs.Pushed.{push_of, untold_difference};
+ghost use Rattle.session_index.specs.Index.{Covers};
 ghost use Rattle.site_join.specs.States.{record_facts};
 ghost use Rattle.waiting_sessions.specs.Waits.{DueWait};
 
 use crate::addresses::{address_of, forget_moved, touch_both, wait_both, wait_unlisted};
 use crate::following::follow;
+use crate::forgetting::{forget_given, subscribers_before};
 use crate::whole::make_whole;
 use af_records::AfRec;
-use bind_index::{bind, bind_by};
+use bind_index::{bind, bind_by, sessions_of};
 use gx_records::GxRec;
 use kept_rules::{Rules, derive_by};
 use op_tables::Tables;
 use operator_view::{bindings, bindings_by};
 use pcc_rules::derive;
-use pcrf_values::{AfSid, Delta, DiameterIdentity, GxSid, Rule};
+use pcrf_values::{AfSid, Delta, DiameterIdentity, GxSid, Rule, Subscriber};
 use reply_values::PushOut;
 use rule_delta::next_push;
 use session_index::Index;
@@ -127,6 +130,7 @@ impl IndexedState {
         self.index.cover(operation)?;
         let facts = operation.facts();
         let before = address_of(&self.state, facts);
+        let shown = subscribers_before(self.alloc, &self.state, facts)?;
         self.state.note_kept();
         self.state.take(operation)?;
         let after = address_of(&self.state, facts);
@@ -134,18 +138,20 @@ impl IndexedState {
         wait_unlisted(&self.state, &mut self.waiting, facts, after);
         wait_both(&self.state, &self.index, &mut self.waiting, before, after);
         forget_moved(&mut self.index, facts, before, after);
+        forget_given(&mut self.index, &self.state, facts, shown.as_slice());
         Ok(())
     }
 
-    /// Takes all that another state holds; a refusal changes nothing.
+    /// Takes all that another state holds; a refusal changes nothing. Its time grows with the number of sessions of both.
     pub fn take_state(&mut self, state: &State) -> Result<(), AllocError>
         ensures ok { OnOk result (self.new ≡ with_holding self.old
             (kept_of (union self.old.holding state.now))) }
         ensures err { OnErr result (self.new ≡ self.old) }
     {
-        make_whole(&self.state, &mut self.index, &mut self.is_whole)?;
-        self.index.cover_state(state)?;
-        self.state = self.state.merged_copy(state)?;
+        let merged = self.state.merged_copy(state)?;
+        self.index = index_of(self.alloc, &merged)?;
+        self.state = merged;
+        self.is_whole = true;
         self.rules = Rules::start(self.alloc);
         self.waiting = Waiting::start(self.alloc);
         Ok(())
@@ -231,6 +237,18 @@ impl IndexedState {
         bindings(self.alloc, &self.state)
     }
 
+    /// The live sessions of gateways that have the subscriber, in the order of their Session-Ids. Its time grows with the number
+    /// of those.
+    pub fn sessions_of(&self, subscriber: &Subscriber) -> Result<Vec<GxSid>, AllocError>
+        ensures { IfOk result (λ ids. ids.items
+            ≡ sessions_of (view self.now.holding.facts) subscriber.now) }
+    {
+        if self.is_whole {
+            return self.index.sessions_of(self.alloc, &self.state, subscriber);
+        }
+        sessions_of(self.alloc, &self.state, subscriber)
+    }
+
     /// What the gateway of a session is still to be told (TS 29.212, 4.5.2).
     pub fn untold_difference(&mut self, session: &GxSid) -> Result<Delta, AllocError>
         ensures difference { IfOk result (λ delta. delta
@@ -298,6 +316,15 @@ impl IndexedState {
             host,
         )
     }
+}
+
+/// An index of what a state shows, and of nothing else.
+fn index_of(alloc: Global, state: &State) -> Result<Index, AllocError>
+    ensures { IfOk result (λ index. Covers (view state.now.facts) index) }
+{
+    let mut index = Index::start(alloc);
+    index.cover_state(state)?;
+    Ok(index)
 }
 
 /// Has those wait that may be due at a site: all, where those that wait may be due at another.

@@ -4,6 +4,7 @@
 
 mod addresses;
 mod following;
+mod forgetting;
 mod held;
 mod indexed;
 mod recorded;
@@ -11,3 +12,5 @@ mod renewing;
 mod whole;
 
 pub use indexed::IndexedState;
+pub use kept_rules::Rules;
+pub use session_index::Index;

@@ -9,6 +9,7 @@ ghost use Rattle.indexed_state.specs.Indexed.{IsTold};
 use crate::addresses::{
     address_in, call_address_in, forget_call, forget_gateway, touch_both, wait_both, wait_gateway,
 };
+use crate::forgetting::forget_subscribers;
 use crate::indexed::IndexedState;
 use crate::whole::make_whole;
 use af_records::AfRec;
@@ -49,6 +50,7 @@ impl IndexedState {
         wait_gateway(&self.state, &mut self.waiting, id, after);
         wait_both(&self.state, &self.index, &mut self.waiting, before, after);
         forget_gateway(&mut self.index, id, before, after);
+        forget_subscribers(&mut self.index, id, stood.as_ref(), self.state.gx(id));
         Ok(())
     }
 

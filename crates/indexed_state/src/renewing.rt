@@ -1,9 +1,6 @@
 //! Lists of rules that are kept, and made anew all at once.
-ghost use Rattle.std.specs.Prelude.{◌≡◌, true, IfOk, IfSome, OnOk};
+ghost use Rattle.std.specs.Prelude.{◌≡◌, true, IfOk, OnOk};
 ghost use Rattle.many_rules.specs.Many.{AreFresh};
-ghost use Rattle.pcrf_model.specs.Live.{is_live};
-ghost use Rattle.pcrf_model.specs.Rules.{rules};
-ghost use Rattle.pcrf_model.specs.Sessions.{gx};
 ghost use Rattle.pcrf_model.specs.Views.{view};
 ghost use Rattle.kept_rules.specs.Kept.{AreKept};
 ghost use Rattle.session_index.specs.Index.{Covers};
@@ -13,47 +10,33 @@ use crate::whole::make_whole;
 use kept_rules::Rules;
 use many_rules::renew;
 use op_tables::Tables;
-use pcrf_values::{GxSid, Rule};
 use session_index::Index;
 use site_join::State;
 use std::alloc::{AllocError, Global};
 use std::thread::Threads;
 
 impl IndexedState {
-    /// The PCC rules that are kept of a gateway's session, `None` where none are: they may have changed, or nobody asked for
-    /// them yet. It takes no memory.
-    pub fn kept_rules(&self, session: &GxSid) -> Option<&[Rule]>
-        ensures { IfSome result (λ kept. kept.now
-            ≡ rules self.now.tables (view self.now.holding.facts) (gx session.now)) }
+    ghost use Rattle.std.specs.Borrow.{sem};
+    ghost use Rattle.std.specs.Io.BufRead.{Rests};
+    ghost use Rattle.indexed_state.specs.contracts.indexed.IndexedState.{the_row};
+
+    /// The lists of PCC rules that are kept, each that of its gateway's session. Of a session of which none is kept they may
+    /// have changed, or nobody asked for them yet.
+    pub fn kept_rules(&self) -> &Rules
+        ensures { AreKept self.now.tables (view self.now.holding.facts) result.now }
     {
-        self.rules.get(session)
+        &self.rules
     }
 
     /// Derives the rules of each live gateway's session of which none are kept, in as many threads as there are processors, and
-    /// keeps them. What is held stays the same, also where memory is refused; what was kept so far is kept then.
-    pub fn renew(&mut self, rt: &(impl Threads + Sync)) -> Result<(), AllocError>
-        ensures same { self.new ≡ self.old }
-    {
-        renew_lists(
-            rt,
-            self.alloc,
-            &self.tables,
-            &self.state,
-            &mut self.index,
-            &mut self.is_whole,
-            &mut self.rules,
-        )
-    }
-
-    /// Does as `renew` does, and tells whether `kept_rules` then answers rules of a session: it does of each that is live.
-    pub fn renew_for(
-        &mut self,
-        rt: &(impl Threads + Sync),
-        session: &GxSid,
-    ) -> Result<bool, AllocError>
-        ensures kept { IfOk result (λ is_kept.
-            is_live (view self.old.holding.facts) (gx session.now) ≡ true → is_kept ≡ true) }
-        ensures same { self.new ≡ self.old }
+    /// keeps them: what is answered are the lists that are kept then, one of each live session. What is held stays the same,
+    /// also where memory is refused; what was kept so far is kept then.
+    pub fn renew(&mut self, rt: &(impl Threads + Sync)) -> Result<&Rules, AllocError>
+        ensures* same { sem 𝓛 (Rests the_row self.entry (λ now. now ≡ self.old)) }
+        ensures fresh { IfOk result (λ lists.
+            AreFresh self.old.tables (view self.old.holding.facts) lists.now) }
+        ensures kept { IfOk result (λ lists.
+            AreKept self.old.tables (view self.old.holding.facts) lists.now) }
     {
         renew_lists(
             rt,
@@ -64,7 +47,7 @@ impl IndexedState {
             &mut self.is_whole,
             &mut self.rules,
         )?;
-        Ok(self.rules.get(session).is_some())
+        Ok(&self.rules)
     }
 }
 

@@ -1,4 +1,4 @@
-use Rattle.std.proofs.Common.{List, Option, ap, ◌∙◌}
+use Rattle.std.proofs.Common.{ap, ◌∙◌}
 use Rattle.ranked.proofs.Plain.{clash}
 use Rattle.pcrf_model.specs.Sessions.{gx}
 use Rattle.pcrf_model.specs.Views.{view}
@@ -44,4 +44,5 @@ returns c = λ t i h differs was a.
       near_after = c.wait_both.ensures.after;
     } in
     agree_followed t i h k d c.args.index.now new c.args.rules.now c.touch_both.new.rules c.args.waiting.now w c.address_in-before.result c.address_in-after.result
-    z c.args.is_whole.now c.forget_gateway.new.index (c.forget_gateway.ensures (view k.facts) (c.address_in-after.ensures k.facts id c.gx-known.ensures))
+    z c.args.is_whole.now c.forget_subscribers.new.index
+    (λ all. c.forget_subscribers.ensures k.facts c.gx-known.ensures (c.forget_gateway.ensures (view k.facts) (c.address_in-after.ensures k.facts id c.gx-known.ensures) all))

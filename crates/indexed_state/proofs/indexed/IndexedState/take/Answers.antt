@@ -19,6 +19,12 @@ invariant_of-self-in_err-cover c =
     (agree_index c.self.inside.tables c.self.inside.site c.self.inside.state c.self.inside.is_whole c.make_whole.new.is_whole c.self.inside.index c.make_whole.new.index _ _
     (c.make_whole.ensures.covers c.self.invariant.covers) c.self.invariant)
 
+pub invariant_of-self-in_err-shown : goal.invariant_of-self-in_err-shown
+invariant_of-self-in_err-shown c =
+    agree_grown c.self.inside.tables c.self.inside.site c.self.inside.state c.make_whole.new.is_whole c.make_whole.new.index c.cover.new.self _ _ c.cover.ensures.grows
+    (agree_index c.self.inside.tables c.self.inside.site c.self.inside.state c.self.inside.is_whole c.make_whole.new.is_whole c.self.inside.index c.make_whole.new.index _ _
+    (c.make_whole.ensures.covers c.self.invariant.covers) c.self.invariant)
+
 pub invariant_of-self-in_err-take : goal.invariant_of-self-in_err-take
 invariant_of-self-in_err-take c =
     subst (λ (h : Holding). Agree c.self.inside.tables c.self.inside.site h c.make_whole.new.is_whole c.cover.new.self c.self.inside.rules c.self.inside.waiting) (sym c.in_err-take.ensures.err)
@@ -58,5 +64,5 @@ invariant_of-self-2 c =
       near_after = c.wait_both.ensures.after;
     } in
     agree_followed c.self.inside.tables c.self.inside.site h k o.session c.make_whole.new.index c.cover.new.self c.self.inside.rules c.touch_both.new.rules c.self.inside.waiting w
-    before after z c.make_whole.new.is_whole c.forget_moved.new.index
-    (c.forget_moved.ensures (view k.facts) (subst (λ (s : Session). IsAddressOf (view k.facts) s after) (sym session) is_at))
+    before after z c.make_whole.new.is_whole c.forget_given.new.index
+    (λ all. c.forget_given.ensures (c.forget_moved.ensures (view k.facts) (subst (λ (s : Session). IsAddressOf (view k.facts) s after) (sym session) is_at) all))

@@ -1,4 +1,4 @@
-use Rattle.std.proofs.Common.{◌≡◌, ℕ, max, Some, sym, ap, ◌∙◌, subst}
+use Rattle.std.proofs.Common.{ℕ, max, Some, sym, ap, ◌∙◌, subst}
 use Rattle.pcrf_facts.specs.Held.{kept_list, join_of}
 use Rattle.pcrf_model.specs.Holdings.{Holding, facts_on, kept_of}
 use Rattle.pcrf_model.specs.Operations.{with_operation}
@@ -67,7 +67,7 @@ invariant_of-self-2 c =
       near_after = c.wait_both.ensures.after;
     } in
     agree_followed c.self.inside.tables c.self.inside.site h k s c.make_whole.new.index c.cover.new.self c.self.inside.rules c.touch_both.new.rules c.self.inside.waiting w
-    before after z c.make_whole.new.is_whole c.forget_gateway.new.index (c.forget_gateway.ensures (view k.facts) is_at)
+    before after z c.make_whole.new.is_whole c.forget_subscribers.new.index (λ all. c.forget_subscribers.ensures k.facts c.gx.ensures (c.forget_gateway.ensures (view k.facts) is_at all))
 
 pub returns-clause-ok : goal.returns-clause-ok
 returns-clause-ok c =

@@ -1,4 +1,4 @@
-use Rattle.std.proofs.Common.{◌≡◌, ℕ, max, Some, sym, ap, ◌∙◌, subst}
+use Rattle.std.proofs.Common.{ℕ, max, Some, sym, ap, ◌∙◌, subst}
 use Rattle.pcrf_facts.specs.Held.{kept_list, join_of}
 use Rattle.pcrf_model.specs.Holdings.{Holding, facts_on, kept_of}
 use Rattle.pcrf_model.specs.Operations.{with_operation}

@@ -1,0 +1,151 @@
+//! What an index no longer lists: gateways' sessions under subscribers that they don't show, and the session of an operation
+//! under what the operation gives it and it doesn't show, being ended, or showing what another operation gave it.
+ghost use Rattle.std.specs.Prelude.{◌≡◌, List};
+ghost use Rattle.std.specs.Option.{option_copied};
+ghost use Rattle.pcrf_model.specs.Holdings.{SessionFact, facts_on};
+ghost use Rattle.pcrf_model.specs.Sessions.{gx, af};
+ghost use Rattle.pcrf_model.specs.Views.{view};
+ghost use Rattle.session_index.specs.Index.{Covers};
+ghost use Rattle.site_join.specs.States.{record_facts};
+
+use crate::addresses::{address_in, call_address_in, forget_call, forget_gateway};
+use af_records::{AfFact, AfRec};
+use gx_records::{GxFact, GxRec};
+use pcrf_values::{AfSid, GxSid, Subscriber};
+use ranked::Ranked;
+use session_index::Index;
+use session_records::SessionValue;
+use site_join::{SessionFacts, State};
+use std::alloc::{AllocError, Global};
+
+/// The subscribers that the session of these facts shows, where it is of a gateway and may show others or none with the
+/// facts; none else.
+pub(crate) fn subscribers_before(
+    alloc: Global,
+    state: &State,
+    facts: &SessionFacts,
+) -> Result<Vec<Subscriber>, AllocError> {
+    let SessionFacts::Gx(id, facts) = facts else {
+        return Ok(Vec::new(alloc));
+    };
+    if !may_move(facts.as_slice()) {
+        return Ok(Vec::new(alloc));
+    }
+    subscribers_in(alloc, state.gx(id))
+}
+
+/// One of these facts ends the session, or gives it subscribers.
+fn may_move(facts: &[GxFact]) -> bool {
+    facts.iter().any(|fact| match fact {
+        GxFact::End => true,
+        GxFact::Field(_, SessionValue::Subscribers(_)) => true,
+        _ => false,
+    })
+}
+
+/// The subscribers that a gateway's session of this record shows, none where there is no record.
+fn subscribers_in(alloc: Global, known: Option<&GxRec>) -> Result<Vec<Subscriber>, AllocError> {
+    let Some(known) = known else {
+        return Ok(Vec::new(alloc));
+    };
+    let Some((_, subscribers)) = known.subscribers() else {
+        return Ok(Vec::new(alloc));
+    };
+    Subscriber::try_copy_slice(alloc, subscribers.as_slice())
+}
+
+/// Takes a gateway's session out from under the subscribers that the record that stood shows and the one that is known now
+/// doesn't.
+pub(crate) fn forget_subscribers(
+    index: &mut Index,
+    id: &GxSid,
+    stood: Option<&GxRec>,
+    known: Option<&GxRec>,
+)
+    ensures { (facts : List SessionFact)
+        → record_facts (option_copied known.entry) ≡ facts_on facts (gx id.now)
+        → Covers (view facts) index.old → Covers (view facts) index.new }
+{
+    let Some(stood) = stood else {
+        return;
+    };
+    let Some((_, subscribers)) = stood.subscribers() else {
+        return;
+    };
+    index.forget_unshown(id, subscribers.as_slice(), known);
+}
+
+/// Takes the session of these facts out from under what they give it, and from under these subscribers, where the state doesn't
+/// show that of it.
+pub(crate) fn forget_given(
+    index: &mut Index,
+    state: &State,
+    facts: &SessionFacts,
+    subscribers: &[Subscriber],
+)
+    ensures { Covers (view state.now.facts) index.old → Covers (view state.now.facts) index.new }
+{
+    match facts {
+        SessionFacts::Gx(id, facts) => {
+            let known = state.gx(id);
+            index.forget_unshown(id, subscribers, known);
+            forget_given_gateway(index, id, facts.as_slice(), known);
+        }
+        SessionFacts::Af(id, facts) => {
+            forget_given_call(index, id, facts.as_slice(), state.af(id));
+        }
+    }
+}
+
+/// So with what these facts give a gateway's session.
+fn forget_given_gateway(index: &mut Index, id: &GxSid, given: &[GxFact], known: Option<&GxRec>)
+    ensures { (facts : List SessionFact)
+        → record_facts (option_copied known.entry) ≡ facts_on facts (gx id.now)
+        → Covers (view facts) index.old → Covers (view facts) index.new }
+{
+    for fact in given {
+        forget_gateway_fact(index, id, fact, known);
+    }
+}
+
+/// And with what one of them gives it.
+fn forget_gateway_fact(index: &mut Index, id: &GxSid, fact: &GxFact, known: Option<&GxRec>)
+    ensures { (facts : List SessionFact)
+        → record_facts (option_copied known.entry) ≡ facts_on facts (gx id.now)
+        → Covers (view facts) index.old → Covers (view facts) index.new }
+{
+    match fact {
+        GxFact::Field(_, SessionValue::Address(address)) => {
+            forget_gateway(index, id, Some(*address), address_in(known));
+        }
+        GxFact::Field(_, SessionValue::Subscribers(subscribers)) => {
+            index.forget_unshown(id, subscribers.as_slice(), known);
+        }
+        _ => {}
+    }
+}
+
+/// So with what these facts give an application function's session.
+fn forget_given_call(index: &mut Index, id: &AfSid, given: &[AfFact], known: Option<&AfRec>)
+    ensures { (facts : List SessionFact)
+        → record_facts (option_copied known.entry) ≡ facts_on facts (af id.now)
+        → Covers (view facts) index.old → Covers (view facts) index.new }
+{
+    for fact in given {
+        forget_call_fact(index, id, fact, known);
+    }
+}
+
+/// And with what one of them gives it.
+fn forget_call_fact(index: &mut Index, id: &AfSid, fact: &AfFact, known: Option<&AfRec>)
+    ensures { (facts : List SessionFact)
+        → record_facts (option_copied known.entry) ≡ facts_on facts (af id.now)
+        → Covers (view facts) index.old → Covers (view facts) index.new }
+{
+    match fact {
+        AfFact::Session(_, SessionValue::Address(address)) => {
+            forget_call(index, id, Some(*address), call_address_in(known));
+        }
+        _ => {}
+    }
+}
