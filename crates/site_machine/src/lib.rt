@@ -6,6 +6,7 @@ mod adding;
 mod calls;
 mod event;
 mod fault;
+mod lookup;
 mod operations;
 mod renewing;
 mod request;
@@ -16,5 +17,6 @@ mod thrice;
 
 pub use event::{Event, Reply};
 pub use fault::StepFault;
+pub use indexed_state::Rules;
 pub use request::Request;
 pub use site::Site;
