@@ -1,8 +1,11 @@
 //! Pushes to the gateways that can be reached.
-ghost use Rattle.std.specs.Prelude.{◌≡◌, ◌<◌, ◌≤◌, IfOk};
+ghost use Rattle.std.specs.Prelude.{◌≡◌, IfOk, option_map};
 ghost use Rattle.dia_codec.specs.Written.{written_spelling};
+ghost use Rattle.gateway_links.specs.Requests.{identifier_at, last_request, request_saying};
 ghost use Rattle.gx_profile.specs.Pushes.{rar};
-ghost use Rattle.link_ends.specs.Earlier.{HasEarlier};
+ghost use Rattle.link_ends.specs.Earlier.{Adds};
+ghost use Rattle.link_ends.specs.Events.{IsPushTo, IsPushToHost};
+ghost use Rattle.link_ends.specs.Values.{event_value, reply_value};
 ghost use Rattle.reply_values.specs.Replies.{push_view};
 
 use crate::gateways::{Gateways, Reached};
@@ -21,6 +24,9 @@ use std::io::Write;
 use std::sync::Wait;
 use std::sync::ledger::Ledger;
 use std::thread::Threads;
+
+/// How many identifiers a request can have (RFC 6733, 3). A history has no more places.
+const IDENTIFIERS: usize = 1 << 32;
 
 /// How the pushing to one gateway ended.
 #[derive(Clone, Copy, PartialEq, Eq)]
@@ -54,43 +60,75 @@ fn request_bytes(
     }
 }
 
-/// The place of a seat's last receipt. A history has no more places than such a number tells apart.
-fn last_place<L: Ledger>(seat: &Seat<L>) -> u32 {
-    match seat.receipts().last() {
-        Some(receipt) => (receipt.place() & 0xffff_ffff) as u32,
-        None => 0,
-    }
+/// The identifier of a request that stands at this place of the history.
+fn identifier_at(place: usize) -> u32
+    ensures { result ≡ identifier_at place }
+{
+    (place % IDENTIFIERS) as u32
 }
 
-/// Makes a push, and tells what is pushed, if something was due.
+/// The request of what was replied at a place of the history; none where nothing was due.
+fn request_saying(
+    alloc: Global,
+    identity: &Identity,
+    place: usize,
+    reply: &Reply,
+) -> Result<Option<Vec<u8>>, AllocError>
+    ensures { IfOk result (λ request. option_map (λ bytes. bytes.items) request
+        ≡ request_saying identity.now (identifier_at place) (reply_value reply.now)) }
+{
+    let Reply::Pushed(Some(push)) = reply else {
+        return Ok(None);
+    };
+    let bytes = request_bytes(alloc, identity, identifier_at(place), push)?;
+    Ok(Some(bytes))
+}
+
+/// The request of the call that a seat made last, as its receipt has it: a push goes out just as it counts as told.
+fn last_request<L: Ledger>(
+    alloc: Global,
+    identity: &Identity,
+    seat: &Seat<L>,
+) -> Result<Option<Vec<u8>>, AllocError>
+    ensures { IfOk result (λ request. option_map (λ bytes. bytes.items) request
+        ≡ last_request identity.now seat.now.receipts) }
+{
+    let Some(receipt) = seat.receipts().last() else {
+        return Ok(None);
+    };
+    request_saying(alloc, identity, receipt.place(), receipt.reply())
+}
+
+/// Makes a push, if something is due. The seat's last receipt has what is pushed.
 fn push_once<R: Threads + Wait + Sync, L: Ledger>(
     rt: &R,
     site: &LockedSite<L>,
     seat: &mut Seat<L>,
     event: &Event,
-) -> Result<Option<PushOut>, StepFault>
-    ensures { HasEarlier seat.old seat.new }
+) -> Result<(), StepFault>
+    ensures { Adds (λ e. e ≡ event_value event.now) seat.old seat.new }
 {
     match site.call(rt, seat, event) {
-        Ok(Reply::Pushed(push)) => Ok(push),
-        Ok(_) => Ok(None),
+        Ok(_) => Ok(()),
         Err(fault) => Err(fault),
     }
 }
 
-/// Writes the request of the push that the seat made last, behind the answers that are gathered. False if that can't be done.
-fn send<R: Threads + Wait + Sync, L: Ledger, W: Write + Drop>(
-    rt: &R,
+/// Writes the request of the push that the seat made last, behind the answers that are gathered: the bytes are those of
+/// `last_request`. None where nothing was due, and false if it can't be written.
+fn send<L: Ledger, W: Write + Drop>(
+    rt: &impl Wait,
     alloc: Global,
     site: &LockedSite<L>,
     seat: &Seat<L>,
-    push: &PushOut,
     half: &Half<W>,
     outgoing: &mut Outgoing<'_, W>,
-) -> Result<bool, AllocError> {
-    let bytes = request_bytes(alloc, site.identity(), last_place(seat), push)?;
+) -> Result<Option<bool>, AllocError> {
+    let Some(bytes) = last_request(alloc, site.identity(), seat)? else {
+        return Ok(None);
+    };
     let _is_written = outgoing.flush(rt);
-    Ok(half.put(rt, bytes.as_slice()))
+    Ok(Some(half.put(rt, bytes.as_slice())))
 }
 
 /// Pushes to one gateway until nothing is due to it, or it can't go on.
@@ -103,30 +141,32 @@ fn push_each<R: Threads + Wait + Sync, L: Ledger, W: Write + Drop>(
     half: &Half<W>,
     outgoing: &mut Outgoing<'_, W>,
 ) -> Result<Pushed, AllocError>
-    ensures { HasEarlier seat.old seat.new }
+    ensures { Adds (λ e. e ≡ event_value event.now) seat.old seat.new }
 {
     for _ in rt.forever() {
         match push_once(rt, site, seat, event) {
-            Ok(Some(push)) => {
-                if !send(rt, alloc, site, seat, &push, half, outgoing)? {
-                    return Ok(Pushed::Unreached);
-                }
-            }
-            Ok(None) => return Ok(Pushed::All),
+            Ok(()) => {}
             Err(StepFault::HistoryFull) => return Ok(Pushed::HistoryFull),
             Err(StepFault::ClockFull) => return Ok(Pushed::ClockFull),
             Err(StepFault::NoMemory) => return Err(AllocError),
+        }
+        match send(rt, alloc, site, seat, half, outgoing)? {
+            Some(true) => {}
+            Some(false) => return Ok(Pushed::Unreached),
+            None => return Ok(Pushed::All),
         }
     }
     unreachable!()
 }
 
 /// The push to a host.
-fn push_to(host: &DiameterIdentity) -> Result<Event, AllocError> {
+fn push_to(host: &DiameterIdentity) -> Result<Event, AllocError>
+    ensures { IfOk result (λ event. IsPushTo host.now (event_value event)) }
+{
     Ok(Event::Push(Some(host.try_copy()?)))
 }
 
-/// Pushes to a gateway.
+/// Pushes to a gateway: to its host, by its half.
 fn push_gateway<R: Threads + Wait + Sync, L: Ledger, W: Write + Drop>(
     rt: &R,
     alloc: Global,
@@ -135,7 +175,7 @@ fn push_gateway<R: Threads + Wait + Sync, L: Ledger, W: Write + Drop>(
     gateway: &Reached<W>,
     outgoing: &mut Outgoing<'_, W>,
 ) -> Result<Pushed, AllocError>
-    ensures { HasEarlier seat.old seat.new }
+    ensures { Adds (IsPushTo gateway.now.host) seat.old seat.new }
 {
     let event = push_to(&gateway.host)?;
     let pushed = push_each(rt, alloc, site, seat, &event, &gateway.half, outgoing);
@@ -187,7 +227,7 @@ pub fn push_all<R: Threads + Wait + Sync, L: Ledger, W: Write + Drop, O: Observe
     gateways: &Gateways<W, O>,
     outgoing: &mut Outgoing<'_, W>,
 ) -> Result<(), AllocError>
-    ensures { HasEarlier seat.old seat.new }
+    ensures { Adds IsPushToHost seat.old seat.new }
 {
     let mut last: Option<DiameterIdentity> = None;
     for _ in rt.forever() {

@@ -1,6 +1,7 @@
 //! What is to be pushed after a message.
 ghost use Rattle.std.specs.Thread.{IsSync};
-ghost use Rattle.link_ends.specs.Earlier.{HasEarlier};
+ghost use Rattle.link_ends.specs.Earlier.{Adds};
+ghost use Rattle.link_ends.specs.Events.{IsPushToHost};
 
 use site_lock::{LockedSite, Seat};
 use std::alloc::{AllocError, Global};
@@ -12,7 +13,7 @@ use std::thread::Threads;
 pub trait Pushes {
     /// Has the site make every push that is due to a gateway that can be reached, each as a call of the seat, and sends them.
     /// A history or a clock that is full ends the pushing, and a gateway to which nothing can be written is passed over; want
-    /// of memory alone is an error.
+    /// of memory alone is an error. Each push is to a host that is named, so that no gateway gets what is another's.
     fn push_all<R: Threads + Wait + Sync, L: Ledger>(
         &self,
         rt: &R,
@@ -21,5 +22,5 @@ pub trait Pushes {
         seat: &mut Seat<L>,
     ) -> Result<(), AllocError>
         requires { IsSync R.row }
-        ensures { HasEarlier seat.old seat.new };
+        ensures { Adds IsPushToHost seat.old seat.new };
 }

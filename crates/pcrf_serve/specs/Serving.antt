@@ -1,10 +1,11 @@
--- A seat that serves requests.
-use Rattle.std.specs.Prelude.{⊤}
+-- A seat that serves requests, and pushes.
+use Rattle.std.specs.Prelude.{◌⊎◌, ⊤}
 use Rattle.pcrf_model.specs.Replies.{ReplyValue}
 use Rattle.pcrf_model.specs.Requests.{RequestValue}
-use Rattle.pcrf_model.specs.Steps.{SiteEvent, Serve, Push, Ops, Whole, AskOwn, AskWhole}
+use Rattle.pcrf_model.specs.Steps.{SiteEvent, Serve}
 use Rattle.link_ends.specs.Books.{SeatValue}
 use Rattle.link_ends.specs.Calls.{GainsReceipt}
+use Rattle.link_ends.specs.Events.{IsPushToHost, IsServed}
 
 -- one more receipt, of that request and that reply
 abbrev pub GainsReply : SeatValue → RequestValue → ReplyValue → SeatValue → Type 0
@@ -14,7 +15,6 @@ GainsReply before request reply after = GainsReceipt before (Serve request) repl
 abbrev pub MayBeFull : {A : Type 0} → A → Type 0
 MayBeFull s = ⊤
 
--- a request is served
-abbrev pub IsServing : SiteEvent → Type 0
-IsServing (Serve request) = ⊤
-IsServing e = ⊥
+-- what a connection makes happen: a request is served, or a gateway is pushed to
+abbrev pub IsOfConnection : SiteEvent → Type 0
+IsOfConnection event = IsServed event ⊎ IsPushToHost event

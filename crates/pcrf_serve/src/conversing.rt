@@ -1,7 +1,9 @@
 //! A connection is served to its end.
 ghost use Rattle.std.specs.Prelude.{◌≡◌};
 ghost use Rattle.dia_codec.specs.Spelling.{IsFrame};
-ghost use Rattle.link_ends.specs.Earlier.{HasEarlier};
+ghost use Rattle.link_ends.specs.Earlier.{Adds, HasEarlier};
+ghost use Rattle.link_ends.specs.Events.{IsPushToHost};
+ghost use Rattle.pcrf_serve.specs.Serving.{IsOfConnection};
 
 use crate::link::{Link, Server};
 use crate::push_answers::tell_push_answer;
@@ -26,7 +28,7 @@ fn answer<T: Threads + Wait + Sync, L: Ledger, O: Observer>(
     frame: &[u8],
 ) -> Result<Answer, AllocError>
     requires { IsFrame frame.now }
-    ensures { HasEarlier at.old.seat at.new.seat }
+    ensures { Adds IsOfConnection at.old.seat at.new.seat }
 {
     let answer = answer_frame(alloc, at, frame)?;
     Ok(answer)
@@ -39,7 +41,7 @@ fn push<T: Threads + Wait + Sync, L: Ledger, W: Write + Drop, O: Observer, G: Ga
     at: &mut SeatAtSite<'_, T, L, O>,
     link: &mut Link<'_, W, O, G>,
 ) -> Result<(), AllocError>
-    ensures { HasEarlier at.old.seat at.new.seat }
+    ensures { Adds IsPushToHost at.old.seat at.new.seat }
 {
     push_all(
         rt,
@@ -75,7 +77,7 @@ fn serve_frame<T: Threads + Wait + Sync, L: Ledger, W: Write + Drop, O: Observer
     frame: &[u8],
 ) -> Result<bool, LinkEnd>
     requires { IsFrame frame.now }
-    ensures { HasEarlier at.old.seat at.new.seat }
+    ensures { Adds IsOfConnection at.old.seat at.new.seat }
 {
     link.enter()?;
     let calls = at.calls();
@@ -97,7 +99,7 @@ fn drain<T: Threads + Wait + Sync, L: Ledger, W: Write + Drop, O: Observer, G: G
     link: &mut Link<'_, W, O, G>,
     assembler: &mut Assembler,
 ) -> Result<(), LinkEnd>
-    ensures { HasEarlier at.old.seat at.new.seat }
+    ensures { Adds IsOfConnection at.old.seat at.new.seat }
 {
     for _ in rt.forever() {
         match assembler.next() {
@@ -129,7 +131,7 @@ fn serve_stream<
     link: &mut Link<'_, W, O, G>,
     reader: &mut R,
 ) -> Result<LinkEnd, LinkEnd>
-    ensures { HasEarlier at.old.seat at.new.seat }
+    ensures { Adds IsOfConnection at.old.seat at.new.seat }
 {
     let mut assembler = Assembler::start(alloc);
     let mut piece: Vec<u8> = vec![in alloc; 0; PIECE_BYTES]?;
@@ -161,7 +163,7 @@ fn converse<T: Threads + Wait + Sync, L: Ledger, R: Read, W: Write + Drop, O: Ob
     link: &mut Link<'_, W, O, G>,
     reader: &mut R,
 ) -> LinkEnd
-    ensures { HasEarlier at.old.seat at.new.seat }
+    ensures { Adds IsOfConnection at.old.seat at.new.seat }
 {
     let end = match serve_stream(rt, alloc, at, link, reader) {
         Ok(end) | Err(end) => end,
@@ -174,8 +176,8 @@ fn converse<T: Threads + Wait + Sync, L: Ledger, R: Read, W: Write + Drop, O: Ob
     }
 }
 
-/// Serves one connection at one seat to its end, and gives the seat back with how it ended. Without a writer it serves nothing:
-/// there was no memory for its worker.
+/// Serves one connection at one seat to its end, and gives the seat back with how it ended: it made requests and pushes happen,
+/// and nothing else. Without a writer it serves nothing: there was no memory for its worker.
 pub fn serve_connection<
     'a,
     T: Threads + Wait + Sync,
@@ -191,7 +193,8 @@ pub fn serve_connection<
     mut reader: R,
     half: Arc<Half<W>>,
 ) -> (Seat<L>, LinkEnd)
-    ensures { HasEarlier seat result.0 }
+    ensures earlier { HasEarlier seat result.0 }
+    ensures served { Adds IsOfConnection seat result.0 }
 {
     let number = seat.number();
     let observer = server.gateways.observer();

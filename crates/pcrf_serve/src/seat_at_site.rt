@@ -1,8 +1,8 @@
 //! A seat at a locked site serves requests.
 ghost use Rattle.std.specs.Prelude.{◌≡◌, IfOk, OnErr};
 ghost use Rattle.pcrf_model.specs.Steps.{Serve as ServeEvent};
-ghost use Rattle.pcrf_serve.specs.Serving.{IsServing};
 ghost use Rattle.link_ends.specs.Calls.{GainsReceipt};
+ghost use Rattle.link_ends.specs.Events.{IsServed};
 ghost use Rattle.link_ends.specs.Values.{event_value, reply_value, request_value};
 
 use base_profile::BaseKind;
@@ -56,7 +56,7 @@ fn base_code(reply: &Reply) -> Option<u32> {
 
 /// The request of an event.
 fn request_of(event: Event) -> Request
-    requires { IsServing (event_value event) }
+    requires { IsServed (event_value event) }
     ensures { ServeEvent (request_value result) ≡ event_value event }
 {
     match event {

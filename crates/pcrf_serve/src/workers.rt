@@ -1,7 +1,6 @@
 //! One worker for each connection.
 ghost use Rattle.std.specs.Prelude.{◌≡◌, ◌≤◌, [], IfOk, IfErr, vec_len, vec_capacity};
-ghost use Rattle.link_ends.specs.Earlier.{HasEarlier};
-ghost use Rattle.pcrf_serve.specs.Workers.{AllGiveBack, AllBegun, AllJoin, BegunFrom, IsRoomFor, Joins};
+ghost use Rattle.pcrf_serve.specs.Workers.{AllGiveBack, AllBegun, AllJoin, AllServe, BegunFrom, IsRoomFor, Joins};
 
 use crate::conversing::serve_connection;
 use crate::link::Server;
@@ -14,16 +13,18 @@ use std::sync::ledger::Ledger;
 use std::sync::{Arc, Wait};
 use std::thread::{self, Promise, PromisedHandle, Scope, Threads};
 
-/// That a worker gives its seat back, with its earlier receipts as a prefix.
+/// That a worker gives its seat back, with its earlier receipts as a prefix, and behind them receipts of requests and of pushes
+/// to hosts alone.
 #[derive(Drop)]
 pub struct KeepsEarlier<L: Ledger> {
     seat: Snapshot<Seat<L>>,
 }
 
 impl<L: Ledger> Promise<(Seat<L>, LinkEnd)> for KeepsEarlier<L> {
-    ghost use Rattle.link_ends.specs.Earlier.{HasEarlier};
+    ghost use Rattle.link_ends.specs.Earlier.{Adds};
+    ghost use Rattle.pcrf_serve.specs.Serving.{IsOfConnection};
 
-    ghost kept_by = { λ p r. HasEarlier p.seat.value r.0 };
+    ghost kept_by = { λ p r. Adds IsOfConnection p.seat.value r.0 };
 }
 
 /// A worker that runs, or one that could not be started.
@@ -191,7 +192,7 @@ fn run<
     room: Room<L, W>,
 ) -> Vec<(Seat<L>, LinkEnd)>
     requires { IsRoomFor (vec_len connections) room }
-    ensures { AllGiveBack connections.items result.items }
+    ensures { AllServe connections.items result.items }
 {
     let Room {
         halves,
@@ -221,6 +222,7 @@ pub fn serve_sessions<
     gate: &G,
 ) -> Result<Vec<(Seat<L>, LinkEnd)>, (AllocError, Vec<(Seat<L>, R, W)>)>
     ensures seats { IfOk result (λ ended. AllGiveBack connections.items ended.items) }
+    ensures served { IfOk result (λ ended. AllServe connections.items ended.items) }
     ensures refused { IfErr result (λ refused. refused.1 ≡ connections) }
 {
     let Ok(room) = make_room(alloc, connections.len()) else {
@@ -238,7 +240,7 @@ pub fn serve_sessions<
         rt,
         move |scope| -> Vec<(Seat<L>, LinkEnd)>
             requires { IsRoomFor (vec_len connections) room }
-            ensures { AllGiveBack connections.items result.items }
+            ensures { AllServe connections.items result.items }
         { run(rt, scope, server, connections, room) },
     ))
 }

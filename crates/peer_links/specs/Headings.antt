@@ -1,16 +1,10 @@
 -- Letters opened: a heading, and the event that takes in what the letter brings.
 use Rattle.std.specs.Prelude.{◌≡◌, true}
 use Rattle.pcrf_model.specs.Letters.{LetterValue}
-use Rattle.pcrf_model.specs.Steps.{SiteEvent, Ops, Whole}
+use Rattle.pcrf_model.specs.Steps.{SiteEvent}
 use Rattle.peer_exchange.specs.Form.{is_addressed}
-use Rattle.peer_links.specs.Exchanging.{body_of}
+use Rattle.peer_links.specs.Exchanging.{IsBrought, body_of}
 use Rattle.peer_links.specs.declared.heading.Heading.{Heading}
-
--- the event takes in what letters bring
-abbrev pub IsBrought : SiteEvent → Type 0
-IsBrought (Ops operations) = Unit {0}
-IsBrought (Whole holding) = Unit {0}
-IsBrought event = ⊥
 
 -- the letter of both
 abbrev pub letter_with : Heading → SiteEvent → LetterValue

@@ -1,2 +1,3 @@
 pub mod Exchanging
 pub mod Headings
+pub mod Turns

@@ -1,7 +1,11 @@
 //! The side that sends letters, and reads what is acknowledged.
-ghost use Rattle.std.specs.Prelude.{◌≡◌};
-ghost use Rattle.link_ends.specs.Earlier.{HasEarlier};
-ghost use Rattle.peer_links.specs.Exchanging.{Exchanged};
+ghost use Rattle.std.specs.Prelude.{◌≡◌, IfOk, OnErr};
+ghost use Rattle.pcrf_model.specs.Cursors.{cursors_after_ack};
+ghost use Rattle.link_ends.specs.Calls.{GainsReceipt};
+ghost use Rattle.link_ends.specs.Earlier.{Gains};
+ghost use Rattle.link_ends.specs.Values.{event_value, reply_value};
+ghost use Rattle.peer_links.specs.Exchanging.{Exchanged, IsIdle};
+ghost use Rattle.peer_links.specs.Turns.{MakesLetter, Tells, asked_event, asked_past, asked_position};
 
 use crate::letters::Letters;
 use crate::link::Link;
@@ -23,7 +27,11 @@ struct Question {
 }
 
 /// The question of the next turn. The peer is who acknowledged first; before, all that the site holds is asked for.
-fn next_question(cursors: &Cursors, first: Option<Ack>) -> Question {
+fn next_question(cursors: &Cursors, first: Option<Ack>) -> Question
+    ensures event { event_value result.event ≡ asked_event cursors.now first }
+    ensures from { result.from ≡ asked_position (event_value result.event) }
+    ensures past { result.past ≡ asked_past cursors.now first }
+{
     let Some(first) = first else {
         return Question {
             event: Event::AskWhole,
@@ -51,7 +59,10 @@ fn ask<T: Threads + Wait + Sync, L: Ledger>(
     seat: &mut Seat<L>,
     question: &Question,
 ) -> Result<Reply, StepFault>
-    ensures { HasEarlier seat.old seat.new }
+    ensures receipt { IfOk result (λ reply. GainsReceipt
+        seat.old (event_value question.now.event) (reply_value reply) seat.new) }
+    ensures past { IfOk result (λ reply. Tells question.now.past (reply_value reply)) }
+    ensures err { OnErr result (seat.new ≡ seat.old) }
 {
     match question.past {
         None => site.call(rt, seat, &question.event),
@@ -67,7 +78,9 @@ fn next_letter<T: Threads + Wait + Sync, L: Ledger>(
     cursors: &Cursors,
     first: Option<Ack>,
 ) -> Result<Letter, LinkEnd>
-    ensures { HasEarlier seat.old seat.new }
+    ensures made { IfOk result (λ letter. MakesLetter
+        cursors.now site.now.edition first seat.old letter seat.new) }
+    ensures idle { Gains IsIdle seat.old seat.new }
 {
     let question = next_question(cursors, first);
     let reply = match ask(rt, site, seat, &question) {
@@ -82,12 +95,12 @@ fn next_letter<T: Threads + Wait + Sync, L: Ledger>(
 }
 
 /// Reads an acknowledgement, and counts it.
-#[tactic(auto, using(crate::proofs::Following::acked_makers))]
 fn acknowledged<S: Read + Write>(
     cursors: &mut Cursors,
     letters: &mut Letters<S>,
 ) -> Result<Ack, LinkEnd>
-    ensures { cursors.new.makers ≡ cursors.old.makers }
+    ensures counted { IfOk result (λ ack. cursors.new ≡ cursors_after_ack cursors.old ack) }
+    ensures err { OnErr result (cursors.new ≡ cursors.old) }
 {
     let letter = letters.read()?;
     let Some(ack) = Ack::carried_by(&letter) else {
@@ -98,7 +111,6 @@ fn acknowledged<S: Read + Write>(
 }
 
 /// Sends one letter, and reads its acknowledgement.
-#[tactic(auto, using(crate::proofs::Following::exchanged_earlier, crate::proofs::Following::exchanged_same))]
 fn send_letter<T: Threads + Wait + Sync, L: Ledger, S: Read + Write>(
     rt: &T,
     site: &LockedSite<L>,
@@ -107,7 +119,9 @@ fn send_letter<T: Threads + Wait + Sync, L: Ledger, S: Read + Write>(
     letters: &mut Letters<S>,
     first: Option<Ack>,
 ) -> Result<Ack, LinkEnd>
-    ensures { Exchanged seat.old seat.new cursors.old.makers cursors.new.makers }
+    ensures counted { IfOk result (λ ack. cursors.new ≡ cursors_after_ack cursors.old ack) }
+    ensures not_counted { OnErr result (cursors.new ≡ cursors.old) }
+    ensures exchanged { Exchanged seat.old seat.new cursors.old.makers cursors.new.makers }
 {
     let letter = next_letter(rt, site, seat, cursors, first)?;
     letters.write(&letter)?;

@@ -1,5 +1,6 @@
 //! A letter opened: what stands on it, and the event that takes in what it brings.
-ghost use Rattle.std.specs.Prelude.{◌≡◌, IfSome};
+ghost use Rattle.std.specs.Prelude.{◌≡◌, true, IfSome, IfNone};
+ghost use Rattle.pcrf_model.specs.Cursors.{is_acknowledgement};
 ghost use Rattle.link_ends.specs.Values.{event_value};
 
 use link_ends::Event;
@@ -23,6 +24,7 @@ impl Heading {
         ensures opened { IfSome result (λ opened. IsOpened opened.0 (event_value opened.1)) }
         ensures same { IfSome result (λ opened. letter_with opened.0 (event_value opened.1)
             ≡ letter) }
+        ensures none { IfNone result (is_acknowledgement letter.body ≡ true) }
     {
         letter.note_kept();
         let (edition, site, epoch) = (letter.edition(), letter.site(), letter.epoch());

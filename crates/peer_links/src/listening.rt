@@ -1,9 +1,12 @@
 //! The side that takes letters, and acknowledges them.
-ghost use Rattle.std.specs.Prelude.{◌≡◌, true, OnOk, OnErr};
+ghost use Rattle.std.specs.Prelude.{◌≡◌, IfOk, OnOk, OnErr};
+ghost use Rattle.pcrf_model.specs.Cursors.{ack_of, cursors_after_letter};
+ghost use Rattle.pcrf_model.specs.Worlds.{ByCursors, cursors_after};
+ghost use Rattle.link_ends.specs.Earlier.{Gains};
 ghost use Rattle.link_ends.specs.Values.{event_value, reply_value};
-ghost use Rattle.link_ends.specs.Earlier.{HasEarlier};
-ghost use Rattle.peer_links.specs.Exchanging.{Exchanged, GainsWhole, IsWhole};
-ghost use Rattle.peer_links.specs.Headings.{IsOpened};
+ghost use Rattle.peer_links.specs.Exchanging.{Exchanged, GainsPart, GainsWhole, IsIdle, TakesIn, takes_whole};
+ghost use Rattle.peer_links.specs.Headings.{IsOpened, letter_with};
+ghost use Rattle.peer_links.specs.Turns.{answer_to};
 
 use crate::heading::Heading;
 use crate::letters::Letters;
@@ -19,7 +22,7 @@ use std::thread::Threads;
 
 /// Whether the reply says that all of the event was taken.
 fn is_whole(event: &Event, reply: &Reply) -> bool
-    ensures { result ≡ true → IsWhole (event_value event.now) (reply_value reply.now) }
+    ensures { result ≡ takes_whole (event_value event.now) (reply_value reply.now) }
 {
     match (event, reply) {
         (Event::Ops(operations), Reply::Taken(count)) => *count == operations.len(),
@@ -36,7 +39,7 @@ fn take_whole<T: Threads + Wait + Sync, L: Ledger>(
     event: &Event,
 ) -> Result<(), LinkEnd>
     ensures whole { OnOk result (GainsWhole seat.old seat.new (event_value event.now)) }
-    ensures part { OnErr result (HasEarlier seat.old seat.new) }
+    ensures part { OnErr result (GainsPart seat.old seat.new (event_value event.now)) }
 {
     let reply = match site.call(rt, seat, event) {
         Ok(reply) => reply,
@@ -49,7 +52,6 @@ fn take_whole<T: Threads + Wait + Sync, L: Ledger>(
 }
 
 /// Takes what a letter brings, counts the letter once it is taken whole, and tells what its sender is to be told.
-#[tactic(auto, using(crate::proofs::Following::exchanged_took, crate::proofs::Following::exchanged_earlier))]
 fn take_brought<T: Threads + Wait + Sync, L: Ledger>(
     rt: &T,
     site: &LockedSite<L>,
@@ -59,7 +61,12 @@ fn take_brought<T: Threads + Wait + Sync, L: Ledger>(
     event: Event,
 ) -> Result<Ack, LinkEnd>
     requires { IsOpened heading (event_value event) }
-    ensures { Exchanged seat.old seat.new cursors.old.makers cursors.new.makers }
+    ensures counted { OnOk result (cursors.new
+        ≡ cursors_after_letter cursors.old (letter_with heading (event_value event))) }
+    ensures ack { IfOk result (λ ack. ack ≡ ack_of cursors.new heading.site) }
+    ensures whole { OnOk result (GainsWhole seat.old seat.new (event_value event)) }
+    ensures not_counted { OnErr result (cursors.new ≡ cursors.old) }
+    ensures part { OnErr result (GainsPart seat.old seat.new (event_value event)) }
 {
     take_whole(rt, site, seat, &event)?;
     let letter = heading.close(event);
@@ -67,7 +74,6 @@ fn take_brought<T: Threads + Wait + Sync, L: Ledger>(
 }
 
 /// Takes a letter, and tells what its sender is to be told; nothing after an acknowledgement, which is counted.
-#[tactic(auto, using(crate::proofs::Following::exchanged_same, crate::proofs::Following::acked_makers))]
 fn take<T: Threads + Wait + Sync, L: Ledger>(
     rt: &T,
     site: &LockedSite<L>,
@@ -75,14 +81,19 @@ fn take<T: Threads + Wait + Sync, L: Ledger>(
     cursors: &mut Cursors,
     letter: Letter,
 ) -> Result<Option<Ack>, LinkEnd>
-    ensures { Exchanged seat.old seat.new cursors.old.makers cursors.new.makers }
+    ensures counted { OnOk result (cursors.new ≡ cursors_after ByCursors cursors.old letter) }
+    ensures answer { IfOk result (λ answer. answer ≡ answer_to cursors.new letter) }
+    ensures whole { OnOk result (TakesIn seat.old seat.new letter.body) }
+    ensures not_counted { OnErr result (cursors.new ≡ cursors.old) }
+    ensures part { OnErr result (Gains IsIdle seat.old seat.new) }
+    ensures exchanged { Exchanged seat.old seat.new cursors.old.makers cursors.new.makers }
 {
     if let Some(ack) = Ack::carried_by(&letter) {
         cursors.take_ack(&ack);
         return Ok(None);
     }
     let Some((heading, event)) = Heading::open(letter) else {
-        return Ok(None);
+        unreachable!()
     };
     let ack = take_brought(rt, site, seat, cursors, heading, event)?;
     Ok(Some(ack))

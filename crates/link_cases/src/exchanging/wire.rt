@@ -1,8 +1,11 @@
 //! A peer that says what was written down before, a gate, and whoever reaches gateways.
 ghost use Rattle.std.specs.Prelude.{◌≡◌};
-ghost use Rattle.link_ends.specs.Earlier.{HasEarlier};
+ghost use Rattle.link_ends.specs.Earlier.{Adds};
+ghost use Rattle.link_ends.specs.Events.{IsPushToHost};
 
+use dia_base::Origin;
 use link_ends::{Gate, Pushes};
+use samples::origin;
 use site_book::Seat;
 use site_lock::LockedSite;
 use site_machine::Event;
@@ -90,28 +93,44 @@ impl Gate for Doors {
 pub enum Gateways {
     /// No gateway can be reached.
     Unreached,
-    /// The site is asked once what is due to any gateway.
+    /// The site is asked once what is due to a gateway.
     Asked,
     /// There is no memory.
     Refused,
+}
+
+/// The site is asked what is due to the gateway `gw`.
+fn ask<R: Threads + Wait + Sync, L: Ledger>(
+    rt: &R,
+    alloc: Global,
+    site: &LockedSite<L>,
+    seat: &mut Seat<L>,
+) -> Result<(), AllocError>
+    ensures { Adds IsPushToHost seat.old seat.new }
+{
+    let Ok(gateway) = origin(alloc, b"gw") else {
+        return Err(AllocError);
+    };
+    let Origin { host, realm: _ } = gateway;
+    let event = Event::Push(Some(host));
+    let reply = site.call(rt, seat, &event);
+    drop(reply);
+    drop(event);
+    Ok(())
 }
 
 impl Pushes for Gateways {
     fn push_all<R: Threads + Wait + Sync, L: Ledger>(
         &self,
         rt: &R,
-        _alloc: Global,
+        alloc: Global,
         site: &LockedSite<L>,
         seat: &mut Seat<L>,
     ) -> Result<(), AllocError> {
         match self {
             Gateways::Unreached => Ok(()),
             Gateways::Refused => Err(AllocError),
-            Gateways::Asked => {
-                let reply = site.call(rt, seat, &Event::Push(None));
-                drop(reply);
-                Ok(())
-            }
+            Gateways::Asked => ask(rt, alloc, site, seat),
         }
     }
 }

@@ -1,5 +1,6 @@
-use Rattle.link_ends.specs.Earlier.{HasEarlier}
+use Rattle.link_ends.specs.Earlier.{Adds}
+use Rattle.link_ends.specs.Events.{IsPushToHost}
 use Rattle.gateway_links.proofs.pushing.push_all.Given as goal
 
 abbrev pub invariant-loop : goal.invariant-loop
-invariant-loop g l = HasEarlier l.fn.seat l.seat
+invariant-loop g l = Adds IsPushToHost l.fn.seat l.seat

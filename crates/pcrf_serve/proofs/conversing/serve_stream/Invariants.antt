@@ -1,5 +1,6 @@
-use Rattle.link_ends.specs.Earlier.{HasEarlier}
+use Rattle.link_ends.specs.Earlier.{Adds}
+use Rattle.pcrf_serve.specs.Serving.{IsOfConnection}
 use Rattle.pcrf_serve.proofs.conversing.serve_stream.Given as goal
 
 abbrev pub invariant-loop : goal.invariant-loop
-invariant-loop g l = HasEarlier l.fn.at.seat l.at.seat
+invariant-loop g l = Adds IsOfConnection l.fn.at.seat l.at.seat

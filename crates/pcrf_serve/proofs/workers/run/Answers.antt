@@ -1,4 +1,4 @@
-use Rattle.std.proofs.Common.{length, arith}
+use Rattle.std.proofs.Common.{arith}
 use Rattle.pcrf_serve.specs.Workers.{BegunFrom}
 use Rattle.pcrf_serve.proofs.Joining.{joined, zip_length}
 use Rattle.pcrf_serve.proofs.workers.run.Goals as goal

@@ -1,0 +1,24 @@
+-- Kinds of events, by who makes them happen.
+use Rattle.std.specs.Prelude.{◌≡◌, ℕ, List, Some, ⊤}
+use Rattle.pcrf_model.specs.Steps.{SiteEvent, Serve, Push, Ops, Whole, AskOwn, AskWhole}
+
+-- a request is served
+abbrev pub IsServed : SiteEvent → Type 0
+IsServed (Serve request) = ⊤
+IsServed event = ⊥
+
+-- a push to that host
+abbrev pub IsPushTo : List ℕ → SiteEvent → Type 0
+IsPushTo host event = event ≡ Push (Some host)
+
+-- a push to a host that is named
+abbrev pub IsPushToHost : SiteEvent → Type 0
+IsPushToHost event = (host : List ℕ) × IsPushTo host event
+
+-- of an exchange of letters: what one brings is taken in, or what one is to bring is asked for
+abbrev pub IsExchange : SiteEvent → Type 0
+IsExchange (Ops operations) = ⊤
+IsExchange (Whole holding) = ⊤
+IsExchange (AskOwn from) = ⊤
+IsExchange AskWhole = ⊤
+IsExchange event = ⊥

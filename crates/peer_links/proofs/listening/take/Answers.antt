@@ -1,0 +1,17 @@
+use Rattle.std.proofs.Common.{refl}
+use Rattle.link_ends.specs.Values.{event_value}
+use Rattle.peer_links.specs.Headings.{letter_with}
+use Rattle.peer_links.proofs.Following.{exchanged_brought, exchanged_part}
+use Rattle.peer_links.proofs.listening.take.Goals as goal
+
+pub returns-in_err-ack-clause-exchanged : goal.returns-in_err-ack-clause-exchanged
+returns-in_err-ack-clause-exchanged g c =
+    exchanged_part c.args.seat.now c.take_brought.new.seat c.args.cursors.now c.take_brought.new.cursors (event_value c.in-Some-open.event)
+    c.in-Some-open.ensures.opened.brought c.in_err-ack.ensures.part c.in_err-ack.ensures.not_counted
+
+pub returns-clause-exchanged : goal.returns-clause-exchanged
+returns-clause-exchanged g c =
+    let event = event_value c.in-Some-open.event in
+    exchanged_brought c.args.seat.now c.take_brought.new.seat c.args.cursors.now c.take_brought.new.cursors
+    (letter_with c.in-Some-open.heading event) c.in-Some-open.heading.at event
+    c.in-Some-open.ensures.opened.brought refl c.in_ok-ack.ensures.whole c.in_ok-ack.ensures.counted
