@@ -4,6 +4,7 @@
 mod connections;
 mod frames;
 mod gates;
+mod hosts;
 mod notes;
 mod outcomes;
 mod servers;

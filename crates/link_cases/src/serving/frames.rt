@@ -50,17 +50,29 @@ fn result_of(avps: &[u8]) -> Option<u32> {
     }
 }
 
-/// Writes a frame's command, and behind it the result of an answer, or the two identifiers of a request.
+/// The value of an AVP as text.
+fn text_of(avps: &[u8], code: u32) -> &str {
+    std::str::from_utf8(value_of(avps, code).unwrap_or(&[])).unwrap_or("?")
+}
+
+/// Writes the two identifiers of a request, its Session-Id, and its Destination-Host.
+fn put_request(out: &mut String, frame: &[u8], avps: &[u8]) -> Result<(), AllocError> {
+    let hop_id = number_at(frame, 12).unwrap_or(0);
+    let end_id = number_at(frame, 16).unwrap_or(0);
+    let (session, host) = (text_of(avps, 263), text_of(avps, 293));
+    write!(out, "#{hop_id}#{end_id}:{session}@{host}")
+}
+
+/// Writes a frame's command, and behind it the result of an answer, or what stands in a request.
 fn put_frame(out: &mut String, frame: &[u8]) -> Result<(), AllocError> {
     let command = three_at(frame, 4).unwrap_or(0);
-    let is_request = frame.get(4).is_some_and(|flags| *flags & 0x80 != 0);
-    if is_request {
-        let hop_id = number_at(frame, 12).unwrap_or(0);
-        let end_id = number_at(frame, 16).unwrap_or(0);
-        return write!(out, " {command}#{hop_id}#{end_id}");
+    let avps = frame.get(20..).unwrap_or(&[]);
+    write!(out, " {command}")?;
+    if frame.get(4).is_some_and(|flags| *flags & 0x80 != 0) {
+        return put_request(out, frame, avps);
     }
-    let result = result_of(frame.get(20..).unwrap_or(&[])).unwrap_or(0);
-    write!(out, " {command}={result}")
+    let result = result_of(avps).unwrap_or(0);
+    write!(out, "={result}")
 }
 
 /// Writes all frames of a stream.

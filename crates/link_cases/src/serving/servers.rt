@@ -282,7 +282,7 @@ const GATEWAY: Sends = &[&[EXCHANGE, INITIAL], &[DISCONNECT]];
 
 #[test]
 fn a_gateway_is_told_of_a_call(rt: HostRuntime) {
-    let outcome = "Disconnected 3: 257=2001 272=2001 258#5#5 282=2001\n\
+    let outcome = "Disconnected 3: 257=2001 272=2001 258#5#5:gw;1;1@gw 282=2001\n\
         Closed 1: 265=2001\nClosed 0:\n\
         9 entries, 9 told, clock 3, 0 reached\ngw r 2001\n";
     check(
@@ -327,7 +327,8 @@ const CALL_TO_ITS_END: Sends = &[&[CALL], &[RELEASE]];
 #[test]
 fn a_gateway_is_told_by_its_last_connection(rt: HostRuntime) {
     let outcome = "Disconnected 2: 257=2001 272=2001 282=2001\n\
-        Disconnected 4: 257=2001 258#7#7 258#12#12 282=2001\n\
+        Disconnected 4: 257=2001 258#7#7:gw;1;1@gw \
+        258#12#12:gw;1;1@gw 282=2001\n\
         Closed 2: 265=2001 275=2001\n\
         16 entries, 16 told, clock 5, 0 reached\ngw r 2001\ngw r 2001\n";
     // The gateway connects again before the call; its first connection has its last answer before the call ends.

@@ -1,0 +1,189 @@
+//! Pushes to two hosts at one site: each gets what is due to its own sessions.
+ghost use Rattle.std.specs.Prelude.{◌≡◌};
+
+use crate::serving::connections::{Keeping, Place, Written};
+use crate::serving::frames::put_frames;
+use crate::serving::gates::Open;
+use crate::serving::sites::{Left, opened, settled};
+use gateway_links::{Gateways, Half, Outgoing, push_all};
+use pcrf_values::DiameterIdentity;
+use samples::{SampleFault, initial, names, origin, with_rules};
+use site_book::Seat;
+use site_lock::LockedSite;
+use site_machine::{Event, Request, Site};
+use std::alloc::{AllocError, Global};
+use std::fmt::Write as _;
+use std::marker::Brand;
+use std::net::Ipv4Addr;
+use std::process::Abort;
+use std::sync::ledger::{Blank, Ledger};
+use std::sync::{Arc, Mutex, Wait};
+use std::test::*;
+use std::thread::Threads;
+
+/// A host with a session of its own.
+type Gateway = (&'static [u8], &'static [u8], u8);
+
+/// The lesser host.
+const LESSER: Gateway = (b"gw", b"gw;1;1", 1);
+
+/// The greater host.
+const GREATER: Gateway = (b"gz", b"gz;1;1", 2);
+
+/// How many rules a session is to have: one more than an answer tells, so that a push is due behind it.
+const RULES: u32 = 41;
+
+/// How many entries the history has room for.
+const ROOM: usize = 9;
+
+/// The request that sets up the session of a host.
+fn attach(alloc: Global, gateway: Gateway) -> Result<Event, SampleFault> {
+    let (host, session, last) = gateway;
+    let mut request = initial(alloc, session, Ipv4Addr::new(10, 0, 0, last))?;
+    request.origin = origin(alloc, host)?;
+    Ok(Event::Serve(Request::Ccr(request)))
+}
+
+/// A site at which nothing happened.
+fn site_with_rules(rt: &impl Abort, alloc: Global) -> Site {
+    let tables = with_rules(alloc, RULES).expect(rt, "tables");
+    let names = names(alloc, b"s0").expect(rt, "names");
+    Site::start(alloc, tables, names, 0)
+}
+
+/// A seat has the session of a host set up.
+fn set_up<L: Ledger, R: Threads + Wait + Abort + Sync>(
+    rt: &R,
+    alloc: Global,
+    site: &LockedSite<L>,
+    seat: &mut Seat<L>,
+    gateway: Gateway,
+) {
+    let event = attach(alloc, gateway).expect(rt, "a request");
+    let reply = site.call(rt, seat, &event);
+    drop(event);
+    let is_ok = reply.is_ok();
+    drop(reply);
+    assert!(rt; is_ok);
+}
+
+/// What is written to a connection.
+type Writer<'a, R> = Keeping<'a, R, Open>;
+
+/// The name of a host.
+fn host_of(alloc: Global, gateway: Gateway) -> Result<DiameterIdentity, SampleFault> {
+    Ok(origin(alloc, gateway.0)?.host)
+}
+
+/// A host is reached by a connection from now on.
+fn reach<'a, R: Wait + Abort>(
+    rt: &'a R,
+    alloc: Global,
+    gateways: &Gateways<Writer<'a, R>>,
+    gateway: Gateway,
+    place: &'a Place,
+) {
+    let half = Arc::new(alloc, Half::start()).expect(rt, "memory");
+    half.open(
+        rt,
+        Keeping {
+            rt,
+            connection: 0,
+            place,
+            failing: None,
+            told: &Open,
+        },
+    );
+    let host = host_of(alloc, gateway).expect(rt, "a host");
+    let registered = gateways.register(rt, host, &half);
+    assert!(rt; registered.is_ok());
+}
+
+/// Room for what is written to a connection.
+fn new_place(alloc: Global) -> Place {
+    Mutex::new(Written {
+        bytes: Vec::new(alloc),
+        writes: 0,
+    })
+}
+
+/// Has everything pushed that is due to the two hosts, of which the lesser is reached by the first place.
+fn push<L: Ledger, R: Threads + Wait + Abort + Sync>(
+    rt: &R,
+    alloc: Global,
+    site: &LockedSite<L>,
+    seat: &mut Seat<L>,
+    places: &[Place; 2],
+) {
+    let gateways = Gateways::start(alloc);
+    reach(rt, alloc, &gateways, GREATER, &places[1]);
+    reach(rt, alloc, &gateways, LESSER, &places[0]);
+    let mut outgoing = Outgoing::nothing(alloc);
+    let pushed = push_all(rt, alloc, site, seat, &gateways, &mut outgoing);
+    assert!(rt; pushed.is_ok());
+}
+
+/// The sessions of these hosts are set up, and what is due is pushed; tells what is left of the site.
+fn left_of<L: Ledger, R: Threads + Wait + Abort + Sync>(
+    rt: &R,
+    alloc: Global,
+    blank: Blank,
+    attached: &[Gateway],
+    places: &[Place; 2],
+) -> Result<Option<Left>, AllocError>
+    requires name { blank.name ≡ L.name }
+    requires parts { blank.parts ≡ L.parts }
+    requires one { blank.parts ≡ 1 }
+{
+    let (site, mut seats) = opened::<L>(alloc, blank, site_with_rules(rt, alloc), 1, ROOM)?;
+    if let Some(seat) = seats.first_mut() {
+        for gateway in attached {
+            set_up(rt, alloc, &site, seat, *gateway);
+        }
+        push(rt, alloc, &site, seat, places);
+    }
+    Ok(settled(site, seats))
+}
+
+/// What was written to the lesser host and to the greater, a line each, and how many entries settled.
+fn text_of(alloc: Global, places: [Place; 2], left: Option<Left>) -> Result<String, AllocError> {
+    let mut out = String::new(alloc);
+    let [lesser, greater] = places;
+    write!(out, "lesser:")?;
+    put_frames(&mut out, lesser.into_inner().bytes.as_slice())?;
+    write!(out, "\ngreater:")?;
+    put_frames(&mut out, greater.into_inner().bytes.as_slice())?;
+    writeln!(
+        out,
+        "\n{} entries",
+        left.map_or(0, |left: Left| left.entries)
+    )?;
+    Ok(out)
+}
+
+/// What comes of sessions of these hosts.
+fn check<R: Threads + Wait + Abort + Sync>(
+    rt: &R,
+    alloc: Global,
+    attached: &[Gateway],
+    outcome: &str,
+) {
+    let places = [new_place(alloc), new_place(alloc)];
+    let left = left_of::<Brand, _>(rt, alloc, Blank::new(1), attached, &places);
+    let left = left.expect(rt, "memory");
+    let text = text_of(alloc, places, left).expect(rt, "memory");
+    assert_eq!(rt; text.as_str(), outcome);
+}
+
+#[test]
+fn a_push_reaches_its_own_host_alone(rt: HostRuntime) {
+    // The lesser host is asked first, and nothing is due to it.
+    let outcome = "lesser:\ngreater: 258#2#2:gz;1;1@gz\n4 entries\n";
+    check(&rt, rt.alloc(), &[GREATER], outcome);
+}
+
+#[test]
+fn each_host_gets_its_own_push(rt: HostRuntime) {
+    let outcome = "lesser: 258#2#2:gw;1;1@gw\ngreater: 258#4#4:gz;1;1@gz\n6 entries\n";
+    check(&rt, rt.alloc(), &[GREATER, LESSER], outcome);
+}
