@@ -6,7 +6,7 @@ use Rattle.ranked.proofs.Plain.{both}
 use Rattle.pcrf_model.proofs.FormLaws.{le_passes}
 use Rattle.pcrf_model.specs.Forms.{is_holding}
 use Rattle.pcrf_model.specs.Holdings.{Holding}
-use Rattle.pcrf_model.specs.Letters.{Range, Snapshot, is_carried}
+use Rattle.pcrf_model.specs.Letters.{Range, Snapshot}
 use Rattle.pcrf_values.specs.Limits.{last_counter, range_limit}
 use Rattle.pcrf_model.specs.Operations.{Operation}
 use Rattle.pcrf_model.specs.Steps.{own_from}
@@ -40,9 +40,3 @@ whole_is_placed h log is short =
     let clock = clock_low h is in
     let within : length log ≤ last_counter = omega (arith, short, clock) in
     grind (arith, nat_tests, within)
-
--- so a letter carries it
-pub whole_is_carried : (h : Holding) (log : List Operation) → is_holding h ≡ true → length log ≤ h.clock → is_carried (Snapshot h (length log)) ≡ true
-whole_is_carried h log is short =
-    let clock = clock_low h is in
-    both (nat_le h.clock last_counter) _ (le_passes h.clock last_counter clock) (le_passes (length log) last_counter (omega (arith, short, clock)))

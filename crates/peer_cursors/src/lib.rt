@@ -10,4 +10,3 @@ mod writing;
 pub use ack::Ack;
 pub use cursor::Cursor;
 pub use cursors::Cursors;
-pub use writing::note_carried;

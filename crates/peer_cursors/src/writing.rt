@@ -2,7 +2,6 @@
 ghost use Rattle.std.specs.Prelude.{◌≡◌, ◌≤◌, ◌<◌, ℕ, length, true, IfOk, IfSome};
 ghost use Rattle.pcrf_model.specs.Cursors.{ask, letter_of};
 ghost use Rattle.pcrf_model.specs.Letters as model;
-ghost use Rattle.pcrf_model.specs.Letters.{is_carried};
 ghost use Rattle.pcrf_values.specs.Limits.{last_counter, site_limit};
 ghost use Rattle.pcrf_model.specs.Steps.{own_from};
 ghost use Rattle.pcrf_model.specs.Worlds.{asked_body};
@@ -114,17 +113,4 @@ fn whole_of(site: &Site) -> Result<Body, AllocError>
     site.sessions().note_form();
     let (state, log_length) = site.whole()?;
     Ok(Body::Snapshot(Snapshot { state, log_length }))
-}
-
-/// Does nothing: its contract tells a proof that a letter carries whatever the site replies to one who asks for one, so that
-/// `letter_of` gives a letter for it.
-#[tactic(auto, using(crate::proofs::Placed::own_is_placed, crate::proofs::Placed::whole_is_carried))]
-pub fn note_carried(site: &Site)
-    ensures own { (from : ℕ) → from ≤ last_counter
-        → is_carried (model.Range from (own_from site.now.state.log from)) ≡ true }
-    ensures whole { is_carried
-        (model.Snapshot site.now.state.holding (length site.now.state.log)) ≡ true }
-{
-    site.note_log();
-    site.sessions().note_form();
 }
