@@ -6,3 +6,4 @@ mod drawn;
 mod draws;
 mod examples;
 mod making;
+mod shared_address;

@@ -5,6 +5,8 @@
 #[cfg(test)]
 mod cursors;
 #[cfg(test)]
+mod fault_texts;
+#[cfg(test)]
 mod indexes;
 #[cfg(test)]
 mod locks;
