@@ -249,6 +249,11 @@ def left_over(lines):
     lines.say("push 0", "push 0")
     lines.ask(0, ccr(2, 1, odd, apn="internet"))
     lines.say("push 0", "push 0", "show 0")
+    lines.begin(3, "what was told by an answer and by a push is known to a site that takes what another made, and to one that takes "
+                   "all that it holds: both show the same, push nothing, and made nothing themselves")
+    lines.ask(0, first(odd, apn="Many"))
+    lines.say("letter 0 1", "merge 1 0", "ack 1 0", "merge 0 1", "push 0", "letter 0 1", "merge 1 2", "letter 0 2", "merge 2 3",
+              "show 0", "show 1", "show 2", "push 1", "push 2", "letter 1 2", "letter 2 1")
 
 
 def by_hand(lines):

@@ -1,6 +1,7 @@
 //! Facts by words. Of a session `FIELD=VALUE`; of a gateway's session `told:NAME=PRECEDENCE`, that the gateway was told this
-//! rule, and `told:NAME=-`, that it was told to remove it; of a call `COMPONENT:FIELD=VALUE` and `COMPONENT/FLOW:FIELD=VALUE`,
-//! or `removed` in the place of a field; `end`. Behind a word `@NUMBER.COUNTER.SITE` facts have this tag.
+//! rule, `told:NAME=OTHER:PRECEDENCE`, that it was told one of another name, and `told:NAME=-`, that it was told to remove it;
+//! of a call `COMPONENT:FIELD=VALUE` and `COMPONENT/FLOW:FIELD=VALUE`, or `removed` in the place of a field; `end`. Behind a
+//! word `@NUMBER.COUNTER.SITE` facts have this tag.
 use crate::fault::Fault;
 use crate::rules::named_rule;
 use crate::words::{address, apn, enumerated, filters, number, parted, subscribers, tag, text};
@@ -85,12 +86,13 @@ fn part_fact(alloc: Global, at: Tag, word: &str) -> Result<AfFact, Fault> {
 
 /// That a gateway was told of a rule, or to remove it.
 fn told_fact(alloc: Global, at: Tag, told: &str) -> Result<GxFact, Fault> {
-    let (name, precedence) = parted(told, '=')?;
+    let (name, says) = parted(told, '=')?;
     let name_told = text(alloc, name)?;
-    if precedence == "-" {
+    if says == "-" {
         return Ok(GxFact::Told(at, name_told, None));
     }
-    let rule = named_rule(alloc, name, number(precedence)?)?;
+    let (other, precedence) = says.split_once(':').unwrap_or((name, says));
+    let rule = named_rule(alloc, other, number(precedence)?)?;
     Ok(GxFact::Told(at, name_told, Some(rule)))
 }
 

@@ -17,6 +17,7 @@
 #![tactic(auto)]
 
 mod answers;
+mod apart;
 mod carried;
 mod cutting;
 mod deltas;

@@ -2,17 +2,20 @@
 //! `hang-up` for a session termination request; `partial` is an initial request of which the realm is not known, `told` says
 //! that the gateway was told the rule of a word (`rules`), and `gx` and `af` have no facts but those that they name. Behind
 //! that stand the Session-Id, the tag, and what the request gives (`facts`), of a call what regards its parts behind `with`.
-//! The words stand in the order in which an operation has its facts: what is removed, components, flows.
+//! The words stand in the order in which an operation has its facts: what is removed, components, flows. `made` and such a line
+//! asks for the operation that its parts make: the Session-Id, the tag and how many facts there are, or `none`.
 use crate::facts::{put_call, put_gateway};
 use crate::fault::Fault;
 use crate::rules::rule;
+use crate::text::{put_tag, put_text};
 use crate::words::{parted, tag, text};
 use af_records::AfFact;
 use gx_records::GxFact;
 use pcrf_values::{AfSid, GxSid};
 use ranked::Tag;
 use site_join::{Operation, SessionFacts};
-use std::alloc::Global;
+use std::alloc::{AllocError, Global};
+use std::fmt::Write as _;
 
 /// Whose session a request is about, and what each of its kind gives.
 #[derive(Clone, Copy)]
@@ -101,5 +104,41 @@ pub fn operation(alloc: Global, line: &str) -> Result<Operation, Fault> {
     match Operation::of(at.counter, at.site, at.number, facts) {
         Some(made) => Ok(made),
         None => Err(Fault::NoOperation),
+    }
+}
+
+/// The Session-Id of facts, and how many they are.
+fn id_and_count(facts: &SessionFacts) -> (&[u8], usize) {
+    match facts {
+        SessionFacts::Gx(id, facts) => (id.as_slice(), facts.len()),
+        SessionFacts::Af(id, facts) => (id.as_slice(), facts.len()),
+    }
+}
+
+/// Adds the parts of an operation.
+fn put_parts(out: &mut String, made: &Operation) -> Result<(), AllocError> {
+    let (id, count) = id_and_count(made.facts());
+    out.push_str(" ")?;
+    put_text(out, id)?;
+    out.push_str(" ")?;
+    let stamp = Tag {
+        number: made.number(),
+        counter: made.counter(),
+        site: made.site(),
+    };
+    put_tag(out, stamp)?;
+    write!(out, " {count}")
+}
+
+/// Adds what the parts of a line make.
+pub fn put_made(alloc: Global, line: &str, out: &mut String) -> Result<(), Fault> {
+    match operation(alloc, line) {
+        Ok(made) => {
+            let put = put_parts(out, &made);
+            drop(made);
+            Ok(put?)
+        }
+        Err(Fault::NoOperation) => Ok(out.push_str(" none")?),
+        Err(fault) => Err(fault),
     }
 }

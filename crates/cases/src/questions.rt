@@ -1,9 +1,12 @@
 //! Questions about what a case took: `bound` and the Session-Id of a call, `at` and an address, `of` and a subscriber, `rules`
-//! and the Session-Id of a gateway's session, `bindings` and `value` (`seen`), `state` and `any-order` (`states`). Two kinds
-//! regard no state: `joined` (`records`), `difference` and `told-in-turn` (`deltas`).
+//! and the Session-Id of a gateway's session, `bindings` and `value` (`seen`), `state` and `any-order` (`states`), `apart` and
+//! `copied` (`apart`). Others regard no state: `made` (`operations`), `joined` (`records`), `difference` and `told-in-turn`
+//! (`deltas`).
+use crate::apart::{put_apart, put_copied};
 use crate::deltas::{put_difference, put_in_turn};
 use crate::fault::Fault;
 use crate::held::Held;
+use crate::operations::put_made;
 use crate::records::put_joined;
 use crate::seen::{put_bindings, put_value};
 use crate::states::{put_any_order, put_state};
@@ -112,6 +115,7 @@ fn put_of_state(
         ("bindings", "") => Ok(put_bindings(alloc, state, out)?),
         ("value", "") => Ok(put_value(alloc, tables, state, out)?),
         ("state", "") => Ok(put_state(out, state)?),
+        ("copied", "") => Ok(put_copied(out, state)?),
         _ => Err(Fault::NoQuestionOfTheNotation),
     }
 }
@@ -125,10 +129,12 @@ pub fn put_answer(
     out: &mut String,
 ) -> Result<(), Fault> {
     match asked.split_once(' ').unwrap_or((asked, "")) {
+        ("made", line) => put_made(alloc, line, out),
         ("joined", words) => put_joined(alloc, words, out),
         ("difference", words) => put_difference(alloc, words, out),
         ("told-in-turn", count) => put_in_turn(alloc, count, out),
         ("any-order", "") => put_any_order(alloc, held.letters.as_slice(), out),
+        ("apart", lines) => put_apart(alloc, held.letters.as_slice(), lines, out),
         _ => put_of_state(alloc, tables, &held.state, asked, out),
     }
 }

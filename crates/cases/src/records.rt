@@ -1,7 +1,7 @@
 //! What a record holds of two parts. `joined gx FACTS | FACTS` and `joined af FACTS | FACTS` ask for what the record of the
-//! facts of both sides (`facts`) shows, an AF record of its components the first. It is joined in both orders, and each part
-//! twice, and copied, and joined with its copy; where one of these shows something else, that stands behind it. Records are of
-//! copies of the facts.
+//! facts of both sides (`facts`) shows, an AF record of its components the first; `none` where a side's facts are no record's.
+//! It is joined in both orders, and each part twice, and copied, and joined with its copy; where one of these shows something
+//! else, that stands behind it. Records are of copies of the facts.
 use crate::facts::{put_call, put_gateway};
 use crate::fault::Fault;
 use crate::record_text::{put_af, put_gx};
@@ -183,11 +183,21 @@ fn put_shown<R: Shown>(alloc: Global, facts: &str, out: &mut String) -> Result<(
     Ok(())
 }
 
-/// What `joined` asks for.
-pub fn put_joined(alloc: Global, words: &str, out: &mut String) -> Result<(), Fault> {
+/// What the record of two parts of a kind shows.
+fn put_kind(alloc: Global, words: &str, out: &mut String) -> Result<(), Fault> {
     match parted(words, ' ')? {
         ("gx", facts) => put_shown::<GxRec>(alloc, facts, out),
         ("af", facts) => put_shown::<AfRec>(alloc, facts, out),
         _ => Err(Fault::NoKindOfRecord),
+    }
+}
+
+/// What `joined` asks for.
+pub fn put_joined(alloc: Global, words: &str, out: &mut String) -> Result<(), Fault> {
+    match put_kind(alloc, words, out) {
+        Err(Fault::NoFactsOfAGatewaySession | Fault::NoFactsOfACall) => {
+            Ok(out.push_str("\n> none")?)
+        }
+        put => put,
     }
 }

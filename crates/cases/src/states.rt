@@ -108,7 +108,7 @@ fn take_letters(state: &mut State, letters: &[Letter], order: &[usize]) -> Resul
 }
 
 /// A state that took letters in an order.
-fn of_letters(alloc: Global, letters: &[Letter], order: &[usize]) -> Result<State, AllocError> {
+pub fn of_letters(alloc: Global, letters: &[Letter], order: &[usize]) -> Result<State, AllocError> {
     let mut state = State::start(alloc);
     let taken = take_letters(&mut state, letters, order);
     match taken {
@@ -132,14 +132,30 @@ fn merged(ours: State, theirs: State) -> Result<State, AllocError> {
     }
 }
 
+/// What a state merges to with one that was made, if it was.
+fn merged_with(ours: State, theirs: Result<State, AllocError>) -> Result<State, AllocError> {
+    match theirs {
+        Ok(theirs) => merged(ours, theirs),
+        Err(refused) => {
+            drop(ours);
+            Err(refused)
+        }
+    }
+}
+
+/// Whether a state that was made is another.
+fn is_equal(made: Result<State, AllocError>, want: &State) -> Result<bool, AllocError> {
+    let made = made?;
+    let is_same = made.equal(want);
+    drop(made);
+    Ok(is_same)
+}
+
 /// Whether a state is another, and so is what it merges to with its copy.
 fn is_merged(both: State, want: &State) -> Result<bool, AllocError> {
     let is_same = both.equal(want);
-    let again = both.try_copy()?;
-    let twice = merged(both, again)?;
-    let is_still = twice.equal(want);
-    drop(twice);
-    Ok(is_same && is_still)
+    let copy = both.try_copy();
+    Ok(is_equal(merged_with(both, copy), want)? && is_same)
 }
 
 /// Whether two states that took two letters each merge to a state.
@@ -150,8 +166,8 @@ fn is_of_halves(
     want: &State,
 ) -> Result<bool, AllocError> {
     let ours = of_letters(alloc, letters, &order[..2])?;
-    let theirs = of_letters(alloc, letters, &order[2..])?;
-    is_merged(merged(ours, theirs)?, want)
+    let theirs = of_letters(alloc, letters, &order[2..]);
+    is_merged(merged_with(ours, theirs)?, want)
 }
 
 /// Whether a state is another before it took letters, and also then.

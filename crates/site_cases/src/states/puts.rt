@@ -6,29 +6,16 @@ ghost use Rattle.pcrf_values.specs.Limits.{last_counter};
 ghost use Rattle.site_join.specs.States.{record_facts};
 
 use crate::states::building::{
-    call, call_record, check_call_stood, check_gateway_stood, gateway_record, put_call,
-    put_gateway, take, update,
+    call_id, call_record, check_stood, gateway_id, gateway_record, put_call, put_gateway,
 };
 use af_records::AfRec;
-use gx_records::GxRec;
-use lattice_core::Tag;
-use site_join::State;
+use gx_records::{GxRec, OpenRequestType};
+use ranked::Tag;
+use samples::{Given, call, gateway_request};
+use site_join::{Operation, State};
 use std::alloc::AllocGlobal;
+use std::net::Ipv4Addr;
 use std::process::Abort;
-
-/// A state that took one update, under this counter.
-fn updated(rt: &(impl AllocGlobal + Abort), counter: u64, host: &str) -> State {
-    let mut state = State::start(rt.alloc());
-    take(rt, &mut state, update(rt, "g1", 0, counter, 0, host));
-    state
-}
-
-/// A state that took one call, under the counter 2.
-fn called(rt: &(impl AllocGlobal + Abort)) -> State {
-    let mut state = State::start(rt.alloc());
-    take(rt, &mut state, call(rt, "a1", 2, 0, 4));
-    state
-}
 
 /// The tag of site 0 under a counter.
 fn at(counter: u64) -> Tag {
@@ -39,51 +26,109 @@ fn at(counter: u64) -> Tag {
     }
 }
 
-/// Whether a record shows an update of this host, under this counter.
-fn check_update(rt: &impl Abort, record: &GxRec, counter: u64, name: &str) {
-    let (tag, host) = record.host().expect(rt, "a host");
-    assert!(rt; *tag == at(counter));
-    assert_eq!(rt; host.as_slice(), name.as_bytes());
-    let (tag, last) = record.last().expect(rt, "an update");
-    assert!(rt; *tag == at(counter));
-    assert_eq!(rt; last.number(), 2);
+/// A state that took an operation.
+fn state_of(rt: &(impl AllocGlobal + Abort), made: Operation) -> State {
+    let mut state = State::start(rt.alloc());
+    state.take(&made).expect(rt, "memory");
+    drop(made);
+    state
+}
+
+/// A state that took one update of this host, under this counter.
+fn updated(rt: &(impl AllocGlobal + Abort), counter: u64, host: &'static str) -> State {
+    let given = Given {
+        address: None,
+        apn: "ims",
+        host,
+        kind: OpenRequestType::Update,
+    };
+    let made = gateway_request(rt.alloc(), gateway_id(rt, "g1"), at(counter), given);
+    state_of(rt, made.expect(rt, "an update"))
+}
+
+/// A state that took one call, under the counter 2.
+fn called(rt: &(impl AllocGlobal + Abort)) -> State {
+    let address = Ipv4Addr::new(10, 0, 0, 1);
+    let made = call(rt.alloc(), call_id(rt, "a1"), at(2), address);
+    state_of(rt, made.expect(rt, "a call"))
+}
+
+/// Whether a record shows this host, under this counter.
+fn is_of_host(record: &GxRec, counter: u64, name: &str) -> bool {
+    match record.host() {
+        Some((tag, host)) => *tag == at(counter) && host.as_slice() == name.as_bytes(),
+        None => false,
+    }
+}
+
+/// Whether a record shows an update under this counter.
+fn is_updated(record: &GxRec, counter: u64) -> bool {
+    match record.last() {
+        Some((tag, last)) => *tag == at(counter) && last.number() == 2,
+        None => false,
+    }
+}
+
+/// Whether a state shows of gateways' sessions the update of this host and counter alone.
+fn shows_update(state: &State, counter: u64, name: &str) -> bool {
+    let mut count = 0_usize;
+    for (id, record) in state.all_gx() {
+        if id.as_slice() != b"g1".as_slice()
+            || !is_of_host(record, counter, name)
+            || !is_updated(record, counter)
+        {
+            return false;
+        }
+        count = count.saturating_add(1);
+    }
+    count == 1
 }
 
 /// Whether a state shows this clock, and of gateways' sessions that update alone, or none, and no call.
-fn check_gateways(rt: &impl Abort, state: &State, clock: u64, want: Option<(u64, &str)>) {
-    assert_eq!(rt; state.clock(), clock);
-    let mut count = 0_usize;
-    for (id, record) in state.all_gx() {
-        assert_eq!(rt; id.as_slice(), b"g1".as_slice());
-        let (counter, name) = want.expect(rt, "no session");
-        check_update(rt, record, counter, name);
-        count = count.saturating_add(1);
-    }
-    assert_eq!(rt; count, usize::from(want.is_some()));
-    assert!(rt; state.all_af().next().is_none());
+fn shows_gateways(state: &State, clock: u64, want: Option<(u64, &str)>) -> bool {
+    let is_shown = match want {
+        Some((counter, name)) => shows_update(state, counter, name),
+        None => state.all_gx().next().is_none(),
+    };
+    is_shown && state.clock() == clock && state.all_af().next().is_none()
 }
 
-/// Whether a record shows the call of `called`.
-fn check_called(rt: &impl Abort, record: &AfRec) {
-    let (tag, host) = record.host().expect(rt, "a host");
-    assert!(rt; *tag == at(2));
-    assert_eq!(rt; host.as_slice(), b"af".as_slice());
-    let (tag, media) = record.component_media_type(1).expect(rt, "media");
-    assert!(rt; *tag == at(2));
-    assert_eq!(rt; *media, 4);
+/// Whether a record shows the application function of `called`.
+fn is_of_function(record: &AfRec) -> bool {
+    match record.host() {
+        Some((tag, host)) => *tag == at(2) && host.as_slice() == b"af".as_slice(),
+        None => false,
+    }
+}
+
+/// Whether a record shows the component of `called`.
+fn is_of_audio(record: &AfRec) -> bool {
+    match record.component_media_type(1) {
+        Some((tag, media)) => *tag == at(2) && *media == 0,
+        None => false,
+    }
+}
+
+/// Whether a state shows of calls that of `called` alone.
+fn shows_call(state: &State) -> bool {
+    let mut count = 0_usize;
+    for (id, record) in state.all_af() {
+        if id.as_slice() != b"a1".as_slice() || !is_of_function(record) || !is_of_audio(record) {
+            return false;
+        }
+        count = count.saturating_add(1);
+    }
+    count == 1
 }
 
 /// Whether a state shows this clock, and of calls that one alone, or none, and no gateway's session.
-fn check_calls(rt: &impl Abort, state: &State, clock: u64, is_called: bool) {
-    assert_eq!(rt; state.clock(), clock);
-    let mut count = 0_usize;
-    for (id, record) in state.all_af() {
-        assert_eq!(rt; id.as_slice(), b"a1".as_slice());
-        check_called(rt, record);
-        count = count.saturating_add(1);
-    }
-    assert_eq!(rt; count, usize::from(is_called));
-    assert!(rt; state.all_gx().next().is_none());
+fn shows_calls(state: &State, clock: u64, is_called: bool) -> bool {
+    let is_shown = if is_called {
+        shows_call(state)
+    } else {
+        state.all_af().next().is_none()
+    };
+    is_shown && state.clock() == clock && state.all_gx().next().is_none()
 }
 
 /// Puts a gateway's record, or none: the one that stood, and what the state shows then.
@@ -99,7 +144,7 @@ fn put_and_compare(
     ensures { list_all (is_up_to clock) (record_facts result) ≡ true }
 {
     let stood = put_gateway(rt, state, "g1", given, clock);
-    check_gateways(rt, state, clock, want);
+    assert!(rt; shows_gateways(state, clock, want));
     stood
 }
 
@@ -110,7 +155,7 @@ fn put_by_turns(rt: &(impl AllocGlobal + Abort), state: &mut State) {
     drop(beside);
     let stood = put_and_compare(rt, state, other, 3, Some((2, "b")));
     let put = put_and_compare(rt, state, stood, 3, Some((3, "a")));
-    check_gateway_stood(rt, put, true);
+    check_stood(rt, put, true);
 }
 
 #[test]
@@ -118,11 +163,11 @@ fn records_are_put_and_handed_back(rt: HostRuntime) {
     let mut state = updated(&rt, 3, "a");
     put_by_turns(&rt, &mut state);
     let gone = put_and_compare(&rt, &mut state, None, 4, None);
-    check_gateway_stood(&rt, gone, true);
+    check_stood(&rt, gone, true);
     drop(state);
 }
 
-/// Whether the record of a call stood where this one is put, or none.
+/// Puts the record of a call, or none, where a call stood or didn't, and looks at what the state shows then.
 fn check_put(
     rt: &(impl AllocGlobal + Abort),
     state: &mut State,
@@ -134,7 +179,8 @@ fn check_put(
     requires counted { list_all (is_up_to clock) (record_facts given) ≡ true }
 {
     let stood = put_call(rt, state, "a1", given, clock);
-    check_call_stood(rt, stood, stands);
+    check_stood(rt, stood, stands);
+    assert!(rt; shows_calls(state, clock, !stands));
 }
 
 #[test]
@@ -144,8 +190,6 @@ fn calls_are_put_and_handed_back(rt: HostRuntime) {
     let record = call_record(&rt, &beside, "a1", 2);
     drop(beside);
     check_put(&rt, &mut state, record, 2, false);
-    check_calls(&rt, &state, 2, true);
     check_put(&rt, &mut state, None, 3, true);
-    check_calls(&rt, &state, 3, false);
     drop(state);
 }
