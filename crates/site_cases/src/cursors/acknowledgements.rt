@@ -1,4 +1,5 @@
 //! What site 0 counts as known to its peers, and what it is asked then for a letter.
+use crate::checks::{check, check_case, check_same};
 use crate::cursors::letters::{Brought, EDITION, acknowledgement, letter, operations};
 use peer_cursors::{Ack, Cursors};
 use peer_exchange::{Body, Letter};
@@ -7,9 +8,12 @@ use site_machine::{Event, Reply};
 use std::alloc::AllocGlobal;
 use std::process::Abort;
 
-/// Acknowledgements that reach site 0 in its third epoch, in this order: the peer and its epoch, the epoch of site 0 of which
-/// they speak, how many operations the peer says that it took, and what is then counted of the peer.
-const ACKNOWLEDGED: [(u8, [u16; 2], u64, Option<(u16, u64)>); 12] = [
+/// An acknowledgement that reaches site 0 in its third epoch: the peer and its epoch, the epoch of site 0 of which it speaks, how
+/// many operations the peer says that it took, and what is then counted of the peer.
+type Acknowledged = (u8, [u16; 2], u64, Option<(u16, u64)>);
+
+/// Acknowledgements in the order in which they come.
+const ACKNOWLEDGED: [Acknowledged; 12] = [
     // Of nothing, and of the epoch before.
     (1, [1, 0], 0, None),
     (1, [1, 2], 9, None),
@@ -55,6 +59,14 @@ fn asked(cursors: &Cursors, peer: u8) -> Option<u64> {
     from
 }
 
+/// From which position on they are to be asked for, of a peer of which this is counted.
+fn wanted_from(counted: Option<(u16, u64)>) -> Option<u64> {
+    match counted {
+        Some((_, taken)) if taken > 0 => Some(taken),
+        _ => None,
+    }
+}
+
 /// Takes an acknowledgement.
 fn acknowledge(rt: &impl Abort, cursors: &mut Cursors, peer: u8, epochs: [u16; 2], cursor: u64) {
     let letter = acknowledgement(rt, peer, epochs, cursor);
@@ -63,15 +75,20 @@ fn acknowledge(rt: &impl Abort, cursors: &mut Cursors, peer: u8, epochs: [u16; 2
     cursors.take_ack(&ack);
 }
 
+/// Takes one of the acknowledgements, and looks at what is counted then.
+fn count(rt: &impl Abort, cursors: &mut Cursors, case: usize, said: &Acknowledged) {
+    let (peer, epochs, cursor, wanted) = *said;
+    acknowledge(rt, cursors, peer, epochs, cursor);
+    check_case(rt, case, known(cursors, peer), wanted);
+    check_case(rt, case, asked(cursors, peer), wanted_from(wanted));
+    check_case(rt, case, known(cursors, 14), None);
+}
+
 #[test]
 fn late_acknowledgements_lower_nothing(rt: HostRuntime) {
     let mut cursors = Cursors::start(0, 3);
-    for (i, (peer, epochs, cursor, wanted)) in ACKNOWLEDGED.iter().enumerate() {
-        acknowledge(&rt, &mut cursors, *peer, *epochs, *cursor);
-        assert_eq!(rt; known(&cursors, *peer), *wanted, "acknowledgement {i}");
-        let from = wanted.map(|entry| entry.1).filter(|taken| *taken > 0);
-        assert_eq!(rt; asked(&cursors, *peer), from, "acknowledgement {i}");
-        assert_eq!(rt; known(&cursors, 14), None, "acknowledgement {i}");
+    for (case, said) in ACKNOWLEDGED.iter().enumerate() {
+        count(&rt, &mut cursors, case, said);
     }
     drop(cursors);
 }
@@ -79,13 +96,16 @@ fn late_acknowledgements_lower_nothing(rt: HostRuntime) {
 #[test]
 fn letters_that_bring_operations_acknowledge_nothing(rt: HostRuntime) {
     let brought = letter(&rt, 1, Brought::Range(0, 3));
-    let none = Ack::carried_by(&brought).is_none();
+    let is_none = Ack::carried_by(&brought).is_none();
     drop(brought);
-    assert!(rt; none);
+    check(&rt, is_none);
 }
 
-/// The position of a letter's first operation and how many it has, if it is a range; its sender and epoch.
-fn shown(letter: &Letter) -> (u8, u16, Option<(u64, usize)>) {
+/// A letter's sender and epoch, and, if it is a range, the position of its first operation and how many it has.
+type Shown = (u8, u16, Option<(u64, usize)>);
+
+/// What a letter shows.
+fn shown(letter: &Letter) -> Shown {
     let range = match letter.body() {
         Body::Range(range) => Some((range.from, range.operations.len())),
         _ => None,
@@ -93,14 +113,28 @@ fn shown(letter: &Letter) -> (u8, u16, Option<(u64, usize)>) {
     (letter.site(), letter.epoch(), range)
 }
 
-/// The letter that a reply makes, where operations were asked for from that position on.
-fn made(from: u64, reply: Reply) -> Option<(u8, u16, Option<(u64, usize)>)> {
+/// What a letter shows, if there is one.
+fn shown_by(letter: &Option<Letter>) -> Option<Shown> {
+    match letter {
+        Some(letter) => Some(shown(letter)),
+        None => None,
+    }
+}
+
+/// What the letter shows that a reply makes, where operations were asked for from that position on.
+fn made(from: u64, reply: Reply) -> Option<Shown> {
     let cursors = Cursors::start(2, 5);
     let letter = cursors.letter_of(EDITION, from, reply);
-    let shown = letter.as_ref().map(|letter| shown(letter));
+    let shown = shown_by(&letter);
     drop(letter);
     drop(cursors);
     shown
+}
+
+/// So many operations from a position on make the letter that shows this, or none.
+fn make(rt: &(impl AllocGlobal + Abort), from: u64, count: u64, wanted: Option<Shown>) {
+    let reply = Reply::Own(operations(rt, count), 3);
+    check_same(rt, made(from, reply), wanted);
 }
 
 /// The last position of a log.
@@ -108,27 +142,25 @@ const LAST: u64 = (1 << 63) - 1;
 
 #[test]
 fn replies_that_no_letter_carries_make_none(rt: HostRuntime) {
-    let cases = [
-        (0, 0, Some((2, 5, Some((0, 0))))),
-        (7, 100, Some((2, 5, Some((7, 100))))),
-        (7, 101, None),
-        (LAST - 1, 1, Some((2, 5, Some((LAST - 1, 1))))),
-        (LAST, 1, None),
-        (LAST, 0, Some((2, 5, Some((LAST, 0))))),
-        (LAST + 1, 0, None),
-    ];
-    for (from, count, wanted) in cases {
-        let reply = Reply::Own(operations(&rt, count), 3);
-        assert_eq!(rt; made(from, reply), wanted, "{count} from {from}");
-    }
+    make(&rt, 0, 0, Some((2, 5, Some((0, 0)))));
+    make(&rt, 7, 100, Some((2, 5, Some((7, 100)))));
+    make(&rt, 7, 101, None);
+    make(&rt, LAST - 1, 1, Some((2, 5, Some((LAST - 1, 1)))));
+    make(&rt, LAST, 1, None);
+    make(&rt, LAST, 0, Some((2, 5, Some((LAST, 0)))));
+    make(&rt, LAST + 1, 0, None);
+}
+
+/// A whole state of a site that made so many operations makes the letter that shows this, or none.
+fn make_whole(rt: &(impl AllocGlobal + Abort), made_so_many: u64, wanted: Option<Shown>) {
+    let reply = Reply::Copy(State::start(rt.alloc()), made_so_many);
+    check_same(rt, made(0, reply), wanted);
 }
 
 #[test]
 fn whole_states_make_letters_and_other_replies_none(rt: HostRuntime) {
-    for (made_so_many, wanted) in [(LAST, Some((2, 5, None))), (LAST + 1, None)] {
-        let reply = Reply::Copy(State::start(rt.alloc()), made_so_many);
-        assert_eq!(rt; made(0, reply), wanted, "{made_so_many}");
-    }
-    assert_eq!(rt; made(0, Reply::Done), None);
-    assert_eq!(rt; made(0, Reply::Taken(1)), None);
+    make_whole(&rt, LAST, Some((2, 5, None)));
+    make_whole(&rt, LAST + 1, None);
+    check_same(&rt, made(0, Reply::Done), None);
+    check_same(&rt, made(0, Reply::Taken(1)), None);
 }

@@ -1,8 +1,9 @@
 //! Letters of site 0 to site 1, and of site 1 to site 0.
-use gx_records::GxFact;
-use pcrf_values::{BoundedText, GxSid};
+use pcrf_values::GxSid;
 use peer_exchange::{Acknowledgement, Body, Letter, Range, Snapshot};
-use site_join::{Operation, SessionFacts, State};
+use ranked::Tag;
+use samples::{gateway_end, text};
+use site_join::{Operation, State};
 use std::alloc::AllocGlobal;
 use std::process::Abort;
 
@@ -18,13 +19,17 @@ pub enum Brought {
     Whole(u64),
 }
 
+/// The tag of each operation.
+const STAMP: Tag = Tag {
+    number: 0,
+    counter: 1,
+    site: 0,
+};
+
 /// An operation: that a session ended.
 fn operation(rt: &(impl AllocGlobal + Abort)) -> Operation {
-    let read = BoundedText::read(rt.alloc(), b"gw;1;1").expect(rt, "memory");
-    let session = GxSid::of(read.expect(rt, "a Session-Id"));
-    let mut facts = Vec::new(rt.alloc());
-    facts.push(GxFact::End).expect(rt, "memory");
-    Operation::of(1, 0, 0, SessionFacts::Gx(session, facts)).expect(rt, "an operation")
+    let session = GxSid::of(text(rt.alloc(), b"gw;1;1").expect(rt, "a Session-Id"));
+    gateway_end(rt.alloc(), session, STAMP).expect(rt, "an operation")
 }
 
 /// So many operations.

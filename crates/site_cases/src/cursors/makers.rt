@@ -1,12 +1,16 @@
 //! What site 1 counts as taken of site 0.
+use crate::checks::{check_case, check_same};
 use crate::cursors::letters::{Brought, acknowledgement, letter};
 use peer_cursors::{Ack, Cursors};
+use peer_exchange::Letter;
 use std::alloc::AllocGlobal;
 use std::process::Abort;
 
-/// Letters of site 0, in the order in which site 1 takes them: the epoch, what is brought, and what is then counted, by the epoch
-/// and how many operations of it.
-const TAKEN: [(u16, Brought, (u16, u64)); 12] = [
+/// A letter of site 0: the epoch, what is brought, and what site 1 then counts, by the epoch and how many operations of it.
+type Taken = (u16, Brought, (u16, u64));
+
+/// Letters in the order in which site 1 takes them.
+const TAKEN: [Taken; 12] = [
     (1, Brought::Range(0, 1), (1, 1)),
     // Past the cursor.
     (1, Brought::Range(2, 3), (1, 1)),
@@ -27,8 +31,11 @@ const TAKEN: [(u16, Brought, (u16, u64)); 12] = [
     (4, Brought::Range(1, 2), (4, 0)),
 ];
 
-/// What an acknowledgement says: the sender and its epoch, and the maker with its epoch and how many operations of it.
-fn said(ack: &Ack) -> (u8, u16, u8, u16, u64) {
+/// The sender and its epoch, and the maker with its epoch and how many operations of it.
+type Said = (u8, u16, u8, u16, u64);
+
+/// What an acknowledgement says.
+fn said(ack: &Ack) -> Said {
     (
         ack.sender(),
         ack.sender_epoch(),
@@ -39,27 +46,27 @@ fn said(ack: &Ack) -> (u8, u16, u8, u16, u64) {
 }
 
 /// Takes a letter, and tells what is then acknowledged.
-fn took(
-    rt: &(impl AllocGlobal + Abort),
-    cursors: &mut Cursors,
-    epoch: u16,
-    brought: Brought,
-) -> (u8, u16, u8, u16, u64) {
-    let letter = letter(rt, epoch, brought);
+fn told(cursors: &mut Cursors, letter: Letter) -> Said {
     let told = said(&cursors.take_letter(&letter));
     drop(letter);
     told
 }
 
+/// Takes one of the letters, and looks at what is then acknowledged, to its maker and to another site.
+fn take(rt: &(impl AllocGlobal + Abort), cursors: &mut Cursors, case: usize, taken: &Taken) {
+    let (epoch, brought, (counted, cursor)) = *taken;
+    let wanted = (1, 6, 0, counted, cursor);
+    check_case(rt, case, told(cursors, letter(rt, epoch, brought)), wanted);
+    check_case(rt, case, said(&cursors.ack_of(0)), wanted);
+    check_case(rt, case, said(&cursors.ack_of(15)), (1, 6, 15, 0, 0));
+}
+
 #[test]
 fn a_cursor_rises_over_no_gap(rt: HostRuntime) {
     let mut cursors = Cursors::start(1, 6);
-    assert_eq!(rt; said(&cursors.ack_of(0)), (1, 6, 0, 0, 0));
-    for (i, (epoch, brought, wanted)) in TAKEN.iter().enumerate() {
-        let told = took(&rt, &mut cursors, *epoch, *brought);
-        assert_eq!(rt; told, (1, 6, 0, wanted.0, wanted.1), "letter {i}");
-        assert_eq!(rt; said(&cursors.ack_of(0)), told, "letter {i}");
-        assert_eq!(rt; said(&cursors.ack_of(15)), (1, 6, 15, 0, 0), "letter {i}");
+    check_same(&rt, said(&cursors.ack_of(0)), (1, 6, 0, 0, 0));
+    for (case, taken) in TAKEN.iter().enumerate() {
+        take(&rt, &mut cursors, case, taken);
     }
     drop(cursors);
 }
@@ -67,10 +74,8 @@ fn a_cursor_rises_over_no_gap(rt: HostRuntime) {
 #[test]
 fn an_acknowledgement_brings_nothing(rt: HostRuntime) {
     let mut cursors = Cursors::start(1, 1);
-    took(&rt, &mut cursors, 1, Brought::Range(0, 2));
-    let letter = acknowledgement(&rt, 0, [3, 1], 7);
-    let told = said(&cursors.take_letter(&letter));
-    drop(letter);
-    assert_eq!(rt; told, (1, 1, 0, 1, 2));
+    told(&mut cursors, letter(&rt, 1, Brought::Range(0, 2)));
+    let told = told(&mut cursors, acknowledgement(&rt, 0, [3, 1], 7));
     drop(cursors);
+    check_same(&rt, told, (1, 1, 0, 1, 2));
 }

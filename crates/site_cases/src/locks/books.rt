@@ -3,6 +3,7 @@
 ghost use Rattle.std.specs.Prelude.{◌≡◌, ◌≤◌};
 ghost use Rattle.site_book.specs.Limits.{most_entries, most_seats};
 
+use crate::checks::check_same;
 use crate::locks::sites::{attach, new_site, take_last};
 use crate::locks::told::{Told, told_by};
 use site_book::{Seat, SettleFault, Unsettled};
@@ -53,7 +54,7 @@ fn set_up<L: Ledger, R: Threads + Wait + Abort + Sync>(
 ) {
     for place in places {
         let told = call_attach(rt, alloc, site, seat, *place);
-        assert_eq!(rt; told, Told::Granted(0));
+        check_same(rt, told, Told::Granted(0));
     }
 }
 
@@ -124,7 +125,7 @@ fn two_threads<L: Ledger + Send + Sync, R: Threads + Wait + Abort + Sync>(
 {
     let (site, mut seats) = opened::<L>(rt, alloc, blank, 2, 10, new_site(rt, alloc, 0));
     by_threads(rt, alloc, &site, seats.as_mut_slice());
-    assert_eq!(rt; settled(site, seats), Ok((6, 6)));
+    check_same(rt, settled(site, seats), Ok((6, 6)));
 }
 
 /// Each of two seats has three sessions set up, in a thread of its own.
@@ -157,7 +158,7 @@ fn no_call<L: Ledger, R: Abort>(rt: &R, alloc: Global, blank: Blank)
     requires three { blank.parts ≡ 3 }
 {
     let (site, seats) = opened::<L>(rt, alloc, blank, 3, 0, new_site(rt, alloc, 0));
-    assert_eq!(rt; settled(site, seats), Ok((0, 0)));
+    check_same(rt, settled(site, seats), Ok((0, 0)));
 }
 
 #[test]
@@ -173,7 +174,7 @@ fn full_book<L: Ledger, R: Threads + Wait + Abort + Sync>(rt: &R, alloc: Global,
 {
     let (site, mut seats) = opened::<L>(rt, alloc, blank, 1, 2, new_site(rt, alloc, 0));
     fill(rt, alloc, &site, seat_at(rt, &mut seats, 0));
-    assert_eq!(rt; settled(site, seats), Ok((2, 1)));
+    check_same(rt, settled(site, seats), Ok((2, 1)));
 }
 
 /// Fills a book of two entries, and calls twice more.
@@ -183,15 +184,20 @@ fn fill<L: Ledger, R: Threads + Wait + Abort + Sync>(
     site: &LockedSite<L>,
     seat: &mut Seat<L>,
 ) {
-    assert_eq!(rt; call_attach(rt, alloc, site, seat, b'1'), Told::Granted(0));
-    assert_eq!(rt;
+    check_same(
+        rt,
+        call_attach(rt, alloc, site, seat, b'1'),
+        Told::Granted(0),
+    );
+    check_same(
+        rt,
         call(rt, site, seat, &Event::Push(None)),
-        Told::NothingPushed
+        Told::NothingPushed,
     );
     let full = Told::Fault(StepFault::HistoryFull);
-    assert_eq!(rt; call(rt, site, seat, &Event::AskWhole), full);
-    assert_eq!(rt; call(rt, site, seat, &Event::AskOwn(0)), full);
-    assert_eq!(rt; seat.receipts().len(), 2);
+    check_same(rt, call(rt, site, seat, &Event::AskWhole), full);
+    check_same(rt, call(rt, site, seat, &Event::AskOwn(0)), full);
+    check_same(rt, seat.receipts().len(), 2);
 }
 
 #[test]
@@ -209,7 +215,7 @@ fn seat_left_out<L: Ledger, R: Threads + Wait + Abort + Sync>(rt: &R, alloc: Glo
     set_up(rt, alloc, &site, seat_at(rt, &mut seats, 1), b"12");
     let left_out = seats.pop().expect(rt, "a seat");
     let (site, seats) = unsettled(rt, site, seats);
-    assert_eq!(rt; settled_with(rt, site, seats, left_out), Ok((2, 2)));
+    check_same(rt, settled_with(rt, site, seats, left_out), Ok((2, 2)));
 }
 
 /// A site and its seats, which come back as they were since one is missing.
@@ -222,7 +228,7 @@ fn unsettled<L: Ledger>(
         rt.abort()
     };
     let Unsettled { fault, book, seats } = unsettled;
-    assert_eq!(rt; fault, SettleFault::MissingSeat);
+    check_same(rt, fault, SettleFault::MissingSeat);
     let Ok(site) = LockedSite::over(book) else {
         rt.abort()
     };
@@ -257,7 +263,7 @@ fn clock_at_its_end<L: Ledger, R: Threads + Wait + Abort + Sync>(
 {
     let (site, mut seats) = opened::<L>(rt, alloc, blank, 1, 9, new_site(rt, alloc, 41));
     end_the_clock(rt, alloc, &site, seat_at(rt, &mut seats, 0));
-    assert_eq!(rt; settled(site, seats), Ok((2, (1 << 63) - 1)));
+    check_same(rt, settled(site, seats), Ok((2, (1 << 63) - 1)));
 }
 
 /// Sets up a session of 41 rules, of which 40 are told, and takes the last operation that there may be.
@@ -267,14 +273,18 @@ fn end_the_clock<L: Ledger, R: Threads + Wait + Abort + Sync>(
     site: &LockedSite<L>,
     seat: &mut Seat<L>,
 ) {
-    assert_eq!(rt; call_attach(rt, alloc, site, seat, b'1'), Told::Granted(40));
+    check_same(
+        rt,
+        call_attach(rt, alloc, site, seat, b'1'),
+        Told::Granted(40),
+    );
     let event = take_last(rt, alloc, b'9');
     let told = call(rt, site, seat, &event);
     drop(event);
-    assert_eq!(rt; told, Told::Taken(1));
+    check_same(rt, told, Told::Taken(1));
     let full = Told::Fault(StepFault::ClockFull);
-    assert_eq!(rt; call(rt, site, seat, &Event::Push(None)), full);
-    assert_eq!(rt; call(rt, site, seat, &Event::Push(None)), full);
+    check_same(rt, call(rt, site, seat, &Event::Push(None)), full);
+    check_same(rt, call(rt, site, seat, &Event::Push(None)), full);
 }
 
 #[test]
@@ -292,8 +302,8 @@ fn opening_knows<L: Ledger, R: Threads + Wait + Abort + Sync>(rt: &R, alloc: Glo
     step(rt, alloc, &mut site, b'1');
     let (site, mut seats) = opened::<L>(rt, alloc, blank, 1, 9, site);
     let told = call_attach(rt, alloc, &site, seat_at(rt, &mut seats, 0), b'1');
-    assert_eq!(rt; told, Told::Granted(0));
-    assert_eq!(rt; settled(site, seats), Ok((1, 2)));
+    check_same(rt, told, Told::Granted(0));
+    check_same(rt, settled(site, seats), Ok((1, 2)));
 }
 
 /// A site sets up a session of two rules by itself.
@@ -303,5 +313,5 @@ fn step(rt: &impl Abort, alloc: Global, site: &mut Site, place: u8) {
     drop(event);
     let told = told_by(&reply);
     drop(reply);
-    assert_eq!(rt; told, Told::Granted(2));
+    check_same(rt, told, Told::Granted(2));
 }

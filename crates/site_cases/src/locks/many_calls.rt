@@ -2,6 +2,7 @@
 //! the same replies and leaves the same state.
 ghost use Rattle.std.specs.Prelude.{◌≡◌};
 
+use crate::checks::{check, check_same};
 use crate::locks::books::opened;
 use crate::locks::drawing::event_at;
 use crate::locks::replaying::{history_of, replayed};
@@ -46,7 +47,7 @@ fn make_call<L: Ledger, R: Threads + Wait + Abort + Sync>(
     let is_replied = reply.is_ok();
     drop(reply);
     drop(event);
-    assert!(rt; is_replied, "a call fails");
+    check(rt, is_replied);
 }
 
 /// A thread makes all its calls.
@@ -118,7 +119,7 @@ fn settled_as_replayed<L: Ledger>(
     let clock = wanted.clock();
     let count = settled_with(site, seats, wanted);
     drop(world);
-    assert!(rt; clock >= LEAST_MADE, "the site made {clock} operations");
+    check(rt, clock >= LEAST_MADE);
     count
 }
 
@@ -141,5 +142,5 @@ fn eight_threads<L: Ledger + Send + Sync, R: Threads + Wait + Abort + Sync>(
     let (site, mut seats) = opened::<L>(rt, alloc, blank, 8, ALL_CALLS, site);
     make_calls_at_once(rt, alloc, &site, seats.as_mut_slice());
     let count = settled_as_replayed(rt, alloc, site, seats);
-    assert_eq!(rt; count, Some(ALL_CALLS));
+    check_same(rt, count, Some(ALL_CALLS));
 }

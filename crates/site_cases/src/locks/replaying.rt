@@ -1,4 +1,5 @@
 //! The history of a locked site, by the receipts of its seats, played again by a world of one site.
+use crate::checks::check;
 use exact_values::Exact;
 use pcrf_world::{World, WorldEvent, WorldFault, WorldOutcome};
 use ranked::Ranked;
@@ -125,6 +126,6 @@ pub fn replayed(rt: &impl Abort, alloc: Global, rules: u32, history: &[Option<&R
     let (world, answers) = played(rt, alloc, rules, history);
     let same = are_replies(answers.as_slice(), history);
     drop(answers);
-    assert!(rt; same, "the world replies otherwise");
+    check(rt, same);
     world
 }

@@ -1,4 +1,5 @@
 //! Streams that a site answers whose reader or writer fails or takes a byte at a time.
+use crate::checks::{check, check_same};
 use crate::locks::devices::{Sink, Source};
 use crate::locks::sites::new_site;
 use dia_codec::Counted;
@@ -75,8 +76,8 @@ fn watched(
     let answers = WATCHDOG_DONE.repeat(rt.alloc(), 2).expect(rt, "memory");
     let mut kept = Vec::new(rt.alloc());
     let ended = answered_anew(rt, stream.as_slice(), way, &mut kept);
-    assert!(rt; ended == wanted);
-    assert_eq!(rt; Some(kept.as_slice()), answers.as_slice().get(..count));
+    check(rt, ended == wanted);
+    check_same(rt, Some(kept.as_slice()), answers.as_slice().get(..count));
 }
 
 /// An answer to a watchdog has 56 bytes.
