@@ -1,9 +1,8 @@
-//! Tests of `peer_links`, of calls that wait for a site to grow, and of letters' frames: letters between two sites over loopback,
-//! and peers whose letters and answers are written down, or are not as they should be.
+//! Tests of `peer_links`, of calls that wait for a site to grow, and of letters' frames: peers whose letters
+//! and answers are written down, or are not as they should be. Two sites exchange letters over loopback in `examples/serve`.
 
 mod books;
 mod dialing;
-mod exchanges;
 mod frames;
 mod growth;
 mod letters;

@@ -2,11 +2,12 @@
 ghost use Rattle.std.specs.Prelude.{◌≡◌, ◌≤◌};
 ghost use Rattle.site_book.specs.Limits.{most_entries};
 
+use crate::books::{Settlement, opened, settled};
 use crate::serving::connections::{Input, Keeping, Pieces, Place, Written};
 use crate::serving::frames::put_frames;
 use crate::serving::gates::Writes;
 use crate::serving::notes::{Notes, Told};
-use crate::serving::sites::{Left, new_site, opened, settled};
+use crate::serving::sites::new_site;
 use gateway_links::Gateways;
 use link_ends::{Gate, LinkEnd};
 use pcrf_serve::serve_sessions;
@@ -32,7 +33,7 @@ pub struct Served {
 pub struct Outcome {
     pub served: Vec<Served>,
     pub told: Told,
-    pub left: Option<Left>,
+    pub left: Option<Settlement>,
     pub reached: usize,
 }
 
@@ -183,7 +184,7 @@ pub fn serve<L: Ledger + Send + Sync, R: Threads + Wait + Abort + Sync, G: Gate 
     requires limit { limit ≤ most_entries }
 {
     let places = places(alloc, 3)?;
-    let (site, seats) = opened::<L>(alloc, blank, new_site(rt, alloc), 3, limit)?;
+    let (site, seats) = opened::<L>(rt, alloc, blank, 3, limit, new_site(rt, alloc));
     let (seats, ended) = serve_inputs(rt, alloc, &site, seats, inputs, places.as_slice(), gate)?;
     let left = settled(site, seats);
     let Ended {
