@@ -118,20 +118,26 @@ fn put_letters(alloc: Global, world: &World, out: &mut String) -> Result<(), All
     out.push_str("\n")
 }
 
-/// The state that took these operations, after another.
-fn with_operations(mut state: State, operations: &[Operation]) -> Result<State, AllocError> {
+/// Has a state take operations.
+fn take_each(state: &mut State, operations: &[Operation]) -> Result<(), AllocError> {
     for operation in operations {
         state.take(operation)?;
     }
-    Ok(state)
+    Ok(())
 }
 
-/// What a state is that takes what a letter says.
-fn with_letter(state: State, letter: &Letter) -> Result<State, AllocError> {
+/// Has a state merge with another.
+fn merge_in(state: &mut State, other: &State) -> Result<(), AllocError> {
+    *state = state.merged_copy(other)?;
+    Ok(())
+}
+
+/// Has a state take what a letter says.
+fn take_letter(state: &mut State, letter: &Letter) -> Result<(), AllocError> {
     match letter.body() {
-        Body::Range(range) => with_operations(state, range.operations.as_slice()),
-        Body::Snapshot(snapshot) => state.merged_copy(&snapshot.state),
-        Body::Acknowledgement(_) => Ok(state),
+        Body::Range(range) => take_each(state, range.operations.as_slice()),
+        Body::Snapshot(snapshot) => merge_in(state, &snapshot.state),
+        Body::Acknowledgement(_) => Ok(()),
     }
 }
 
@@ -146,12 +152,12 @@ fn read_again(alloc: Global, letter: &Letter) -> Result<Letter, AllocError> {
     }
 }
 
-/// What a state is that takes what a letter says, as its bytes are read.
-fn with_read(alloc: Global, state: State, letter: &Letter) -> Result<State, AllocError> {
+/// Has a state take what a letter says, as its bytes are read.
+fn take_read(alloc: Global, state: &mut State, letter: &Letter) -> Result<(), AllocError> {
     let read = read_again(alloc, letter)?;
-    let next = with_letter(state, &read);
+    let taken = take_letter(state, &read);
     drop(read);
-    next
+    taken
 }
 
 /// How many letters there are.
@@ -164,26 +170,24 @@ fn letter_count(world: &World) -> usize {
     usize::MAX
 }
 
-/// The state that took all letters, each as its bytes are read, the first one first.
-fn forwards(alloc: Global, world: &World, count: usize) -> Result<State, AllocError> {
-    let mut state = State::start(alloc);
-    for k in 0..count {
+/// Has a state take all letters, each as its bytes are read, the first one first.
+fn take_forwards(alloc: Global, world: &World, state: &mut State) -> Result<(), AllocError> {
+    for k in 0..letter_count(world) {
         if let Some(letter) = world.letter(k) {
-            state = with_read(alloc, state, letter)?;
+            take_read(alloc, state, letter)?;
         }
     }
-    Ok(state)
+    Ok(())
 }
 
-/// The state that took all letters, the last one first.
-fn backwards(alloc: Global, world: &World, count: usize) -> Result<State, AllocError> {
-    let mut state = State::start(alloc);
-    for k in (0..count).rev() {
+/// Has a state take all letters, the last one first.
+fn take_backwards(world: &World, state: &mut State) -> Result<(), AllocError> {
+    for k in (0..letter_count(world)).rev() {
         if let Some(letter) = world.letter(k) {
-            state = with_letter(state, letter)?;
+            take_letter(state, letter)?;
         }
     }
-    Ok(state)
+    Ok(())
 }
 
 /// Puts what a state shows, as one number.
@@ -205,24 +209,36 @@ fn put_backwards(
     state: &State,
     out: &mut String,
 ) -> Result<(), AllocError> {
-    let other = backwards(alloc, world, letter_count(world))?;
-    let same = state.equal(&other);
+    let mut other = State::start(alloc);
+    let taken = take_backwards(world, &mut other);
+    let is_same = state.equal(&other);
     drop(other);
-    out.push_str(if same {
+    taken?;
+    out.push_str(if is_same {
         "\n"
     } else {
         ", otherwise backwards\n"
     })
 }
 
+/// Puts what a state tells that takes all letters.
+fn put_taken(
+    alloc: Global,
+    world: &World,
+    state: &mut State,
+    out: &mut String,
+) -> Result<(), AllocError> {
+    take_forwards(alloc, world, state)?;
+    put_shown(alloc, world, state, out)?;
+    put_backwards(alloc, world, state, out)
+}
+
 /// Puts what all letters tell together.
 fn put_together(alloc: Global, world: &World, out: &mut String) -> Result<(), AllocError> {
-    let state = forwards(alloc, world, letter_count(world))?;
-    let shown = put_shown(alloc, world, &state, out);
-    let compared = put_backwards(alloc, world, &state, out);
+    let mut state = State::start(alloc);
+    let put = put_taken(alloc, world, &mut state, out);
     drop(state);
-    shown?;
-    compared
+    put
 }
 
 /// Puts all that.

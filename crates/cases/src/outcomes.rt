@@ -1,12 +1,12 @@
 //! What the outcomes of a world's events print, in the words of a script.
 use crate::events::Words;
-use dia_base::Identity;
-use dia_codec::{FrameFault, HEADER_BYTES, Header, StreamEnd, frames_of};
+use dia_base::{Identity, Refusal};
+use dia_codec::{FrameFault, FramedStream, HEADER_BYTES, Header, StreamEnd, frames_of};
 use gx_profile::PushOut;
 use op_tables::Tables;
 use operator_view::{put_text, put_value, value};
-use pcrf_values::Rule;
 use pcrf_values::limits::SITE_LIMIT;
+use pcrf_values::{Rule, SessionId};
 use pcrf_world::{World, WorldEvent, WorldFault, WorldOutcome};
 use site_core::{Asked, Request, read_request, write_refusal, write_reply};
 use site_join::State;
@@ -31,6 +31,22 @@ pub struct Outcomes<'a> {
 fn put_answer(out: &mut String, alloc: Global, bytes: &[u8]) -> Result<(), AllocError> {
     let digits = hex::encode(alloc, bytes)?;
     writeln!(out, "answer {digits}")
+}
+
+/// Puts the digits of the answer that refuses a request.
+fn put_refused(
+    out: &mut String,
+    alloc: Global,
+    identity: &Identity,
+    header: &Header,
+    session: Option<&SessionId>,
+    refusal: Refusal,
+) -> Result<(), AllocError> {
+    if header.command >= 1 << 24 {
+        return out.push_str("no command\n");
+    }
+    let bytes = write_refusal(alloc, identity, header, session, refusal)?;
+    put_answer(out, alloc, bytes.as_slice())
 }
 
 /// Puts what is left of a stream, if anything.
@@ -137,16 +153,31 @@ impl<'a> Outcomes<'a> {
         if frame.len() < HEADER_BYTES {
             return out.push_str("no header\n");
         }
-        match read_request(self.alloc, frame)? {
+        let asked = read_request(self.alloc, frame)?;
+        let put = self.put_asked(identity, &asked, out);
+        drop(asked);
+        put
+    }
+
+    /// Puts the answer to what a frame asks for.
+    fn put_asked(
+        &mut self,
+        identity: &Identity,
+        asked: &Asked,
+        out: &mut String,
+    ) -> Result<(), AllocError> {
+        match asked {
             Asked::Silent => out.push_str("no answer\n"),
-            Asked::Request(header, request) => self.put_reply(identity, &header, &request, out),
+            Asked::Request(header, request) => self.put_reply(identity, header, request, out),
             Asked::Refused(header, session, refusal) => {
-                if header.command >= 1 << 24 {
-                    return out.push_str("no command\n");
-                }
-                let session = session.as_ref();
-                let bytes = write_refusal(self.alloc, identity, &header, session, refusal)?;
-                put_answer(out, self.alloc, bytes.as_slice())
+                put_refused(
+                    out,
+                    self.alloc,
+                    identity,
+                    header,
+                    session.as_ref(),
+                    *refusal,
+                )
             }
         }
     }
@@ -173,6 +204,18 @@ impl<'a> Outcomes<'a> {
             return out.push_str("no bytes\n");
         };
         let stream = frames_of(self.alloc, &[bytes.as_slice()])?;
+        let put = self.put_stream(site, &stream, out);
+        drop(stream);
+        put
+    }
+
+    /// Puts the answers to the frames of a stream.
+    fn put_stream(
+        &mut self,
+        site: usize,
+        stream: &FramedStream,
+        out: &mut String,
+    ) -> Result<(), AllocError> {
         let Some(at) = self.world.site(site) else {
             for frame in &stream.frames {
                 self.put_ungiven(frame.as_slice(), out)?;

@@ -42,17 +42,27 @@ fn name(alloc: Global, text: &[u8]) -> Result<DiameterIdentity, Fault> {
     }
 }
 
-/// The site `s0` of the realm `r`, which took nothing.
-fn new_site(alloc: Global, tables: &str) -> Result<Site, Fault> {
-    let Ok(read) = read_tables(alloc, tables) else {
-        return Err(Fault::NoOperatorTables);
-    };
-    let identity = Identity {
-        host: name(alloc, b"s0")?,
-        realm: name(alloc, b"r")?,
+/// The names of the site `s0` of the realm `r`.
+fn identity(alloc: Global) -> Result<Identity, Fault> {
+    let host = name(alloc, b"s0")?;
+    let realm = name(alloc, b"r")?;
+    Ok(Identity {
+        host,
+        realm,
         address: Ipv4Addr::LOCALHOST,
-    };
-    Ok(Site::start(alloc, read, identity, 0))
+    })
+}
+
+/// That site, which took nothing.
+fn new_site(alloc: Global, tables: &str) -> Result<Site, Fault> {
+    let identity = identity(alloc)?;
+    match read_tables(alloc, tables) {
+        Ok(read) => Ok(Site::start(alloc, read, identity, 0)),
+        Err(_) => {
+            drop(identity);
+            Err(Fault::NoOperatorTables)
+        }
+    }
 }
 
 /// How a new site ends a stream, and what it writes.

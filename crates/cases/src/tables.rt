@@ -4,7 +4,7 @@
 //! have to make comes from the profile of the tables, not from the program.
 use crate::edits::{edited, put_lines};
 use crate::looks::put_tables;
-use op_tables::{read_placed, read_tables};
+use op_tables::{Tables, read_placed, read_tables};
 use std::alloc::{AllocError, Global};
 use std::fmt::Write as _;
 use std::{fs, io};
@@ -53,21 +53,45 @@ fn put_read(alloc: Global, text: &str, out: &mut String) -> Result<(), AllocErro
     }
 }
 
-/// What the look-ups of the tables answer, and those of a copy.
-fn put_look(alloc: Global, text: &str, words: &str, out: &mut String) -> Result<(), AllocError> {
-    let Ok(tables) = read_tables(alloc, text) else {
-        return out.push_str("no tables");
-    };
+/// What the look-ups of tables answer.
+fn answers(alloc: Global, tables: &Tables, words: &str) -> Result<String, AllocError> {
+    let mut answers = String::new(alloc);
+    put_tables(alloc, tables, words, &mut answers)?;
+    Ok(answers)
+}
+
+/// What those of a copy answer.
+fn answers_of_copy(alloc: Global, tables: &Tables, words: &str) -> Result<String, AllocError> {
     let copy = tables.try_copy(alloc)?;
-    let mut known = String::new(alloc);
-    put_tables(alloc, &tables, words, &mut known)?;
-    let mut again = String::new(alloc);
-    put_tables(alloc, &copy, words, &mut again)?;
+    let answers = answers(alloc, &copy, words);
+    drop(copy);
+    answers
+}
+
+/// Puts what the look-ups of tables answer, and whether those of a copy answer otherwise.
+fn put_answers(
+    alloc: Global,
+    tables: &Tables,
+    words: &str,
+    out: &mut String,
+) -> Result<(), AllocError> {
+    let known = answers(alloc, tables, words)?;
     out.push_str(known.as_str())?;
+    let again = answers_of_copy(alloc, tables, words)?;
     if again.as_str() != known.as_str() {
         out.push_str(", and a copy answers otherwise")?;
     }
     Ok(())
+}
+
+/// Puts what the look-ups of the tables of a text answer.
+fn put_look(alloc: Global, text: &str, words: &str, out: &mut String) -> Result<(), AllocError> {
+    let Ok(tables) = read_tables(alloc, text) else {
+        return out.push_str("no tables");
+    };
+    let put = put_answers(alloc, &tables, words, out);
+    drop(tables);
+    put
 }
 
 /// What comes of reading the tables of a file after edits.
