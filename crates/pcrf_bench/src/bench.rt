@@ -33,14 +33,27 @@ fn identity_text(alloc: Global, text: &str) -> io::Result<DiameterIdentity> {
     }
 }
 
+/// The names of a site.
+fn identity(alloc: Global) -> io::Result<Identity> {
+    let host = identity_text(alloc, "s0")?;
+    let realm = identity_text(alloc, "r")?;
+    Ok(Identity {
+        host,
+        realm,
+        address: Ipv4Addr::LOCALHOST,
+    })
+}
+
 /// A site that took nothing.
 fn new_site(alloc: Global, tables: &Tables) -> io::Result<Site> {
-    let identity = Identity {
-        host: identity_text(alloc, "s0")?,
-        realm: identity_text(alloc, "r")?,
-        address: Ipv4Addr::LOCALHOST,
-    };
-    Ok(Site::start(alloc, tables.try_copy(alloc)?, identity, 0))
+    let identity = identity(alloc)?;
+    match tables.try_copy(alloc) {
+        Ok(tables) => Ok(Site::start(alloc, tables, identity, 0)),
+        Err(refused) => {
+            drop(identity);
+            Err(io::Error::from(refused))
+        }
+    }
 }
 
 /// A site that took the whole state of another.

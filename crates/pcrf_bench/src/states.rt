@@ -102,12 +102,23 @@ fn merge(ours: State, theirs: State) -> Result<(), AllocError> {
     done
 }
 
+/// Merges a state with one that was copied, if it was.
+fn merge_copy(ours: State, theirs: Result<State, AllocError>) -> Result<(), AllocError> {
+    match theirs {
+        Ok(theirs) => merge(ours, theirs),
+        Err(refused) => {
+            drop(ours);
+            Err(refused)
+        }
+    }
+}
+
 /// Merges two copies of a state, and tells how long that takes.
 pub fn time_merge(rt: &impl Clock, state: &State) -> io::Result<Duration> {
     let ours = state.try_copy()?;
-    let theirs = state.try_copy()?;
+    let theirs = state.try_copy();
     let start = Instant::now(rt);
-    merge(ours, theirs)?;
+    merge_copy(ours, theirs)?;
     start?.elapsed(rt)
 }
 
