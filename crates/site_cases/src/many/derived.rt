@@ -17,7 +17,7 @@ use std::thread::Threads;
 /// So many sessions are shared among threads.
 const MANY: u16 = 3_000;
 
-/// So few that a pass over all calls is made for each; two threads share them still.
+/// So few of the many are there where a pass over all calls is made for each.
 const FEW: u16 = 256;
 
 /// Of the few, one in so many has a call.
@@ -38,17 +38,31 @@ fn compare(rt: &impl Abort, made: &[Rule], alone: Result<Vec<Rule>, AllocError>)
     assert!(rt; is_same);
 }
 
-/// The lists of sessions, from the last to the first, are by hand those of sessions with a call for each so many.
+/// The list of the session of a number, of so many that are there, with a call for each so many, is that by hand.
+fn is_right(
+    rt: &impl Abort,
+    alloc: Global,
+    list: &[Rule],
+    number: u16,
+    size: u16,
+    step: u16,
+) -> bool {
+    if size <= number {
+        return list.is_empty();
+    }
+    if number.is_multiple_of(step) {
+        is_with_call(rt, alloc, list, number)
+    } else {
+        is_without_call(list)
+    }
+}
+
+/// The lists of the many, from the last to the first, are those by hand.
 fn compare_by_hand(rt: &impl Abort, alloc: Global, made: &[Vec<Rule>], size: u16, step: u16) {
-    assert_eq!(rt; made.len(), usize::from(size));
-    let numbers = (0..size).rev();
+    assert_eq!(rt; made.len(), usize::from(MANY));
+    let numbers = (0..MANY).rev();
     for (list, number) in made.iter().zip(numbers) {
-        let is_right = if number.is_multiple_of(step) {
-            is_with_call(rt, alloc, list.as_slice(), number)
-        } else {
-            is_without_call(list.as_slice())
-        };
-        assert!(rt; is_right);
+        assert!(rt; is_right(rt, alloc, list.as_slice(), number, size, step));
     }
 }
 
@@ -102,7 +116,7 @@ fn many_by_a_pass_are_those_of_each(rt: HostRuntime) {
     let alloc = rt.alloc();
     let state = state_of(&rt, alloc, FEW, STEP);
     let tables = telephony(alloc).expect(&rt, "tables");
-    let asked = sessions(&rt, alloc, FEW);
+    let asked = sessions(&rt, alloc, MANY);
     many_by_pass(&rt, alloc, &tables, &state, asked.as_slice());
 }
 
