@@ -1,5 +1,8 @@
 //! The book: a site with its history, and the room for what settling it gives.
 ghost use Rattle.std.specs.Prelude.{◌≡◌, ◌≤◌, ◌<◌, length, true, Err, vec_len, vec_capacity, [], IfOk, IfErr, OnErr};
+ghost use Rattle.pcrf_model.specs.Views.{view};
+ghost use Rattle.site_machine.specs.Kept.{AreKept};
+ghost use Rattle.site_machine.specs.Many.{AreFresh};
 ghost use Rattle.site_machine.specs.Sites.{SiteMayReply};
 ghost use Rattle.site_machine.specs.Values.{event_value, reply_value, event_lacks_counter};
 ghost use Rattle.site_book.specs.Books.{new_book, new_seats, with_entry, with_receipt, is_full, is_short, IsHistoryOf};
@@ -9,7 +12,7 @@ use crate::entry::Receipt;
 use crate::pages::Pages;
 use crate::seat::Seat;
 use site_join::{Operation, State};
-use site_machine::{Event, Reply, Site, StepFault};
+use site_machine::{Event, Reply, Rules, Site, StepFault};
 use std::alloc::{AllocError, Global};
 use std::marker::Model;
 use std::sync::ledger::{Blank, Ledger, Share};
@@ -34,6 +37,10 @@ impl<L: Ledger> Model for SiteBook<L> {
 }
 
 impl<L: Ledger> SiteBook<L> {
+    ghost use Rattle.std.specs.Borrow.{sem};
+    ghost use Rattle.std.specs.Io.BufRead.{Rests};
+    ghost use Rattle.site_book.specs.contracts.book.SiteBook.{the_row};
+
     /// A book over a site, and its seats: nothing has happened since it was opened. Where memory is refused both come back.
     pub fn start(
         alloc: Global,
@@ -105,9 +112,15 @@ impl<L: Ledger> SiteBook<L> {
     }
 
     /// Derives the rules of each live gateway's session of which the site keeps none, in as many threads as there are
-    /// processors, and has it keep them. Nothing else changes, also where memory is refused.
-    pub fn renew(&mut self, rt: &(impl Threads + Sync)) -> Result<(), AllocError>
-        ensures { self.new ≡ self.old }
+    /// processors, and has it keep them: what is answered are the lists that it keeps then, one of each live session. Nothing
+    /// else changes, also where memory is refused.
+    pub fn renew(&mut self, rt: &(impl Threads + Sync)) -> Result<&Rules, AllocError>
+        ensures* same { sem 𝓛 (Rests (the_row L.row L.Ledger) self.entry
+            (λ now. now ≡ self.old)) }
+        ensures fresh { IfOk result (λ lists. AreFresh self.old.site.tables
+            (view self.old.site.state.holding.facts) lists.now) }
+        ensures kept { IfOk result (λ lists. AreKept self.old.site.tables
+            (view self.old.site.state.holding.facts) lists.now) }
     {
         self.pages.renew(rt)
     }

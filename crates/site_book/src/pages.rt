@@ -1,5 +1,8 @@
 //! The pages of a book: a site with its history.
 ghost use Rattle.std.specs.Prelude.{◌≡◌, ◌≤◌, ◌<◌, length, true, Err, IfOk, IfErr, OnErr};
+ghost use Rattle.pcrf_model.specs.Views.{view};
+ghost use Rattle.site_machine.specs.Kept.{AreKept};
+ghost use Rattle.site_machine.specs.Many.{AreFresh};
 ghost use Rattle.site_machine.specs.Sites.{SiteMayReply};
 ghost use Rattle.site_machine.specs.Values.{event_value, reply_value, event_lacks_counter};
 ghost use Rattle.site_book.specs.Books.{with_entry, with_receipt, is_full, IsHistoryOf};
@@ -7,7 +10,7 @@ ghost use Rattle.site_book.specs.Books.{with_entry, with_receipt, is_full, IsHis
 use crate::entry::{Entry, Receipt};
 use crate::seat::Seat;
 use site_join::{Operation, State};
-use site_machine::{Event, Reply, Site, StepFault};
+use site_machine::{Event, Reply, Rules, Site, StepFault};
 use std::alloc::AllocError;
 use std::marker::Model;
 use std::sync::ledger::{Book, Ledger};
@@ -44,6 +47,10 @@ impl<L: Ledger> Model for Pages<L> {
 }
 
 impl<L: Ledger> Pages<L> {
+    ghost use Rattle.std.specs.Borrow.{sem};
+    ghost use Rattle.std.specs.Io.BufRead.{Rests};
+    ghost use Rattle.site_book.specs.contracts.pages.Pages.{the_row};
+
     /// How many entries the history has.
     pub fn entries(&self) -> usize
         ensures entries { result ≡ length self.now.history }
@@ -69,8 +76,13 @@ impl<L: Ledger> Pages<L> {
     }
 
     /// Has the site keep the rules of each live gateway's session, as its own `renew` does: nothing else changes.
-    pub(crate) fn renew(&mut self, rt: &(impl Threads + Sync)) -> Result<(), AllocError>
-        ensures { self.new ≡ self.old }
+    pub(crate) fn renew(&mut self, rt: &(impl Threads + Sync)) -> Result<&Rules, AllocError>
+        ensures* same { sem 𝓛 (Rests (the_row L.row L.Ledger) self.entry
+            (λ now. now ≡ self.old)) }
+        ensures fresh { IfOk result (λ lists. AreFresh self.old.site.tables
+            (view self.old.site.state.holding.facts) lists.now) }
+        ensures kept { IfOk result (λ lists. AreKept self.old.site.tables
+            (view self.old.site.state.holding.facts) lists.now) }
     {
         self.site.renew(rt)
     }

@@ -1,5 +1,6 @@
 //! The end of a book.
-ghost use Rattle.std.specs.Prelude.{◌≡◌, ◌↔◌, ◌<◌, ◌≤◌, IsTrue, IfOk, IfErr, length, None, vec_len, vec_capacity};
+ghost use Rattle.std.specs.Prelude.{◌≡◌, ◌↔◌, ◌<◌, ◌≤◌, IsTrue, IfOk, IfErr, length, None, slice_get, vec_len, vec_capacity};
+ghost use Rattle.std.specs.Option.{option_copied};
 ghost use Rattle.site_book.specs.Books.{IsHistoryOf};
 ghost use Rattle.site_book.specs.Gains.{HoldsAll};
 ghost use Rattle.site_book.specs.Settling.{times, EachOnce, receipts_in_all, IsComplete, receipts_of, receipts_below, claim, claims_of, claims_from, is_above, ClaimJudged, Verdict, Settles, FirstFault, Judged, place_in, lists_of};
@@ -33,6 +34,16 @@ impl<L: Ledger> Settled<L> {
         ensures { result.now ≡ self.now.book }
     {
         &self.pages
+    }
+
+    /// The receipts of the seat of that number, in order; `None` where no seat has it.
+    pub fn receipts(&self, seat: usize) -> Option<&[Receipt]>
+        ensures { option_copied result ≡ slice_get self.now.receipts seat }
+    {
+        let Some(receipts) = self.receipts.get(seat) else {
+            return None;
+        };
+        Some(receipts.as_slice())
     }
 }
 
