@@ -1,5 +1,5 @@
-//! The rules of three sessions, made all at once, and a site that renews the lists that it keeps of them. So few are made in one
-//! thread, and each allocation has the same place in every run.
+//! The rules of three sessions, made all at once, a site that renews the lists that it keeps of them, and the look-up of the
+//! three by their subscriber. So few are made in one thread, and each allocation has the same place in every run.
 use crate::fingerprint::{EMPTY, Fingerprint, fingerprint_of, mixed};
 use crate::given::Given;
 use crate::steps::print_of_site;
@@ -75,25 +75,49 @@ fn derived<R: Threads + Sync>(rt: &R, alloc: Global, site: &Site, ids: &[GxSid])
     Some(print)
 }
 
-/// Has a site renew its lists: the fingerprint of those that it keeps of the sessions, or none where memory is refused.
+/// Has a site renew its lists: the fingerprint of those that it then keeps of the sessions, or none where memory is refused.
 fn renewed<R: Threads + Sync>(rt: &R, site: &mut Site, ids: &[GxSid]) -> Option<u64> {
-    if site.renew(rt).is_err() {
+    let Ok(lists) = site.renew(rt) else {
         return None;
-    }
+    };
     let mut print = EMPTY;
     for id in ids {
         print = mixed(
             print,
-            site.kept_rules(id)
+            lists
+                .get(id)
                 .map_or(0, |list: &[Rule]| print_of_rules(list)),
         );
     }
     Some(print)
 }
 
+/// The fingerprint of the sessions that have the subscriber of all three, or none where memory is refused.
+fn looked_up(site: &Site, ids: &[GxSid]) -> Option<u64> {
+    let (_, subscribers) = site.sessions().gx(ids.first()?)?.subscribers()?;
+    let Ok(found) = site.sessions_of(subscribers.as_slice().first()?) else {
+        return None;
+    };
+    let mut print = EMPTY;
+    for id in found.iter() {
+        print = mixed(print, fingerprint_of(id.as_slice()));
+    }
+    drop(found);
+    Some(print)
+}
+
+/// The fingerprint of the three.
+fn wanted_sessions() -> u64 {
+    let mut print = EMPTY;
+    for (id, _) in SESSIONS {
+        print = mixed(print, fingerprint_of(id));
+    }
+    print
+}
+
 /// The outcome of what gave this fingerprint at once.
-fn outcome_at_once(given: u64) -> Outcome {
-    if given == wanted() {
+fn outcome_at_once(given: u64, wanted: u64) -> Outcome {
+    if given == wanted {
         Outcome::AtOnce
     } else {
         Outcome::Wrong
@@ -101,8 +125,8 @@ fn outcome_at_once(given: u64) -> Outcome {
 }
 
 /// The outcome of what gave this fingerprint, or was refused again, after it was refused.
-fn outcome_again(given: Option<u64>) -> Outcome {
-    if given == Some(wanted()) {
+fn outcome_again(given: Option<u64>, wanted: u64) -> Outcome {
+    if given == Some(wanted) {
         Outcome::Again
     } else {
         Outcome::Wrong
@@ -112,8 +136,8 @@ fn outcome_again(given: Option<u64>) -> Outcome {
 /// The outcome of making the lists all at once.
 fn derive_outcome<R: Threads + Sync>(rt: &R, alloc: Global, site: &Site, ids: &[GxSid]) -> Outcome {
     match derived(rt, alloc, site, ids) {
-        Some(given) => outcome_at_once(given),
-        None => outcome_again(derived(rt, alloc, site, ids)),
+        Some(given) => outcome_at_once(given, wanted()),
+        None => outcome_again(derived(rt, alloc, site, ids), wanted()),
     }
 }
 
@@ -125,8 +149,16 @@ fn renew_outcome<R: Threads + Sync>(rt: &R, site: &mut Site, ids: &[GxSid]) -> O
         return Outcome::Wrong;
     }
     match first {
-        Some(given) => outcome_at_once(given),
-        None => outcome_again(renewed(rt, site, ids)),
+        Some(given) => outcome_at_once(given, wanted()),
+        None => outcome_again(renewed(rt, site, ids), wanted()),
+    }
+}
+
+/// The outcome of looking the sessions up by their subscriber.
+fn lookup_outcome(site: &Site, ids: &[GxSid]) -> Outcome {
+    match looked_up(site, ids) {
+        Some(given) => outcome_at_once(given, wanted_sessions()),
+        None => outcome_again(looked_up(site, ids), wanted_sessions()),
     }
 }
 
@@ -146,7 +178,7 @@ fn site_for(given: &Given, tally: &mut Tally) -> Option<Site> {
     }
 }
 
-/// Makes the lists of the sessions all at once, and has a site renew its lists.
+/// Makes the lists of the sessions all at once, has a site renew its lists, and looks the sessions up.
 pub fn try_renewals<R: Threads + Sync>(rt: &R, given: &Given, tally: &mut Tally) {
     let Some(ids) = ids_for(given.alloc, tally) else {
         return;
@@ -156,8 +188,10 @@ pub fn try_renewals<R: Threads + Sync>(rt: &R, given: &Given, tally: &mut Tally)
     };
     let derived = derive_outcome(rt, given.alloc, &site, ids.as_slice());
     let renewed = renew_outcome(rt, &mut site, ids.as_slice());
+    let found = lookup_outcome(&site, ids.as_slice());
     drop(site);
     drop(ids);
     tally.count(derived, "derive", "rules of sessions");
     tally.count(renewed, "renew", "rules of a site");
+    tally.count(found, "look up", "sessions of a subscriber");
 }

@@ -35,7 +35,7 @@ fn keep_each(
 fn count_kept(site: &Site) -> usize {
     let mut count = 0_usize;
     for (session, known) in site.sessions().all_gx() {
-        if known.live() && site.kept_rules(session).is_some() {
+        if known.live() && site.kept_rules().get(session).is_some() {
             count = count.saturating_add(1);
         }
     }

@@ -6,4 +6,6 @@ mod drawn;
 mod draws;
 mod examples;
 mod making;
+mod returning;
+mod served;
 mod shared_address;

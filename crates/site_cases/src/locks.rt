@@ -10,6 +10,7 @@ mod events;
 mod many_calls;
 mod replaying;
 mod requests;
+mod settling;
 mod sites;
 mod streams;
 mod told;

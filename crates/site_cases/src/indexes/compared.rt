@@ -1,6 +1,6 @@
 //! Whether an indexed state says what the passes over all sessions say of the state that it holds.
-use crate::indexes::making::{call_id, gateway_id, host};
-use bind_index::bind;
+use crate::indexes::making::{call_id, gateway_id, host, subscriber};
+use bind_index::{bind, sessions_of};
 use indexed_state::IndexedState;
 use operator_view::bindings;
 use pcc_rules::derive;
@@ -19,9 +19,13 @@ pub const CALLS: u8 = 24;
 /// The site that pushes.
 const SITE: u8 = 0;
 
-/// How many calls are bound, how many rules there are, and how many pushes are due.
+/// How many subscribers they share.
+pub const SUBSCRIBERS: u8 = 4;
+
+/// How many calls are bound, how many rules there are, how many pushes are due, and how many sessions have the subscribers.
 #[derive(Clone, Copy, Debug, Default)]
 pub struct Counts {
+    pub subscribed: usize,
     pub bound: usize,
     pub rules: usize,
     pub pushes: usize,
@@ -80,6 +84,34 @@ pub fn compare_bindings(rt: &(impl AllocGlobal + Abort), held: &IndexedState, co
         compare_bound(rt, held, &call, counts);
         drop(call);
     }
+}
+
+/// Compares the sessions that have each of the subscribers.
+pub fn compare_sessions(rt: &(impl AllocGlobal + Abort), held: &IndexedState, counts: &mut Counts) {
+    for number in 0..SUBSCRIBERS {
+        let who = subscriber(rt, number);
+        let found = held.sessions_of(&who).expect(rt, "memory");
+        let wanted = sessions_of(rt.alloc(), held.state(), &who).expect(rt, "memory");
+        drop(who);
+        let is_same = same_ids(found.as_slice(), wanted.as_slice());
+        counts.subscribed = counts.subscribed.saturating_add(wanted.len());
+        drop(found);
+        drop(wanted);
+        assert!(rt; is_same);
+    }
+}
+
+/// The two are the same Session-Ids.
+fn same_ids(first: &[GxSid], second: &[GxSid]) -> bool {
+    if first.len() != second.len() {
+        return false;
+    }
+    for (ours, theirs) in first.iter().zip(second) {
+        if !ours.cmp(theirs).is_eq() {
+            return false;
+        }
+    }
+    true
 }
 
 /// The two are the same rules.

@@ -1,6 +1,6 @@
 //! Operations of sessions told apart by a number.
-use gx_records::GxFact;
-use pcrf_values::{AfSid, GxSid, Rule, RuleName};
+use gx_records::{GxFact, SessionValue};
+use pcrf_values::{AfSid, GxSid, Rule, RuleName, Subscriber, Subscribers, SubscriptionType};
 use ranked::Tag;
 use samples::{Given, operation, text};
 use site_join::{Operation, SessionFacts};
@@ -36,6 +36,32 @@ pub fn host(number: u8) -> &'static str {
 /// One of few addresses.
 pub fn address(number: u8) -> Ipv4Addr {
     Ipv4Addr::new(10, 0, 0, number)
+}
+
+/// One of few subscribers; the first is the one of a gateway's request.
+pub fn subscriber(rt: &(impl AllocGlobal + Abort), number: u8) -> Subscriber {
+    let name = format!(in rt.alloc(); "00101000000000{}", number.saturating_add(1));
+    let name = name.expect(rt, "memory");
+    let data = text(rt.alloc(), name.as_bytes()).expect(rt, "a text");
+    drop(name);
+    Subscriber::of(SubscriptionType::EndUserImsi, data)
+}
+
+/// One of them alone.
+fn subscribers(rt: &(impl AllocGlobal + Abort), number: u8) -> Subscribers {
+    let mut given = Vec::new(rt.alloc());
+    given.push(subscriber(rt, number)).expect(rt, "memory");
+    let made = Subscribers::of(rt.alloc(), given).expect(rt, "memory");
+    made.expect(rt, "a subscriber")
+}
+
+/// That a gateway's session has one of the subscribers, and no other.
+pub fn subscribed(rt: &(impl AllocGlobal + Abort), number: u8, at: Tag, who: u8) -> Operation {
+    let mut facts = Vec::new(rt.alloc());
+    let value = SessionValue::Subscribers(subscribers(rt, who));
+    facts.push(GxFact::Field(at, value)).expect(rt, "memory");
+    let facts = SessionFacts::Gx(gateway_id(rt, number), facts);
+    operation(at, facts).expect(rt, "an operation")
 }
 
 /// The request of a gateway on its session of a number.

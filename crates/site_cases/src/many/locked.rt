@@ -44,7 +44,7 @@ fn settled<L: Ledger>(
         Ok(settled) => {
             let pages = settled.pages();
             let is_same = pages.site().sessions().equal(wanted);
-            let kept = count_kept(rt, alloc, pages.site(), MANY);
+            let kept = count_kept(rt, alloc, pages.site().kept_rules(), MANY);
             let entries = pages.entries();
             drop(settled);
             if is_same { Some((entries, kept)) } else { None }

@@ -1,6 +1,7 @@
 //! A site that renews its lists of rules: what it holds stays the same, and a list is kept of each live session.
 use crate::many::expected::is_with_call;
 use crate::many::making::{end, gateway_id, second_flow, state_of};
+use kept_rules::Rules;
 use operator_view::{AfSeen, GxSeen, OperatorValue, SessionSeen};
 use pcrf_values::Rule;
 use ranked::Ranked;
@@ -34,12 +35,12 @@ fn site_of(rt: &impl Abort, alloc: Global, size: u16) -> Site {
     site
 }
 
-/// Of how many of the first sessions the rules are kept that they have by hand.
-pub fn count_kept(rt: &impl Abort, alloc: Global, site: &Site, size: u16) -> u16 {
+/// Of how many of the first sessions a list is there, the one that they have by hand.
+pub fn count_kept(rt: &impl Abort, alloc: Global, lists: &Rules, size: u16) -> u16 {
     let mut count = 0u16;
     for number in 0..size {
         let id = gateway_id(rt, alloc, number);
-        let is_kept = match site.kept_rules(&id) {
+        let is_kept = match lists.get(&id) {
             Some(list) => is_with_call(rt, alloc, list, number),
             None => false,
         };
@@ -52,31 +53,32 @@ pub fn count_kept(rt: &impl Abort, alloc: Global, site: &Site, size: u16) -> u16
 /// How many rules are kept of a session, if any list is.
 fn count_rules(rt: &impl Abort, alloc: Global, site: &Site, number: u16) -> Option<usize> {
     let id = gateway_id(rt, alloc, number);
-    let count = site.kept_rules(&id).map(|list: &[Rule]| list.len());
+    let count = site.kept_rules().get(&id).map(|list: &[Rule]| list.len());
     drop(id);
     count
 }
 
-/// Renews a site, which holds the same then, and made as many operations.
-fn renew(rt: &(impl Threads + Abort + Sync), site: &mut Site) {
+/// Renews a site, which holds the same then, and made as many operations: of how many of the first sessions there is a list
+/// among those that are answered. The site keeps as many.
+fn renew(rt: &(impl Threads + Abort + Sync), alloc: Global, site: &mut Site, size: u16) -> u16 {
     let before = site.sessions().try_copy().expect(rt, "memory");
     let logged = site.logged();
-    site.renew(rt).expect(rt, "memory");
+    let count = count_kept(rt, alloc, site.renew(rt).expect(rt, "memory"), size);
     let is_same = site.sessions().equal(&before);
     drop(before);
     assert!(rt; is_same);
     assert_eq!(rt; site.logged(), logged);
+    assert_eq!(rt; count_kept(rt, alloc, site.kept_rules(), size), count);
+    count
 }
 
 #[test]
 fn many_lists_are_kept(rt: HostRuntime) {
     let alloc = rt.alloc();
     let mut site = site_of(&rt, alloc, MANY);
-    assert_eq!(&rt; count_kept(&rt, alloc, &site, MANY), 0);
-    renew(&rt, &mut site);
-    assert_eq!(&rt; count_kept(&rt, alloc, &site, MANY), MANY);
-    renew(&rt, &mut site);
-    assert_eq!(&rt; count_kept(&rt, alloc, &site, MANY), MANY);
+    assert_eq!(&rt; count_kept(&rt, alloc, site.kept_rules(), MANY), 0);
+    assert_eq!(&rt; renew(&rt, alloc, &mut site, MANY), MANY);
+    assert_eq!(&rt; renew(&rt, alloc, &mut site, MANY), MANY);
 }
 
 /// The same is seen of two sessions of gateways.
@@ -126,36 +128,35 @@ fn take_one(rt: &impl Abort, alloc: Global, site: &mut Site, operation: Operatio
     assert!(rt; taken);
 }
 
-/// What an operator sees of a site is the same after it was renewed.
-fn renew_seen(rt: &(impl Threads + Abort + Sync), site: &mut Site) {
+/// What an operator sees of a site is the same after it was renewed: of how many of the first sessions there is a list then.
+fn renew_seen(rt: &(impl Threads + Abort + Sync), alloc: Global, site: &mut Site) -> u16 {
     let before = site.value().expect(rt, "memory");
-    renew(rt, site);
+    let count = renew(rt, alloc, site, FEW);
     let after = site.value().expect(rt, "memory");
     let is_same = same_value(&before, &after);
     drop(before);
     drop(after);
     assert!(rt; is_same);
+    count
 }
 
 #[test]
 fn what_is_seen_is_the_same(rt: HostRuntime) {
     let alloc = rt.alloc();
     let mut site = site_of(&rt, alloc, FEW);
-    renew_seen(&rt, &mut site);
+    assert_eq!(&rt; renew_seen(&rt, alloc, &mut site), 12);
     take_one(&rt, alloc, &mut site, end(&rt, alloc, 3, 100));
-    renew_seen(&rt, &mut site);
-    assert_eq!(&rt; count_kept(&rt, alloc, &site, FEW), FEW - 1);
+    assert_eq!(&rt; renew_seen(&rt, alloc, &mut site), 11);
 }
 
 #[test]
 fn an_ended_session_has_no_list(rt: HostRuntime) {
     let alloc = rt.alloc();
     let mut site = site_of(&rt, alloc, FEW);
-    renew(&rt, &mut site);
+    assert_eq!(&rt; renew(&rt, alloc, &mut site, FEW), 12);
     take_one(&rt, alloc, &mut site, end(&rt, alloc, 3, 100));
-    assert_eq!(&rt; count_kept(&rt, alloc, &site, FEW), FEW - 1);
-    renew(&rt, &mut site);
-    assert_eq!(&rt; count_kept(&rt, alloc, &site, FEW), FEW - 1);
+    assert_eq!(&rt; count_kept(&rt, alloc, site.kept_rules(), FEW), 11);
+    assert_eq!(&rt; renew(&rt, alloc, &mut site, FEW), 11);
     assert_eq!(&rt; count_rules(&rt, alloc, &site, 3), None);
 }
 
@@ -163,12 +164,11 @@ fn an_ended_session_has_no_list(rt: HostRuntime) {
 fn a_stale_list_is_made_anew(rt: HostRuntime) {
     let alloc = rt.alloc();
     let mut site = site_of(&rt, alloc, FEW);
-    renew(&rt, &mut site);
+    assert_eq!(&rt; renew(&rt, alloc, &mut site, FEW), 12);
     assert_eq!(&rt; count_rules(&rt, alloc, &site, 5), Some(2));
     take_one(&rt, alloc, &mut site, second_flow(&rt, alloc, 5, 100));
     assert_eq!(&rt; count_rules(&rt, alloc, &site, 5), None);
-    assert_eq!(&rt; count_kept(&rt, alloc, &site, FEW), FEW - 1);
-    renew(&rt, &mut site);
+    assert_eq!(&rt; count_kept(&rt, alloc, site.kept_rules(), FEW), 11);
+    assert_eq!(&rt; renew(&rt, alloc, &mut site, FEW), 11);
     assert_eq!(&rt; count_rules(&rt, alloc, &site, 5), Some(3));
-    assert_eq!(&rt; count_kept(&rt, alloc, &site, FEW), FEW - 1);
 }
