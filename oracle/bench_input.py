@@ -34,6 +34,12 @@ def initial(place):
     return credit(1, place, user)
 
 
+def initial_at(place, at):
+    """That of a session at an address, and of a subscriber, that others have before and after it."""
+    user = [subscriber(1, f"00101{at:010}"), avp(8, address_of(at)), avp(30, "ims")]
+    return credit(1, place, user)
+
+
 def update(place):
     return credit(2, place)
 
@@ -176,6 +182,20 @@ def streams_called(sessions, timed=100):
         (watchdog, 0, 1, "watchdog"), (update, 0, step, "update"), (initial, sessions, 1, "initial request"),
         (call, sessions, 1, "AA request"), (call_end, sessions // 4, step, "session termination request"),
         (termination, sessions // 2, step, "termination")])
+
+
+def come_and_go(sessions, pool=1000):
+    """So many sessions in all come and go, as many at once as there are addresses and subscribers."""
+    print("site")
+    for first in range(0, sessions, pool):
+        places = range(first, first + pool)
+        asked(lambda place: initial_at(place, place % pool), places)
+        if first in (0, sessions - pool):
+            print(f"listed {pool} listings: {first + pool} came, {pool} are there")
+        asked(termination, places)
+        if first in (0, sessions - pool):
+            print(f"listed {pool} listings: {first + pool} came, none is there")
+    print(f"print listings: {pool} addresses and subscribers")
 
 
 def pushes(sessions, vain=100_000, due=200):
@@ -326,13 +346,14 @@ def points(count):
 
 
 MEASURES = {made.__name__: made for made in (
-    streams, streams_called, pushes, whole, whole_state_kept, whole_site_kept, states, states_kept, renew, records, records_kept, rx,
+    streams, streams_called, come_and_go, pushes, whole, whole_state_kept, whole_site_kept, states, states_kept, renew, records, records_kept, rx,
     rx_kept, book, book_updates_kept, book_bare_kept, book_pushes_kept, tables, points)} | {"letters": carried}
 
 
 def every_measure():
     """Each verb, at a small size."""
     streams_called(8, timed=2)
+    come_and_go(6, pool=2)
     pushes(2, vain=3, due=2)
     whole(2)
     whole_site_kept(2)

@@ -1,6 +1,7 @@
 //! What lines are obeyed with: the operator tables, a site, a state, the block of messages or letters, and the figures.
 use crate::book::{Load, measure_threads, time_steps};
 use crate::figures::Figures;
+use crate::listings::count_listings;
 use crate::pushes::{measure_whole, time_pushes};
 use crate::states::{
     count_sessions, letter_of, measure_carrying, measure_taking, operations_of, time_merge,
@@ -18,7 +19,7 @@ use std::io::{self, Print};
 use std::net::Ipv4Addr;
 use std::sync::Wait;
 use std::thread::Threads;
-use std::time::Clock;
+use std::time::{Clock, Duration};
 
 /// What a measure needs of its machine.
 pub trait Host: AllocGlobal + Clock + Print + Threads + Wait + Sync {}
@@ -280,6 +281,12 @@ impl Bench {
         self.figures.add("looked up", times, time)
     }
 
+    /// The listings of the site's index under so many addresses and subscribers are counted.
+    fn list(&mut self, places: u32, name: &str) -> io::Result<()> {
+        let count = count_listings(self.alloc, &self.site, places)?;
+        self.figures.add(name, count, Duration::ZERO)
+    }
+
     /// Prints a heading, and the figures.
     fn print(&mut self, rt: &impl Host, heading: &str) -> io::Result<()> {
         println!(rt; "{heading}")?;
@@ -291,6 +298,7 @@ impl Bench {
         let (count, words) = number_before(words)?;
         match verb {
             "calls" => self.call(rt, count, words),
+            "listed" => self.list(count, words),
             "look" => self.look(rt, count, words),
             "read" => self.read(rt, count, words),
             "records" => self.record(rt, count, words),

@@ -12,6 +12,7 @@
 //! - `push HOST COUNT due NAME`, `push HOST COUNT none NAME`: the site makes so many pushes to a gateway, each of which is due,
 //!   or none of which is
 //! - `whole HOST NAME`: another site takes the whole state of the site, twice, and then makes a push, where none is due
+//! - `listed COUNT NAME`: the sessions that the site's index lists under so many addresses and subscribers are counted
 //! - `renew NAME`: the rules of all sessions of the site are made, one by one and at once
 //! - `steps COUNT NAME`: a site like this one takes the messages so often
 //! - `calls THREADS COUNT settled NAME`, `calls THREADS COUNT left NAME`: by threads that share a locked site like this one,
@@ -32,6 +33,7 @@
 mod bench;
 mod book;
 mod figures;
+mod listings;
 mod pushes;
 mod records;
 mod renewals;

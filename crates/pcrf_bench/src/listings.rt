@@ -1,0 +1,46 @@
+//! How many listings a site's index has of gateways' sessions that share addresses and subscribers, a few for many sessions
+//! that come and go: as many as the sessions that are there, whoever was there before.
+use pcrf_values::{BoundedText, Subscriber, SubscriptionType};
+use session_index::Index;
+use site_core::Site;
+use std::alloc::Global;
+use std::io;
+use std::net::Ipv4Addr;
+
+/// The address of a place.
+fn address(place: u32) -> Ipv4Addr {
+    let [_, high, middle, low] = place.to_be_bytes();
+    Ipv4Addr::new(10, high, middle, low)
+}
+
+/// The subscriber of a place.
+fn subscriber(alloc: Global, place: u32) -> io::Result<Subscriber> {
+    let digits = format!(in alloc; "00101{place:010}")?;
+    match BoundedText::read(alloc, digits.as_bytes())? {
+        Some(data) => Ok(Subscriber::of(SubscriptionType::EndUserImsi, data)),
+        None => Err(io::Error::other("a subscriber is too long")),
+    }
+}
+
+/// How many sessions the index lists under the address and under the subscriber of a place.
+fn count_at(index: &Index, place: u32, who: &Subscriber) -> usize {
+    let at = index.gateways_at(address(place));
+    let of = index.gateways_of(who);
+    let addressed = at.map_or(0, |ids| ids.iter().count());
+    let subscribed = of.map_or(0, |ids| ids.iter().count());
+    addressed.saturating_add(subscribed)
+}
+
+/// How many listings the index of a site has under so many addresses and subscribers.
+pub fn count_listings(alloc: Global, site: &Site, places: u32) -> io::Result<usize> {
+    let Some(index) = site.index() else {
+        return Err(io::Error::other("the index isn't whole"));
+    };
+    let mut count = 0_usize;
+    for place in 0..places {
+        let who = subscriber(alloc, place)?;
+        count = count.saturating_add(count_at(index, place, &who));
+        drop(who);
+    }
+    Ok(count)
+}
