@@ -48,7 +48,7 @@ fn add_subscriber(index: &Index, who: &Subscriber, listed: &mut Listed) {
 }
 
 /// What an index lists under all addresses and subscribers that are shared.
-pub fn listed(rt: &(impl AllocGlobal + Abort), index: &Index) -> Listed {
+pub fn listings_of(rt: &(impl AllocGlobal + Abort), index: &Index) -> Listed {
     let mut listed = Listed::default();
     for number in 0..POOL {
         add_place(index, number, &mut listed);
@@ -61,7 +61,7 @@ pub fn listed(rt: &(impl AllocGlobal + Abort), index: &Index) -> Listed {
 
 /// What the index of a state lists, which is whole.
 fn listed_in(rt: &(impl AllocGlobal + Abort), held: &IndexedState) -> Listed {
-    listed(rt, held.index().expect(rt, "a whole index"))
+    listings_of(rt, held.index().expect(rt, "a whole index"))
 }
 
 /// A tag of site 1, so many behind a counter.

@@ -1,5 +1,5 @@
 //! Sessions that gateways set up and end at a site, over few addresses: the site's index lists each while it is live.
-use crate::indexes::returning::{Listed, listed};
+use crate::indexes::returning::{Listed, listings_of};
 use gx_profile::{Ccr, RequestKind};
 use samples::{ccr, initial, names, telephony};
 use site_machine::{Event, Request, Site};
@@ -26,7 +26,7 @@ fn serve(rt: &impl Abort, site: &mut Site, request: Ccr) {
 
 /// What the index of a site lists, which is whole.
 fn listed_at(rt: &(impl AllocGlobal + Abort), site: &Site) -> Listed {
-    listed(rt, site.index().expect(rt, "a whole index"))
+    listings_of(rt, site.index().expect(rt, "a whole index"))
 }
 
 /// A session of the subscriber is set up at an address, and is ended.
