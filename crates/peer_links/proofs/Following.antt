@@ -117,7 +117,10 @@ brought_exchange AskWhole is = absurd is
 part_idle : (event : SiteEvent) → IsExchange event → (r : ReceiptValue) → (r.event ≡ event) × (holds_whole r ≡ false) → IsIdle r
 part_idle event is r a = (inl (subst IsExchange (sym a.0) is), a.1)
 
+pub part_gains : (s t : SeatValue) (event : SiteEvent) → IsBrought event → GainsPart s t event → Gains IsIdle s t
+part_gains s t event is g =
+    gains_weaker (λ r. (r.event ≡ event) × (holds_whole r ≡ false)) IsIdle s t (part_idle event (brought_exchange event is)) g
+
 pub exchanged_part : (s t : SeatValue) (c d : CursorsValue) (event : SiteEvent) → IsBrought event → GainsPart s t event → d ≡ c → Exchanged s t c.makers d.makers
 exchanged_part s t c d event is g e =
-    exchanged_idle s t c.makers d.makers (gains_weaker (λ r. (r.event ≡ event) × (holds_whole r ≡ false)) IsIdle s t (part_idle event (brought_exchange event is)) g)
-    (ap (λ (x : CursorsValue). x.makers) e)
+    exchanged_idle s t c.makers d.makers (part_gains s t event is g) (ap (λ (x : CursorsValue). x.makers) e)

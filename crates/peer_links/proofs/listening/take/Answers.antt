@@ -1,8 +1,18 @@
-use Rattle.std.proofs.Common.{refl}
+use Rattle.std.proofs.Common.{Result, Ok, Err, OnErr, refl}
 use Rattle.link_ends.specs.Values.{event_value}
 use Rattle.peer_links.specs.Headings.{letter_with}
-use Rattle.peer_links.proofs.Following.{exchanged_brought, exchanged_part}
+use Rattle.peer_links.proofs.Following.{exchanged_brought, exchanged_part, part_gains}
 use Rattle.peer_links.proofs.listening.take.Goals as goal
+
+-- what holds whatever the result is
+on_err : {T E P : Type 0} (result : Result T E) → P → OnErr result P
+on_err (Ok x) p = tt
+on_err (Err e) p = p
+
+pub returns-in_err-ack-clause-part : goal.returns-in_err-ack-clause-part
+returns-in_err-ack-clause-part g c =
+    on_err c.from_residual.result (part_gains c.args.seat.now c.take_brought.new.seat (event_value c.in-Some-open.event)
+    c.in-Some-open.ensures.opened.brought c.in_err-ack.ensures.part)
 
 pub returns-in_err-ack-clause-exchanged : goal.returns-in_err-ack-clause-exchanged
 returns-in_err-ack-clause-exchanged g c =
