@@ -1,10 +1,10 @@
 //! Pushes to two hosts at one site: each gets what is due to its own sessions.
 ghost use Rattle.std.specs.Prelude.{◌≡◌};
 
+use crate::books::{Settlement, opened, settled};
 use crate::serving::connections::{Keeping, Place, Written};
 use crate::serving::frames::put_frames;
 use crate::serving::gates::Open;
-use crate::serving::sites::{Left, opened, settled};
 use gateway_links::{Gateways, Half, Outgoing, push_all};
 use pcrf_values::DiameterIdentity;
 use samples::{SampleFault, initial, names, origin, with_rules};
@@ -130,23 +130,27 @@ fn left_of<L: Ledger, R: Threads + Wait + Abort + Sync>(
     blank: Blank,
     attached: &[Gateway],
     places: &[Place; 2],
-) -> Result<Option<Left>, AllocError>
+) -> Option<Settlement>
     requires name { blank.name ≡ L.name }
     requires parts { blank.parts ≡ L.parts }
     requires one { blank.parts ≡ 1 }
 {
-    let (site, mut seats) = opened::<L>(alloc, blank, site_with_rules(rt, alloc), 1, ROOM)?;
+    let (site, mut seats) = opened::<L>(rt, alloc, blank, 1, ROOM, site_with_rules(rt, alloc));
     if let Some(seat) = seats.first_mut() {
         for gateway in attached {
             set_up(rt, alloc, &site, seat, *gateway);
         }
         push(rt, alloc, &site, seat, places);
     }
-    Ok(settled(site, seats))
+    settled(site, seats)
 }
 
 /// What was written to the lesser host and to the greater, a line each, and how many entries settled.
-fn text_of(alloc: Global, places: [Place; 2], left: Option<Left>) -> Result<String, AllocError> {
+fn text_of(
+    alloc: Global,
+    places: [Place; 2],
+    left: Option<Settlement>,
+) -> Result<String, AllocError> {
     let mut out = String::new(alloc);
     let [lesser, greater] = places;
     write!(out, "lesser:")?;
@@ -156,7 +160,7 @@ fn text_of(alloc: Global, places: [Place; 2], left: Option<Left>) -> Result<Stri
     writeln!(
         out,
         "\n{} entries",
-        left.map_or(0, |left: Left| left.entries)
+        left.map_or(0, |left: Settlement| left.entries)
     )?;
     Ok(out)
 }
@@ -170,7 +174,6 @@ fn check<R: Threads + Wait + Abort + Sync>(
 ) {
     let places = [new_place(alloc), new_place(alloc)];
     let left = left_of::<Brand, _>(rt, alloc, Blank::new(1), attached, &places);
-    let left = left.expect(rt, "memory");
     let text = text_of(alloc, places, left).expect(rt, "memory");
     assert_eq!(rt; text.as_str(), outcome);
 }
