@@ -24,11 +24,18 @@ fn subscriber(alloc: Global, place: u32) -> io::Result<Subscriber> {
 
 /// How many sessions the index lists under the address and under the subscriber of a place.
 fn count_at(index: &Index, place: u32, who: &Subscriber) -> usize {
-    let at = index.gateways_at(address(place));
-    let of = index.gateways_of(who);
-    let addressed = at.map_or(0, |ids| ids.iter().count());
-    let subscribed = of.map_or(0, |ids| ids.iter().count());
-    addressed.saturating_add(subscribed)
+    let mut count = 0_usize;
+    if let Some(sessions) = index.gateways_at(address(place)) {
+        for _session in sessions.iter() {
+            count = count.saturating_add(1);
+        }
+    }
+    if let Some(sessions) = index.gateways_of(who) {
+        for _session in sessions.iter() {
+            count = count.saturating_add(1);
+        }
+    }
+    count
 }
 
 /// How many listings the index of a site has under so many addresses and subscribers.
