@@ -33,17 +33,23 @@ pub struct Listed {
 /// What an index lists under an address.
 fn add_place(index: &Index, place: u8, listed: &mut Listed) {
     if let Some(ids) = index.gateways_at(address(place)) {
-        listed.gateways = listed.gateways.saturating_add(ids.iter().count());
+        for _session in ids.iter() {
+            listed.gateways = listed.gateways.saturating_add(1);
+        }
     }
     if let Some(ids) = index.calls_at(address(place)) {
-        listed.calls = listed.calls.saturating_add(ids.iter().count());
+        for _session in ids.iter() {
+            listed.calls = listed.calls.saturating_add(1);
+        }
     }
 }
 
 /// And under a subscriber.
 fn add_subscriber(index: &Index, who: &Subscriber, listed: &mut Listed) {
     if let Some(ids) = index.gateways_of(who) {
-        listed.subscribed = listed.subscribed.saturating_add(ids.iter().count());
+        for _session in ids.iter() {
+            listed.subscribed = listed.subscribed.saturating_add(1);
+        }
     }
 }
 
