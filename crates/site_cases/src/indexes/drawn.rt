@@ -2,13 +2,10 @@
 ghost use Rattle.std.specs.Prelude.{◌<◌};
 
 use crate::indexes::compared::{
-    CALLS, Counts, GATEWAYS, SUBSCRIBERS, compare_bindings, compare_push, compare_rules,
-    compare_sessions,
+    CALLS, Counts, GATEWAYS, compare_bindings, compare_push, compare_rules, compare_sessions,
 };
 use crate::indexes::draws::Draws;
-use crate::indexes::making::{
-    address, call, call_end, gateway_end, host, request, subscribed, told,
-};
+use crate::indexes::making::{address, call, call_end, gateway_end, host, request, told};
 use gx_records::OpenRequestType;
 use indexed_state::IndexedState;
 use ranked::{Ranked, Tag};
@@ -61,13 +58,7 @@ fn drawn(rt: &(impl AllocGlobal + Abort), draws: &mut Draws, counter: u64) -> Op
     match draws.below(200) {
         0 => gateway_end(rt, draws.byte_below(GATEWAYS), at),
         1 => call_end(rt, draws.byte_below(CALLS), at),
-        2..=9 => subscribed(
-            rt,
-            draws.byte_below(GATEWAYS),
-            at,
-            draws.byte_below(SUBSCRIBERS),
-        ),
-        10..=79 => call(rt, draws.byte_below(CALLS), at, draws.byte_below(ADDRESSES)),
+        2..=79 => call(rt, draws.byte_below(CALLS), at, draws.byte_below(ADDRESSES)),
         _ => drawn_request(rt, draws, at),
     }
 }
@@ -160,7 +151,7 @@ fn three_thousand_operations_leave_what_the_passes_say(rt: HostRuntime) {
     drop(held);
     drop(draws);
     assert!(rt; counts.bound >= 10_000, "{counts:?}");
-    assert!(rt; counts.subscribed >= 10_000, "{counts:?}");
+    assert!(rt; counts.subscribed >= 400, "{counts:?}");
     assert!(rt; counts.rules >= 10_000, "{counts:?}");
     assert!(rt; counts.pushes >= 500, "{counts:?}");
 }
