@@ -15,6 +15,7 @@ mod merges;
 mod places;
 mod renewals;
 mod samples;
+mod serving;
 mod steps;
 mod tally;
 mod telling;
@@ -34,6 +35,7 @@ use places::{JoinAt, Place, PlaceAt};
 use ranked::Text;
 use renewals::try_renewals;
 use samples::Sample;
+use serving::try_connections;
 use std::process::ExitCode;
 use std::sync::Wait;
 use std::thread::Threads;
@@ -104,6 +106,7 @@ fn try_all<R: Threads + Wait + Sync>(rt: &R, given: &Given, tally: &mut Tally) {
     }
     try_books(rt, given, tally);
     try_renewals(rt, given, tally);
+    try_connections(rt, given, tally);
 }
 
 /// The files, whose reading may be refused once.

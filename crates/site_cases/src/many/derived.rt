@@ -23,6 +23,9 @@ const FEW: u16 = 256;
 /// Of the few, one in so many has a call.
 const STEP: u16 = 16;
 
+/// Those of the many for which a pass over all calls is made where each has a call.
+const ASKED: [u16; 6] = [2_999, 2_500, 1_501, 1_000, 17, 0];
+
 /// The index of a state.
 fn index_of(rt: &impl Abort, alloc: Global, state: &State) -> Index {
     let mut index = Index::start(alloc);
@@ -118,6 +121,38 @@ fn many_by_a_pass_are_those_of_each(rt: HostRuntime) {
     let tables = telephony(alloc).expect(&rt, "tables");
     let asked = sessions(&rt, alloc, MANY);
     many_by_pass(&rt, alloc, &tables, &state, asked.as_slice());
+}
+
+/// The lists of some of many sessions, of which each has a call, are those of each, in order, and those by hand.
+fn some_by_pass(
+    rt: &(impl Threads + Abort + Sync),
+    alloc: Global,
+    tables: &Tables,
+    state: &State,
+    asked: &[GxSid],
+) {
+    let made = derive_many(rt, alloc, tables, state, asked).expect(rt, "memory");
+    assert_eq!(rt; made.len(), ASKED.len());
+    for (list, number) in made.iter().zip(ASKED) {
+        assert!(rt; is_with_call(rt, alloc, list.as_slice(), number));
+    }
+    for (session, list) in asked.iter().zip(made.iter()) {
+        compare(rt, list.as_slice(), derive(alloc, tables, state, session));
+    }
+    drop(made);
+}
+
+#[test]
+fn some_of_many_by_a_pass_are_those_of_each(rt: HostRuntime) {
+    let alloc = rt.alloc();
+    let state = state_of(&rt, alloc, MANY, 1);
+    let tables = telephony(alloc).expect(&rt, "tables");
+    let mut asked = Vec::new(alloc);
+    for number in ASKED {
+        let added = asked.push(gateway_id(&rt, alloc, number));
+        added.expect(&rt, "memory");
+    }
+    some_by_pass(&rt, alloc, &tables, &state, asked.as_slice());
 }
 
 #[test]
