@@ -1,140 +1,171 @@
--- The flows that a record lists are those of which a field shows, ascending.
-use Rattle.std.proofs.Common.{◌≡◌, ℕ, true, false, List, is_some, Option, Some, None, inl, inr, refl, sym, ap, ◌∙◌, subst, option_and_then}
+-- The flows of which kept facts are fields stand in order.
+use Rattle.std.proofs.Common.{◌≡◌, ℕ, Bool, true, false, cond, List, [], ◌∷◌, map, ◌⊎◌, Option, Some, None, inl, inr, refl, sym, ap, ◌∙◌, subst, Ordering, Less, Equal, Greater}
+use Rattle.std.specs.FinMap.Entries.{by_order}
 use Rattle.std.specs.List.{filter_map}
-use Rattle.std.specs.Ordering.{nat_cmp}
-use Rattle.ranked.specs.Ascending.{ascending}
+use Rattle.std.specs.Option.{option_cmp}
+use Rattle.std.specs.Ordering.{is_eq, is_gt, is_lt, nat_cmp, ordering_then}
+use Rattle.ranked.specs.Ascending.{ascending, place, IsBelowAll, Rises}
+use Rattle.ranked.specs.Orders.{pair_cmp, text_cmp}
 use Rattle.ranked.specs.Sets.{In, Same}
 use Rattle.ranked.specs.declared.tag.Tag.{Tag}
-use Rattle.ranked.proofs.AscendingLaws.{ascending-Same, ascending-itself}
-use Rattle.ranked.proofs.OrderLaws.{nat_ranked, pair_ranked}
-use Rattle.ranked.proofs.Plain.{clash, none_some, some_same, or_true, or_left, or_right}
-use Rattle.ranked.proofs.SetLaws.{In-filter_map, filter_map-In}
-use Rattle.lattice_core.specs.Entries.{value_at}
-use Rattle.lattice_core.specs.declared.tombed.Tombed.{Tombed}
-use Rattle.lattice_core.specs.declared.tombed.Tombed.TheVariants.{Live, Ended}
-use Rattle.lattice_core.proofs.MapParts.{entry_found, found_entry}
+use Rattle.ranked.proofs.AscendingLaws.{ascending-Same, ascending-In}
+use Rattle.ranked.proofs.OrderLaws.{IsRanked, nat_ranked, pair_ranked, eq_is}
+use Rattle.ranked.proofs.Plain.{clash, none_some, some_same}
+use Rattle.ranked.proofs.SetLaws.{filter_map-In, In-map}
 use Rattle.pcrf_facts.specs.FlowWords.{flow_of, flows}
-use Rattle.pcrf_facts.specs.Places.{FlowField, FlowDescriptions, FlowUsage, FlowStatus, FlowRateUp, FlowRateDown, OfSession, OfComponent, OfFlow, OfRuleName}
-use Rattle.pcrf_facts.specs.Values.{Value, Entry, Number, Filters}
-use Rattle.pcrf_facts.specs.Facts.{Fact, End, Removed, Field, fact_cmp}
-use Rattle.pcrf_facts.proofs.JoinedLaws.{sorted-In}
-use Rattle.session_records.specs.Levels.{live_at, entry_by}
-use Rattle.af_records.specs.declared.flow.FlowParts.{FlowParts}
-use Rattle.af_records.specs.declared.component.ComponentParts.{ComponentParts}
-use Rattle.af_records.specs.declared.session.SessionParts.{SessionParts}
-use Rattle.af_records.specs.FlowLists.{has_field, is_listed, record_flows}
-use Rattle.af_records.specs.Joins.{record_valid}
-use Rattle.af_records.specs.Parts.{components_of, component_at, flow_at, flow_says}
-use Rattle.af_records.specs.RecordFacts.{flow_entry, record_facts}
-use Rattle.af_records.proofs.FlowOrder.{numbers_cmp, component_is_valid, flows_ascend, listed_there, there_listed}
-use Rattle.af_records.proofs.ReaderLaws.{flow_has}
-use Rattle.af_records.proofs.RecordLaws.{record_held}
+use Rattle.pcrf_facts.specs.Places.{Position, position_cmp}
+use Rattle.pcrf_facts.specs.Values.{entry_cmp}
+use Rattle.pcrf_facts.specs.Facts.{Fact, position, entry, fact_cmp}
+use Rattle.pcrf_facts.specs.Held.{kept_list}
+use Rattle.fact_records.proofs.KeepLaws.{kept_rises}
+use Rattle.fact_records.specs.declared.session_value.SessionValue.TheVariants as session
+use Rattle.af_records.specs.declared.fact.ComponentValue.TheVariants as component
+use Rattle.af_records.specs.declared.fact.FlowValue.{FlowValue}
+use Rattle.af_records.specs.declared.fact.FlowValue.TheVariants as flow
+use Rattle.af_records.specs.declared.fact.AfFact.{AfFact}
+use Rattle.af_records.specs.declared.fact.AfFact.TheVariants.{End, ComponentRemoved, FlowRemoved, Session, Component, Flow}
+use Rattle.af_records.specs.FieldValues.{flow_number}
+use Rattle.af_records.specs.FlowLists.{numbers_cmp, flow_said, is_last, flows_after}
+use Rattle.af_records.specs.RecordFacts.{fact_of}
+use Rattle.af_records.proofs.TypedLaws.{flow_at}
 
--- what is there is some entry
-entry_there : {T : Type 0} (make : T → Value) (x : Option (Tag × T)) → is_some x ≡ true → (e : Entry) × (entry_by make x ≡ Some e)
-entry_there make None h = clash false h refl
-entry_there make (Some y) h = ((y.0, make y.1), refl)
+-- ---- numbers that climb, each once
 
--- and back
-some_there : {T : Type 0} (make : T → Value) (x : Option (Tag × T)) (e : Entry) → entry_by make x ≡ Some e → is_some x ≡ true
-some_there make None e h = none_some e h
-some_there make (Some y) e h = refl
+-- the order is ranked
+numbers_ranked : IsRanked numbers_cmp
+numbers_ranked = pair_ranked nat_ranked nat_ranked
 
--- a flow with a field says it
-some_field : (y : FlowParts) → has_field y ≡ true → (f : FlowField) × (e : Entry) × (flow_entry y f ≡ Some e)
-some_field y h = elim (or_true (is_some y.descriptions) _ h) [
-  | inl a ↦ let r = entry_there Filters y.descriptions a in (FlowDescriptions, r.0, r.1)
-  | inr b ↦ elim (or_true (is_some y.usage) _ b) [
-    | inl a ↦ let r = entry_there Number y.usage a in (FlowUsage, r.0, r.1)
-    | inr c ↦ elim (or_true (is_some y.status) _ c) [
-      | inl a ↦ let r = entry_there Number y.status a in (FlowStatus, r.0, r.1)
-      | inr d ↦ elim (or_true (is_some y.rates.up) (is_some y.rates.down) d) [
-        | inl a ↦ let r = entry_there Number y.rates.up a in (FlowRateUp, r.0, r.1)
-        | inr a ↦ let r = entry_there Number y.rates.down a in (FlowRateDown, r.0, r.1)
-      ]
-    ]
-  ]
-]
+-- none of these is below it
+abbrev NotAbove : ℕ × ℕ → List (ℕ × ℕ) → Type 0
+NotAbove q qs = (s : ℕ × ℕ) → In s qs → is_gt (numbers_cmp q s) ≡ false
 
--- and a flow that says one has it
-field_some : (y : FlowParts) (f : FlowField) (e : Entry) → flow_entry y f ≡ Some e → has_field y ≡ true
-field_some y FlowDescriptions e h = or_left (is_some y.descriptions) _ (some_there Filters y.descriptions e h)
-field_some y FlowUsage e h = or_right (is_some y.descriptions) _ (or_left (is_some y.usage) _ (some_there Number y.usage e h))
-field_some y FlowStatus e h = or_right (is_some y.descriptions) _ (or_right (is_some y.usage) _ (or_left (is_some y.status) _ (some_there Number y.status e h)))
-field_some y FlowRateUp e h = or_right (is_some y.descriptions) _ (or_right (is_some y.usage) _ (or_right (is_some y.status) _ (or_left (is_some y.rates.up) _ (some_there Number y.rates.up e h))))
-field_some y FlowRateDown e h = or_right (is_some y.descriptions) _ (or_right (is_some y.usage) _ (or_right (is_some y.status) _ (or_right (is_some y.rates.up) _ (some_there Number y.rates.down e h))))
+-- none is below one before it
+abbrev Climbs : List (ℕ × ℕ) → Type 0
+Climbs [] = Unit {0}
+Climbs (q ∷ qs) = NotAbove q qs × Climbs qs
 
--- a flow that is listed as one that shows lives
-lives : (y : Tombed FlowParts) → is_listed false y ≡ true → (z : FlowParts) × (y ≡ Live z) × (has_field z ≡ true)
-lives (Live z) h = (z, refl, h)
-lives Ended h = clash false h refl
+-- neither above nor at
+less_of : (o : Ordering) → is_gt o ≡ false → is_eq o ≡ false → o ≡ Less
+less_of Less g e = refl
+less_of Equal g e = clash true refl e
+less_of Greater g e = clash true refl g
 
--- what lives stood there
-lived : {T : Type 0} (x : Option (Tombed T)) (y : T) → live_at x ≡ Some y → x ≡ Some (Live y)
-lived None y h = none_some y h
-lived (Some Ended) y h = none_some y h
-lived (Some (Live z)) y h = cc
+-- what is below all goes first
+place_first : (q : ℕ × ℕ) (qs : List (ℕ × ℕ)) → IsBelowAll numbers_cmp q qs → place numbers_cmp q qs ≡ q ∷ qs
+place_first q [] b = refl
+place_first q (y ∷ ys) b = ap (λ (o : Ordering). by_order o (q ∷ y ∷ ys) (y ∷ ys) (y ∷ place numbers_cmp q ys)) (b y (inl refl))
 
--- a component among all of a record shows
-component_found : (x : Tombed SessionParts) → record_valid x → (c : ℕ) (k : ComponentParts) → In (c, Live k) (components_of x) → component_at x c ≡ Some k
-component_found Ended v c k i = absurd i
-component_found (Live s) v c k i = ap live_at (entry_found nat_ranked (c, Live k) s.components v.0 i)
-
--- and a component that shows is among them
-found_component : (x : Tombed SessionParts) (c : ℕ) (k : ComponentParts) → component_at x c ≡ Some k → In (c, Live k) (components_of x)
-found_component Ended c k h = none_some k h
-found_component (Live s) c k h = found_entry nat_ranked c (Live k) s.components (lived _ k h)
-
--- a flow that is listed shows a field
-listed_shows : (x : Tombed SessionParts) → record_valid x → (q : ℕ × ℕ) → In q (record_flows false x) → (y : FlowParts) × (flow_at x q.0 q.1 ≡ Some y) × (has_field y ≡ true)
-listed_shows x v q i =
-    let r = listed_there false x q i in
-    let k = r.0 in
-    let l = lives r.1 r.4 in
-    let flow : value_at nat_cmp k.flows q.1 ≡ Some (Live l.0) = entry_found nat_ranked (q.1, r.1) k.flows (component_is_valid x v q.0 k r.2).0 r.3 ∙ ap Some l.1 in
-    (l.0, ap (λ (o : Option ComponentParts). option_and_then (λ (s : ComponentParts). live_at (value_at nat_cmp s.flows q.1)) o) (component_found x v q.0 k r.2) ∙ ap live_at flow, l.2)
-
--- and a flow that shows a field is listed
-shows_listed : (x : Tombed SessionParts) (c n : ℕ) (y : FlowParts) → flow_at x c n ≡ Some y → has_field y ≡ true → In (c, n) (record_flows false x)
-shows_listed x c n y h t = of_component (component_at x c) refl h
+-- below one, and so below what that isn't above
+below_through : (q r s : ℕ × ℕ) → numbers_cmp q r ≡ Less → is_gt (numbers_cmp r s) ≡ false → numbers_cmp q s ≡ Less
+below_through q r s l g = by (numbers_cmp r s) refl
   where
-    of_component : (k : Option ComponentParts) → component_at x c ≡ k → option_and_then (λ (z : ComponentParts). live_at (value_at nat_cmp z.flows n)) k ≡ Some y → In (c, n) (record_flows false x)
-    of_component None e h = none_some y h
-    of_component (Some k) e h = there_listed false x c n k (Live y) (found_component x c k e) (found_entry nat_ranked n (Live y) k.flows (lived _ y h)) t
+    by : (o : Ordering) → numbers_cmp r s ≡ o → numbers_cmp q s ≡ Less
+    by Less h = numbers_ranked.total.trans q r s l h
+    by Equal h = subst (λ (z : ℕ × ℕ). numbers_cmp q z ≡ Less) (numbers_ranked.same r s h) l
+    by Greater h = clash (is_gt (numbers_cmp r s)) (ap is_gt h) g
 
--- the place of a fact of a flow
-flow_field_of : (a : Fact) (q : ℕ × ℕ) → flow_of a ≡ Some q → (f : FlowField) × (e : Entry) × (a ≡ Field (OfFlow q.0 q.1 f) e.0 e.1)
-flow_field_of End q h = none_some q h
-flow_field_of (Removed r) q h = none_some q h
-flow_field_of (Field (OfSession f) t v) q h = none_some q h
-flow_field_of (Field (OfComponent c f) t v) q h = none_some q h
-flow_field_of (Field (OfRuleName x) t v) q h = none_some q h
-flow_field_of (Field (OfFlow c n f) t v) q h = let e : (c, n) ≡ q = some_same (c, n) q h in (f, (t, v), λ i. Field (OfFlow (e i).0 (e i).1 f) t v)
+-- one that comes twice
+same_twice : (q r : ℕ × ℕ) (rs : List (ℕ × ℕ)) → q ≡ r → Same (q ∷ rs) (q ∷ r ∷ rs)
+same_twice q r rs e x = (λ i. forth i, λ i. back i)
+  where
+    forth : In x (q ∷ rs) → In x (q ∷ r ∷ rs)
+    forth (inl h) = inl h
+    forth (inr i) = inr (inr i)
 
--- what says something is a flow
-says_flow : (x : Option FlowParts) (f : FlowField) (e : Entry) → flow_says x f ≡ Some e → (y : FlowParts) × (x ≡ Some y) × (flow_entry y f ≡ Some e)
-says_flow None f e h = none_some e h
-says_flow (Some y) f e h = (y, refl, h)
+    back : In x (q ∷ r ∷ rs) → In x (q ∷ rs)
+    back (inl h) = inl h
+    back (inr (inl h)) = inl (h ∙ sym e)
+    back (inr (inr i)) = inr i
 
--- the same flows
-same_flows : (x : Tombed SessionParts) → record_valid x → Same (record_flows false x) (filter_map flow_of (ascending fact_cmp (record_facts x)))
-same_flows x v q = (
-  λ i.
-      let r = listed_shows x v q i in
-      let s = some_field r.0 r.2 in
-      let here = (flow_has x v q.0 q.1 s.0 s.1).1 (ap (λ z. flow_says z s.0) r.1 ∙ s.2) in
-      In-filter_map flow_of (Field (OfFlow q.0 q.1 s.0) s.1.0 s.1.1) q (ascending fact_cmp (record_facts x)) ((sorted-In (record_facts x) _).1 here) refl,
-  λ i.
-      let r = filter_map-In flow_of q (ascending fact_cmp (record_facts x)) i in
-      let p = flow_field_of r.0 q r.2 in
-      let here = subst (λ (a : Fact). In a (record_facts x)) p.2 ((sorted-In (record_facts x) r.0).0 r.1) in
-      let y = says_flow (flow_at x q.0 q.1) p.0 p.1 ((flow_has x v q.0 q.1 p.0 p.1).0 here) in
-      shows_listed x q.0 q.1 y.0 y.1 (field_some y.0 p.0 p.1 y.2),
+-- each once is the ascending list
+after_is : (q : ℕ × ℕ) (qs : List (ℕ × ℕ)) → NotAbove q qs → Climbs qs → q ∷ flows_after (Some q) qs ≡ ascending numbers_cmp (q ∷ qs)
+after_is q [] b c = refl
+after_is q (r ∷ rs) b c = by (after_is q rs (λ s i. b s (inr i)) c.1) (after_is r rs c.0 c.1) (is_eq (numbers_cmp q r)) refl
+  where
+    below : is_eq (numbers_cmp q r) ≡ false → (s : ℕ × ℕ) → In s (r ∷ rs) → numbers_cmp q s ≡ Less
+    below n s (inl h) = subst (λ (z : ℕ × ℕ). numbers_cmp q z ≡ Less) (sym h) (less_of (numbers_cmp q r) (b r (inl refl)) n)
+    below n s (inr i) = below_through q r s (less_of (numbers_cmp q r) (b r (inl refl)) n) (c.0 s i)
+
+    by : q ∷ flows_after (Some q) rs ≡ ascending numbers_cmp (q ∷ rs) → r ∷ flows_after (Some r) rs ≡ ascending numbers_cmp (r ∷ rs)
+        → (o : Bool) → is_eq (numbers_cmp q r) ≡ o → q ∷ cond o (flows_after (Some q) rs) (r ∷ flows_after (Some r) rs) ≡ ascending numbers_cmp (q ∷ r ∷ rs)
+    by same next true e =
+        same
+        ∙ ascending-Same numbers_cmp numbers_ranked (q ∷ rs) (q ∷ r ∷ rs) (same_twice q r rs (eq_is numbers_ranked q r e))
+    by same next false e =
+        ap (λ (l : List (ℕ × ℕ)). q ∷ l) next
+        ∙ sym (place_first q (ascending numbers_cmp (r ∷ rs)) (λ s i. below e s ((ascending-In numbers_cmp numbers_ranked (r ∷ rs) s).0 i)))
+
+-- with none before
+each_once : (qs : List (ℕ × ℕ)) → Climbs qs → flows_after None qs ≡ ascending numbers_cmp qs
+each_once [] c = refl
+each_once (q ∷ qs) c = after_is q qs c.0 c.1
+
+-- ---- the flows of facts
+
+-- fact by fact
+same_flows : (xs : List AfFact) → filter_map flow_said xs ≡ filter_map flow_of (map fact_of xs)
+same_flows [] = refl
+same_flows (End ∷ xs) = same_flows xs
+same_flows (ComponentRemoved c ∷ xs) = same_flows xs
+same_flows (FlowRemoved c n ∷ xs) = same_flows xs
+same_flows (Session t (session.Address x) ∷ xs) = same_flows xs
+same_flows (Session t (session.Apn x) ∷ xs) = same_flows xs
+same_flows (Session t (session.Subscribers x) ∷ xs) = same_flows xs
+same_flows (Session t (session.Host x) ∷ xs) = same_flows xs
+same_flows (Session t (session.Realm x) ∷ xs) = same_flows xs
+same_flows (Session t (session.Last x) ∷ xs) = same_flows xs
+same_flows (Component c t (component.MediaType x) ∷ xs) = same_flows xs
+same_flows (Component c t (component.Status x) ∷ xs) = same_flows xs
+same_flows (Component c t (component.RateUp x) ∷ xs) = same_flows xs
+same_flows (Component c t (component.RateDown x) ∷ xs) = same_flows xs
+same_flows (Flow c n t (flow.Descriptions x) ∷ xs) = ap (λ (l : List (ℕ × ℕ)). (c, n) ∷ l) (same_flows xs)
+same_flows (Flow c n t (flow.Usage x) ∷ xs) = ap (λ (l : List (ℕ × ℕ)). (c, n) ∷ l) (same_flows xs)
+same_flows (Flow c n t (flow.Status x) ∷ xs) = ap (λ (l : List (ℕ × ℕ)). (c, n) ∷ l) (same_flows xs)
+same_flows (Flow c n t (flow.RateUp x) ∷ xs) = ap (λ (l : List (ℕ × ℕ)). (c, n) ∷ l) (same_flows xs)
+same_flows (Flow c n t (flow.RateDown x) ∷ xs) = ap (λ (l : List (ℕ × ℕ)). (c, n) ∷ l) (same_flows xs)
+
+-- the first parts of what is below aren't above
+then_less : (o p r s : Ordering) → ordering_then (ordering_then o (ordering_then p r)) s ≡ Less → is_gt (ordering_then o p) ≡ false
+then_less Less p r s h = refl
+then_less Equal Less r s h = refl
+then_less Equal Equal r s h = refl
+then_less Equal Greater r s h = clash false (ap is_lt h) refl
+then_less Greater p r s h = clash false (ap is_lt h) refl
+
+-- a fact of a flow below another
+flow_below : (c n d m : ℕ) (t u : Tag) (x w : FlowValue) → fact_cmp (fact_of (Flow c n t x)) (fact_of (Flow d m u w)) ≡ Less → is_gt (numbers_cmp (c, n) (d, m)) ≡ false
+flow_below c n d m t u x w l = then_less (nat_cmp c d) (nat_cmp n m) (pair_cmp nat_cmp text_cmp (flow_number x, []) (flow_number w, [])) said
+    (sym (ap (λ (p : Position). ordering_then (position_cmp p (position (fact_of (Flow d m u w)))) said) (flow_at c n t x)
+    ∙ ap (λ (p : Position). ordering_then (position_cmp (6, (c, (n, (flow_number x, [])))) p) said) (flow_at d m u w)) ∙ l)
+  where
+    said : Ordering
+    said = option_cmp entry_cmp (entry (fact_of (Flow c n t x))) (entry (fact_of (Flow d m u w)))
+
+-- below another, of any kind
+above : (c n : ℕ) (t : Tag) (x : FlowValue) (y : AfFact) (q : ℕ × ℕ) → flow_said y ≡ Some q → fact_cmp (fact_of (Flow c n t x)) (fact_of y) ≡ Less → is_gt (numbers_cmp (c, n) q) ≡ false
+above c n t x End q h l = none_some q h
+above c n t x (ComponentRemoved d) q h l = none_some q h
+above c n t x (FlowRemoved d m) q h l = none_some q h
+above c n t x (Session u w) q h l = none_some q h
+above c n t x (Component d u w) q h l = none_some q h
+above c n t x (Flow d m u w) q h l = subst (λ (z : ℕ × ℕ). is_gt (numbers_cmp (c, n) z) ≡ false) (some_same (d, m) q h) (flow_below c n d m t u x w l)
+
+-- the flows of facts that rise climb
+flows_climb : (xs : List AfFact) → Rises fact_cmp (map fact_of xs) → Climbs (filter_map flow_said xs)
+flows_climb [] r = tt
+flows_climb (End ∷ xs) r = flows_climb xs r.1
+flows_climb (ComponentRemoved c ∷ xs) r = flows_climb xs r.1
+flows_climb (FlowRemoved c n ∷ xs) r = flows_climb xs r.1
+flows_climb (Session t x ∷ xs) r = flows_climb xs r.1
+flows_climb (Component c t x ∷ xs) r = flows_climb xs r.1
+flows_climb (Flow c n t x ∷ xs) r = (
+  λ q i. let m = filter_map-In flow_said q xs i in above c n t x m.0 q m.2 (r.0 (fact_of m.0) (In-map fact_of m.0 xs m.1)),
+  flows_climb xs r.1,
 )
 
--- a record lists the flows of which a field shows
-pub flows_is : (x : Tombed SessionParts) → record_valid x → record_flows false x ≡ flows (ascending fact_cmp (record_facts x))
-flows_is x v =
-    sym (ascending-itself numbers_cmp (pair_ranked nat_ranked nat_ranked) (record_flows false x) (flows_ascend false x v))
-    ∙ ascending-Same numbers_cmp (pair_ranked nat_ranked nat_ranked) (record_flows false x) (filter_map flow_of (ascending fact_cmp (record_facts x))) (same_flows x v)
-    ∙ ap (λ (l : List Fact). ascending numbers_cmp (filter_map flow_of l)) (sym (record_held x v))
+-- of what is kept
+pub flows_is : (xs : List AfFact) (zs : List Fact) → map fact_of xs ≡ zs → kept_list zs ≡ zs → flows_after None (filter_map flow_said xs) ≡ flows zs
+flows_is xs zs e k =
+    each_once (filter_map flow_said xs) (flows_climb xs (subst (λ (l : List Fact). Rises fact_cmp l) (sym e) (kept_rises zs k)))
+    ∙ ap (ascending numbers_cmp) (same_flows xs)
+    ∙ ap (λ (l : List Fact). ascending numbers_cmp (filter_map flow_of l)) (e ∙ sym k)

@@ -1,9 +1,3 @@
 pub mod FlowLaws
-pub mod FlowOrder
-pub mod ListLaws
-pub mod ListParts
-pub mod ListOrder
-pub mod ReaderLaws
-pub mod RecordLaws
 pub mod RemovedLaws
-pub mod SubsetLaws
+pub mod TypedLaws

@@ -1,35 +1,30 @@
--- The numbers of flows of a record: of those of which a field shows, or of those that are removed.
-use Rattle.std.specs.Prelude.{ℕ, Bool, not, ◌&&◌, ◌||◌, if◌then◌else◌, List, [], ◌++◌, Option, Some, None, is_some}
-use Rattle.std.specs.List.{filter_map, flat_map}
-use Rattle.lattice_core.specs.declared.tombed.Tombed.{Tombed}
-use Rattle.lattice_core.specs.declared.tombed.Tombed.TheVariants.{Live, Ended}
-use Rattle.af_records.specs.declared.flow.FlowParts.{FlowParts}
-use Rattle.af_records.specs.declared.component.ComponentParts.{ComponentParts}
-use Rattle.af_records.specs.declared.session.SessionParts.{SessionParts}
-use Rattle.af_records.specs.Parts.{components_of}
+-- The flows of which facts are fields.
+use Rattle.std.specs.Prelude.{ℕ, Bool, false, if◌then◌else◌, List, [], ◌∷◌, Option, Some, None}
+use Rattle.std.specs.declared.cmp.Ordering.{Ordering}
+use Rattle.std.specs.Ordering.{is_eq, nat_cmp}
+use Rattle.ranked.specs.Orders.{pair_cmp}
+use Rattle.af_records.specs.declared.fact.AfFact.{AfFact}
+use Rattle.af_records.specs.declared.fact.AfFact.TheVariants.{End, ComponentRemoved, FlowRemoved, Session, Component, Flow}
 
--- the flow has a field
-abbrev pub has_field : FlowParts → Bool
-has_field x = is_some x.descriptions || (is_some x.usage || (is_some x.status || (is_some x.rates.up || is_some x.rates.down)))
+-- pairs of numbers
+abbrev pub numbers_cmp : ℕ × ℕ → ℕ × ℕ → Ordering
+numbers_cmp = pair_cmp nat_cmp nat_cmp
 
--- the flow is one of those
-abbrev pub is_listed : Bool → Tombed FlowParts → Bool
-is_listed removed (Live x) = not removed && has_field x
-is_listed removed Ended = removed
+-- the flow of which the fact is a field
+abbrev pub flow_said : AfFact → Option (ℕ × ℕ)
+flow_said End = None
+flow_said (ComponentRemoved c) = None
+flow_said (FlowRemoved c n) = None
+flow_said (Session t x) = None
+flow_said (Component c t x) = None
+flow_said (Flow c n t x) = Some (c, n)
 
--- its numbers, if it is
-abbrev pub flow_number : Bool → ℕ → ℕ × Tombed FlowParts → Option (ℕ × ℕ)
-flow_number removed c e = if is_listed removed e.1 then Some (c, e.0) else None
+-- the flow is the last one
+abbrev pub is_last : Option (ℕ × ℕ) → ℕ × ℕ → Bool
+is_last None q = false
+is_last (Some p) q = is_eq (numbers_cmp p q)
 
--- of the flows of a component
-abbrev pub component_flows : Bool → ℕ × Tombed ComponentParts → List (ℕ × ℕ)
-component_flows removed (c, Live x) = filter_map (flow_number removed c) x.flows
-component_flows removed (c, Ended) = []
-
--- of the flows that are left of a component, and of the components after it
-abbrev pub flows_left : Bool → ℕ → List (ℕ × Tombed FlowParts) → List (ℕ × Tombed ComponentParts) → List (ℕ × ℕ)
-flows_left removed c fs cs = filter_map (flow_number removed c) fs ++ flat_map (component_flows removed) cs
-
--- of the flows of a record
-abbrev pub record_flows : Bool → Tombed SessionParts → List (ℕ × ℕ)
-record_flows removed x = flat_map (component_flows removed) (components_of x)
+-- each once, after the last one
+abbrev pub flows_after : Option (ℕ × ℕ) → List (ℕ × ℕ) → List (ℕ × ℕ)
+flows_after last [] = []
+flows_after last (q ∷ qs) = if is_last last q then flows_after last qs else q ∷ flows_after (Some q) qs

@@ -1,10 +1,6 @@
-pub mod FactLists
+pub mod FieldValues
 pub mod FlowLists
-pub mod Joins
 pub mod Numbers
-pub mod Parts
 pub mod RecordFacts
 pub mod RemovedLists
-pub mod Singles
-pub mod Subsets
 pub mod laws

@@ -2,9 +2,9 @@
 ghost use Rattle.std.specs.Prelude.{◌≡◌, IfOk};
 
 use crate::af_request_type::AfRequestType;
+use fact_records::SessionValue;
 use lattice_core::{Ranked, Tag};
 use pcrf_values::{Enumerated, Filters, FlowStatus, FlowUsage};
-use session_records::SessionValue;
 use std::alloc::AllocError;
 
 /// What a fact says of a media component (TS 29.214, 5.3.16). Rates are in bit/s.

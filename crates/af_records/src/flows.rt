@@ -1,43 +1,37 @@
 //! The flows of a record, one after another.
-ghost use Rattle.std.specs.Prelude.{◌≡◌};
+ghost use Rattle.std.specs.Prelude.{◌≡◌, None};
 ghost use Rattle.std.specs.Iterator.{YieldsFirst, item_count};
-ghost use Rattle.af_records.specs.FlowLists.{is_listed, component_flows};
-ghost use Rattle.std.specs.List.{flat_map};
+ghost use Rattle.std.specs.List.{filter_map};
+ghost use Rattle.af_records.specs.FlowLists.{flow_said, flows_after, is_last};
 
-use crate::component::ComponentParts;
-use crate::flow::FlowParts;
-use lattice_core::Tombed;
+use crate::fact::AfFact;
 use std::marker::Model;
 
-/// The Media-Component-Numbers and Flow-Numbers of some flows of a record, ascending, which contracts see as their list: of
-/// those of which a field shows, or of those that are removed.
+/// The Media-Component-Numbers and Flow-Numbers of the flows of which a field shows, ascending, which contracts see as their list.
 #[derive(Drop)]
 pub struct Flows<'a> {
-    removed: bool,
-    components: &'a [(u32, Tombed<ComponentParts>)],
-    component: u32,
-    flows: &'a [(u32, Tombed<FlowParts>)],
+    last: Option<(u32, u32)>,
+    left: &'a [AfFact],
 }
 
 impl<'a> Model for Flows<'a> {
     ghost use Rattle.std.specs.Prelude.{ℕ, List};
-    ghost use Rattle.af_records.specs.FlowLists.{flows_left};
+    ghost use Rattle.std.specs.List.{filter_map};
+    ghost use Rattle.af_records.specs.FlowLists.{flow_said, flows_after};
 
     ghost Value = { List (ℕ × ℕ) };
 
-    ghost view = { λ s. flows_left s.removed s.component s.flows.now s.components.now };
+    ghost view = { λ s. flows_after s.last (filter_map flow_said s.left.now) };
 }
 
 impl<'a> Flows<'a> {
-    /// The flows of these components that are removed, or those of which a field shows.
-    pub(crate) fn of(removed: bool, components: &'a [(u32, Tombed<ComponentParts>)]) -> Flows<'a>
-        ensures { result ≡ flat_map (component_flows removed) components.now }
+    /// The flows of which these facts are fields.
+    pub(crate) fn of(facts: &'a [AfFact]) -> Flows<'a>
+        ensures { result ≡ flows_after None (filter_map flow_said facts.now) }
     {
         Flows {
-            removed,
-            components,
-            component: 0,
-            flows: &[],
+            last: None,
+            left: facts,
         }
     }
 }
@@ -50,29 +44,39 @@ impl<'a> Iterator for Flows<'a> {
     ghost remaining = { item_count (λ s. s) };
 
     fn next(&mut self) -> Option<(u32, u32)> {
-        loop {
-            while let Some((first, others)) = self.flows.split_first() {
-                self.flows = others;
-                if is_listed(self.removed, &first.1) {
-                    return Some((self.component, first.0));
+        'each: while let Some((first, rest)) = self.left.split_first() {
+            self.left = rest;
+            if let Some(flow) = flow_said(first) {
+                if !is_last(self.last, flow) {
+                    self.last = Some(flow);
+                    return Some(flow);
                 }
             }
-            let (first, others) = self.components.split_first()?;
-            self.components = others;
-            if let Tombed::Live(component) = &first.1 {
-                self.component = first.0;
-                self.flows = component.flows.entries();
-            }
         }
+        None
     }
 }
 
-/// The flow is one of those.
-fn is_listed(removed: bool, flow: &Tombed<FlowParts>) -> bool
-    ensures { result ≡ is_listed removed flow.now }
+/// The flow of which the fact is a field.
+fn flow_said(fact: &AfFact) -> Option<(u32, u32)>
+    ensures { result ≡ flow_said fact.now }
 {
-    match flow {
-        Tombed::Live(flow) => !removed && flow.has_field(),
-        Tombed::Ended => removed,
+    match fact {
+        AfFact::Flow(component, flow, _, _) => Some((*component, *flow)),
+        AfFact::End => None,
+        AfFact::ComponentRemoved(_) => None,
+        AfFact::FlowRemoved(_, _) => None,
+        AfFact::Session(_, _) => None,
+        AfFact::Component(_, _, _) => None,
+    }
+}
+
+/// The flow is the last one.
+fn is_last(last: Option<(u32, u32)>, flow: (u32, u32)) -> bool
+    ensures { result ≡ is_last last flow }
+{
+    match last {
+        Some(last) => last.0.cmp(&flow.0).then(last.1.cmp(&flow.1)).is_eq(),
+        None => false,
     }
 }

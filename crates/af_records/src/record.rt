@@ -1,39 +1,32 @@
 //! Records of AF sessions.
-ghost use Rattle.std.specs.Prelude.{◌≡◌, [], ◌∷◌, IfOk, OnOk, OnErr, None, if◌then◌else◌, map, true};
+ghost use Rattle.std.specs.Prelude.{◌≡◌, IfOk, IfSome, None, if◌then◌else◌, map, option_map, true};
 ghost use Rattle.std.proofs.Common.{unwrap_or};
-ghost use Rattle.std.specs.Option.{option_copied};
 ghost use Rattle.pcrf_values.specs.Numbers.{flow_status_number};
 ghost use Rattle.pcrf_facts.specs.FlowWords as words;
-ghost use Rattle.pcrf_facts.specs.Held.{kept_list, join_of, is_ended, entry_shown};
+ghost use Rattle.pcrf_facts.specs.Held.{kept_list, is_ended, entry_shown};
 ghost use Rattle.pcrf_facts.specs.Held as held_words;
 ghost use Rattle.pcrf_facts.specs.Live.{af_is_live};
 ghost use Rattle.pcrf_facts.specs.Places as places;
-ghost use Rattle.pcrf_facts.specs.Places.{SessionField, ComponentField, FlowField, OfSession, OfComponent, OfFlow};
+ghost use Rattle.pcrf_facts.specs.Places.{SessionField, ComponentField, FlowField, OfSession, OfComponent, OfFlow, session_field_number, component_field_number, flow_field_number};
 ghost use Rattle.pcrf_facts.specs.Values as values;
 ghost use Rattle.pcrf_facts.specs.Values.{Number, Text};
 ghost use Rattle.pcrf_model.specs.Forms.{is_record};
 ghost use Rattle.pcrf_model.specs.Sessions.{Af};
-ghost use Rattle.session_records.specs.Levels.{entry_by};
-ghost use Rattle.session_records.specs.SessionFacts.{address_value, session_says};
-ghost use Rattle.af_records.specs.FactLists.{record_listed};
+ghost use Rattle.fact_records.specs.SessionValues.{entry_by, session_entry, session_number};
+ghost use Rattle.fact_records.specs.SessionFacts.{address_value};
 ghost use Rattle.af_records.specs.RemovedLists.{removable_of};
-ghost use Rattle.af_records.specs.Parts.{fields_at, components_of, component_at, flow_at, component_says, flow_says, held_number};
-ghost use Rattle.af_records.specs.RecordFacts.{fact_of, known_facts};
-ghost use Rattle.af_records.specs.Singles.{single, with_component, with_flow};
-ghost use Rattle.lattice_core.specs.declared.tombed.Tombed.TheVariants.{Live};
+ghost use Rattle.af_records.specs.FieldValues.{component_entry, component_number, flow_entry, flow_number, held_number};
+ghost use Rattle.af_records.specs.RecordFacts.{fact_of};
 
 use crate::af_request_type::AfRequestType;
-use crate::component::ComponentParts;
-use crate::fact::AfFact;
-use crate::flow::FlowParts;
+use crate::fact::{AfFact, ComponentValue, FlowValue};
 use crate::flows::Flows;
-use crate::listing::facts_of;
 use crate::rates::GivenRates;
 use crate::removed::RemovedParts;
-use crate::session::SessionParts;
-use lattice_core::{FactSet, Join, Tag, Tombed};
+use crate::typed::{component_position, flow_position};
+use fact_records::{Record, SessionValue, copy_facts, position_of_field};
+use lattice_core::{FactSet, Join, Tag};
 use pcrf_values::{Apn, DiameterIdentity, Enumerated, Filters, FlowStatus, FlowUsage, Subscribers};
-use session_records::{SessionFields, join_into};
 use std::alloc::{AllocError, Global};
 use std::marker::Model;
 use std::net::Ipv4Addr;
@@ -42,7 +35,7 @@ use std::net::Ipv4Addr;
 /// operation gives.
 #[derive(Drop)]
 pub struct AfRec {
-    parts: Tombed<SessionParts>,
+    facts: Record<AfFact>,
 }
 
 impl Model for AfRec {
@@ -50,13 +43,12 @@ impl Model for AfRec {
     ghost use Rattle.pcrf_facts.specs.Facts.{Fact};
     ghost use Rattle.pcrf_model.specs.Forms.{is_record};
     ghost use Rattle.pcrf_model.specs.Sessions.{Af};
-    ghost use Rattle.af_records.specs.RecordFacts.{known_facts};
 
     ghost Value = { List Fact };
 
-    ghost view = { λ r. known_facts r.parts };
+    ghost view = { λ r. r.facts };
 
-    ghost invariant = { λ r. is_record Af (known_facts r.parts) ≡ true };
+    ghost invariant = { λ r. is_record Af r.facts ≡ true };
 }
 
 impl Join for AfRec {
@@ -76,161 +68,42 @@ impl Join for AfRec {
 
     ghost closed = { λ xs ys _ _. held_twice (xs ++ ys) };
 
-    #[tactic(auto, using(crate::proofs::RecordLaws::record_joined_is, crate::proofs::RecordLaws::joined_known))]
     fn joined_copy(&self, other: &AfRec) -> Result<AfRec, AllocError> {
-        self.parts.note_valid();
-        other.parts.note_valid();
-        let parts = self.parts.joined_copy(&other.parts)?;
-        Ok(AfRec { parts })
+        let facts = self.facts.joined_copy(&other.facts)?;
+        Ok(AfRec { facts })
     }
 
-    #[tactic(auto, using(crate::proofs::RecordLaws::record_joined_is, crate::proofs::RecordLaws::joined_known))]
     fn join_in(&mut self, other: AfRec) -> Result<(), (AllocError, AfRec)> {
-        let theirs = other.parts;
-        self.parts.note_valid();
-        theirs.note_valid();
-        if let Err((refused, parts)) = self.parts.join_in(theirs) {
-            return Err((refused, AfRec { parts }));
+        if let Err((refused, facts)) = self.facts.join_in(other.facts) {
+            return Err((refused, AfRec { facts }));
         }
         Ok(())
     }
 
     fn try_copy(&self) -> Result<AfRec, AllocError> {
-        let parts = self.parts.try_copy()?;
-        Ok(AfRec { parts })
+        let facts = self.facts.try_copy()?;
+        Ok(AfRec { facts })
     }
 
-    #[tactic(auto, using(crate::proofs::RecordLaws::record_held))]
     fn note_valid(&self) {
-        self.parts.note_valid();
+        self.facts.note_valid();
     }
 }
 
 impl FactSet for AfRec {
-    ghost use Rattle.session_records.specs.Subsets.{facts_subset, facts_empty};
+    ghost use Rattle.fact_records.specs.Sets.{facts_subset, facts_empty};
 
     ghost subset = { facts_subset };
 
     ghost empty = { facts_empty };
 
-    #[tactic(auto, using(crate::proofs::SubsetLaws::record_subset_is))]
     fn is_subset(&self, other: &AfRec) -> bool {
-        self.parts.note_valid();
-        other.parts.note_valid();
-        self.parts.is_subset(&other.parts)
+        self.facts.is_subset(&other.facts)
     }
 
-    #[tactic(auto, using(crate::proofs::SubsetLaws::record_empty_is))]
     fn is_empty(&self) -> bool {
-        self.parts.note_valid();
-        self.parts.is_empty()
+        self.facts.is_empty()
     }
-}
-
-/// The record of one fact.
-fn single(alloc: Global, fact: &AfFact) -> Result<Tombed<SessionParts>, AllocError>
-    ensures { IfOk result (λ r. r ≡ single fact.now) }
-{
-    match fact {
-        AfFact::End => Ok(Tombed::Ended),
-        AfFact::ComponentRemoved(component) => with_component(alloc, *component, Tombed::Ended),
-        AfFact::FlowRemoved(component, flow) => {
-            with_flow(alloc, *component, *flow, Tombed::Ended)
-        }
-        AfFact::Session(tag, value) => Ok(Tombed::Live(SessionParts::of(alloc, *tag, value)?)),
-        AfFact::Component(component, tag, value) => {
-            let parts = ComponentParts::of(alloc, *tag, value);
-            with_component(alloc, *component, Tombed::Live(parts))
-        }
-        AfFact::Flow(component, flow, tag, value) => {
-            let fields = FlowParts::of(*tag, value)?;
-            with_flow(alloc, *component, *flow, Tombed::Live(fields))
-        }
-    }
-}
-
-/// A record of one component.
-fn with_component(
-    alloc: Global,
-    number: u32,
-    component: Tombed<ComponentParts>,
-) -> Result<Tombed<SessionParts>, AllocError>
-    ensures { IfOk result (λ r. r ≡ Live (with_component number component)) }
-{
-    let session = SessionParts::with_component(alloc, number, component)?;
-    Ok(Tombed::Live(session))
-}
-
-/// A record of one flow.
-fn with_flow(
-    alloc: Global,
-    component: u32,
-    number: u32,
-    flow: Tombed<FlowParts>,
-) -> Result<Tombed<SessionParts>, AllocError>
-    ensures { IfOk result (λ r. r
-        ≡ Live (with_component component (Live (with_flow number flow)))) }
-{
-    let parts = ComponentParts::with_flow(alloc, number, flow)?;
-    with_component(alloc, component, Tombed::Live(parts))
-}
-
-/// The fields, where the session isn't ended.
-fn fields_at(parts: &Tombed<SessionParts>) -> Option<&SessionFields<Enumerated<AfRequestType>>>
-    ensures { option_copied result ≡ fields_at parts.now }
-{
-    match parts {
-        Tombed::Live(session) => Some(&session.fields),
-        Tombed::Ended => None,
-    }
-}
-
-/// All components, none of a session that is ended.
-fn components_of(parts: &Tombed<SessionParts>) -> &[(u32, Tombed<ComponentParts>)]
-    ensures { result.now ≡ components_of parts.now }
-{
-    match parts {
-        Tombed::Live(session) => session.components.entries(),
-        Tombed::Ended => &[],
-    }
-}
-
-/// The component, where it shows.
-fn component_at(parts: &Tombed<SessionParts>, component: u32) -> Option<&ComponentParts>
-    ensures { option_copied result ≡ component_at parts.now component }
-{
-    match parts {
-        Tombed::Live(session) => match session.components.get(&component) {
-            Some(Tombed::Live(found)) => Some(found),
-            _ => None,
-        },
-        Tombed::Ended => None,
-    }
-}
-
-/// The flow, where it shows.
-fn flow_at(parts: &Tombed<SessionParts>, component: u32, flow: u32) -> Option<&FlowParts>
-    ensures { option_copied result ≡ flow_at parts.now component flow }
-{
-    match component_at(parts, component) {
-        Some(found) => match found.flows.get(&flow) {
-            Some(Tombed::Live(found)) => Some(found),
-            _ => None,
-        },
-        None => None,
-    }
-}
-
-/// Adds a fact; a refusal changes nothing.
-#[tactic(auto, using(crate::proofs::RecordLaws::record_put_is))]
-fn put(alloc: Global, parts: &mut Tombed<SessionParts>, fact: &AfFact) -> Result<(), AllocError>
-    ensures ok { OnOk result
-        (known_facts parts.new ≡ join_of (known_facts parts.old) (fact_of fact.now ∷ [])) }
-    ensures err { OnErr result (parts.new ≡ parts.old) }
-{
-    parts.note_valid();
-    let one = single(alloc, fact)?;
-    join_into(parts, one)
 }
 
 impl AfRec {
@@ -239,203 +112,277 @@ impl AfRec {
         requires { is_record Af (map fact_of facts.now) ≡ true }
         ensures { IfOk result (λ r. r ≡ kept_list (map fact_of facts.now)) }
     {
-        let mut parts = Tombed::Live(SessionParts::start(alloc));
-        for fact in facts {
-            put(alloc, &mut parts, fact)?;
-        }
-        Ok(AfRec { parts })
+        AfRec::of(copy_facts(alloc, facts)?)
+    }
+
+    /// The same of facts that move into it.
+    pub fn of(facts: Vec<AfFact>) -> Result<AfRec, AllocError>
+        requires { is_record Af (map fact_of facts.items) ≡ true }
+        ensures { IfOk result (λ r. r ≡ kept_list (map fact_of facts.items)) }
+    {
+        let facts = Record::of_facts(facts)?;
+        Ok(AfRec { facts })
     }
 
     /// Does nothing: its contract tells a proof that something is known, and that each fact is one of some operation.
     pub fn note_known(&self)
         ensures { is_record Af self.now ≡ true }
     {
-        let _ = &self.parts;
+        let _ = &self.facts;
     }
 
     /// All facts that are kept, in order: a record of them is this record again. Its time and memory grow with their number.
     pub fn facts(&self, alloc: Global) -> Result<Vec<AfFact>, AllocError>
         ensures { IfOk result (λ facts. map fact_of facts.items ≡ self.now) }
     {
-        self.parts.note_valid();
-        listed(alloc, &self.parts)
+        copy_facts(alloc, self.facts.as_slice())
+    }
+
+    /// The same where they are.
+    pub fn as_slice(&self) -> &[AfFact]
+        ensures facts { map fact_of result.now ≡ self.now }
+        ensures kept { kept_list self.now ≡ self.now }
+    {
+        self.facts.as_slice()
     }
 
     /// The session is ended.
-    #[tactic(auto, using(crate::proofs::ReaderLaws::ended_is))]
     pub fn ended(&self) -> bool
         ensures { result ≡ is_ended self.now }
     {
-        match &self.parts {
-            Tombed::Ended => true,
-            Tombed::Live(_) => false,
-        }
+        self.facts.ended()
     }
 
     /// The session isn't ended, and shows an address.
-    #[tactic(auto, using(crate::proofs::ReaderLaws::live_is))]
+    #[tactic(auto, using(crate::proofs::TypedLaws::said))]
     pub fn live(&self) -> bool
         ensures { result ≡ af_is_live self.now }
     {
-        self.parts.note_valid();
-        match &self.parts {
-            Tombed::Ended => false,
-            Tombed::Live(session) => session.fields.user.address.get().is_some(),
+        if self.ended() {
+            return false;
+        }
+        self.address().is_some()
+    }
+
+    /// What the session's field of that number shows.
+    fn field(&self, number: u8) -> Option<(Tag, &SessionValue<Enumerated<AfRequestType>>)>
+        ensures at { IfSome result (λ e. number ≡ session_number e.1.now) }
+        ensures shown { (f : SessionField) → session_field_number f ≡ number
+            → session_entry (option_map (λ e. (e.0, e.1.now)) result)
+            ≡ entry_shown self.now (OfSession f) }
+    {
+        match self.facts.at(&position_of_field(number)) {
+            None => None,
+            Some(AfFact::End) => None,
+            Some(AfFact::ComponentRemoved(_)) => None,
+            Some(AfFact::FlowRemoved(_, _)) => None,
+            Some(AfFact::Session(tag, value)) => Some((*tag, value)),
+            Some(AfFact::Component(_, _, _)) => None,
+            Some(AfFact::Flow(_, _, _, _)) => None,
         }
     }
 
-    /// The fields, where they show.
-    fn fields(&self) -> Option<&SessionFields<Enumerated<AfRequestType>>>
-        ensures { (f : SessionField) →
-            session_says (option_copied result) f ≡ entry_shown self.now (OfSession f) }
+    /// What the component's field of that number shows.
+    fn component_field(&self, component: u32, number: u8) -> Option<(Tag, &ComponentValue)>
+        ensures at { IfSome result (λ e. number ≡ component_number e.1.now) }
+        ensures shown { (f : ComponentField) → component_field_number f ≡ number
+            → component_entry (option_map (λ e. (e.0, e.1.now)) result)
+            ≡ entry_shown self.now (OfComponent component f) }
     {
-        self.parts.note_valid();
-        fields_at(&self.parts)
+        match self.facts.at(&component_position(component, number)) {
+            None => None,
+            Some(AfFact::End) => None,
+            Some(AfFact::ComponentRemoved(_)) => None,
+            Some(AfFact::FlowRemoved(_, _)) => None,
+            Some(AfFact::Session(_, _)) => None,
+            Some(AfFact::Component(_, tag, value)) => Some((*tag, value)),
+            Some(AfFact::Flow(_, _, _, _)) => None,
+        }
     }
 
-    /// The component, whose fields say what shows at its places.
-    fn component(&self, number: u32) -> Option<&ComponentParts>
-        ensures { (f : ComponentField) →
-            component_says (option_copied result) f ≡ entry_shown self.now (OfComponent number f) }
+    /// What the flow's field of that number shows.
+    fn flow_field(&self, component: u32, flow: u32, number: u8) -> Option<(Tag, &FlowValue)>
+        ensures at { IfSome result (λ e. number ≡ flow_number e.1.now) }
+        ensures shown { (f : FlowField) → flow_field_number f ≡ number
+            → flow_entry (option_map (λ e. (e.0, e.1.now)) result)
+            ≡ entry_shown self.now (OfFlow component flow f) }
     {
-        self.parts.note_valid();
-        component_at(&self.parts, number)
-    }
-
-    /// The flow, whose fields say what shows at its places.
-    fn flow(&self, component: u32, number: u32) -> Option<&FlowParts>
-        ensures { (f : FlowField) →
-            flow_says (option_copied result) f ≡ entry_shown self.now (OfFlow component number f) }
-    {
-        self.parts.note_valid();
-        flow_at(&self.parts, component, number)
+        match self.facts.at(&flow_position(component, flow, number)) {
+            None => None,
+            Some(AfFact::End) => None,
+            Some(AfFact::ComponentRemoved(_)) => None,
+            Some(AfFact::FlowRemoved(_, _)) => None,
+            Some(AfFact::Session(_, _)) => None,
+            Some(AfFact::Component(_, _, _)) => None,
+            Some(AfFact::Flow(_, _, tag, value)) => Some((*tag, value)),
+        }
     }
 
     /// The Framed-IP-Address of the user, with its tag.
-    pub fn address(&self) -> Option<&(Tag, Ipv4Addr)>
-        ensures { entry_by address_value (option_copied result)
+    pub fn address(&self) -> Option<(Tag, &Ipv4Addr)>
+        ensures { entry_by address_value (option_map (λ e. (e.0, e.1.now)) result)
             ≡ entry_shown self.now places.address }
     {
-        match self.fields() {
-            Some(found) => found.user.address.get(),
-            None => None,
+        let Some((tag, value)) = self.field(1) else {
+            return None;
+        };
+        match value {
+            SessionValue::Address(address) => Some((tag, address)),
+            _ => None,
         }
     }
 
     /// The Called-Station-Id, with its tag.
-    pub fn apn(&self) -> Option<&(Tag, Apn)>
-        ensures { entry_by Text (option_copied result) ≡ entry_shown self.now places.apn }
+    pub fn apn(&self) -> Option<(Tag, &Apn)>
+        ensures { entry_by Text (option_map (λ e. (e.0, e.1.now)) result)
+            ≡ entry_shown self.now places.apn }
     {
-        match self.fields() {
-            Some(found) => found.user.apn.get(),
-            None => None,
+        let Some((tag, value)) = self.field(2) else {
+            return None;
+        };
+        match value {
+            SessionValue::Apn(apn) => Some((tag, apn)),
+            _ => None,
         }
     }
 
-    /// The subscribers, with its tag.
-    pub fn subscribers(&self) -> Option<&(Tag, Subscribers)>
-        ensures { entry_by values.Subscribers (option_copied result)
+    /// The subscribers, with their tag.
+    pub fn subscribers(&self) -> Option<(Tag, &Subscribers)>
+        ensures { entry_by values.Subscribers (option_map (λ e. (e.0, e.1.now)) result)
             ≡ entry_shown self.now places.subscribers }
     {
-        match self.fields() {
-            Some(found) => found.user.subscribers.get(),
-            None => None,
+        let Some((tag, value)) = self.field(3) else {
+            return None;
+        };
+        match value {
+            SessionValue::Subscribers(subscribers) => Some((tag, subscribers)),
+            _ => None,
         }
     }
 
     /// The Origin-Host of the application function, with its tag.
-    pub fn host(&self) -> Option<&(Tag, DiameterIdentity)>
-        ensures { entry_by Text (option_copied result) ≡ entry_shown self.now places.host }
+    pub fn host(&self) -> Option<(Tag, &DiameterIdentity)>
+        ensures { entry_by Text (option_map (λ e. (e.0, e.1.now)) result)
+            ≡ entry_shown self.now places.host }
     {
-        match self.fields() {
-            Some(found) => found.client.host.get(),
-            None => None,
+        let Some((tag, value)) = self.field(4) else {
+            return None;
+        };
+        match value {
+            SessionValue::Host(host) => Some((tag, host)),
+            _ => None,
         }
     }
 
     /// The Origin-Realm of the application function, with its tag.
-    pub fn realm(&self) -> Option<&(Tag, DiameterIdentity)>
-        ensures { entry_by Text (option_copied result) ≡ entry_shown self.now places.realm }
+    pub fn realm(&self) -> Option<(Tag, &DiameterIdentity)>
+        ensures { entry_by Text (option_map (λ e. (e.0, e.1.now)) result)
+            ≡ entry_shown self.now places.realm }
     {
-        match self.fields() {
-            Some(found) => found.client.realm.get(),
-            None => None,
+        let Some((tag, value)) = self.field(5) else {
+            return None;
+        };
+        match value {
+            SessionValue::Realm(realm) => Some((tag, realm)),
+            _ => None,
         }
     }
 
     /// What stands for the type of the last request, with its tag.
-    pub fn last(&self) -> Option<&(Tag, Enumerated<AfRequestType>)>
-        ensures { entry_by Number (option_copied result) ≡ entry_shown self.now places.last }
+    pub fn last(&self) -> Option<(Tag, &Enumerated<AfRequestType>)>
+        ensures { entry_by Number (option_map (λ e. (e.0, e.1.now)) result)
+            ≡ entry_shown self.now places.last }
     {
-        match self.fields() {
-            Some(found) => found.client.last.get(),
-            None => None,
+        let Some((tag, value)) = self.field(6) else {
+            return None;
+        };
+        match value {
+            SessionValue::Last(last) => Some((tag, last)),
+            _ => None,
         }
     }
 
     /// The Media-Type of a component, with its tag.
-    pub fn component_media_type(&self, component: u32) -> Option<&(Tag, u32)>
-        ensures { entry_by Number (option_copied result)
+    pub fn component_media_type(&self, component: u32) -> Option<(Tag, &u32)>
+        ensures { entry_by Number (option_map (λ e. (e.0, e.1.now)) result)
             ≡ entry_shown self.now (OfComponent component places.MediaType) }
     {
-        match self.component(component) {
-            Some(found) => found.media_type.get(),
-            None => None,
+        let Some((tag, value)) = self.component_field(component, 1) else {
+            return None;
+        };
+        match value {
+            ComponentValue::MediaType(kind) => Some((tag, kind)),
+            _ => None,
         }
     }
 
     /// The Flow-Status of a component, with its tag.
-    pub fn component_status(&self, component: u32) -> Option<&(Tag, Enumerated<FlowStatus>)>
-        ensures { entry_by Number (option_copied result)
+    pub fn component_status(&self, component: u32) -> Option<(Tag, &Enumerated<FlowStatus>)>
+        ensures { entry_by Number (option_map (λ e. (e.0, e.1.now)) result)
             ≡ entry_shown self.now (OfComponent component places.ComponentStatus) }
     {
-        match self.component(component) {
-            Some(found) => found.status.get(),
-            None => None,
+        let Some((tag, value)) = self.component_field(component, 2) else {
+            return None;
+        };
+        match value {
+            ComponentValue::Status(status) => Some((tag, status)),
+            _ => None,
         }
     }
 
     /// The Max-Requested-Bandwidth-UL of a component, with its tag.
-    pub fn component_rate_up(&self, component: u32) -> Option<&(Tag, u32)>
-        ensures { entry_by Number (option_copied result)
+    pub fn component_rate_up(&self, component: u32) -> Option<(Tag, &u32)>
+        ensures { entry_by Number (option_map (λ e. (e.0, e.1.now)) result)
             ≡ entry_shown self.now (OfComponent component places.ComponentRateUp) }
     {
-        match self.component(component) {
-            Some(found) => found.rates.up.get(),
-            None => None,
+        let Some((tag, value)) = self.component_field(component, 3) else {
+            return None;
+        };
+        match value {
+            ComponentValue::RateUp(rate) => Some((tag, rate)),
+            _ => None,
         }
     }
 
     /// The Max-Requested-Bandwidth-DL of a component, with its tag.
-    pub fn component_rate_down(&self, component: u32) -> Option<&(Tag, u32)>
-        ensures { entry_by Number (option_copied result)
+    pub fn component_rate_down(&self, component: u32) -> Option<(Tag, &u32)>
+        ensures { entry_by Number (option_map (λ e. (e.0, e.1.now)) result)
             ≡ entry_shown self.now (OfComponent component places.ComponentRateDown) }
     {
-        match self.component(component) {
-            Some(found) => found.rates.down.get(),
-            None => None,
+        let Some((tag, value)) = self.component_field(component, 4) else {
+            return None;
+        };
+        match value {
+            ComponentValue::RateDown(rate) => Some((tag, rate)),
+            _ => None,
         }
     }
 
     /// The Flow-Description of a flow, with its tag.
-    pub fn flow_descriptions(&self, component: u32, flow: u32) -> Option<&(Tag, Filters)>
-        ensures { entry_by values.Filters (option_copied result)
+    pub fn flow_descriptions(&self, component: u32, flow: u32) -> Option<(Tag, &Filters)>
+        ensures { entry_by values.Filters (option_map (λ e. (e.0, e.1.now)) result)
             ≡ entry_shown self.now (OfFlow component flow places.FlowDescriptions) }
     {
-        match self.flow(component, flow) {
-            Some(found) => found.descriptions.get(),
-            None => None,
+        let Some((tag, value)) = self.flow_field(component, flow, 1) else {
+            return None;
+        };
+        match value {
+            FlowValue::Descriptions(filters) => Some((tag, filters)),
+            _ => None,
         }
     }
 
     /// The Flow-Usage of a flow, with its tag.
-    pub fn flow_usage(&self, component: u32, flow: u32) -> Option<&(Tag, Enumerated<FlowUsage>)>
-        ensures { entry_by Number (option_copied result)
+    pub fn flow_usage(&self, component: u32, flow: u32) -> Option<(Tag, &Enumerated<FlowUsage>)>
+        ensures { entry_by Number (option_map (λ e. (e.0, e.1.now)) result)
             ≡ entry_shown self.now (OfFlow component flow places.FlowUsage) }
     {
-        match self.flow(component, flow) {
-            Some(found) => found.usage.get(),
-            None => None,
+        let Some((tag, value)) = self.flow_field(component, flow, 2) else {
+            return None;
+        };
+        match value {
+            FlowValue::Usage(usage) => Some((tag, usage)),
+            _ => None,
         }
     }
 
@@ -444,35 +391,44 @@ impl AfRec {
         &self,
         component: u32,
         flow: u32,
-    ) -> Option<&(Tag, Enumerated<FlowStatus>)>
-        ensures { entry_by Number (option_copied result)
+    ) -> Option<(Tag, &Enumerated<FlowStatus>)>
+        ensures { entry_by Number (option_map (λ e. (e.0, e.1.now)) result)
             ≡ entry_shown self.now (OfFlow component flow places.FlowStatus) }
     {
-        match self.flow(component, flow) {
-            Some(found) => found.status.get(),
-            None => None,
+        let Some((tag, value)) = self.flow_field(component, flow, 3) else {
+            return None;
+        };
+        match value {
+            FlowValue::Status(status) => Some((tag, status)),
+            _ => None,
         }
     }
 
     /// The Max-Requested-Bandwidth-UL of a flow, with its tag.
-    pub fn flow_rate_up(&self, component: u32, flow: u32) -> Option<&(Tag, u32)>
-        ensures { entry_by Number (option_copied result)
+    pub fn flow_rate_up(&self, component: u32, flow: u32) -> Option<(Tag, &u32)>
+        ensures { entry_by Number (option_map (λ e. (e.0, e.1.now)) result)
             ≡ entry_shown self.now (OfFlow component flow places.FlowRateUp) }
     {
-        match self.flow(component, flow) {
-            Some(found) => found.rates.up.get(),
-            None => None,
+        let Some((tag, value)) = self.flow_field(component, flow, 4) else {
+            return None;
+        };
+        match value {
+            FlowValue::RateUp(rate) => Some((tag, rate)),
+            _ => None,
         }
     }
 
     /// The Max-Requested-Bandwidth-DL of a flow, with its tag.
-    pub fn flow_rate_down(&self, component: u32, flow: u32) -> Option<&(Tag, u32)>
-        ensures { entry_by Number (option_copied result)
+    pub fn flow_rate_down(&self, component: u32, flow: u32) -> Option<(Tag, &u32)>
+        ensures { entry_by Number (option_map (λ e. (e.0, e.1.now)) result)
             ≡ entry_shown self.now (OfFlow component flow places.FlowRateDown) }
     {
-        match self.flow(component, flow) {
-            Some(found) => found.rates.down.get(),
-            None => None,
+        let Some((tag, value)) = self.flow_field(component, flow, 5) else {
+            return None;
+        };
+        match value {
+            FlowValue::RateDown(rate) => Some((tag, rate)),
+            _ => None,
         }
     }
 
@@ -518,8 +474,7 @@ impl AfRec {
     pub fn flows(&self) -> Flows<'_>
         ensures { result ≡ words.flows self.now }
     {
-        self.parts.note_valid();
-        Flows::of(false, components_of(&self.parts))
+        Flows::of(self.as_slice())
     }
 
     /// The components and flows that are removed, as far as that is kept, components first.
@@ -527,35 +482,22 @@ impl AfRec {
     pub fn removed_parts(&self) -> RemovedParts<'_>
         ensures { map removable_of result ≡ held_words.removed_parts self.now }
     {
-        self.parts.note_valid();
-        RemovedParts::of(components_of(&self.parts))
+        RemovedParts::of(self.as_slice())
     }
-}
-
-/// The facts of a record, in order.
-fn listed(alloc: Global, parts: &Tombed<SessionParts>) -> Result<Vec<AfFact>, AllocError>
-    ensures { IfOk result (λ facts. facts.items ≡ record_listed parts.now) }
-{
-    let Tombed::Live(session) = parts else {
-        let mut facts = Vec::new(alloc);
-        facts.push(AfFact::End)?;
-        return Ok(facts);
-    };
-    facts_of(alloc, session)
 }
 
 /// The Flow-Status of a flow, by what it and its component say.
 fn status_of(
-    own: Option<&(Tag, Enumerated<FlowStatus>)>,
-    whole: Option<&(Tag, Enumerated<FlowStatus>)>,
+    own: Option<(Tag, &Enumerated<FlowStatus>)>,
+    whole: Option<(Tag, &Enumerated<FlowStatus>)>,
 ) -> FlowStatus
     ensures { flow_status_number result ≡ unwrap_or
-        (words.or_else (held_number (option_copied own.entry)) (held_number (option_copied whole.entry))) 2 }
+        (words.or_else (held_number (option_map (λ e. (e.0, e.1.now)) own.entry)) (held_number (option_map (λ e. (e.0, e.1.now)) whole.entry))) 2 }
 {
     let told = match own {
-        Some(told) => Some(told.1),
+        Some(told) => Some(*told.1),
         None => match whole {
-            Some(told) => Some(told.1),
+            Some(told) => Some(*told.1),
             None => None,
         },
     };
@@ -566,14 +508,14 @@ fn status_of(
 }
 
 /// The rate of a flow in one direction, by what it and its component say.
-fn given_rate(own: Option<&(Tag, u32)>, is_rtcp: bool, whole: Option<&(Tag, u32)>) -> Option<u32>
-    ensures { result ≡ words.or_else (held_number (option_copied own.entry))
-        (if is_rtcp then None else held_number (option_copied whole.entry)) }
+fn given_rate(own: Option<(Tag, &u32)>, is_rtcp: bool, whole: Option<(Tag, &u32)>) -> Option<u32>
+    ensures { result ≡ words.or_else (held_number (option_map (λ e. (e.0, e.1.now)) own.entry))
+        (if is_rtcp then None else held_number (option_map (λ e. (e.0, e.1.now)) whole.entry)) }
 {
     match own {
-        Some(told) => Some(told.1),
+        Some(told) => Some(*told.1),
         None => match whole {
-            Some(told) if !is_rtcp => Some(told.1),
+            Some(told) if !is_rtcp => Some(*told.1),
             _ => None,
         },
     }

@@ -1,13 +1,10 @@
 //! What of a record is removed, one part after another.
-ghost use Rattle.std.specs.Prelude.{◌≡◌, true};
-ghost use Rattle.std.specs.List.{flat_map};
+ghost use Rattle.std.specs.Prelude.{◌≡◌};
+ghost use Rattle.std.specs.List.{filter_map};
 ghost use Rattle.std.specs.Iterator.{YieldsFirst, item_count};
-ghost use Rattle.af_records.specs.FlowLists.{component_flows};
-ghost use Rattle.af_records.specs.RemovedLists.{removed_left};
+ghost use Rattle.af_records.specs.RemovedLists.{removed_part};
 
-use crate::component::ComponentParts;
-use crate::flows::Flows;
-use lattice_core::Tombed;
+use crate::fact::AfFact;
 use std::marker::Model;
 
 /// A part of a session that is removed.
@@ -23,30 +20,26 @@ pub enum RemovedPart {
 /// list.
 #[derive(Drop)]
 pub struct RemovedParts<'a> {
-    components: &'a [(u32, Tombed<ComponentParts>)],
-    flows: Flows<'a>,
+    left: &'a [AfFact],
 }
 
 impl<'a> Model for RemovedParts<'a> {
     ghost use Rattle.std.specs.Prelude.{List};
+    ghost use Rattle.std.specs.List.{filter_map};
     ghost use Rattle.af_records.specs.declared.removed.RemovedPart.{RemovedPart};
-    ghost use Rattle.af_records.specs.RemovedLists.{removed_left};
+    ghost use Rattle.af_records.specs.RemovedLists.{removed_part};
 
     ghost Value = { List RemovedPart };
 
-    ghost view = { λ s. removed_left s.components.now s.flows };
+    ghost view = { λ s. filter_map removed_part s.left.now };
 }
 
 impl<'a> RemovedParts<'a> {
-    /// What of these components is removed.
-    pub(crate) fn of(components: &'a [(u32, Tombed<ComponentParts>)]) -> RemovedParts<'a>
-        ensures { result
-            ≡ removed_left components.now (flat_map (component_flows true) components.now) }
+    /// What these facts remove.
+    pub(crate) fn of(facts: &'a [AfFact]) -> RemovedParts<'a>
+        ensures { result ≡ filter_map removed_part facts.now }
     {
-        RemovedParts {
-            components,
-            flows: Flows::of(true, components),
-        }
+        RemovedParts { left: facts }
     }
 }
 
@@ -58,15 +51,26 @@ impl<'a> Iterator for RemovedParts<'a> {
     ghost remaining = { item_count (λ s. s) };
 
     fn next(&mut self) -> Option<RemovedPart> {
-        while let Some((first, others)) = self.components.split_first() {
-            self.components = others;
-            if let Tombed::Ended = &first.1 {
-                return Some(RemovedPart::Component(first.0));
+        'each: while let Some((first, rest)) = self.left.split_first() {
+            self.left = rest;
+            if let Some(part) = removed_part(first) {
+                return Some(part);
             }
         }
-        match self.flows.next() {
-            Some((component, flow)) => Some(RemovedPart::Flow(component, flow)),
-            None => None,
-        }
+        None
+    }
+}
+
+/// What the fact removes.
+fn removed_part(fact: &AfFact) -> Option<RemovedPart>
+    ensures { result ≡ removed_part fact.now }
+{
+    match fact {
+        AfFact::ComponentRemoved(component) => Some(RemovedPart::Component(*component)),
+        AfFact::FlowRemoved(component, flow) => Some(RemovedPart::Flow(*component, *flow)),
+        AfFact::End => None,
+        AfFact::Session(_, _) => None,
+        AfFact::Component(_, _, _) => None,
+        AfFact::Flow(_, _, _, _) => None,
     }
 }

@@ -1,7 +1,6 @@
 //! Whether a gateway's session matches an application function's session, by the record of each.
 ghost use Rattle.std.specs.Prelude.{◌≡◌, map, option_map};
 ghost use Rattle.std.specs.List.{list_any};
-ghost use Rattle.std.specs.Option.{option_copied};
 ghost use Rattle.std.specs.Ordering.{is_eq};
 ghost use Rattle.pcrf_values.specs.Subscribers.{subscriber_cmp};
 ghost use Rattle.pcrf_model.specs.Bindings.{shares_one};
@@ -32,7 +31,7 @@ pub fn match_of<'s>(asking: &AfRec, session: &'s GxSid, gateway: &GxRec) -> Opti
     let Some((tag, _)) = gateway.address() else {
         return None;
     };
-    Some(Match { tag: *tag, session })
+    Some(Match { tag, session })
 }
 
 /// Both are live, and the gateway's session has the address, and as far as they are asked for, one of the subscribers and
@@ -48,8 +47,9 @@ fn matches(asking: &AfRec, gateway: &GxRec) -> bool
 }
 
 /// Nothing is asked for, or just this is there.
-fn agrees<T: Ranked>(asked: Option<&(Tag, T)>, there: Option<&(Tag, T)>) -> bool
-    ensures { result ≡ agrees_by T.cmp (option_copied asked.entry) (option_copied there.entry) }
+fn agrees<T: Ranked>(asked: Option<(Tag, &T)>, there: Option<(Tag, &T)>) -> bool
+    ensures { result ≡ agrees_by T.cmp (option_map (λ e. (e.0, e.1.now)) asked.entry)
+        (option_map (λ e. (e.0, e.1.now)) there.entry) }
 {
     let Some((_, wanted)) = asked else {
         return true;
@@ -61,8 +61,9 @@ fn agrees<T: Ranked>(asked: Option<&(Tag, T)>, there: Option<&(Tag, T)>) -> bool
 }
 
 /// Nothing is asked for, or one of the subscribers that are asked for is there.
-fn meets(asked: Option<&(Tag, Subscribers)>, there: Option<&(Tag, Subscribers)>) -> bool
-    ensures { result ≡ meets_by (option_copied asked.entry) (option_copied there.entry) }
+fn meets(asked: Option<(Tag, &Subscribers)>, there: Option<(Tag, &Subscribers)>) -> bool
+    ensures { result ≡ meets_by (option_map (λ e. (e.0, e.1.now)) asked.entry)
+        (option_map (λ e. (e.0, e.1.now)) there.entry) }
 {
     let Some((_, wanted)) = asked else {
         return true;

@@ -1,7 +1,7 @@
 //! What a record shows, as a line of text.
 use crate::text::{put_tag, put_text};
 use af_records::{AfRec, RemovedPart};
-use gx_records::GxRec;
+use gx_records::{GxFact, GxRec};
 use pcrf_values::{Apn, DiameterIdentity, Filters, Rule, RuleName, Subscribers};
 use ranked::Tag;
 use std::alloc::{AllocError, Global};
@@ -50,19 +50,19 @@ fn put_state(out: &mut String, live: bool, ended: bool) -> Result<(), AllocError
 /// What is known of the user.
 fn put_user(
     out: &mut String,
-    address: Option<&(Tag, Ipv4Addr)>,
-    apn: Option<&(Tag, Apn)>,
-    subscribers: Option<&(Tag, Subscribers)>,
+    address: Option<(Tag, &Ipv4Addr)>,
+    apn: Option<(Tag, &Apn)>,
+    subscribers: Option<(Tag, &Subscribers)>,
 ) -> Result<(), AllocError> {
     if let Some((tag, address)) = address {
         write!(out, " address {address}")?;
-        put_tag(out, *tag)?;
+        put_tag(out, tag)?;
     }
     if let Some((tag, apn)) = apn {
-        put_named(out, "apn", *tag, apn.as_slice())?;
+        put_named(out, "apn", tag, apn.as_slice())?;
     }
     if let Some((tag, ids)) = subscribers {
-        put_subscribers(out, *tag, ids)?;
+        put_subscribers(out, tag, ids)?;
     }
     Ok(())
 }
@@ -70,14 +70,14 @@ fn put_user(
 /// What is known of the client.
 fn put_client(
     out: &mut String,
-    host: Option<&(Tag, DiameterIdentity)>,
-    realm: Option<&(Tag, DiameterIdentity)>,
+    host: Option<(Tag, &DiameterIdentity)>,
+    realm: Option<(Tag, &DiameterIdentity)>,
 ) -> Result<(), AllocError> {
     if let Some((tag, host)) = host {
-        put_named(out, "host", *tag, host.as_slice())?;
+        put_named(out, "host", tag, host.as_slice())?;
     }
     if let Some((tag, realm)) = realm {
-        put_named(out, "realm", *tag, realm.as_slice())?;
+        put_named(out, "realm", tag, realm.as_slice())?;
     }
     Ok(())
 }
@@ -86,7 +86,7 @@ fn put_gx_fields(out: &mut String, record: &GxRec) -> Result<(), AllocError> {
     put_user(out, record.address(), record.apn(), record.subscribers())?;
     put_client(out, record.host(), record.realm())?;
     if let Some((tag, last)) = record.last() {
-        put_number(out, "last", *tag, last.number())?;
+        put_number(out, "last", tag, last.number())?;
     }
     if let Some(home) = record.home() {
         write!(out, " home {home}")?;
@@ -95,8 +95,8 @@ fn put_gx_fields(out: &mut String, record: &GxRec) -> Result<(), AllocError> {
 }
 
 fn put_told(out: &mut String, record: &GxRec) -> Result<(), AllocError> {
-    for (name, told) in record.told_facts() {
-        if let Some((tag, rule)) = told.get() {
+    for fact in record.told_facts() {
+        if let GxFact::Told(tag, name, rule) = fact {
             put_named(out, "told", *tag, name.as_slice())?;
             match rule {
                 Some(rule) => write!(out, ":{}", rule.precedence())?,
@@ -131,7 +131,7 @@ fn put_af_fields(out: &mut String, record: &AfRec) -> Result<(), AllocError> {
     put_user(out, record.address(), record.apn(), record.subscribers())?;
     put_client(out, record.host(), record.realm())?;
     if let Some((tag, last)) = record.last() {
-        put_number(out, "last", *tag, last.number())?;
+        put_number(out, "last", tag, last.number())?;
     }
     Ok(())
 }
@@ -139,14 +139,14 @@ fn put_af_fields(out: &mut String, record: &AfRec) -> Result<(), AllocError> {
 /// The rates that a component or a flow has of its own.
 fn put_rates(
     out: &mut String,
-    up: Option<&(Tag, u32)>,
-    down: Option<&(Tag, u32)>,
+    up: Option<(Tag, &u32)>,
+    down: Option<(Tag, &u32)>,
 ) -> Result<(), AllocError> {
     if let Some((tag, rate)) = up {
-        put_number(out, "up", *tag, *rate)?;
+        put_number(out, "up", tag, *rate)?;
     }
     if let Some((tag, rate)) = down {
-        put_number(out, "down", *tag, *rate)?;
+        put_number(out, "down", tag, *rate)?;
     }
     Ok(())
 }
@@ -154,10 +154,10 @@ fn put_rates(
 fn put_component(out: &mut String, record: &AfRec, number: u32) -> Result<(), AllocError> {
     write!(out, "; component {number}")?;
     if let Some((tag, kind)) = record.component_media_type(number) {
-        put_number(out, "type", *tag, *kind)?;
+        put_number(out, "type", tag, *kind)?;
     }
     if let Some((tag, status)) = record.component_status(number) {
-        put_number(out, "status", *tag, status.number())?;
+        put_number(out, "status", tag, status.number())?;
     }
     let up = record.component_rate_up(number);
     put_rates(out, up, record.component_rate_down(number))
@@ -170,13 +170,13 @@ fn put_flow_fields(
     flow: u32,
 ) -> Result<(), AllocError> {
     if let Some((tag, filters)) = record.flow_descriptions(component, flow) {
-        put_filters(out, *tag, filters)?;
+        put_filters(out, tag, filters)?;
     }
     if let Some((tag, usage)) = record.flow_usage(component, flow) {
-        put_number(out, "usage", *tag, usage.number())?;
+        put_number(out, "usage", tag, usage.number())?;
     }
     if let Some((tag, status)) = record.flow_own_status(component, flow) {
-        put_number(out, "status", *tag, status.number())?;
+        put_number(out, "status", tag, status.number())?;
     }
     let up = record.flow_rate_up(component, flow);
     put_rates(out, up, record.flow_rate_down(component, flow))

@@ -3,13 +3,13 @@
 use crate::questions::{put_rule, put_rules};
 use crate::text::put_text;
 use af_records::{ComponentValue, FlowValue};
+use fact_records::SessionValue;
 use op_tables::Tables;
 use operator_view::{
     AfField, AfSeen, GxClient, GxSeen, GxUser, OperatorValue, SessionSeen, bindings, value,
 };
 use pcrf_values::{AfSid, GxSid, Rule, RuleName, Subscriber};
 use ranked::Ranked;
-use session_records::SessionValue;
 use site_join::State;
 use std::alloc::{AllocError, Global};
 use std::fmt::Write as _;

@@ -45,11 +45,11 @@ fn put_gateway(out: &mut String, record: &GxRec) -> Result<(), AllocError> {
     if let Some((tag, host)) = record.host() {
         out.push_str(" host ")?;
         put_text(out, host.as_slice())?;
-        put_tag(out, *tag)?;
+        put_tag(out, tag)?;
     }
     if let Some((tag, last)) = record.last() {
         write!(out, " last {}", last.number())?;
-        put_tag(out, *tag)?;
+        put_tag(out, tag)?;
     }
     Ok(())
 }
@@ -61,11 +61,11 @@ fn put_call(out: &mut String, record: &AfRec) -> Result<(), AllocError> {
     if let Some((tag, host)) = record.host() {
         out.push_str(" host ")?;
         put_text(out, host.as_slice())?;
-        put_tag(out, *tag)?;
+        put_tag(out, tag)?;
     }
     if let Some((tag, media)) = record.component_media_type(1) {
         write!(out, " media {media}")?;
-        put_tag(out, *tag)?;
+        put_tag(out, tag)?;
     }
     Ok(())
 }

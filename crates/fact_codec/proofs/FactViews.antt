@@ -3,9 +3,9 @@ use Rattle.std.proofs.Common.{◌≡◌, ℕ, refl}
 use Rattle.ranked.specs.declared.tag.Tag.{Tag}
 use Rattle.pcrf_facts.specs.Places.{OfSession, OfComponent, OfFlow}
 use Rattle.pcrf_facts.specs.Facts.{Field}
-use Rattle.session_records.specs.SessionFacts.{session_fact}
-use Rattle.session_records.specs.declared.session.SessionValue.{SessionValue}
-use Rattle.session_records.specs.declared.session.SessionValue.TheVariants.{Address, Apn, Subscribers, Host, Realm, Last}
+use Rattle.fact_records.specs.SessionFacts.{session_fact}
+use Rattle.fact_records.specs.declared.session_value.SessionValue.{SessionValue}
+use Rattle.fact_records.specs.declared.session_value.SessionValue.TheVariants.{Address, Apn, Subscribers, Host, Realm, Last}
 use Rattle.af_records.specs.RecordFacts.{fact_of}
 use Rattle.af_records.specs.declared.fact.AfFact.TheVariants.{Component, Flow}
 use Rattle.af_records.specs.declared.fact.ComponentValue.{ComponentValue}

@@ -12,7 +12,7 @@ use Rattle.pcrf_facts.specs.Places.{SessionField, FramedIpAddress, CalledStation
 use Rattle.pcrf_facts.specs.Values.{Subscriber, Value, Number, Text, Address, Subscribers, Filters, Untold, Told}
 use Rattle.pcrf_facts.specs.Facts.{Fact, End, Removed, Field}
 use Rattle.pcrf_model.specs.Forms.{is_rising}
-use Rattle.session_records.specs.SessionFacts.{session_fields}
+use Rattle.fact_records.specs.SessionFacts.{session_fields}
 use Rattle.af_records.specs.RecordFacts.{component_fields, flow_fields}
 use Rattle.fact_codec.specs.Reading.{Reader, ◌>>=◌, give, refuse, given, many, row_with, byte, short, word, long, exactly}
 

@@ -4,9 +4,9 @@ use Rattle.pcrf_facts.specs.Places.{SessionField, FramedIpAddress, CalledStation
 use Rattle.pcrf_facts.specs.Values.{Value, Number, Text, Filters}
 use Rattle.pcrf_facts.specs.Values as values
 use Rattle.pcrf_values.specs.RuleValues.{RuleValue}
-use Rattle.session_records.specs.SessionFacts.{address_value}
-use Rattle.session_records.specs.declared.session.SessionValue.{SessionValue}
-use Rattle.session_records.specs.declared.session.SessionValue.TheVariants.{Address, Apn, Subscribers, Host, Realm, Last}
+use Rattle.fact_records.specs.SessionFacts.{address_value}
+use Rattle.fact_records.specs.declared.session_value.SessionValue.{SessionValue}
+use Rattle.fact_records.specs.declared.session_value.SessionValue.TheVariants.{Address, Apn, Subscribers, Host, Realm, Last}
 use Rattle.gx_records.specs.GxFacts.{told_value}
 use Rattle.af_records.specs.declared.fact.ComponentValue.{ComponentValue}
 use Rattle.af_records.specs.declared.fact.ComponentValue.TheVariants as component_value

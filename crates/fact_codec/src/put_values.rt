@@ -5,11 +5,11 @@ ghost use Rattle.pcrf_facts.specs.Places.{session_field_number, component_field_
 ghost use Rattle.fact_codec.specs.Spelling.{short_bytes, word_bytes, long_bytes, text_bytes, subscriber_bytes, filters_bytes, class_bytes, rule_bytes, value_bytes};
 ghost use Rattle.fact_codec.specs.Values.{session_says, component_says, flow_says};
 ghost use Rattle.gx_records.specs.GxFacts as gx_facts;
-ghost use Rattle.session_records.specs.SessionFacts.{address_value};
+ghost use Rattle.fact_records.specs.SessionFacts.{address_value};
 
 use af_records::{ComponentValue, FlowValue};
+use fact_records::SessionValue;
 use pcrf_values::{Enumerated, Enumeration, Filters, Rule, RuleQos, Subscriber, Subscribers};
-use session_records::SessionValue;
 use std::alloc::AllocError;
 use std::net::Ipv4Addr;
 

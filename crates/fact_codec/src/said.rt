@@ -11,8 +11,8 @@ use crate::numbers::{byte_at, word_at};
 use crate::texts::{apn_at, text_at};
 use crate::values::{address_at, filters_at, subscribers_at};
 use af_records::{ComponentValue, FlowValue};
+use fact_records::SessionValue;
 use pcrf_values::{Enumerated, Enumeration};
-use session_records::SessionValue;
 use std::alloc::Global;
 
 /// A value of a field of a session, in whichever kind of session the type of the last request is that.

@@ -4,7 +4,7 @@ use Rattle.std.specs.Net.Addr.{ipv4_octets}
 use Rattle.std.specs.declared.net.ipv4_addr.Ipv4Addr.{Ipv4Addr}
 use Rattle.ranked.specs.declared.tag.Tag.{Tag}
 use Rattle.pcrf_facts.specs.Values.{Subscriber}
-use Rattle.session_records.specs.SessionFacts.{session_fact}
+use Rattle.fact_records.specs.SessionFacts.{session_fact}
 use Rattle.pcrf_model.specs.Making.{session_fields}
 use Rattle.fact_making.specs.Given.{values_given}
 

@@ -2,8 +2,8 @@
 use Rattle.std.specs.Prelude.{ℕ, List, [], ◌∷◌, ◌++◌, Option, option_map, option_to_list}
 use Rattle.std.specs.declared.net.ipv4_addr.Ipv4Addr.{Ipv4Addr}
 use Rattle.pcrf_facts.specs.Values.{Subscriber}
-use Rattle.session_records.specs.declared.session.SessionValue.{SessionValue}
-use Rattle.session_records.specs.declared.session.SessionValue.TheVariants.{Address, Apn, Subscribers, Host, Realm, Last}
+use Rattle.fact_records.specs.declared.session_value.SessionValue.{SessionValue}
+use Rattle.fact_records.specs.declared.session_value.SessionValue.TheVariants.{Address, Apn, Subscribers, Host, Realm, Last}
 
 -- the address, access point and subscribers, as far as they are given; host, realm and type
 abbrev pub values_given : {L : Type 0} → Option Ipv4Addr → Option (List ℕ) → Option (List Subscriber) → List ℕ → List ℕ → L → List (SessionValue L)

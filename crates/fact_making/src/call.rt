@@ -4,7 +4,7 @@ ghost use Rattle.ranked.specs.Ascending.{ascending};
 ghost use Rattle.pcrf_facts.specs.Facts.{End, fact_cmp};
 ghost use Rattle.pcrf_facts.specs.Held.{kept_list};
 ghost use Rattle.pcrf_values.specs.Limits.{site_limit};
-ghost use Rattle.session_records.specs.SessionFacts.{session_fact};
+ghost use Rattle.fact_records.specs.SessionFacts.{session_fact};
 ghost use Rattle.af_records.specs.RecordFacts.{fact_of};
 ghost use Rattle.rx_profile.specs.Requests.{aar_view};
 ghost use Rattle.fact_making.specs.Call.{call_fields, call_facts};

@@ -1,7 +1,7 @@
 //! The facts of credit control requests (TS 29.212, 4.5.1 and 4.5.7).
 ghost use Rattle.std.specs.Prelude.{◌≡◌, ◌∷◌, [], IfOk, map};
 ghost use Rattle.pcrf_facts.specs.Facts.{End};
-ghost use Rattle.session_records.specs.SessionFacts.{session_fact};
+ghost use Rattle.fact_records.specs.SessionFacts.{session_fact};
 ghost use Rattle.gx_records.specs.GxFacts.{fact_of};
 ghost use Rattle.gx_records.specs.Numbers.{open_request_number};
 ghost use Rattle.gx_profile.specs.Requests.{ccr_view};

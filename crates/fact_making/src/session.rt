@@ -1,12 +1,12 @@
 //! What a request of either interface says of its session.
 ghost use Rattle.std.specs.Prelude.{◌≡◌, ◌++◌, IfOk, OnOk, option_map, option_to_list};
-ghost use Rattle.session_records.specs.declared.session.SessionValue.TheVariants as value;
+ghost use Rattle.fact_records.specs.declared.session_value.SessionValue.TheVariants as value;
 ghost use Rattle.fact_making.specs.Given.{values_given};
 
 use dia_base::Origin;
+use fact_records::SessionValue;
 use pcrf_values::{Apn, Subscribers};
 use ranked::Ranked;
-use session_records::SessionValue;
 use std::alloc::{AllocError, Global};
 use std::net::Ipv4Addr;
 

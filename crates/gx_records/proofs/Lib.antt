@@ -1,5 +1,1 @@
-pub mod ListLaws
-pub mod ReaderLaws
-pub mod RecordLaws
-pub mod SubsetLaws
-pub mod ToldLaws
+pub mod FieldLaws

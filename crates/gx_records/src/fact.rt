@@ -2,9 +2,9 @@
 ghost use Rattle.std.specs.Prelude.{◌≡◌, IfOk};
 
 use crate::open_request_type::OpenRequestType;
+use fact_records::SessionValue;
 use lattice_core::{Ranked, Tag};
 use pcrf_values::{Enumerated, Rule, RuleName};
-use session_records::SessionValue;
 use std::alloc::AllocError;
 
 /// A fact of a Gx session.

@@ -2,14 +2,13 @@
 #![tactic(auto)]
 
 mod fact;
-mod listing;
 mod open_request_type;
-mod parts;
 mod record;
 mod told;
+mod typed;
 
 pub use fact::GxFact;
+pub use fact_records::SessionValue;
 pub use open_request_type::OpenRequestType;
 pub use record::GxRec;
-pub use session_records::SessionValue;
 pub use told::Told;

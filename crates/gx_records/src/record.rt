@@ -1,29 +1,26 @@
 //! Records of Gx sessions.
-ghost use Rattle.std.specs.Prelude.{◌≡◌, ℕ, [], ◌∷◌, IfOk, OnOk, OnErr, None, map, true};
-ghost use Rattle.std.specs.List.{filter_map};
-ghost use Rattle.std.specs.Option.{option_copied};
-ghost use Rattle.pcrf_facts.specs.Held.{kept_list, join_of, is_ended, entry_shown};
+ghost use Rattle.std.specs.Prelude.{◌≡◌, ℕ, ◌++◌, IfOk, IfSome, OnOk, None, map, option_map, true};
+ghost use Rattle.std.specs.List.{filter_map, flat_map};
+ghost use Rattle.pcrf_facts.specs.Held.{kept_list, is_ended, entry_shown};
 ghost use Rattle.pcrf_facts.specs.Live.{gx_is_live, home};
 ghost use Rattle.pcrf_facts.specs.Places as places;
-ghost use Rattle.pcrf_facts.specs.Places.{SessionField, ComponentField, FlowField, OfSession, OfComponent, OfFlow};
+ghost use Rattle.pcrf_facts.specs.Places.{SessionField, ComponentField, FlowField, OfSession, OfComponent, OfFlow, session_field_number};
 ghost use Rattle.pcrf_model.specs.Forms.{is_record};
 ghost use Rattle.pcrf_model.specs.Sessions.{Gx};
-ghost use Rattle.pcrf_facts.specs.ToldWords.{told_entries, told_rules};
+ghost use Rattle.pcrf_facts.specs.ToldWords.{told_entry, told_entries, told_rules};
 ghost use Rattle.pcrf_facts.specs.Values as values;
 ghost use Rattle.pcrf_facts.specs.Values.{Number, Text};
-ghost use Rattle.session_records.specs.Levels.{entry_by};
-ghost use Rattle.session_records.specs.SessionFacts.{address_value, session_says};
-ghost use Rattle.gx_records.specs.FactLists.{record_listed};
-ghost use Rattle.gx_records.specs.GxFacts.{fact_of, fields_at, known_facts, rule_under, single, told_held};
+ghost use Rattle.fact_records.specs.SessionValues.{entry_by, session_entry, session_number};
+ghost use Rattle.fact_records.specs.SessionFacts.{address_value};
+ghost use Rattle.gx_records.specs.GxFacts.{fact_of, rule_under, rules_told};
 
 use crate::fact::GxFact;
-use crate::listing::facts_of;
 use crate::open_request_type::OpenRequestType;
-use crate::parts::GxParts;
 use crate::told::Told;
-use lattice_core::{FactSet, Join, Ranked, Reg, Tag, Tombed};
+use fact_records::{Record, SessionValue, copy_facts, position_of_field};
+use lattice_core::{FactSet, Join, Tag};
 use pcrf_values::{Apn, DiameterIdentity, Enumerated, Rule, RuleName, Subscribers};
-use session_records::{SessionFields, join_into};
+use ranked::Ranked;
 use std::alloc::{AllocError, Global};
 use std::marker::Model;
 use std::net::Ipv4Addr;
@@ -32,7 +29,7 @@ use std::net::Ipv4Addr;
 /// operation gives.
 #[derive(Drop)]
 pub struct GxRec {
-    parts: Tombed<GxParts>,
+    facts: Record<GxFact>,
 }
 
 impl Model for GxRec {
@@ -40,13 +37,12 @@ impl Model for GxRec {
     ghost use Rattle.pcrf_facts.specs.Facts.{Fact};
     ghost use Rattle.pcrf_model.specs.Forms.{is_record};
     ghost use Rattle.pcrf_model.specs.Sessions.{Gx};
-    ghost use Rattle.gx_records.specs.GxFacts.{known_facts};
 
     ghost Value = { List Fact };
 
-    ghost view = { λ r. known_facts r.parts };
+    ghost view = { λ r. r.facts };
 
-    ghost invariant = { λ r. is_record Gx (known_facts r.parts) ≡ true };
+    ghost invariant = { λ r. is_record Gx r.facts ≡ true };
 }
 
 impl Join for GxRec {
@@ -66,80 +62,42 @@ impl Join for GxRec {
 
     ghost closed = { λ xs ys _ _. held_twice (xs ++ ys) };
 
-    #[tactic(auto, using(crate::proofs::RecordLaws::record_joined_is, crate::proofs::RecordLaws::joined_known))]
     fn joined_copy(&self, other: &GxRec) -> Result<GxRec, AllocError> {
-        self.parts.note_valid();
-        other.parts.note_valid();
-        let parts = self.parts.joined_copy(&other.parts)?;
-        Ok(GxRec { parts })
+        let facts = self.facts.joined_copy(&other.facts)?;
+        Ok(GxRec { facts })
     }
 
-    #[tactic(auto, using(crate::proofs::RecordLaws::record_joined_is, crate::proofs::RecordLaws::joined_known))]
     fn join_in(&mut self, other: GxRec) -> Result<(), (AllocError, GxRec)> {
-        let theirs = other.parts;
-        self.parts.note_valid();
-        theirs.note_valid();
-        if let Err((refused, parts)) = self.parts.join_in(theirs) {
-            return Err((refused, GxRec { parts }));
+        if let Err((refused, facts)) = self.facts.join_in(other.facts) {
+            return Err((refused, GxRec { facts }));
         }
         Ok(())
     }
 
     fn try_copy(&self) -> Result<GxRec, AllocError> {
-        let parts = self.parts.try_copy()?;
-        Ok(GxRec { parts })
+        let facts = self.facts.try_copy()?;
+        Ok(GxRec { facts })
     }
 
-    #[tactic(auto, using(crate::proofs::RecordLaws::record_held))]
     fn note_valid(&self) {
-        self.parts.note_valid();
+        self.facts.note_valid();
     }
 }
 
 impl FactSet for GxRec {
-    ghost use Rattle.session_records.specs.Subsets.{facts_subset, facts_empty};
+    ghost use Rattle.fact_records.specs.Sets.{facts_subset, facts_empty};
 
     ghost subset = { facts_subset };
 
     ghost empty = { facts_empty };
 
-    #[tactic(auto, using(crate::proofs::SubsetLaws::record_subset_is))]
     fn is_subset(&self, other: &GxRec) -> bool {
-        self.parts.note_valid();
-        other.parts.note_valid();
-        self.parts.is_subset(&other.parts)
+        self.facts.is_subset(&other.facts)
     }
 
-    #[tactic(auto, using(crate::proofs::SubsetLaws::record_empty_is))]
     fn is_empty(&self) -> bool {
-        self.parts.note_valid();
-        self.parts.is_empty()
+        self.facts.is_empty()
     }
-}
-
-/// The record of one fact.
-fn single(alloc: Global, fact: &GxFact) -> Result<Tombed<GxParts>, AllocError>
-    ensures { IfOk result (λ r. r ≡ single fact.now) }
-{
-    match fact {
-        GxFact::End => Ok(Tombed::Ended),
-        GxFact::Field(tag, value) => Ok(Tombed::Live(GxParts::of(alloc, *tag, value)?)),
-        GxFact::Told(tag, name, rule) => {
-            Ok(Tombed::Live(GxParts::of_told(alloc, *tag, name, rule)?))
-        }
-    }
-}
-
-/// Adds a fact; a refusal changes nothing.
-#[tactic(auto, using(crate::proofs::RecordLaws::record_put_is))]
-fn put(alloc: Global, parts: &mut Tombed<GxParts>, fact: &GxFact) -> Result<(), AllocError>
-    ensures ok { OnOk result
-        (known_facts parts.new ≡ join_of (known_facts parts.old) (fact_of fact.now ∷ [])) }
-    ensures err { OnErr result (parts.new ≡ parts.old) }
-{
-    parts.note_valid();
-    let one = single(alloc, fact)?;
-    join_into(parts, one)
 }
 
 impl GxRec {
@@ -148,58 +106,75 @@ impl GxRec {
         requires { is_record Gx (map fact_of facts.now) ≡ true }
         ensures { IfOk result (λ r. r ≡ kept_list (map fact_of facts.now)) }
     {
-        let mut parts = Tombed::Live(GxParts::start(alloc));
-        for fact in facts {
-            put(alloc, &mut parts, fact)?;
-        }
-        Ok(GxRec { parts })
+        GxRec::of(copy_facts(alloc, facts)?)
+    }
+
+    /// The same of facts that move into it.
+    pub fn of(facts: Vec<GxFact>) -> Result<GxRec, AllocError>
+        requires { is_record Gx (map fact_of facts.items) ≡ true }
+        ensures { IfOk result (λ r. r ≡ kept_list (map fact_of facts.items)) }
+    {
+        let facts = Record::of_facts(facts)?;
+        Ok(GxRec { facts })
     }
 
     /// Does nothing: its contract tells a proof that something is known, and that each fact is one of some operation.
     pub fn note_known(&self)
         ensures { is_record Gx self.now ≡ true }
     {
-        let _ = &self.parts;
+        let _ = &self.facts;
     }
 
     /// All facts that are kept, in order: a record of them is this record again. Its time and memory grow with their number.
     pub fn facts(&self, alloc: Global) -> Result<Vec<GxFact>, AllocError>
         ensures { IfOk result (λ facts. map fact_of facts.items ≡ self.now) }
     {
-        self.parts.note_valid();
-        listed(alloc, &self.parts)
+        copy_facts(alloc, self.facts.as_slice())
+    }
+
+    /// The same where they are.
+    pub fn as_slice(&self) -> &[GxFact]
+        ensures { map fact_of result.now ≡ self.now }
+    {
+        self.facts.as_slice()
     }
 
     /// The session is ended.
-    #[tactic(auto, using(crate::proofs::ReaderLaws::ended_is))]
     pub fn ended(&self) -> bool
         ensures { result ≡ is_ended self.now }
     {
-        match &self.parts {
-            Tombed::Ended => true,
-            Tombed::Live(_) => false,
-        }
+        self.facts.ended()
     }
 
     /// The session isn't ended, and shows all that an initial request gives.
-    #[tactic(auto, using(crate::proofs::ReaderLaws::live_is))]
+    #[tactic(auto, using(crate::proofs::FieldLaws::said))]
     pub fn live(&self) -> bool
         ensures { result ≡ gx_is_live self.now }
     {
-        self.parts.note_valid();
-        match &self.parts {
-            Tombed::Ended => false,
-            Tombed::Live(session) => session.fields.has_all(),
+        if self.ended() {
+            return false;
         }
+        self.address().is_some()
+            && self.apn().is_some()
+            && self.subscribers().is_some()
+            && self.host().is_some()
+            && self.realm().is_some()
+            && self.last().is_some()
     }
 
-    /// The fields, where they show.
-    fn fields(&self) -> Option<&SessionFields<Enumerated<OpenRequestType>>>
-        ensures { (f : SessionField) →
-            session_says (option_copied result) f ≡ entry_shown self.now (OfSession f) }
+    /// What the session's field of that number shows.
+    fn field(&self, number: u8) -> Option<(Tag, &SessionValue<Enumerated<OpenRequestType>>)>
+        ensures at { IfSome result (λ e. number ≡ session_number e.1.now) }
+        ensures shown { (f : SessionField) → session_field_number f ≡ number
+            → session_entry (option_map (λ e. (e.0, e.1.now)) result)
+            ≡ entry_shown self.now (OfSession f) }
     {
-        self.parts.note_valid();
-        fields_at(&self.parts)
+        match self.facts.at(&position_of_field(number)) {
+            None => None,
+            Some(GxFact::End) => None,
+            Some(GxFact::Field(tag, value)) => Some((*tag, value)),
+            Some(GxFact::Told(_, _, _)) => None,
+        }
     }
 
     /// Does nothing: its contract tells a proof that no component and no flow shows anything.
@@ -208,68 +183,90 @@ impl GxRec {
             → None ≡ entry_shown self.now (OfComponent c f) }
         ensures flows { (c n : ℕ) (f : FlowField) → None ≡ entry_shown self.now (OfFlow c n f) }
     {
-        self.parts.note_valid();
+        let _ = self.facts.as_slice();
     }
 
     /// The Framed-IP-Address, with its tag.
-    pub fn address(&self) -> Option<&(Tag, Ipv4Addr)>
-        ensures { entry_by address_value (option_copied result)
+    pub fn address(&self) -> Option<(Tag, &Ipv4Addr)>
+        ensures { entry_by address_value (option_map (λ e. (e.0, e.1.now)) result)
             ≡ entry_shown self.now places.address }
     {
-        match self.fields() {
-            Some(found) => found.user.address.get(),
-            None => None,
+        let Some((tag, value)) = self.field(1) else {
+            return None;
+        };
+        match value {
+            SessionValue::Address(address) => Some((tag, address)),
+            _ => None,
         }
     }
 
     /// The Called-Station-Id, with its tag.
-    pub fn apn(&self) -> Option<&(Tag, Apn)>
-        ensures { entry_by Text (option_copied result) ≡ entry_shown self.now places.apn }
+    pub fn apn(&self) -> Option<(Tag, &Apn)>
+        ensures { entry_by Text (option_map (λ e. (e.0, e.1.now)) result)
+            ≡ entry_shown self.now places.apn }
     {
-        match self.fields() {
-            Some(found) => found.user.apn.get(),
-            None => None,
+        let Some((tag, value)) = self.field(2) else {
+            return None;
+        };
+        match value {
+            SessionValue::Apn(apn) => Some((tag, apn)),
+            _ => None,
         }
     }
 
     /// The subscribers, with their tag.
-    pub fn subscribers(&self) -> Option<&(Tag, Subscribers)>
-        ensures { entry_by values.Subscribers (option_copied result)
+    pub fn subscribers(&self) -> Option<(Tag, &Subscribers)>
+        ensures { entry_by values.Subscribers (option_map (λ e. (e.0, e.1.now)) result)
             ≡ entry_shown self.now places.subscribers }
     {
-        match self.fields() {
-            Some(found) => found.user.subscribers.get(),
-            None => None,
+        let Some((tag, value)) = self.field(3) else {
+            return None;
+        };
+        match value {
+            SessionValue::Subscribers(subscribers) => Some((tag, subscribers)),
+            _ => None,
         }
     }
 
     /// The Origin-Host of the gateway, with its tag.
-    pub fn host(&self) -> Option<&(Tag, DiameterIdentity)>
-        ensures { entry_by Text (option_copied result) ≡ entry_shown self.now places.host }
+    pub fn host(&self) -> Option<(Tag, &DiameterIdentity)>
+        ensures { entry_by Text (option_map (λ e. (e.0, e.1.now)) result)
+            ≡ entry_shown self.now places.host }
     {
-        match self.fields() {
-            Some(found) => found.client.host.get(),
-            None => None,
+        let Some((tag, value)) = self.field(4) else {
+            return None;
+        };
+        match value {
+            SessionValue::Host(host) => Some((tag, host)),
+            _ => None,
         }
     }
 
     /// The Origin-Realm of the gateway, with its tag.
-    pub fn realm(&self) -> Option<&(Tag, DiameterIdentity)>
-        ensures { entry_by Text (option_copied result) ≡ entry_shown self.now places.realm }
+    pub fn realm(&self) -> Option<(Tag, &DiameterIdentity)>
+        ensures { entry_by Text (option_map (λ e. (e.0, e.1.now)) result)
+            ≡ entry_shown self.now places.realm }
     {
-        match self.fields() {
-            Some(found) => found.client.realm.get(),
-            None => None,
+        let Some((tag, value)) = self.field(5) else {
+            return None;
+        };
+        match value {
+            SessionValue::Realm(realm) => Some((tag, realm)),
+            _ => None,
         }
     }
 
     /// The CC-Request-Type of the last request, with its tag.
-    pub fn last(&self) -> Option<&(Tag, Enumerated<OpenRequestType>)>
-        ensures { entry_by Number (option_copied result) ≡ entry_shown self.now places.last }
+    pub fn last(&self) -> Option<(Tag, &Enumerated<OpenRequestType>)>
+        ensures { entry_by Number (option_map (λ e. (e.0, e.1.now)) result)
+            ≡ entry_shown self.now places.last }
     {
-        match self.fields() {
-            Some(found) => found.client.last.get(),
-            None => None,
+        let Some((tag, value)) = self.field(6) else {
+            return None;
+        };
+        match value {
+            SessionValue::Last(last) => Some((tag, last)),
+            _ => None,
         }
     }
 
@@ -278,21 +275,16 @@ impl GxRec {
         ensures { result ≡ home self.now }
     {
         match self.last() {
-            Some(told) => Some(told.0.site),
+            Some((tag, _)) => Some(tag.site),
             None => None,
         }
     }
 
-    /// The names under which the gateway was told a rule or nothing, each with that and its tag, ascending by name.
-    #[tactic(auto, using(crate::proofs::ToldLaws::told_entries_is))]
-    pub fn told_facts(&self) -> &[(RuleName, Reg<Option<Rule>>)]
-        ensures { filter_map told_held result.now ≡ told_entries self.now }
+    /// The facts in order, of which those told under names are the last.
+    pub fn told_facts(&self) -> &[GxFact]
+        ensures { filter_map told_entry (map fact_of result.now) ≡ told_entries self.now }
     {
-        self.parts.note_valid();
-        match &self.parts {
-            Tombed::Live(session) => session.told.entries(),
-            Tombed::Ended => &[],
-        }
+        self.facts.as_slice()
     }
 
     /// The names that show a rule, each with its rule.
@@ -300,45 +292,45 @@ impl GxRec {
         ensures { IfOk result (λ t. t ≡ told_rules self.now) }
     {
         let mut pairs = Vec::new(alloc);
-        for entry in self.told_facts() {
-            if let Some(rule) = rule_under(&entry.1) {
-                let name = entry.0.try_copy()?;
-                let rule = rule.try_copy()?;
-                pairs.push((name, rule))?;
-            }
-        }
+        add_rules(&mut pairs, self.told_facts())?;
         Ok(Told { pairs })
     }
 }
 
-/// The facts of a record, in order.
-fn listed(alloc: Global, parts: &Tombed<GxParts>) -> Result<Vec<GxFact>, AllocError>
-    ensures { IfOk result (λ facts. facts.items ≡ record_listed parts.now) }
+/// Adds the rules that facts tell, each with its name.
+fn add_rules(pairs: &mut Vec<(RuleName, Rule)>, facts: &[GxFact]) -> Result<(), AllocError>
+    ensures { OnOk result (pairs.new.items ≡ pairs.old.items ++ flat_map rules_told facts.now) }
 {
-    let Tombed::Live(session) = parts else {
-        let mut facts = Vec::new(alloc);
-        facts.push(GxFact::End)?;
-        return Ok(facts);
+    for fact in facts {
+        add_fact(pairs, fact)?;
+    }
+    Ok(())
+}
+
+/// Adds the rule that a fact tells, if it tells one.
+fn add_fact(pairs: &mut Vec<(RuleName, Rule)>, fact: &GxFact) -> Result<(), AllocError>
+    ensures { OnOk result (pairs.new.items ≡ pairs.old.items ++ rules_told fact.now) }
+{
+    match fact {
+        GxFact::End => Ok(()),
+        GxFact::Field(_, _) => Ok(()),
+        GxFact::Told(_, name, told) => add_rule(pairs, name, told),
+    }
+}
+
+/// Adds a rule under its name, where there is one.
+fn add_rule(
+    pairs: &mut Vec<(RuleName, Rule)>,
+    name: &RuleName,
+    told: &Option<Rule>,
+) -> Result<(), AllocError>
+    ensures { OnOk result (pairs.new.items ≡ pairs.old.items ++ rule_under name.now told.now) }
+{
+    let Some(rule) = told else {
+        return Ok(());
     };
-    facts_of(alloc, session)
-}
-
-/// The rule that was told, where one was.
-fn rule_under(told: &Reg<Option<Rule>>) -> Option<&Rule>
-    ensures { option_copied result ≡ rule_under told.now }
-{
-    match told.get() {
-        Some((_, Some(rule))) => Some(rule),
-        _ => None,
-    }
-}
-
-/// The fields, where the session isn't ended.
-fn fields_at(parts: &Tombed<GxParts>) -> Option<&SessionFields<Enumerated<OpenRequestType>>>
-    ensures { option_copied result ≡ fields_at parts.now }
-{
-    match parts {
-        Tombed::Live(session) => Some(&session.fields),
-        Tombed::Ended => None,
-    }
+    let name = name.try_copy()?;
+    let rule = rule.try_copy()?;
+    pairs.push((name, rule))?;
+    Ok(())
 }

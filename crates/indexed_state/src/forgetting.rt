@@ -10,11 +10,11 @@ ghost use Rattle.site_join.specs.States.{record_facts};
 
 use crate::addresses::{address_in, call_address_in, forget_call, forget_gateway};
 use af_records::{AfFact, AfRec};
+use fact_records::SessionValue;
 use gx_records::{GxFact, GxRec};
 use pcrf_values::{AfSid, GxSid, Subscriber};
 use ranked::Ranked;
 use session_index::Index;
-use session_records::SessionValue;
 use site_join::{SessionFacts, State};
 use std::alloc::{AllocError, Global};
 

@@ -1,4 +1,4 @@
--- Tests that tell whether one value says all that another says: of what can end, and of maps.
+-- Tests that tell whether one value says all that another says, and of maps.
 use Rattle.std.proofs.Common.{◌≡◌, Bool, true, false, ◌&&◌, List, [], ◌∷◌, Option, Some, None, inl, inr, refl, sym, subst}
 use Rattle.std.specs.Prelude.{Decides}
 use Rattle.std.specs.declared.cmp.Ordering.{Ordering}
@@ -6,13 +6,10 @@ use Rattle.std.specs.List.{list_all}
 use Rattle.std.proofs.lemmas.Bool.Decides.{Decides-like}
 use Rattle.ranked.specs.Sets.{In}
 use Rattle.ranked.proofs.OrderLaws.{IsRanked}
-use Rattle.ranked.proofs.PartLaws.{IsStrict, IsMadeOf, part_at}
+use Rattle.ranked.proofs.PartLaws.{IsMadeOf, part_at}
 use Rattle.ranked.proofs.Plain.{clash}
-use Rattle.lattice_core.specs.declared.tombed.Tombed.{Tombed}
-use Rattle.lattice_core.specs.declared.tombed.Tombed.TheVariants.{Live, Ended}
 use Rattle.lattice_core.specs.Entries.{IsAscending, AllValues, value_at}
-use Rattle.lattice_core.specs.Subsets.{IsSubset, tombed_subset, tombed_empty, subset_at, map_subset, map_empty}
-use Rattle.lattice_core.specs.Tombs.{tombed_valid, tombed_facts}
+use Rattle.lattice_core.specs.Subsets.{IsSubset, subset_at, map_subset, map_empty}
 use Rattle.lattice_core.proofs.MapParts.{option_facts, option_valid, entry_found, found_entry, valid_at}
 
 -- The tests tell whether the facts of one valid value are among those of another, and whether there are none.
@@ -53,40 +50,6 @@ by_parts us ws pu pw mu mw h a i = let r = mu.into a i in mw.back r.0 a (h r.0 a
 pub to_parts : {A K : Type 0} {key : A → Option K} (us ws : List A) (pu pw : K → List A) → IsMadeOf key us pu → IsMadeOf key ws pw → IsSubset us ws → (k : K) → IsSubset (pu k) (pw k)
 to_parts us ws pu pw mu mw h k a i = (part_at mw k a (mu.keyed k a i)).0 (h a (mu.back k a i))
 
--- there are none where no part has one
-pub no_parts : {A K : Type 0} {key : A → Option K} (us : List A) (pu : K → List A) → IsMadeOf key us pu → ((k : K) → IsSubset (pu k) []) → IsSubset us []
-no_parts us pu mu h a i = let r = mu.into a i in h r.0 a r.1
-
--- and only there
-pub to_no_parts : {A K : Type 0} {key : A → Option K} (us : List A) (pu : K → List A) → IsMadeOf key us pu → IsSubset us [] → (k : K) → IsSubset (pu k) []
-to_no_parts us pu mu h k a i = h a (mu.back k a i)
-
--- ---- what can end
-module _ {A T : Type 0} {below : A → A → Bool} {valid : T → Type 0} {subset : T → T → Bool} {empty : T → Bool} {facts : T → List A} (strict : IsStrict below) (end : A) (ends : (v : T) (a : A) → In a (facts v) → below a end ≡ true) (tells : Tells valid subset empty facts) where
-  -- no live value has the end
-  not_end : {P : Type 0} (x : T) (a : A) → In a (facts x) → a ≡ end → P
-  not_end x a i e = clash (below end end) (subst (λ (z : A). below z end ≡ true) e (ends x a i)) (strict.irr end)
-
-  -- among the end alone stands nothing that lives
-  below_end : (x : T) → IsSubset (facts x) (end ∷ []) → IsSubset (facts x) []
-  below_end x h a i = elim (h a i) [ inl e ↦ not_end x a i e | inr j ↦ j ]
-
-  -- of two
-  some_of : (v w : Tombed T) → tombed_valid valid v → tombed_valid valid w → Decides (tombed_subset subset empty v w) (IsSubset (tombed_facts end facts v) (tombed_facts end facts w))
-  some_of (Live x) (Live y) v w = tells.some x y v w
-  some_of (Live x) Ended v w = Decides-like (empty x) (λ h a i. absurd (h a i)) (below_end x) (tells.none x v)
-  some_of Ended (Live y) v w = never (λ h. not_end y end (h end (inl refl)) refl)
-  some_of Ended Ended v w = always (λ a i. i)
-
-  -- of one
-  none_of : (v : Tombed T) → tombed_valid valid v → Decides (tombed_empty empty v) (IsSubset (tombed_facts end facts v) [])
-  none_of (Live x) v = tells.none x v
-  none_of Ended v = never (λ h. h end (inl refl))
-
-  -- what can end tells where what lives does
-  pub tombs_tell : Tells (tombed_valid valid) (tombed_subset subset empty) (tombed_empty empty) (tombed_facts end facts)
-  tombs_tell = record { some = some_of; none = none_of }
-
 -- ---- maps
 module _ {A V : Type 0} {valid : V → Type 0} {subset : V → V → Bool} {empty : V → Bool} {facts : V → List A} (tells : Tells valid subset empty facts) where
   -- a value beside what may stand at its key
@@ -119,11 +82,3 @@ module _ {A K V : Type 0} {cmp : K → K → Ordering} {valid : V → Type 0} {s
       (λ h e i. at_key (λ l. IsSubset l (option_facts (sub e.0) (value_at cmp ys e.0))) e xs s i (h e.0))
       (all_decides (λ e. subset_at subset empty e.1 (value_at cmp ys e.0)) (λ e. IsSubset (sub e.0 e.1) (option_facts (sub e.0) (value_at cmp ys e.0))) xs
       (λ e i. tells_at (tells e.0) e.1 (value_at cmp ys e.0) (valid_of e xs s v i) (valid_at o valid e.0 ys w)))
-
-  -- There are none at any key.
-  pub map_tells_none : (xs : List (K × V)) → IsAscending cmp xs → AllValues valid xs
-      → Decides (map_empty empty xs) ((k : K) → IsSubset (option_facts (sub k) (value_at cmp xs k)) [])
-  map_tells_none xs s v = Decides-like (map_empty empty xs)
-      (λ h. at_entry (λ k l. IsSubset l []) xs (λ k a i. i) h)
-      (λ h e i. at_key (λ l. IsSubset l []) e xs s i (h e.0))
-      (all_decides (λ e. empty e.1) (λ e. IsSubset (sub e.0 e.1) []) xs (λ e i. (tells e.0).none e.1 (valid_of e xs s v i)))

@@ -4,7 +4,6 @@ ghost use Rattle.std.specs.Option.{option_copied};
 ghost use Rattle.std.specs.Slice.Iter.{iter_rest};
 ghost use Rattle.lattice_core.specs.Entries.{value_at, IsAscending, IsAt, IsGap, AllValues, put, put_all, map_joined};
 
-use crate::fact_set::{FactSet, is_subset_at};
 use crate::join::Join;
 use ranked::Ranked;
 use std::alloc::{AllocError, Global};
@@ -200,31 +199,5 @@ impl<K: Ranked, V: Join> Join for JoinMap<K, V> {
 
     fn note_valid(&self) {
         let _ = self.entries();
-    }
-}
-
-impl<K: Ranked, V: FactSet> FactSet for JoinMap<K, V> {
-    ghost use Rattle.lattice_core.specs.Subsets.{map_subset, map_empty};
-
-    ghost subset = { map_subset K.cmp V.subset V.empty };
-
-    ghost empty = { map_empty V.empty };
-
-    fn is_subset(&self, other: &JoinMap<K, V>) -> bool {
-        for entry in self.entries() {
-            if !is_subset_at(&entry.1, other.get(&entry.0)) {
-                return false;
-            }
-        }
-        true
-    }
-
-    fn is_empty(&self) -> bool {
-        for entry in self.entries() {
-            if !entry.1.is_empty() {
-                return false;
-            }
-        }
-        true
     }
 }

@@ -4,7 +4,6 @@ ghost use Rattle.std.specs.Option.{option_copied};
 ghost use Rattle.lattice_core.specs.Registers.{reg_joined};
 ghost use Rattle.lattice_core.specs.laws.Registers.{reg_comm, reg_assoc, reg_idem};
 
-use crate::fact_set::FactSet;
 use crate::join::Join;
 use ranked::{Ranked, Tag};
 use std::alloc::AllocError;
@@ -96,20 +95,4 @@ impl<T: Ranked> Join for Reg<T> {
     }
 
     fn note_valid(&self) {}
-}
-
-impl<T: Ranked> FactSet for Reg<T> {
-    ghost use Rattle.lattice_core.specs.Subsets.{reg_subset, reg_empty};
-
-    ghost subset = { reg_subset T.cmp };
-
-    ghost empty = { reg_empty };
-
-    fn is_subset(&self, other: &Reg<T>) -> bool {
-        self.held.is_none() || self.held.cmp(&other.held) == Ordering::Equal
-    }
-
-    fn is_empty(&self) -> bool {
-        self.held.is_none()
-    }
 }

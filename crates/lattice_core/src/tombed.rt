@@ -1,5 +1,4 @@
 //! Values that can end for good.
-use crate::fact_set::FactSet;
 use crate::join::Join;
 use std::alloc::AllocError;
 
@@ -63,30 +62,6 @@ impl<T: Join> Join for Tombed<T> {
     fn note_valid(&self) {
         if let Tombed::Live(value) = self {
             value.note_valid();
-        }
-    }
-}
-
-impl<T: FactSet> FactSet for Tombed<T> {
-    ghost use Rattle.lattice_core.specs.Subsets.{tombed_subset, tombed_empty};
-
-    ghost subset = { tombed_subset T.subset T.empty };
-
-    ghost empty = { tombed_empty T.empty };
-
-    fn is_subset(&self, other: &Tombed<T>) -> bool {
-        match (self, other) {
-            (Tombed::Live(ours), Tombed::Live(theirs)) => ours.is_subset(theirs),
-            (Tombed::Live(ours), Tombed::Ended) => ours.is_empty(),
-            (Tombed::Ended, Tombed::Live(_)) => false,
-            (Tombed::Ended, Tombed::Ended) => true,
-        }
-    }
-
-    fn is_empty(&self) -> bool {
-        match self {
-            Tombed::Live(value) => value.is_empty(),
-            Tombed::Ended => false,
         }
     }
 }

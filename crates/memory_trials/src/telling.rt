@@ -56,6 +56,20 @@ impl Call for ListTold {
     }
 }
 
+/// The fingerprint of what the gateway was told under a name, and of what else is known of its session by the tag alone.
+impl Fingerprint for GxFact {
+    fn fingerprint(&self) -> u64 {
+        match self {
+            GxFact::End => EMPTY,
+            GxFact::Field(tag, _) => mixed(1, tag.fingerprint()),
+            GxFact::Told(tag, name, rule) => {
+                let told = mixed(name.fingerprint(), rule.fingerprint());
+                mixed(2, mixed(tag.fingerprint(), told))
+            }
+        }
+    }
+}
+
 impl Fingerprint for ListTold {
     fn fingerprint(&self) -> u64 {
         fingerprint_of(self.record.told_facts())

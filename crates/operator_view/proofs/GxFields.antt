@@ -12,9 +12,9 @@ use Rattle.pcrf_facts.specs.Values.{Value, value_cmp, Entry}
 use Rattle.pcrf_facts.specs.Facts.{Fact}
 use Rattle.pcrf_facts.specs.Held.{entry_shown}
 use Rattle.pcrf_model.specs.OperatorValues.{FieldShown, field_shown}
-use Rattle.session_records.specs.SessionFacts.{session_fields}
-use Rattle.session_records.proofs.FieldLists.{fields_rise}
-use Rattle.session_records.proofs.SessionLaws.{session_complete}
+use Rattle.fact_records.specs.SessionFacts.{session_fields}
+use Rattle.fact_records.proofs.FieldLists.{fields_rise}
+use Rattle.fact_records.proofs.SessionLaws.{session_complete}
 use Rattle.operator_view.specs.Fields.{field_at, shown_at, fields_of}
 use Rattle.operator_view.proofs.FieldsAlone.{field_cmp, field_ranked, facts_rise, field_shows, shows_field}
 

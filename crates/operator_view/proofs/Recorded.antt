@@ -16,8 +16,8 @@ use Rattle.pcrf_model.specs.Sessions.{Kind, Gx, Af, Session, session_cmp}
 use Rattle.pcrf_model.specs.Views.{view}
 use Rattle.pcrf_model.proofs.HoldingLaws.{session_ranked, In-facts_on, facts_on-In}
 use Rattle.pcrf_model.proofs.ViewLaws.{its_session}
-use Rattle.session_records.specs.Subsets.{facts_empty}
-use Rattle.session_records.proofs.Ordered.{entries_ascending}
+use Rattle.fact_records.specs.Sets.{facts_empty}
+use Rattle.fact_records.proofs.Ordered.{entries_ascending}
 use Rattle.site_join.specs.States.{Records, record_facts}
 use Rattle.bind_index.proofs.Entries.{AreRecordsOf, its_facts}
 

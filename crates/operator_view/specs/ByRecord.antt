@@ -10,7 +10,7 @@ use Rattle.pcrf_model.specs.Rules.{rules}
 use Rattle.pcrf_model.specs.Sessions.{gx, af}
 use Rattle.pcrf_model.specs.Tables.{Tables}
 use Rattle.pcrf_model.specs.Views.{View}
-use Rattle.session_records.specs.Subsets.{facts_empty}
+use Rattle.fact_records.specs.Sets.{facts_empty}
 use Rattle.operator_view.specs.Fields.{fields_of}
 
 -- ---- bindings

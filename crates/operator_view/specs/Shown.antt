@@ -5,8 +5,8 @@ use Rattle.pcrf_facts.specs.Places.{OfComponent, OfFlow}
 use Rattle.pcrf_facts.specs.Values.{Text, Subscribers, Number, Filters}
 use Rattle.pcrf_model.specs.OperatorValues.{FieldShown, GxShown, AfShown, SessionValue, OperatorValue}
 use Rattle.pcrf_model.specs.OperatorValues as seen
-use Rattle.session_records.specs.SessionFacts.{address_value}
-use Rattle.session_records.specs.declared.session.SessionValue.TheVariants as session_value
+use Rattle.fact_records.specs.SessionFacts.{address_value}
+use Rattle.fact_records.specs.declared.session_value.SessionValue.TheVariants as session_value
 use Rattle.af_records.specs.declared.fact.ComponentValue.TheVariants as component_value
 use Rattle.af_records.specs.declared.fact.FlowValue.TheVariants as flow_value
 use Rattle.operator_view.specs.declared.seen.SessionSeen.{SessionSeen}

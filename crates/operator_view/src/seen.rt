@@ -1,8 +1,8 @@
 //! What an operator sees of sessions.
 use af_records::{AfRequestType, ComponentValue, FlowValue};
+use fact_records::SessionValue;
 use gx_records::{OpenRequestType, Told};
 use pcrf_values::{AfSid, Apn, DiameterIdentity, Enumerated, GxSid, Rule, Subscribers};
-use session_records::SessionValue;
 use std::net::Ipv4Addr;
 
 /// What is seen of a session.

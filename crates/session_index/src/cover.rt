@@ -5,14 +5,14 @@ ghost use Rattle.gx_records.specs.GxFacts as gx_facts;
 ghost use Rattle.pcrf_model.specs.Sessions.{gx, af};
 ghost use Rattle.pcrf_model.specs.Views.{view};
 ghost use Rattle.ranked.specs.declared.tag.Tag.{Tag};
-ghost use Rattle.session_records.specs.SessionFacts.{session_fact};
+ghost use Rattle.fact_records.specs.SessionFacts.{session_fact};
 ghost use Rattle.session_index.specs.Index.{Covers, Grows, ListAddresses, ListSubscribers, ListsAddress, ListsFacts, ListsSubscribers};
 
 use crate::index::Index;
 use af_records::{AfFact, AfRec, AfRequestType};
+use fact_records::SessionValue;
 use gx_records::{GxFact, GxRec, OpenRequestType};
 use pcrf_values::{AfSid, Enumerated, GxSid};
-use session_records::SessionValue;
 use site_join::{Operation, SessionFacts, State};
 use std::alloc::AllocError;
 use std::collections::btree_map::Iter;

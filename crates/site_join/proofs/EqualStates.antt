@@ -17,8 +17,8 @@ use Rattle.pcrf_facts.specs.Held.{kept_list}
 use Rattle.pcrf_model.specs.Sessions.{Session, Gx, Af, gx, af}
 use Rattle.pcrf_model.specs.Holdings.{SessionFact, session_fact_cmp, under, Holding}
 use Rattle.pcrf_model.proofs.HoldingLaws.{there_strict, sorted-In, sorted-Same, In-under, under-In}
-use Rattle.session_records.specs.Subsets.{facts_subset, facts_empty}
-use Rattle.session_records.proofs.SubsetLaws.{facts_tell}
+use Rattle.fact_records.specs.Sets.{facts_subset, facts_empty}
+use Rattle.fact_records.proofs.SubsetLaws.{facts_tell}
 use Rattle.site_join.specs.States.{Records, facts_under, facts_of, held_by}
 use Rattle.site_join.proofs.StateLaws.{AreKept, its_id, id_rises, keyed, under_keeps, gx_named, af_named, of_kind, kinds_differ}
 

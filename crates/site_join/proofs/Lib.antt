@@ -1,4 +1,3 @@
-pub mod BeneathLaws
 pub mod EqualStates
 pub mod FormedGroups
 pub mod FormedLaws
@@ -7,4 +6,5 @@ pub mod HeldGroups
 pub mod MergeLaws
 pub mod PlacedRecords
 pub mod RisingLaws
+pub mod StandingLaws
 pub mod StateLaws

@@ -1,4 +1,3 @@
-pub mod Beneath
 pub mod Formed
 pub mod Groups
 pub mod States

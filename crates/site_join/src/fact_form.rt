@@ -3,26 +3,20 @@ ghost use Rattle.std.specs.Prelude.{◌≡◌, ◌&&◌, ◌==◌, nat_le, nat_l
 ghost use Rattle.std.specs.Ordering.{is_eq};
 ghost use Rattle.ranked.specs.declared.tag.Tag.{Tag};
 ghost use Rattle.ranked.specs.Tags.{tag_cmp};
-ghost use Rattle.pcrf_facts.specs.Facts.{position};
 ghost use Rattle.pcrf_values.specs.Limits.{site_limit};
 ghost use Rattle.pcrf_model.specs.Forms.{fits_rule_name, is_stamp, is_unsigned};
-ghost use Rattle.session_records.specs.SessionFacts.{session_fact};
 ghost use Rattle.gx_records.specs.GxFacts.{told_value};
-ghost use Rattle.af_records.specs.RecordFacts as af_facts;
-ghost use Rattle.af_records.specs.declared.fact.AfFact.TheVariants.{Component, Flow};
 
-use crate::form::{
-    Beneath, COMPONENT_FIELD, FLOW_FIELD, FormFact, Position, RULE_NAME, SESSION_FIELD, is_stamp,
-};
+use crate::form::{FormFact, is_stamp};
 use crate::ranges::{
     note_af_value, note_component_value, note_flow_value, note_gx_value, note_unsigned,
 };
-use af_records::{AfFact, ComponentValue, FlowValue, SessionValue};
+use af_records::AfFact;
 use gx_records::GxFact;
 use lattice_core::Tag;
 use pcrf_model::ranges::{note_rule, note_text};
 use pcrf_values::limits::SITE_LIMIT;
-use pcrf_values::{Enumerated, Enumeration, Rule, RuleName};
+use pcrf_values::{Rule, RuleName};
 
 /// The tag is that of these parts.
 fn is_tag(tag: &Tag, number: u32, counter: u64, site: u8) -> bool
@@ -55,66 +49,6 @@ fn is_counted(tag: &Tag, clock: u64, number: u32) -> bool
     is_stamp(tag.counter, tag.site) && tag.counter <= clock && tag.number == number
 }
 
-/// Where a field of a session stands.
-fn session_position<'a, E: Enumeration>(value: &SessionValue<Enumerated<E>>) -> Position<'a>
-    ensures { (t : Tag) → result ≡ position (session_fact t value.now) }
-{
-    let field = match value {
-        SessionValue::Address(_) => 1,
-        SessionValue::Apn(_) => 2,
-        SessionValue::Subscribers(_) => 3,
-        SessionValue::Host(_) => 4,
-        SessionValue::Realm(_) => 5,
-        SessionValue::Last(_) => 6,
-    };
-    Position {
-        code: SESSION_FIELD,
-        component: 0,
-        flow: 0,
-        field,
-        name: &[],
-    }
-}
-
-/// Where a field of a component stands.
-fn component_position<'a>(component: u32, value: &ComponentValue) -> Position<'a>
-    ensures { (t : Tag) → result ≡ position (af_facts.fact_of (Component component t value.now)) }
-{
-    let field = match value {
-        ComponentValue::MediaType(_) => 1,
-        ComponentValue::Status(_) => 2,
-        ComponentValue::RateUp(_) => 3,
-        ComponentValue::RateDown(_) => 4,
-    };
-    Position {
-        code: COMPONENT_FIELD,
-        component,
-        flow: 0,
-        field,
-        name: &[],
-    }
-}
-
-/// Where a field of a flow stands.
-fn flow_position<'a>(component: u32, flow: u32, value: &FlowValue) -> Position<'a>
-    ensures { (t : Tag) → result ≡ position (af_facts.fact_of (Flow component flow t value.now)) }
-{
-    let field = match value {
-        FlowValue::Descriptions(_) => 1,
-        FlowValue::Usage(_) => 2,
-        FlowValue::Status(_) => 3,
-        FlowValue::RateUp(_) => 4,
-        FlowValue::RateDown(_) => 5,
-    };
-    Position {
-        code: FLOW_FIELD,
-        component,
-        flow,
-        field,
-        name: &[],
-    }
-}
-
 /// What was told under a name is nothing, or a rule of that name.
 fn is_told(name: &RuleName, rule: &Option<Rule>) -> bool
     ensures { result ≡ fits_rule_name name.now (told_value rule.now) }
@@ -130,32 +64,8 @@ fn is_told(name: &RuleName, rule: &Option<Rule>) -> bool
 
 impl FormFact for GxFact {
     ghost use Rattle.pcrf_model.specs.Sessions.{Gx};
-    ghost use Rattle.gx_records.specs.GxFacts as gx_facts;
-
-    ghost fact = { gx_facts.fact_of };
 
     ghost kind = { Gx };
-
-    fn position(&self) -> Position<'_> {
-        match self {
-            GxFact::End => Position::of_end(),
-            GxFact::Field(_, value) => session_position(value),
-            GxFact::Told(_, name, _) => Position {
-                code: RULE_NAME,
-                component: 0,
-                flow: 0,
-                field: 0,
-                name: name.as_slice(),
-            },
-        }
-    }
-
-    fn beneath(&self) -> Beneath {
-        match self {
-            GxFact::End => Beneath::Nothing,
-            GxFact::Field(_, _) | GxFact::Told(_, _, _) => Beneath::Session,
-        }
-    }
 
     fn is_made(&self, counter: u64, site: u8, number: u32) -> bool {
         match self {
@@ -202,32 +112,8 @@ impl FormFact for GxFact {
 
 impl FormFact for AfFact {
     ghost use Rattle.pcrf_model.specs.Sessions.{Af};
-    ghost use Rattle.af_records.specs.RecordFacts as af_facts;
-
-    ghost fact = { af_facts.fact_of };
 
     ghost kind = { Af };
-
-    fn position(&self) -> Position<'_> {
-        match self {
-            AfFact::End => Position::of_end(),
-            AfFact::ComponentRemoved(component) => Position::of_component_removal(*component),
-            AfFact::FlowRemoved(component, flow) => Position::of_flow_removal(*component, *flow),
-            AfFact::Session(_, value) => session_position(value),
-            AfFact::Component(component, _, value) => component_position(*component, value),
-            AfFact::Flow(component, flow, _, value) => flow_position(*component, *flow, value),
-        }
-    }
-
-    fn beneath(&self) -> Beneath {
-        match self {
-            AfFact::End => Beneath::Nothing,
-            AfFact::ComponentRemoved(_) | AfFact::Session(_, _) => Beneath::Session,
-            AfFact::FlowRemoved(component, _) => Beneath::Component(*component),
-            AfFact::Component(component, _, _) => Beneath::Component(*component),
-            AfFact::Flow(component, flow, _, _) => Beneath::Flow(*component, *flow),
-        }
-    }
 
     fn is_made(&self, counter: u64, site: u8, number: u32) -> bool {
         match self {

@@ -10,6 +10,7 @@ ghost use Rattle.site_join.specs.States.{session_of, facts_in};
 
 use crate::form::{is_operation, is_record};
 use af_records::AfFact;
+use fact_records::copy_facts;
 use gx_records::GxFact;
 use pcrf_values::{AfSid, GxSid};
 use ranked::Ranked;
@@ -33,37 +34,15 @@ impl SessionFacts {
     {
         match self {
             SessionFacts::Gx(id, facts) => {
-                let facts = copy_gx(facts)?;
+                let facts = copy_facts(*facts.allocator(), facts.as_slice())?;
                 Ok(SessionFacts::Gx(id.try_copy()?, facts))
             }
             SessionFacts::Af(id, facts) => {
-                let facts = copy_af(facts)?;
+                let facts = copy_facts(*facts.allocator(), facts.as_slice())?;
                 Ok(SessionFacts::Af(id.try_copy()?, facts))
             }
         }
     }
-}
-
-/// Equal facts of a gateway's session, in order.
-fn copy_gx(facts: &Vec<GxFact>) -> Result<Vec<GxFact>, AllocError>
-    ensures { IfOk result (λ r. r.items ≡ facts.now.items) }
-{
-    let mut copies = Vec::new(*facts.allocator());
-    for fact in facts.as_slice() {
-        copies.push(fact.try_copy()?)?;
-    }
-    Ok(copies)
-}
-
-/// Equal facts of an application function's session, in order.
-fn copy_af(facts: &Vec<AfFact>) -> Result<Vec<AfFact>, AllocError>
-    ensures { IfOk result (λ r. r.items ≡ facts.now.items) }
-{
-    let mut copies = Vec::new(*facts.allocator());
-    for fact in facts.as_slice() {
-        copies.push(fact.try_copy()?)?;
-    }
-    Ok(copies)
 }
 
 /// There is a fact, and each is one of some operation on a gateway's session: so a record can be made of them.

@@ -7,8 +7,8 @@ use Rattle.pcrf_facts.specs.Places as places
 use Rattle.pcrf_facts.specs.Values as values
 use Rattle.pcrf_facts.specs.Facts.{Fact}
 use Rattle.pcrf_facts.specs.Facts as facts
-use Rattle.session_records.specs.declared.session.SessionValue.{SessionValue}
-use Rattle.session_records.specs.declared.session.SessionValue.TheVariants.{Address, Apn, Subscribers, Host, Realm, Last}
+use Rattle.fact_records.specs.declared.session_value.SessionValue.{SessionValue}
+use Rattle.fact_records.specs.declared.session_value.SessionValue.TheVariants.{Address, Apn, Subscribers, Host, Realm, Last}
 use Rattle.gx_records.specs.declared.fact.GxFact.{GxFact}
 use Rattle.gx_records.specs.declared.fact.GxFact.TheVariants as gx
 use Rattle.gx_records.specs.GxFacts as gx_facts

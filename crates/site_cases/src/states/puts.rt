@@ -56,7 +56,7 @@ fn called(rt: &(impl AllocGlobal + Abort)) -> State {
 /// Whether a record shows this host, under this counter.
 fn is_of_host(record: &GxRec, counter: u64, name: &str) -> bool {
     match record.host() {
-        Some((tag, host)) => *tag == at(counter) && host.as_slice() == name.as_bytes(),
+        Some((tag, host)) => tag == at(counter) && host.as_slice() == name.as_bytes(),
         None => false,
     }
 }
@@ -64,7 +64,7 @@ fn is_of_host(record: &GxRec, counter: u64, name: &str) -> bool {
 /// Whether a record shows an update under this counter.
 fn is_updated(record: &GxRec, counter: u64) -> bool {
     match record.last() {
-        Some((tag, last)) => *tag == at(counter) && last.number() == 2,
+        Some((tag, last)) => tag == at(counter) && last.number() == 2,
         None => false,
     }
 }
@@ -96,7 +96,7 @@ fn shows_gateways(state: &State, clock: u64, want: Option<(u64, &str)>) -> bool 
 /// Whether a record shows the application function of `called`.
 fn is_of_function(record: &AfRec) -> bool {
     match record.host() {
-        Some((tag, host)) => *tag == at(2) && host.as_slice() == b"af".as_slice(),
+        Some((tag, host)) => tag == at(2) && host.as_slice() == b"af".as_slice(),
         None => false,
     }
 }
@@ -104,7 +104,7 @@ fn is_of_function(record: &AfRec) -> bool {
 /// Whether a record shows the component of `called`.
 fn is_of_audio(record: &AfRec) -> bool {
     match record.component_media_type(1) {
-        Some((tag, media)) => *tag == at(2) && *media == 0,
+        Some((tag, media)) => tag == at(2) && *media == 0,
         None => false,
     }
 }

@@ -1,6 +1,6 @@
 -- The facts of the values so far.
 use Rattle.std.proofs.Common.{◌≡◌, map}
-use Rattle.session_records.specs.SessionFacts.{session_fact}
+use Rattle.fact_records.specs.SessionFacts.{session_fact}
 use Rattle.af_records.specs.RecordFacts.{fact_of}
 use Rattle.fact_making.proofs.call.of_values.Given as goal
 

@@ -14,4 +14,4 @@ returns-in_default-address c = λ facts id is. address_shown facts (gx id) c.in-
 
 pub returns : goal.returns
 returns c = λ facts id is. address_shown facts (gx id) c.in-Some.known.now
-    (Some (c.in-Some-address.field-0.now.0, address_value c.in-Some-address.field-0.now.1)) (sym (ap (λ o. record_facts (option_copied o)) c.in-Some.is) ∙ is) c.in-Some-address.ensures
+    (Some (_, address_value c.in-Some-address.address.now)) (sym (ap (λ o. record_facts (option_copied o)) c.in-Some.is) ∙ is) c.in-Some-address.ensures

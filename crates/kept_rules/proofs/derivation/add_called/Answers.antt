@@ -8,13 +8,13 @@ returns-in_default c = λ its all. without_address c.args.tables.now c.args.stat
 
 pub returns-in_default-calls_at : goal.returns-in_default-calls_at
 returns-in_default-calls_at c = λ its all.
-    none_called c.args.tables.now c.args.state.now.facts c.args.session.now c.args.gateway.now its c.args.index.now all c.in-Some.field-0.now.0 c.in-Some.field-0.now.1 c.in-Some.ensures
+    none_called c.args.tables.now c.args.state.now.facts c.args.session.now c.args.gateway.now its c.args.index.now all _ c.in-Some.address.now c.in-Some.ensures
     c.args.found.now.items c.in_default-calls_at.ensures
 
 pub returns : goal.returns
 returns c =
     on_ok_weaker c.add_listed.result
     (λ h its all.
-    all_called c.args.tables.now c.args.state.now.facts c.args.session.now c.args.gateway.now its c.args.index.now all c.in-Some.field-0.now.0 c.in-Some.field-0.now.1 c.in-Some.ensures
+    all_called c.args.tables.now c.args.state.now.facts c.args.session.now c.args.gateway.now its c.args.index.now all _ c.in-Some.address.now c.in-Some.ensures
     c.in-Some-calls_at.calls.now c.args.found.now.items c.add_listed.new.found.items c.in-Some-calls_at.ensures (h all))
     c.add_listed.ensures

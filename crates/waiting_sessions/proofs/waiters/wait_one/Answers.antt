@@ -10,5 +10,5 @@ pub returns-in_default-host-clause-waits : goal.returns-in_default-host-clause-w
 returns-in_default-host-clause-waits c = no_host c.args.state.now.facts (gx c.args.id.now) c.in-Some.known.now c.args.waiting.now c.in-Some.ensures c.in_default-host.ensures
 
 pub returns-clause-waits : goal.returns-clause-waits
-returns-clause-waits c = has_host c.args.state.now.facts c.args.id.now c.in-Some.known.now c.add.new.self c.in-Some-host.field-0.now.0 c.in-Some-host.field-0.now.1
+returns-clause-waits c = has_host c.args.state.now.facts c.args.id.now c.in-Some.known.now c.add.new.self _ c.in-Some-host.host.now
     c.in-Some.ensures c.in-Some-host.ensures c.add.ensures.there

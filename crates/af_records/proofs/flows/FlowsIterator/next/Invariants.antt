@@ -1,17 +1,10 @@
 use Rattle.std.proofs.Common.{◌≡◌, length}
-use Rattle.af_records.specs.FlowLists.{flows_left}
+use Rattle.std.specs.List.{filter_map}
+use Rattle.af_records.specs.FlowLists.{flow_said, flows_after}
 use Rattle.af_records.proofs.flows.FlowsIterator.next.Given as goal
 
-abbrev pub invariant-loop-first : goal.invariant-loop-first
-invariant-loop-first l = flows_left l.self-inside.removed l.self-inside.component l.self-inside.flows.now l.self-inside.components.now ≡ l.fn.self
+abbrev pub invariant-each : goal.invariant-each
+invariant-each l = flows_after l.self-inside.last (filter_map flow_said l.self-inside.left.now) ≡ l.fn.self
 
-abbrev pub decreases-loop-first : goal.decreases-loop-first
-decreases-loop-first l = length l.self-inside.components.now
-
-abbrev pub invariant-loop-first-2 : goal.invariant-loop-first-2
-invariant-loop-first-2 l =
-    (flows_left l.self-inside.removed l.self-inside.component l.self-inside.flows.now l.self-inside.components.now ≡ l.fn.self)
-    × (l.self-inside.components.now ≡ l.initial.self-inside.components.now)
-
-abbrev pub decreases-loop-first-2 : goal.decreases-loop-first-2
-decreases-loop-first-2 l = length l.self-inside.flows.now
+abbrev pub decreases-each : goal.decreases-each
+decreases-each l = length l.self-inside.left.now

@@ -1,8 +1,7 @@
-use Rattle.std.proofs.Common.{ap, ◌∙◌}
+use Rattle.std.proofs.Common.{Some, refl, ap, sym, ◌∙◌}
 use Rattle.pcrf_facts.specs.Places.{CalledStationId}
-use Rattle.pcrf_facts.specs.Values.{Text}
-use Rattle.session_records.specs.Levels.{entry_by}
+use Rattle.fact_records.specs.SessionValues.{session_value}
 use Rattle.af_records.proofs.record.AfRec.apn.Goals as goal
 
-pub returns-in-Some : goal.returns-in-Some
-returns-in-Some c = ap (entry_by Text) c.get.ensures ∙ c.in-Some.ensures CalledStationId
+pub returns-in-Apn : goal.returns-in-Apn
+returns-in-Apn c = ap (λ v. Some (c.in-Some.tag, session_value v)) (sym c.in-Apn.is) ∙ c.in-Some.ensures.shown CalledStationId refl

@@ -1,8 +1,7 @@
-use Rattle.std.proofs.Common.{ap, ◌∙◌}
+use Rattle.std.proofs.Common.{Some, refl, ap, sym, ◌∙◌}
 use Rattle.pcrf_facts.specs.Places.{FlowDescriptions}
-use Rattle.pcrf_facts.specs.Values.{Filters}
-use Rattle.session_records.specs.Levels.{entry_by}
+use Rattle.af_records.specs.FieldValues.{flow_value}
 use Rattle.af_records.proofs.record.AfRec.flow_descriptions.Goals as goal
 
-pub returns-in-Some : goal.returns-in-Some
-returns-in-Some c = ap (entry_by Filters) c.get.ensures ∙ c.in-Some.ensures FlowDescriptions
+pub returns-in-Descriptions : goal.returns-in-Descriptions
+returns-in-Descriptions c = ap (λ v. Some (c.in-Some.tag, flow_value v)) (sym c.in-Descriptions.is) ∙ c.in-Some.ensures.shown FlowDescriptions refl

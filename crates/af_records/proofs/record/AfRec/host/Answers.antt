@@ -1,8 +1,7 @@
-use Rattle.std.proofs.Common.{ap, ◌∙◌}
+use Rattle.std.proofs.Common.{Some, refl, ap, sym, ◌∙◌}
 use Rattle.pcrf_facts.specs.Places.{OriginHost}
-use Rattle.pcrf_facts.specs.Values.{Text}
-use Rattle.session_records.specs.Levels.{entry_by}
+use Rattle.fact_records.specs.SessionValues.{session_value}
 use Rattle.af_records.proofs.record.AfRec.host.Goals as goal
 
-pub returns-in-Some : goal.returns-in-Some
-returns-in-Some c = ap (entry_by Text) c.get.ensures ∙ c.in-Some.ensures OriginHost
+pub returns-in-Host : goal.returns-in-Host
+returns-in-Host c = ap (λ v. Some (c.in-Some.tag, session_value v)) (sym c.in-Host.is) ∙ c.in-Some.ensures.shown OriginHost refl

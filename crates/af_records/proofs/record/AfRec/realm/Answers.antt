@@ -1,8 +1,7 @@
-use Rattle.std.proofs.Common.{ap, ◌∙◌}
+use Rattle.std.proofs.Common.{Some, refl, ap, sym, ◌∙◌}
 use Rattle.pcrf_facts.specs.Places.{OriginRealm}
-use Rattle.pcrf_facts.specs.Values.{Text}
-use Rattle.session_records.specs.Levels.{entry_by}
+use Rattle.fact_records.specs.SessionValues.{session_value}
 use Rattle.af_records.proofs.record.AfRec.realm.Goals as goal
 
-pub returns-in-Some : goal.returns-in-Some
-returns-in-Some c = ap (entry_by Text) c.get.ensures ∙ c.in-Some.ensures OriginRealm
+pub returns-in-Realm : goal.returns-in-Realm
+returns-in-Realm c = ap (λ v. Some (c.in-Some.tag, session_value v)) (sym c.in-Realm.is) ∙ c.in-Some.ensures.shown OriginRealm refl

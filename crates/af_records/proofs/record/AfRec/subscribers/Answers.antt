@@ -1,8 +1,7 @@
-use Rattle.std.proofs.Common.{ap, ◌∙◌}
+use Rattle.std.proofs.Common.{Some, refl, ap, sym, ◌∙◌}
 use Rattle.pcrf_facts.specs.Places.{SubscriptionIds}
-use Rattle.pcrf_facts.specs.Values.{Subscribers}
-use Rattle.session_records.specs.Levels.{entry_by}
+use Rattle.fact_records.specs.SessionValues.{session_value}
 use Rattle.af_records.proofs.record.AfRec.subscribers.Goals as goal
 
-pub returns-in-Some : goal.returns-in-Some
-returns-in-Some c = ap (entry_by Subscribers) c.get.ensures ∙ c.in-Some.ensures SubscriptionIds
+pub returns-in-Subscribers : goal.returns-in-Subscribers
+returns-in-Subscribers c = ap (λ v. Some (c.in-Some.tag, session_value v)) (sym c.in-Subscribers.is) ∙ c.in-Some.ensures.shown SubscriptionIds refl

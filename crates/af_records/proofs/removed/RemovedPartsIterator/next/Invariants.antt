@@ -1,9 +1,10 @@
 use Rattle.std.proofs.Common.{◌≡◌, length}
-use Rattle.af_records.specs.RemovedLists.{removed_left}
+use Rattle.std.specs.List.{filter_map}
+use Rattle.af_records.specs.RemovedLists.{removed_part}
 use Rattle.af_records.proofs.removed.RemovedPartsIterator.next.Given as goal
 
-abbrev pub invariant-loop-first : goal.invariant-loop-first
-invariant-loop-first l = removed_left l.self-inside.components.now l.self-inside.flows ≡ l.fn.self
+abbrev pub invariant-each : goal.invariant-each
+invariant-each l = filter_map removed_part l.self-inside.left.now ≡ l.fn.self
 
-abbrev pub decreases-loop-first : goal.decreases-loop-first
-decreases-loop-first l = length l.self-inside.components.now
+abbrev pub decreases-each : goal.decreases-each
+decreases-each l = length l.self-inside.left.now

@@ -1,8 +1,7 @@
-use Rattle.std.proofs.Common.{ap, ◌∙◌}
+use Rattle.std.proofs.Common.{Some, refl, ap, sym, ◌∙◌}
 use Rattle.pcrf_facts.specs.Places.{FramedIpAddress}
-use Rattle.session_records.specs.SessionFacts.{address_value}
-use Rattle.session_records.specs.Levels.{entry_by}
+use Rattle.fact_records.specs.SessionValues.{session_value}
 use Rattle.gx_records.proofs.record.GxRec.address.Goals as goal
 
-pub returns-in-Some : goal.returns-in-Some
-returns-in-Some c = ap (entry_by address_value) c.get.ensures ∙ c.in-Some.ensures FramedIpAddress
+pub returns-in-Address : goal.returns-in-Address
+returns-in-Address c = ap (λ v. Some (c.in-Some.tag, session_value v)) (sym c.in-Address.is) ∙ c.in-Some.ensures.shown FramedIpAddress refl

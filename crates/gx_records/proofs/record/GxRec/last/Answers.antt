@@ -1,8 +1,7 @@
-use Rattle.std.proofs.Common.{ap, ◌∙◌}
+use Rattle.std.proofs.Common.{Some, refl, ap, sym, ◌∙◌}
 use Rattle.pcrf_facts.specs.Places.{RequestType}
-use Rattle.pcrf_facts.specs.Values.{Number}
-use Rattle.session_records.specs.Levels.{entry_by}
+use Rattle.fact_records.specs.SessionValues.{session_value}
 use Rattle.gx_records.proofs.record.GxRec.last.Goals as goal
 
-pub returns-in-Some : goal.returns-in-Some
-returns-in-Some c = ap (entry_by Number) c.get.ensures ∙ c.in-Some.ensures RequestType
+pub returns-in-Last : goal.returns-in-Last
+returns-in-Last c = ap (λ v. Some (c.in-Some.tag, session_value v)) (sym c.in-Last.is) ∙ c.in-Some.ensures.shown RequestType refl

@@ -16,19 +16,19 @@ pub returns-in_default-gateways_at : goal.returns-in_default-gateways_at
 returns-in_default-gateways_at c = λ all a.
     let h = c.args.state.now in
     let asking = c.args.asking.now in
-    listed_is_bound h.facts asking (with_record h (af a) asking).facts a (placed_record h asking a) c.args.self.now c.in-Some.field-0.now.1 c.in-Some.field-0.now.0 None [] all c.in-Some.ensures
+    listed_is_bound h.facts asking (with_record h (af a) asking).facts a (placed_record h asking a) c.args.self.now c.in-Some.address.now _ None [] all c.in-Some.ensures
     c.in_default-gateways_at.ensures refl
 
 pub returns-in_default-greatest_listed : goal.returns-in_default-greatest_listed
 returns-in_default-greatest_listed c = λ all a.
     let h = c.args.state.now in
     let asking = c.args.asking.now in
-    listed_is_bound h.facts asking (with_record h (af a) asking).facts a (placed_record h asking a) c.args.self.now c.in-Some.field-0.now.1 c.in-Some.field-0.now.0 None c.in-Some-gateways_at.ids.now
+    listed_is_bound h.facts asking (with_record h (af a) asking).facts a (placed_record h asking a) c.args.self.now c.in-Some.address.now _ None c.in-Some-gateways_at.ids.now
     all c.in-Some.ensures c.in-Some-gateways_at.ensures c.in_default-greatest_listed.ensures
 
 pub returns : goal.returns
 returns c = λ all a.
     let h = c.args.state.now in
     let asking = c.args.asking.now in
-    listed_is_bound h.facts asking (with_record h (af a) asking).facts a (placed_record h asking a) c.args.self.now c.in-Some.field-0.now.1 c.in-Some.field-0.now.0
+    listed_is_bound h.facts asking (with_record h (af a) asking).facts a (placed_record h asking a) c.args.self.now c.in-Some.address.now _
     (Some (match_value c.in-Some-greatest_listed.found)) c.in-Some-gateways_at.ids.now all c.in-Some.ensures c.in-Some-gateways_at.ensures c.in-Some-greatest_listed.ensures

@@ -1,6 +1,6 @@
 use Rattle.std.proofs.Common.{[], ◌∷◌, sym, subst}
 use Rattle.std.proofs.lemmas.Result.{on_ok_weaker}
-use Rattle.session_records.specs.SessionFacts.{session_fact}
+use Rattle.fact_records.specs.SessionFacts.{session_fact}
 use Rattle.pcrf_model.specs.Sessions.{af}
 use Rattle.session_index.specs.Index.{ListsFacts}
 use Rattle.session_index.proofs.Covering.{address_fact}

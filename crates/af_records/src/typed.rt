@@ -1,0 +1,177 @@
+//! The facts of AF sessions, as records of facts ask for them.
+ghost use Rattle.std.specs.Prelude.{◌≡◌, []};
+ghost use Rattle.pcrf_facts.specs.Facts.{position};
+ghost use Rattle.pcrf_facts.specs.Values.{value_cmp};
+ghost use Rattle.af_records.specs.FieldValues.{component_number, component_value, flow_number, flow_value};
+
+use crate::fact::{AfFact, ComponentValue, FlowValue};
+use fact_records::{
+    Beneath, COMPONENT_FIELD, FLOW_FIELD, Position, TypedFact, compare_values, session_position,
+};
+use std::alloc::AllocError;
+use std::cmp::Ordering;
+
+/// The number of a component's field.
+fn component_field(value: &ComponentValue) -> u8
+    ensures { result ≡ component_number value.now }
+{
+    match value {
+        ComponentValue::MediaType(_) => 1,
+        ComponentValue::Status(_) => 2,
+        ComponentValue::RateUp(_) => 3,
+        ComponentValue::RateDown(_) => 4,
+    }
+}
+
+/// The number that it says.
+fn component_says(value: &ComponentValue) -> u32
+    ensures { result ≡ component_value value.now }
+{
+    match value {
+        ComponentValue::MediaType(kind) => *kind,
+        ComponentValue::Status(status) => status.number(),
+        ComponentValue::RateUp(rate) => *rate,
+        ComponentValue::RateDown(rate) => *rate,
+    }
+}
+
+/// The number of a flow's field.
+fn flow_field(value: &FlowValue) -> u8
+    ensures { result ≡ flow_number value.now }
+{
+    match value {
+        FlowValue::Descriptions(_) => 1,
+        FlowValue::Usage(_) => 2,
+        FlowValue::Status(_) => 3,
+        FlowValue::RateUp(_) => 4,
+        FlowValue::RateDown(_) => 5,
+    }
+}
+
+/// How two values of one field of a flow compare.
+fn compare_flow(one: &FlowValue, other: &FlowValue) -> Ordering
+    requires { flow_number one.now ≡ flow_number other.now }
+    ensures { result ≡ value_cmp (flow_value one.now) (flow_value other.now) }
+{
+    match one {
+        FlowValue::Descriptions(one) => match other {
+            FlowValue::Descriptions(other) => one.cmp(other),
+            _ => Ordering::Equal,
+        },
+        FlowValue::Usage(one) => match other {
+            FlowValue::Usage(other) => one.cmp(other),
+            _ => Ordering::Equal,
+        },
+        FlowValue::Status(one) => match other {
+            FlowValue::Status(other) => one.cmp(other),
+            _ => Ordering::Equal,
+        },
+        FlowValue::RateUp(one) => match other {
+            FlowValue::RateUp(other) => one.cmp(other),
+            _ => Ordering::Equal,
+        },
+        FlowValue::RateDown(one) => match other {
+            FlowValue::RateDown(other) => one.cmp(other),
+            _ => Ordering::Equal,
+        },
+    }
+}
+
+/// Where the field of that number of a component stands.
+pub(crate) fn component_position<'a>(component: u32, field: u8) -> Position<'a>
+    ensures { result ≡ (5, (component, (0, (field, [])))) }
+{
+    Position {
+        code: COMPONENT_FIELD,
+        component,
+        flow: 0,
+        field,
+        name: &[],
+    }
+}
+
+/// Where the field of that number of a flow stands.
+pub(crate) fn flow_position<'a>(component: u32, flow: u32, field: u8) -> Position<'a>
+    ensures { result ≡ (6, (component, (flow, (field, [])))) }
+{
+    Position {
+        code: FLOW_FIELD,
+        component,
+        flow,
+        field,
+        name: &[],
+    }
+}
+
+impl TypedFact for AfFact {
+    ghost use Rattle.af_records.specs.RecordFacts as af_facts;
+
+    ghost fact = { af_facts.fact_of };
+
+    fn position(&self) -> Position<'_> {
+        match self {
+            AfFact::End => Position::of_end(),
+            AfFact::ComponentRemoved(component) => Position::of_component_removal(*component),
+            AfFact::FlowRemoved(component, flow) => Position::of_flow_removal(*component, *flow),
+            AfFact::Session(_, value) => session_position(value),
+            AfFact::Component(component, _, value) => {
+                component_position(*component, component_field(value))
+            }
+            AfFact::Flow(component, flow, _, value) => {
+                flow_position(*component, *flow, flow_field(value))
+            }
+        }
+    }
+
+    fn is_field(&self) -> bool {
+        match self {
+            AfFact::End => false,
+            AfFact::ComponentRemoved(_) => false,
+            AfFact::FlowRemoved(_, _) => false,
+            AfFact::Session(_, _) => true,
+            AfFact::Component(_, _, _) => true,
+            AfFact::Flow(_, _, _, _) => true,
+        }
+    }
+
+    fn beneath(&self) -> Beneath {
+        match self {
+            AfFact::End => Beneath::Nothing,
+            AfFact::ComponentRemoved(_) | AfFact::Session(_, _) => Beneath::Session,
+            AfFact::FlowRemoved(component, _) => Beneath::Component(*component),
+            AfFact::Component(component, _, _) => Beneath::Component(*component),
+            AfFact::Flow(component, flow, _, _) => Beneath::Flow(*component, *flow),
+        }
+    }
+
+    fn compare_entry(&self, other: &AfFact) -> Ordering {
+        match self {
+            AfFact::End => Ordering::Equal,
+            AfFact::ComponentRemoved(_) => Ordering::Equal,
+            AfFact::FlowRemoved(_, _) => Ordering::Equal,
+            AfFact::Session(tag, value) => match other {
+                AfFact::Session(other_tag, other_value) => {
+                    tag.cmp(other_tag).then(compare_values(value, other_value))
+                }
+                _ => Ordering::Equal,
+            },
+            AfFact::Component(_, tag, value) => match other {
+                AfFact::Component(_, other_tag, other_value) => {
+                    let values = component_says(value).cmp(&component_says(other_value));
+                    tag.cmp(other_tag).then(values)
+                }
+                _ => Ordering::Equal,
+            },
+            AfFact::Flow(_, _, tag, value) => match other {
+                AfFact::Flow(_, _, other_tag, other_value) => {
+                    tag.cmp(other_tag).then(compare_flow(value, other_value))
+                }
+                _ => Ordering::Equal,
+            },
+        }
+    }
+
+    fn try_copy(&self) -> Result<AfFact, AllocError> {
+        AfFact::try_copy(self)
+    }
+}

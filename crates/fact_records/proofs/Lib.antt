@@ -1,0 +1,13 @@
+pub mod BeneathLaws
+pub mod FieldLists
+pub mod FoundLaws
+pub mod KeepLaws
+pub mod MergeLaws
+pub mod Ordered
+pub mod PartLaws
+pub mod PutLaws
+pub mod RecordLaws
+pub mod SearchLaws
+pub mod SessionLaws
+pub mod SubsetLaws
+pub mod ThereLaws

@@ -1,0 +1,23 @@
+use Rattle.std.proofs.Common.{◌≡◌, ◌∙◌, sym, true, false, map}
+use Rattle.std.specs.Ordering.{is_lt}
+use Rattle.std.specs.List.{list_any}
+use Rattle.std.specs.Option.{option_cmp}
+use Rattle.ranked.proofs.Plain.{not_true}
+use Rattle.pcrf_facts.specs.Values.{entry_cmp}
+use Rattle.pcrf_facts.specs.Facts.{entry}
+use Rattle.fact_records.specs.Beneath.{beneath_of, removes}
+use Rattle.fact_records.proofs.KeepLaws.{covered_at, covered_gone}
+use Rattle.fact_records.proofs.keeping.is_covered.Goals as goal
+
+pub returns-in_default : goal.returns-in_default
+returns-in_default g c h =
+    let fact = g.F.TypedFact.fact in
+    let gone : list_any (removes (beneath_of (fact c.args.fact.now))) (map fact c.args.facts.now) ≡ true = cc in
+    covered_gone (map fact c.args.facts.now) (fact c.args.fact.now) (λ x i e. c.in_default.ensures x i (e ∙ sym c.position.ensures)) gone
+
+pub returns : goal.returns
+returns g c h =
+    let fact = g.F.TypedFact.fact in
+    let n : c.is_lt.result ≡ false = not_true c.is_lt.result h in
+    let low : is_lt (option_cmp entry_cmp (entry (fact c.in-Some.found.now)) (entry (fact c.args.fact.now))) ≡ false = cc in
+    covered_at (map fact c.args.facts.now) (fact c.args.fact.now) (fact c.in-Some.found.now) c.in-Some.ensures.0 (c.in-Some.ensures.1 ∙ c.position.ensures) low

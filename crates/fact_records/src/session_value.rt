@@ -1,0 +1,117 @@
+//! What facts say of sessions of both kinds: where each of these facts stands, and how two of one field compare.
+ghost use Rattle.std.specs.Prelude.{◌≡◌, [], IfOk};
+ghost use Rattle.ranked.specs.declared.tag.Tag.{Tag};
+ghost use Rattle.pcrf_facts.specs.Facts.{position};
+ghost use Rattle.pcrf_facts.specs.Values.{value_cmp};
+ghost use Rattle.fact_records.specs.SessionFacts.{session_fact};
+ghost use Rattle.fact_records.specs.SessionValues.{session_number, session_value};
+
+use crate::fact::{Position, SESSION_FIELD};
+use lattice_core::Ranked;
+use pcrf_values::{Apn, DiameterIdentity, Enumerated, Enumeration, Subscribers};
+use std::alloc::AllocError;
+use std::cmp::Ordering;
+use std::net::Ipv4Addr;
+
+/// What a fact says of a session. `L` is the number of the type of its last request.
+#[derive(Debug, Drop)]
+pub enum SessionValue<L> {
+    /// Framed-IP-Address (RFC 7155, 4.4.10.5.1).
+    Address(Ipv4Addr),
+    /// Called-Station-Id (RFC 7155, 4.2.5).
+    Apn(Apn),
+    /// Subscription-Id (RFC 8506, 8.46).
+    Subscribers(Subscribers),
+    /// Origin-Host of the client (RFC 6733, 6.3).
+    Host(DiameterIdentity),
+    /// Origin-Realm of the client (RFC 6733, 6.4).
+    Realm(DiameterIdentity),
+    /// CC-Request-Type of the last request (RFC 8506, 8.3), 0 for Rx.
+    Last(L),
+}
+
+impl<L: Ranked> SessionValue<L> {
+    /// An equal value.
+    pub fn try_copy(&self) -> Result<SessionValue<L>, AllocError>
+        ensures { IfOk result (λ r. r ≡ self.now) }
+    {
+        match self {
+            SessionValue::Address(address) => Ok(SessionValue::Address(*address)),
+            SessionValue::Apn(apn) => Ok(SessionValue::Apn(apn.try_copy()?)),
+            SessionValue::Subscribers(ids) => Ok(SessionValue::Subscribers(ids.try_copy()?)),
+            SessionValue::Host(host) => Ok(SessionValue::Host(host.try_copy()?)),
+            SessionValue::Realm(realm) => Ok(SessionValue::Realm(realm.try_copy()?)),
+            SessionValue::Last(last) => Ok(SessionValue::Last(last.try_copy()?)),
+        }
+    }
+}
+
+/// The number of the field.
+fn number_of<E: Enumeration>(value: &SessionValue<Enumerated<E>>) -> u8
+    ensures { result ≡ session_number value.now }
+{
+    match value {
+        SessionValue::Address(_) => 1,
+        SessionValue::Apn(_) => 2,
+        SessionValue::Subscribers(_) => 3,
+        SessionValue::Host(_) => 4,
+        SessionValue::Realm(_) => 5,
+        SessionValue::Last(_) => 6,
+    }
+}
+
+/// Where the field of that number stands.
+pub fn position_of_field<'a>(field: u8) -> Position<'a>
+    ensures { result ≡ (2, (0, (0, (field, [])))) }
+{
+    Position {
+        code: SESSION_FIELD,
+        component: 0,
+        flow: 0,
+        field,
+        name: &[],
+    }
+}
+
+/// Where a field of a session stands.
+pub fn session_position<'a, E: Enumeration>(value: &SessionValue<Enumerated<E>>) -> Position<'a>
+    ensures { (t : Tag) → result ≡ position (session_fact t value.now) }
+{
+    position_of_field(number_of(value))
+}
+
+/// How two values of one field compare.
+pub fn compare_values<E: Enumeration>(
+    one: &SessionValue<Enumerated<E>>,
+    other: &SessionValue<Enumerated<E>>,
+) -> Ordering
+    requires { session_number one.now ≡ session_number other.now }
+    ensures { result ≡ value_cmp (session_value one.now) (session_value other.now) }
+{
+    match one {
+        SessionValue::Address(one) => match other {
+            SessionValue::Address(other) => one.cmp(other),
+            _ => Ordering::Equal,
+        },
+        SessionValue::Apn(one) => match other {
+            SessionValue::Apn(other) => one.cmp(other),
+            _ => Ordering::Equal,
+        },
+        SessionValue::Subscribers(one) => match other {
+            SessionValue::Subscribers(other) => one.cmp(other),
+            _ => Ordering::Equal,
+        },
+        SessionValue::Host(one) => match other {
+            SessionValue::Host(other) => one.cmp(other),
+            _ => Ordering::Equal,
+        },
+        SessionValue::Realm(one) => match other {
+            SessionValue::Realm(other) => one.cmp(other),
+            _ => Ordering::Equal,
+        },
+        SessionValue::Last(one) => match other {
+            SessionValue::Last(other) => one.cmp(other),
+            _ => Ordering::Equal,
+        },
+    }
+}

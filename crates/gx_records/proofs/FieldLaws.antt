@@ -1,0 +1,126 @@
+-- Values of one field are of one kind; what was told under names in order; which facts show where.
+use Rattle.std.proofs.Common.{◌≡◌, ℕ, Bool, true, false, cond, List, [], ◌∷◌, ◌++◌, map, Option, Some, None, is_some, refl, sym, ap, ◌∙◌}
+use Rattle.std.specs.List.{filter_map, flat_map, cons_option}
+use Rattle.std.specs.Option.{option_cmp}
+use Rattle.ranked.specs.declared.tag.Tag.{Tag}
+use Rattle.pcrf_values.specs.RuleValues.{RuleValue, rule_cmp}
+use Rattle.pcrf_facts.specs.Places.{ComponentField, FlowField, Place, OfComponent, OfFlow}
+use Rattle.pcrf_facts.specs.Values.{Value, Entry, value_cmp, entry_cmp}
+use Rattle.pcrf_facts.specs.Facts.{Fact, position, entry}
+use Rattle.pcrf_facts.specs.Held.{kept_list, is_gone, entry_at, entry_shown}
+use Rattle.pcrf_facts.proofs.JoinedLaws.{held-Same}
+use Rattle.pcrf_facts.specs.ToldWords.{told_entry, told_rule, ToldRule}
+use Rattle.pcrf_model.specs.Forms.{is_record}
+use Rattle.pcrf_model.specs.Sessions.{Gx}
+use Rattle.pcrf_model.proofs.RecordForms.{joined_record}
+use Rattle.ranked.specs.Sets.{greatest}
+use Rattle.ranked.proofs.SetLaws.{Same-twice}
+use Rattle.fact_records.specs.SessionValues.{entry_by, session_number, session_value}
+use Rattle.gx_records.specs.declared.fact.GxFact.{GxFact}
+use Rattle.gx_records.specs.declared.fact.GxFact.TheVariants.{End, Field, Told}
+use Rattle.fact_records.specs.SessionFacts.{session_fact}
+use Rattle.fact_records.specs.declared.session_value.SessionValue.{SessionValue}
+use Rattle.fact_records.specs.declared.session_value.SessionValue.TheVariants.{Address, Apn, Subscribers, Host, Realm, Last}
+use Rattle.gx_records.specs.GxFacts.{told_value, fact_of, rules_told}
+
+-- what was told compares as its values do
+pub told_order : (x y : Option RuleValue) → option_cmp rule_cmp x y ≡ value_cmp (told_value x) (told_value y)
+told_order None None = refl
+told_order None (Some s) = refl
+told_order (Some r) None = refl
+told_order (Some r) (Some s) = refl
+
+-- values at one position are of one field
+pub one_number : (t u : Tag) (x y : SessionValue ℕ) → position (session_fact t x) ≡ position (session_fact u y) → session_number x ≡ session_number y
+one_number t u x y e = sym (number_at t x) ∙ ap (λ p. p.1.1.1.0) e ∙ number_at u y
+  where
+    number_at : (t : Tag) (x : SessionValue ℕ) → (position (session_fact t x)).1.1.1.0 ≡ session_number x
+    number_at t (Address x) = refl
+    number_at t (Apn x) = refl
+    number_at t (Subscribers x) = refl
+    number_at t (Host x) = refl
+    number_at t (Realm x) = refl
+    number_at t (Last x) = refl
+
+-- the entry of a field's fact
+pub entry_of_field : (t : Tag) (x : SessionValue ℕ) → Some (t, session_value x) ≡ entry (session_fact t x)
+entry_of_field t (Address x) = refl
+entry_of_field t (Apn x) = refl
+entry_of_field t (Subscribers x) = refl
+entry_of_field t (Host x) = refl
+entry_of_field t (Realm x) = refl
+entry_of_field t (Last x) = refl
+
+-- ---- what shows
+
+-- what is there, of any type
+pub said : {T : Type 0} (make : T → Value) (o : Option (Tag × T)) → is_some (entry_by make o) ≡ is_some o
+said make None = refl
+said make (Some e) = refl
+
+-- facts of Gx sessions stand at no component
+no_component : (c : ℕ) (f : ComponentField) (x : GxFact) → entry_at (OfComponent c f) (fact_of x) ≡ None
+no_component c f End = refl
+no_component c f (Field t (Address x)) = refl
+no_component c f (Field t (Apn x)) = refl
+no_component c f (Field t (Subscribers x)) = refl
+no_component c f (Field t (Host x)) = refl
+no_component c f (Field t (Realm x)) = refl
+no_component c f (Field t (Last x)) = refl
+no_component c f (Told t name r) = refl
+
+-- and at no flow
+no_flow : (c n : ℕ) (f : FlowField) (x : GxFact) → entry_at (OfFlow c n f) (fact_of x) ≡ None
+no_flow c n f End = refl
+no_flow c n f (Field t (Address x)) = refl
+no_flow c n f (Field t (Apn x)) = refl
+no_flow c n f (Field t (Subscribers x)) = refl
+no_flow c n f (Field t (Host x)) = refl
+no_flow c n f (Field t (Realm x)) = refl
+no_flow c n f (Field t (Last x)) = refl
+no_flow c n f (Told t name r) = refl
+
+-- no entry
+abbrev nothing : Option Entry
+nothing = None
+
+-- a place at which no fact stands shows nothing
+empty_place : (p : Place) → ((x : GxFact) → entry_at p (fact_of x) ≡ None) → (xs : List GxFact) → nothing ≡ entry_shown (map fact_of xs) p
+empty_place p none xs = sym (ap (λ l. cond (is_gone (map fact_of xs) p) nothing (greatest entry_cmp l)) (all xs) ∙ either (is_gone (map fact_of xs) p))
+  where
+    all : (xs : List GxFact) → filter_map (entry_at p) (map fact_of xs) ≡ []
+    all [] = refl
+    all (x ∷ xs) = ap (λ o. cons_option o (filter_map (entry_at p) (map fact_of xs))) (none x) ∙ all xs
+
+    either : (b : Bool) → cond b nothing nothing ≡ nothing
+    either true = refl
+    either false = refl
+
+-- so components show nothing
+pub no_components : (xs : List GxFact) (c : ℕ) (f : ComponentField) → nothing ≡ entry_shown (map fact_of xs) (OfComponent c f)
+no_components xs c f = empty_place (OfComponent c f) (no_component c f) xs
+
+-- and flows
+pub no_flows : (xs : List GxFact) (c n : ℕ) (f : FlowField) → nothing ≡ entry_shown (map fact_of xs) (OfFlow c n f)
+no_flows xs c n f = empty_place (OfFlow c n f) (no_flow c n f) xs
+
+-- ---- records
+
+-- what is kept of facts of operations is such facts
+pub kept_record : (xs : List Fact) → is_record Gx xs ≡ true → is_record Gx (kept_list xs) ≡ true
+kept_record xs h = ap (is_record Gx) (sym (held-Same (xs ++ xs) xs (Same-twice xs))) ∙ joined_record Gx xs xs h h
+
+-- ---- what was told
+
+-- the rules that facts tell
+pub rules_listed : (xs : List GxFact) → flat_map rules_told xs ≡ filter_map told_rule (filter_map told_entry (map fact_of xs))
+rules_listed [] = refl
+rules_listed (End ∷ xs) = rules_listed xs
+rules_listed (Field t (Address x) ∷ xs) = rules_listed xs
+rules_listed (Field t (Apn x) ∷ xs) = rules_listed xs
+rules_listed (Field t (Subscribers x) ∷ xs) = rules_listed xs
+rules_listed (Field t (Host x) ∷ xs) = rules_listed xs
+rules_listed (Field t (Realm x) ∷ xs) = rules_listed xs
+rules_listed (Field t (Last x) ∷ xs) = rules_listed xs
+rules_listed (Told t name None ∷ xs) = rules_listed xs
+rules_listed (Told t name (Some r) ∷ xs) = ap (λ (l : List ToldRule). (name, r) ∷ l) (rules_listed xs)
