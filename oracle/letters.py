@@ -32,14 +32,18 @@ class Reader:
             raise Bad()
         return found
 
+    def count(self, what, size, least=0, most=None):
+        """A number that says how many of these follow; what they are is for whoever notes where counts stand."""
+        return self.number(size, least, most)
+
     def text(self, most):
-        found = self.take(self.number(2))
+        found = self.take(self.count("bytes of a text", 2))
         if not 1 <= len(found) <= most:
             raise Bad()
         return found
 
     def filters(self):
-        count = self.number(1, 1, 2)
+        count = self.count("filters", 1, 1, 2)
         return [self.text(255) for _ in range(count)]
 
     def rule(self):
@@ -54,14 +58,14 @@ class Reader:
 
     def session_value(self, kind, field):
         if field == "address":
-            self.number(1, 4, 4)
+            self.count("bytes of an address", 1, 4, 4)
             self.take(4)
         elif field == "apn":
             name = self.text(255)
             if any(0x41 <= byte <= 0x5A for byte in name):
                 raise Bad()
         elif field == "subscribers":
-            count = self.number(2, 1, 16)
+            count = self.count("subscribers", 2, 1, 16)
             found = [(self.number(1, 0, 4), self.text(255)) for _ in range(count)]
             if any(a >= b for a, b in zip(found, found[1:])):
                 raise Bad()
@@ -122,7 +126,7 @@ class Reader:
         if kind == 2 and number != 0:
             raise Bad()
         self.text(512)
-        self.stand_together([self.fact(kind) for _ in range(self.number(4, 1))])
+        self.stand_together([self.fact(kind) for _ in range(self.count("facts", 4, 1))])
 
     def tag(self, kind, position, clock):
         """The tag behind a fact that has one."""
@@ -136,7 +140,7 @@ class Reader:
         kind = self.number(1, 1, 2)
         session = self.text(512)
         facts = []
-        for _ in range(self.number(4, 1)):
+        for _ in range(self.count("held facts", 4, 1)):
             facts.append(self.fact(kind))
             self.tag(kind, facts[-1], clock)
         self.stand_together(facts)
@@ -160,7 +164,7 @@ class Reader:
         kind = self.number(1)
         if kind == 1:
             first = self.number(8)
-            count = self.number(4)
+            count = self.count("operations", 4)
             if first + count > LAST or count > 100:
                 raise Bad()
             for _ in range(count):
@@ -168,7 +172,7 @@ class Reader:
         elif kind == 2:
             clock = self.number(8, 0, LAST)
             self.number(8, 0, LAST)
-            groups = [self.group(clock) for _ in range(self.number(4))]
+            groups = [self.group(clock) for _ in range(self.count("groups", 4))]
             if any(a >= b for a, b in zip(groups, groups[1:])):
                 raise Bad()
         elif kind == 3:
@@ -181,9 +185,14 @@ class Reader:
 
 def verdict(frame):
     """What a site of edition 7 says of a frame."""
-    reader = Reader(frame)
+    return judged(Reader(frame))
+
+
+def judged(reader):
+    """The same by a reader of the frame that has read nothing of it."""
+    frame = reader.data
     try:
-        length = reader.number(4)
+        length = reader.count("bytes of a letter", 4)
         if reader.number(1) != 1:
             return "the letter's version is not 1"
         if reader.number(4) != EDITION:
