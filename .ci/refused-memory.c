@@ -11,7 +11,7 @@ unsigned long getauxval(unsigned long type);
 long atol(const char *digits);
 long __write(int file, const void *bytes, unsigned long count);
 
-enum { OUTPUT = 1, ERROR = 2, ENTRY = 9, PIECE = 512, PIECES = 64 };
+enum { OUTPUT = 1, ERROR = 2, ENTRY = 9, PIECE = 512, PIECES = 32 };
 
 static int is_tried;
 

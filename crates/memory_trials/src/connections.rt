@@ -121,22 +121,24 @@ fn is_written(rt: &impl Wait, place: &Place, wanted: &[u8], how: LinkEnd) -> boo
 }
 
 /// The seat serves a connection, of which it may have made calls past so many; whether memory was refused.
-pub fn connect<R: Threads + Wait + Sync + Print, L: Ledger>(
-    rt: &R,
+pub fn connect<'a, R: Threads + Wait + Sync + Print, L: Ledger>(
+    rt: &'a R,
     given: &Given,
     site: &LockedSite<L>,
     seats: &mut Vec<Seat<L>>,
     sound: &mut Site,
     from: usize,
-    place: &Place,
+    place: &'a Place,
 ) -> Option<bool> {
     let messages = given.bytes("messages")?;
     let half = half_of(rt, given.alloc, place)?;
     let seat = seats.pop()?;
     let before = seat.receipts().len();
-    let answers = given.bytes(word_of(seat.receipts().get(from..).unwrap_or(&[])))?;
+    let word = word_of(seat.receipts().get(from..).unwrap_or(&[]));
+    let answers = given.bytes(word)?;
     let (seat, how) = serve(rt, given.alloc, site, seat, messages.as_slice(), half);
-    judge(rt, follows(sound, seat.receipts().get(before..).unwrap_or(&[])));
+    let made = seat.receipts().get(before..).unwrap_or(&[]);
+    judge(rt, follows(sound, made));
     seats.push(seat).ok()?;
     judge(rt, Some(is_written(rt, place, answers.as_slice(), how)));
     Some(how == LinkEnd::NoMemory)

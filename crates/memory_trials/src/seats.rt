@@ -21,7 +21,9 @@ const LIMIT: usize = 60;
 const ROOM: usize = 1 << 12;
 
 /// What is called, by words.
-const CALLS: [&str; 7] = ["request", "call", "push", "whole", "own", "grown", "updates"];
+const CALLS: [&str; 7] = [
+    "request", "call", "push", "whole", "own", "grown", "updates",
+];
 
 /// Fewer operations stand than an event has.
 fn is_short(event: &Event, reply: &Reply) -> bool {

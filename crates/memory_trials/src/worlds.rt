@@ -77,7 +77,8 @@ fn run(rt: &impl Print, given: &Given, events: &[WorldEvent]) -> Option<bool> {
     };
     let is_refused = answers.iter().any(|answer: &Answer| taken(answer).is_some());
     end(rt, is_refused);
-    judge(rt, gives_all(given.alloc, &mut sound, events, answers.as_slice()));
+    let is_right = gives_all(given.alloc, &mut sound, events, answers.as_slice());
+    judge(rt, is_right);
     judge(rt, same_worlds(given.alloc, &world, &sound, SITES));
     Some(is_refused)
 }

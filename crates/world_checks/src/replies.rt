@@ -23,7 +23,12 @@ fn same_answers(alloc: Global, ours: &Answer, theirs: &Answer) -> Option<bool> {
 }
 
 /// Has an event happen in a world: whether it gives this there. None where there is no memory to tell.
-pub fn gives(alloc: Global, world: &mut World, event: &WorldEvent, answer: &Answer) -> Option<bool> {
+pub fn gives(
+    alloc: Global,
+    world: &mut World,
+    event: &WorldEvent,
+    answer: &Answer,
+) -> Option<bool> {
     let wanted = world.step(event);
     let is_same = same_answers(alloc, answer, &wanted);
     drop(wanted);
