@@ -12,7 +12,7 @@ use std::io::Print;
 use std::sync::ledger::{Blank, Ledger};
 use std::sync::{Mutex, Wait};
 use std::thread::Threads;
-use world_checks::{replies, same_sites};
+use world_checks::{is_short, replies, same_sites};
 
 /// How many entries the history has room for.
 const LIMIT: usize = 60;
@@ -24,14 +24,6 @@ const ROOM: usize = 1 << 12;
 const CALLS: [&str; 7] = [
     "request", "call", "push", "whole", "own", "grown", "updates",
 ];
-
-/// Fewer operations stand than an event has.
-fn is_short(event: &Event, reply: &Reply) -> bool {
-    match (event, reply) {
-        (Event::Ops(operations), Reply::Taken(count)) => *count < operations.len(),
-        _ => false,
-    }
-}
 
 /// What a seat was told of an event stands in its one receipt past so many, and is what the sound site replies; where memory was
 /// refused nothing stands there.

@@ -8,4 +8,4 @@ mod replies;
 
 pub use equality::{same_but, same_sites, same_worlds};
 pub use events::{event_of, events_of, request_of};
-pub use replies::{Answer, follows, gives, gives_all, replies, taken};
+pub use replies::{Answer, follows, gives, gives_all, is_short, replies, taken};

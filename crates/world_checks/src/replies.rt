@@ -50,6 +50,14 @@ pub fn gives_all(
     Some(events.len() == answers.len())
 }
 
+/// Fewer operations stand than an event has a site take.
+pub fn is_short(event: &Event, reply: &Reply) -> bool {
+    match (event, reply) {
+        (Event::Ops(operations), Reply::Taken(count)) => *count < operations.len(),
+        _ => false,
+    }
+}
+
 /// Has an event happen at a site: whether it replies so. Where fewer operations than all stand, it takes these. None where there is no
 /// memory for it.
 pub fn replies(site: &mut Site, event: &Event, reply: &Reply) -> Option<bool> {
