@@ -22,6 +22,12 @@ fn loaded(given: &Given) -> Option<Site> {
     Some(site)
 }
 
+/// A site is the same as one that took these.
+fn is_loaded(given: &Given, site: &Site) -> Option<bool> {
+    let other = loaded(given)?;
+    same_sites(site, &other, &[])
+}
+
 /// The ids of the sessions.
 fn ids_of(alloc: Global, site: &Site) -> Option<Vec<GxSid>> {
     let mut ids = Vec::new(alloc);
@@ -75,8 +81,8 @@ pub fn try_rules<R: Threads + Sync + Print>(rt: &R, given: &Given) -> Option<boo
         derive(rt, given.alloc, &site, ids.as_slice());
     }
     if renew(rt, &mut site, ids.as_slice()) {
-        judge(rt, same_sites(&site, &loaded(given)?, &[]));
+        judge(rt, is_loaded(given, &site));
         renew(rt, &mut site, ids.as_slice());
     }
-    same_sites(&site, &loaded(given)?, &[])
+    is_loaded(given, &site)
 }

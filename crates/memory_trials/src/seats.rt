@@ -146,7 +146,8 @@ fn locked<R: Print, L: Ledger>(
         Err((_, blank, site)) => (blank, site),
     };
     end(rt, true);
-    judge(rt, same_sites(&site, &given.site()?, &[]));
+    let other = given.site()?;
+    judge(rt, same_sites(&site, &other, &[]));
     begin(rt, "LockedSite::start", "a site");
     let started = LockedSite::<L>::start(given.alloc, blank, site, 1, LIMIT).ok();
     end(rt, started.is_none());

@@ -8,7 +8,8 @@ use std::io::Print;
 
 /// A state is that of a line.
 fn is_state(given: &Given, word: &str, state: &State) -> Option<bool> {
-    Some(state.equal(&given.state(word)?))
+    let wanted = given.state(word)?;
+    Some(state.equal(&wanted))
 }
 
 /// Merges two states, and gives them back where that is refused.
