@@ -147,7 +147,7 @@ def lines(tables):
 # ---- what is printed
 
 CALLS = ["request", "call", "push", "whole", "own", "grown", "updates"]
-CONNECTION = ["a connection", "an exchange, and a push between its operation and its request's bytes"] + ["a further message"] * 3
+CONNECTION = ["a connection", "an exchange, and a push between its operation and its request's bytes"] + ["a message"] * 3
 
 
 def done(call, *tried):
@@ -173,7 +173,7 @@ def prints(tables):
         yield from done("run_script", "a script") + run_script(tables, script) + steps(script)
         if any(line.startswith("restart ") for line in script):
             yield from done("World::run", "the events of a script")
-    yield from done("State::merge", "two states that tell otherwise of one session")
+    yield from done("State::merge", "two states of one session")
     yield from done("read_letter and write_letter", "end") + done("read_letter and write_letter", "snapshot")
     yield from done("derive_many", "three sessions") + done("Site::renew", "three sessions")
     yield from done("LockedSite::start", "a site")

@@ -56,7 +56,7 @@ struct Telling<'a, R> {
 
 impl<R: Print> Gate for Telling<'_, R> {
     fn enter(&self, _connection: usize, message: u64) -> bool {
-        let what = if message == 0 { FIRST } else { "a further message" };
+        let what = if message == 0 { FIRST } else { "a message" };
         begin(self.rt, "serve_connection", what);
         true
     }

@@ -14,7 +14,7 @@ fn is_state(given: &Given, word: &str, state: &State) -> Option<bool> {
 
 /// Merges two states, and gives them back where that is refused.
 fn merge(rt: &impl Print, given: &Given, ours: State, theirs: State) -> Option<(State, State)> {
-    begin(rt, "State::merge", "two states that tell otherwise of one session");
+    begin(rt, "State::merge", "two states of one session");
     let merged = ours.merge(theirs);
     end(rt, merged.is_err());
     match merged {

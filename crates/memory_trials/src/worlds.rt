@@ -75,7 +75,7 @@ fn run(rt: &impl Print, given: &Given, events: &[WorldEvent]) -> Option<bool> {
         end(rt, true);
         return Some(true);
     };
-    let is_refused = answers.iter().any(|answer: &Answer| taken(answer).is_some());
+    let is_refused = answers.iter().any(|one: &Answer| taken(one).is_some());
     end(rt, is_refused);
     let is_right = gives_all(given.alloc, &mut sound, events, answers.as_slice());
     judge(rt, is_right);

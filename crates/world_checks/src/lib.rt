@@ -2,10 +2,10 @@
 //! worlds and sites have. Nothing of the product stands on it.
 #![tactic(auto)]
 
+mod answers;
 mod equality;
 mod events;
-mod replies;
 
+pub use answers::{Answer, follows, gives, gives_all, is_short, replies, taken};
 pub use equality::{same_but, same_sites, same_worlds};
 pub use events::{event_of, events_of, request_of};
-pub use replies::{Answer, follows, gives, gives_all, is_short, replies, taken};
