@@ -36,19 +36,17 @@ fn step(
     refused.is_some()
 }
 
-/// Has the events of a script happen one after the other, each tried under the comment before it; whether all is the same then.
+/// Has the events of lines happen one after the other, each of which is tried.
 fn obey(
     rt: &impl Print,
     alloc: Global,
     world: &mut World,
     sound: &mut World,
-    script: &str,
-) -> Option<bool> {
-    let mut what = "";
-    for line in script.lines() {
-        if let Some(comment) = line.strip_prefix("# ") {
-            what = comment;
-        } else if let Some(event) = event_of(alloc, line) {
+    what: &str,
+    lines: &str,
+) {
+    for line in lines.lines() {
+        if let Some(event) = event_of(alloc, line) {
             if step(rt, alloc, world, sound, &event, what) {
                 step(rt, alloc, world, sound, &event, what);
                 judge(rt, same_worlds(alloc, world, sound, SITES));
@@ -56,14 +54,17 @@ fn obey(
             drop(event);
         }
     }
-    same_worlds(alloc, world, sound, SITES)
 }
 
-/// Tries each event of a script.
+/// Tries each event of a script, under the comment before it. All is the same then in both worlds.
 pub fn try_events(rt: &impl Print, given: &Given, script: &str) -> Option<bool> {
     let mut world = new_world(given)?;
     let mut sound = new_world(given)?;
-    obey(rt, given.alloc, &mut world, &mut sound, script)
+    for part in script.split("# ").skip(1) {
+        let (what, lines) = part.split_once('\n').unwrap_or((part, ""));
+        obey(rt, given.alloc, &mut world, &mut sound, what, lines);
+    }
+    same_worlds(given.alloc, &world, &sound, SITES)
 }
 
 /// Runs events; whether that was refused, or one of them. The world is then what the others make.
