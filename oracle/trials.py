@@ -1,65 +1,208 @@
 #!/usr/bin/env python3
-"""Prints what memory_trials reads: each line a word and the hexadecimal digits of a request, or of a letter that says what is taken or
-what has to be held then. They are put together by the plain encoders alone.
+"""What memory_trials reads and has to print: scripts of worlds, messages and letters as bytes, and a line for each call that is tried.
+
+`trials.py CRATE` fails where a file of the crate's folder is another one; with `--write` it writes them. What the scripts print, what is
+answered and what is held comes from the plain model. A comment in a script says what its next lines try.
 """
+import pathlib
+import sys
+
 import letters
-import messages
+from messages import GX, TGPP, VOICE, X, aar, attach, avp, base, ccr, component, str_
+from plain_answers import rar
+from plain_facts import read_tables
+from plain_letters import Range, Whole
+from plain_run import letter_octets
+from plain_site import Site, World, converse, run_script
 
-# the session of the gateway gw, which the request asks for, and the call whose rule it gets
-ASKED, CALL = b"gw;1;1", b"af;1;1"
-IN, OUT = b"permit in 17", b"permit out 17"
-HERE = bytes((10, 0, 0, 1))
-
-
-def update(session, counter, host):
-    """An update of a gateway's session, by site 2."""
-    return letters.gx([letters.host(host)], session=session, counter=counter, site=2)
+SESSION = "gw;1;1"
+RESTARTED = "10.0.0.9"
 
 
-def connection(session, counter, octets, subscriber=b"1", host=b"g", site=2):
-    """An initial request, by its facts."""
-    facts = [letters.address(octets), letters.apn(b"net"), letters.subscribers([(0, subscriber)]), letters.host(host),
+# ---- scripts of worlds
+
+def msg(site, request):
+    """The line that gives a site a request."""
+    return f"msg {site} {request.hex()}"
+
+
+CALL = ["sites 3",
+        "# an initial request", msg(0, attach()),
+        "# making a letter of a whole state", "letter 0 1",
+        "# taking a letter of a whole state", "merge 1 0",
+        "# making an acknowledgement", "ack 1 0",
+        "# taking an acknowledgement", "merge 0 1",
+        "# an AA request that sets up a call", msg(0, aar("10.0.0.1", [VOICE])),
+        "# a push of a call that was set up", "push 0",
+        "# a push of nothing", "push 0",
+        "# an AA request that changes a call", msg(0, aar(None, [component(1, status=3)])),
+        "# a push of a call that was changed", "push 0",
+        "# an update", msg(0, ccr(2, 1)),
+        "# making a letter of five operations", "letter 0 1",
+        "# taking a letter of five operations", "merge 1 2",
+        "# a session termination request", msg(0, str_()),
+        "# a push of a call that was ended", "push 0",
+        "# a termination request", msg(0, ccr(3, 2)),
+        "show 0", "show 1"]
+
+BOTH = ["merge 1 0", "merge 1 1"]
+RESTART = ["sites 3",
+           "# an initial request, before a site starts again and after it", msg(0, attach()),
+           "# making a letter of a whole state", "letter 0 1",
+           "# starting again", "restart 0",
+           "# an initial request, before a site starts again and after it", msg(0, attach(address=RESTARTED)),
+           "# making a letter of a whole state", "letter 0 1",
+           "# taking letters of two epochs, in either order and again", *BOTH, *BOTH,
+           "merge 2 1", "merge 2 0", "merge 2 1", "merge 2 0",
+           "show 1", "show 2"]
+
+STORED = ["sites 2", "# an initial request", msg(0, ccr(1, 0, SESSION, "10.0.0.1", "IMS", (X,))), "show 0",
+          "# making a letter of a whole state", "letter 0 1", "# taking a letter of a whole state", "merge 1 0", "show 1"]
+
+SCRIPTS = [CALL, STORED, RESTART]
+
+
+def world_of(tables, script):
+    """The world that a script leaves."""
+    world = World(tables, int(script[0].split(" ")[1]))
+    for line in script[1:]:
+        if not line.startswith("#"):
+            world.obey(line)
+    return world
+
+
+# ---- messages and letters
+
+def whole(tables, site):
+    """The letter of all that a site holds."""
+    return letter_octets(tables, Whole(site.number, site.epoch, tuple(site.operations), len(site.log)))
+
+
+def end_of_session():
+    """The letter of the end of a session."""
+    end = letters.gx([letters.END], number=5, counter=2)
+    return letters.letter(letters.log_range([end], first=1))
+
+
+def initial(counter):
+    """The initial request of a session of its own, at an access point without rules, as an operation."""
+    facts = [letters.address(bytes((10, 0, 0, counter))), letters.apn(b"net"), letters.subscribers([(0, b"1")]), letters.host(b"g"),
              letters.realm(), letters.last(1)]
-    return letters.gx(facts, session=session, counter=counter, site=site)
+    return letters.gx(facts, session=b"gw;1;%d" % counter, counter=counter, site=2)
 
 
-def call(counter, media, flow, filter, octets=None):
-    """A call with one flow, by site 2."""
-    facts = [] if octets is None else [letters.address(octets)]
-    facts += [letters.component(1, 1, media), letters.flow(1, flow, 1, letters.filters([filter]))]
-    return letters.operation(facts, session=CALL, counter=counter, site=2)
+def three_sessions():
+    """The letter of three sessions, and of a call of the second."""
+    facts = [letters.address(bytes((10, 0, 0, 2))), letters.component(1, 1, 0), letters.flow(1, 1, 1, letters.filters([b"permit in 17"]))]
+    call = letters.operation(facts, session=b"af;1;1", counter=4, site=2)
+    return letters.letter(letters.log_range([initial(1), initial(2), initial(3), call]))
 
 
-def told_by_push(counter):
-    """That the gateway was told the rule of the call: both ways, of the class of audio, at 64 kbit/s."""
-    rule = b"\x02" + letters.filters([IN]) + bytes((1, 2, 0, 1)) + b"".join(letters.u(4, n) for n in (64000, 64000, 100))
-    return letters.gx([letters.told(b"af/" + CALL + b"/1/1", rule)], session=ASKED, counter=counter)
+EXCHANGE = base(257, [avp(260, avp(266, TGPP) + avp(258, GX))])
+FURTHER = [ccr(2, 9), base(280), base(282)]
 
 
-def lines():
+def seat_lines(tables):
+    """What a seat at site 0 calls, with what site 2 tells it, and the connection that it serves then."""
+    world = World(tables, 3)
+    ours, theirs = world.sites[0], world.sites[2]
+    for line in [msg(0, attach()), "letter 0 2", "merge 2 0", msg(2, aar("10.0.0.1", [VOICE]))]:
+        world.obey(line)
+    yield "request", attach()
+    yield "call", whole(tables, theirs)
+    ours.take(theirs.operations)
+    ours.push()
+    for status in (3, 1):
+        world.obey(msg(2, aar(None, [component(1, status=status)])))
+    yield "updates", letter_octets(tables, Range(2, 1, 1, tuple(theirs.log[1:])))
+    ours.take(theirs.operations)
+    yield "messages", EXCHANGE + b"".join(FURTHER)
+    exchanged, request = ours.serve(EXCHANGE), push(ours)
+    further = b"".join(map(ours.serve, FURTHER))
+    assert converse(ours, EXCHANGE + b"".join(FURTHER)) == (exchanged + further, "disconnected")
+    yield "answers", exchanged + request + further
+    yield "answers-alone", exchanged + further
+
+
+def push(site):
+    """The re-authorisation request of what is due, without its identifiers."""
+    session, entries = site.push()
+    view = site.view()
+    request = rar(site.number, session.id, view.value(session, "host"), view.value(session, "realm"), entries)
+    return request[:12] + bytes(8) + request[20:]
+
+
+def lines(tables):
     """Each word with its bytes."""
-    yield "request", messages.ccr(1, 0, ASKED.decode(), "10.0.0.1", "NET", (messages.Y,))
-    five = [update(b"gw;1;2", 7, b"a"), update(b"gw;1;1", 8, b"b"), update(b"gw;1;2", 9, b"c"), call(10, 0, 1, IN),
-            call(11, 1, 2, OUT)]
-    yield "operations", letters.letter(letters.log_range(five, first=3))
-    for count in range(len(five) + 1):
-        yield f"after-{count}", letters.whole_of(five[:count], 5)
-    ours = [update(b"gw;1;1", 6, b"a"), call(8, 1, 1, IN)]
-    theirs = [update(b"gw;1;2", 9, b"b"), call(7, 0, 2, OUT)]
-    for word, taken in ("ours", ours), ("theirs", theirs), ("both", ours + theirs):
-        yield word, letters.whole_of(taken, 0)
-    served = connection(ASKED, 1, HERE, subscriber=b"15550001", host=b"gw", site=0)
-    called = call(8, 0, 1, IN, HERE)
-    yield "called", letters.whole_of([called], 0)
-    for word, taken in ("served", []), ("taken", [called]), ("pushed", [called, told_by_push(9)]):
-        yield word, letters.whole_of([served, *taken], 0)
-    updates = [update(ASKED, 7, b"gx"), update(ASKED, 8, b"gy")]
-    yield "updates", letters.letter(letters.log_range(updates))
-    yield "updated", letters.whole_of([served, *updates], 0)
-    sessions = [connection(b"gw;1;%d" % n, n, bytes((10, 0, 0, n))) for n in (1, 2, 3)]
-    yield "sessions", letters.letter(letters.log_range([*sessions, call(4, 0, 1, IN, bytes((10, 0, 0, 2)))]))
+    ours, theirs = (one for one in world_of(tables, RESTART).letters)
+    yield "ours", letter_octets(tables, ours)
+    yield "theirs", letter_octets(tables, theirs)
+    yield "both", whole(tables, world_of(tables, RESTART).sites[1])
+    yield "end", end_of_session()
+    yield "snapshot", whole(tables, world_of(tables, CALL[:CALL.index("# a push of nothing")]).sites[0])
+    yield "sessions", three_sessions()
+    yield from seat_lines(tables)
+
+
+# ---- what is printed
+
+CALLS = ["request", "call", "push", "whole", "own", "grown", "updates"]
+CONNECTION = ["a connection", "an exchange, and a push between its operation and its request's bytes"] + ["a message"] * 3
+
+
+def done(call, *tried):
+    """The lines of a call that isn't refused."""
+    return [f"# {call}: {what}" for what in tried] + ["done"]
+
+
+def steps(script):
+    """The lines of each event of a script."""
+    what, prints = "", []
+    for line in script[1:]:
+        if line.startswith("# "):
+            what = line[2:]
+        elif not line.startswith("show "):
+            prints += done("World::step", what)
+    return prints
+
+
+def prints(tables):
+    """All that is printed where nothing is refused."""
+    yield from done("read_tables", "the tables of a network with calls")
+    for script in SCRIPTS:
+        yield from done("run_script", "a script") + run_script(tables, script) + steps(script)
+        if any(line.startswith("restart ") for line in script):
+            yield from done("World::run", "the events of a script")
+    yield from done("State::merge", "two states of one session")
+    yield from done("read_letter and write_letter", "end") + done("read_letter and write_letter", "snapshot")
+    yield from done("derive_many", "three sessions") + done("Site::renew", "three sessions")
+    yield from done("LockedSite::start", "a site")
+    for word in CALLS:
+        yield from done("LockedSite::call", word)
+    yield from done("serve_connection", *CONNECTION)
+    yield from done("LockedSite::call", "whole") + done("LockedSite::call", "own")
+
+
+# ---- files
+
+def files(crate):
+    """Each file with its text."""
+    tables = read_tables(crate / "data/telephony.toml")
+    head = "# Scripts of worlds: each begins at its line `sites N`, and a comment says what its next lines try."
+    yield crate / "data/rows.scripts", [head] + [line for script in SCRIPTS for line in script]
+    yield crate / "data/trials.lines", [f"{word} {found.hex()}" for word, found in lines(tables)]
+    yield crate / "stdout", prints(tables)
+
+
+def main(crate, *options):
+    """Compares the files, or writes them."""
+    for path, found in files(pathlib.Path(crate)):
+        text = "".join(f"{line}\n" for line in found)
+        if options:
+            path.write_text(text, encoding="utf-8")
+        elif path.read_text(encoding="utf-8") != text:
+            sys.exit(f"{path} differs from what trials.py writes")
 
 
 if __name__ == "__main__":
-    for word, found in lines():
-        print(word, found.hex())
+    main(*sys.argv[1:])

@@ -1,107 +1,78 @@
-//! What the trials are made of: operator tables, and a request and letters as bytes, which another encoder wrote.
-use dia_base::Identity;
-use dia_codec::read_message;
-use gx_profile::read_ccr;
-use op_tables::{Tables, read_tables};
-use pcrf_values::DiameterIdentity;
-use peer_exchange::{Body, Letter, read_letter};
-use site_join::{Operation, State};
-use site_machine::{Request, Site};
-use std::alloc::{AllocError, Global};
-use std::net::Ipv4Addr;
-use std::{fs, io};
+//! What the trials are made of, which other programs wrote: operator tables, scripts of worlds, and messages and letters as bytes.
+use op_tables::Tables;
+use peer_exchange::{Body, read_letter};
+use samples::names;
+use site_core::{Event, Site};
+use site_join::State;
+use std::alloc::Global;
+use world_checks::request_of;
 
 /// The edition of the operator tables, and of who writes letters.
 pub const EDITION: u32 = 7;
 
-/// Memory, and the texts of the files. Whatever can't be made of them counts as want of memory: made again, it fails again.
+/// Memory, the operator tables, and the texts of the files.
 #[derive(Drop)]
 pub struct Given {
     pub alloc: Global,
-    tables: String,
-    lines: String,
+    pub tables: Tables,
+    /// A word in each line, and bytes.
+    pub lines: String,
+    /// Scripts of worlds, each from its line `sites N` on.
+    pub scripts: String,
+}
+
+/// That what a letter says is taken.
+fn taking(alloc: Global, bytes: &[u8]) -> Option<Event> {
+    match read_letter(alloc, bytes, EDITION).ok()?.into_body() {
+        Body::Range(range) => Some(Event::Ops(range.operations)),
+        Body::Snapshot(snapshot) => Some(Event::Whole(snapshot.state)),
+        Body::Acknowledgement(_) => None,
+    }
 }
 
 impl Given {
-    /// Reads the files.
-    pub fn read(rt: &HostRuntime) -> io::Result<Given> {
-        Ok(Given {
-            alloc: rt.alloc(),
-            tables: fs::read_to_string(rt, "telephony.toml")?,
-            lines: fs::read_to_string(rt, "trials.lines")?,
-        })
-    }
-
     /// The bytes of the line that begins with a word.
-    pub fn bytes(&self, word: &str) -> Result<Vec<u8>, AllocError> {
+    pub fn bytes(&self, word: &str) -> Option<Vec<u8>> {
         for line in self.lines.lines() {
             let (first, digits) = line.split_once(' ').unwrap_or((line, ""));
             if first == word {
-                return hex::decode(self.alloc, digits).ok().ok_or(AllocError);
+                return hex::decode(self.alloc, digits).ok();
             }
         }
-        Err(AllocError)
+        None
     }
 
-    /// The letter of a line.
-    pub fn letter(&self, word: &str) -> Result<Letter, AllocError> {
+    /// What happens by a word: the request or the letter of its line, or what the word itself says.
+    pub fn event(&self, word: &str) -> Option<Event> {
+        match word {
+            "push" => return Some(Event::Push(None)),
+            "whole" => return Some(Event::AskWhole),
+            "own" | "grown" => return Some(Event::AskOwn(0)),
+            _ => {}
+        }
         let bytes = self.bytes(word)?;
-        match read_letter(self.alloc, bytes.as_slice(), EDITION) {
-            Ok(letter) => Ok(letter),
-            Err(_) => Err(AllocError),
+        match request_of(self.alloc, bytes.as_slice()) {
+            Some(request) => Some(Event::Serve(request)),
+            None => taking(self.alloc, bytes.as_slice()),
         }
     }
 
-    /// The operations that the letter of a line has.
-    pub fn operations(&self, word: &str) -> Result<Vec<Operation>, AllocError> {
-        match self.letter(word)?.into_body() {
-            Body::Range(range) => Ok(range.operations),
-            _ => Err(AllocError),
+    /// The state of the letter of a line.
+    pub fn state(&self, word: &str) -> Option<State> {
+        match self.event(word)? {
+            Event::Whole(state) => Some(state),
+            _ => None,
         }
     }
 
-    /// The state that the letter of a line has.
-    pub fn state(&self, word: &str) -> Result<State, AllocError> {
-        match self.letter(word)?.into_body() {
-            Body::Snapshot(snapshot) => Ok(snapshot.state),
-            _ => Err(AllocError),
-        }
-    }
-
-    /// The request, of a gateway.
-    pub fn request(&self) -> Result<Request, AllocError> {
-        let bytes = self.bytes("request")?;
-        let Ok(message) = read_message(self.alloc, bytes.as_slice()) else {
-            return Err(AllocError);
-        };
-        let request = read_ccr(self.alloc, &message);
-        drop(message);
-        match request {
-            Ok(ccr) => Ok(Request::Ccr(ccr)),
-            Err(_) => Err(AllocError),
-        }
-    }
-
-    /// The operator tables.
-    fn tables(&self) -> Result<Tables, AllocError> {
-        match read_tables(self.alloc, self.tables.as_str()) {
-            Ok(tables) => Ok(tables),
-            Err(_) => Err(AllocError),
-        }
-    }
-
-    /// What the site is called.
-    fn identity(&self) -> Result<Identity, AllocError> {
-        Ok(Identity {
-            host: DiameterIdentity::read(self.alloc, b"s")?.ok_or(AllocError)?,
-            realm: DiameterIdentity::read(self.alloc, b"r")?.ok_or(AllocError)?,
-            address: Ipv4Addr::LOCALHOST,
-        })
+    /// A copy of the operator tables.
+    pub fn tables(&self) -> Option<Tables> {
+        self.tables.try_copy(self.alloc).ok()
     }
 
     /// A site with the operator tables, which took nothing.
-    pub fn site(&self) -> Result<Site, AllocError> {
-        let identity = self.identity()?;
-        Ok(Site::start(self.alloc, self.tables()?, identity, 0))
+    pub fn site(&self) -> Option<Site> {
+        let names = names(self.alloc, b"s0").ok()?;
+        Some(Site::start(self.alloc, self.tables()?, names, 0))
     }
 }

@@ -1,112 +1,71 @@
-//! Values of the value types.
-use crate::fingerprint::Fingerprint;
-use crate::samples::text;
-use pcrf_values::{
-    Apn, Delta, FilterText, Filters, FlowStatus, Preemption, PriorityLevel, QosClass,
-    RetentionPriority, Rule, RuleName, RuleQos, Subscriber, Subscribers, SubscriptionData,
-    SubscriptionType,
-};
-use ranked::{Ranked, Text};
-use std::alloc::{AllocError, Global};
+//! Values that no script hands out: two states that are merged, and letters as bytes.
+use crate::given::{EDITION, Given};
+use crate::trial::{begin, end, judge};
+use peer_exchange::{LetterFault, read_letter, write_letter};
+use site_join::State;
+use std::alloc::Global;
+use std::io::Print;
 
-/// A value that is made of constants, all within their ranges.
-pub trait Made: Ranked + Fingerprint {
-    /// The value.
-    fn made(alloc: Global) -> Result<Self, AllocError>;
+/// A state is that of a line.
+fn is_state(given: &Given, word: &str, state: &State) -> Option<bool> {
+    let wanted = given.state(word)?;
+    Some(state.equal(&wanted))
 }
 
-impl Made for Text {
-    fn made(alloc: Global) -> Result<Text, AllocError> {
-        text(alloc, b"gw;1;1")
-    }
-}
-
-impl Made for RuleName {
-    fn made(alloc: Global) -> Result<RuleName, AllocError> {
-        RuleName::read(alloc, b"op/sip")?.ok_or(AllocError)
-    }
-}
-
-impl Made for (Text, RuleName) {
-    fn made(alloc: Global) -> Result<(Text, RuleName), AllocError> {
-        let first = Text::made(alloc)?;
-        let second = RuleName::made(alloc)?;
-        Ok((first, second))
-    }
-}
-
-impl Made for Apn {
-    fn made(alloc: Global) -> Result<Apn, AllocError> {
-        Apn::folded(alloc, b"ims")?.ok_or(AllocError)
-    }
-}
-
-/// The subscriber with a telephone number.
-pub fn subscriber(alloc: Global, number: &[u8]) -> Result<Subscriber, AllocError> {
-    let name = SubscriptionData::read(alloc, number)?.ok_or(AllocError)?;
-    Ok(Subscriber::of(SubscriptionType::EndUserE164, name))
-}
-
-/// The subscribers with these telephone numbers.
-pub fn subscribers_with(alloc: Global, numbers: &[&[u8]]) -> Result<Vec<Subscriber>, AllocError> {
-    let mut given = Vec::new(alloc);
-    for number in numbers {
-        given.push(subscriber(alloc, number)?)?;
-    }
-    Ok(given)
-}
-
-impl Made for Subscriber {
-    fn made(alloc: Global) -> Result<Subscriber, AllocError> {
-        subscriber(alloc, b"15550001")
-    }
-}
-
-impl Made for Subscribers {
-    fn made(alloc: Global) -> Result<Subscribers, AllocError> {
-        let given = subscribers_with(alloc, &[b"15550001", b"15550002"])?;
-        Subscribers::of(alloc, given)?.ok_or(AllocError)
-    }
-}
-
-impl Made for Filters {
-    fn made(alloc: Global) -> Result<Filters, AllocError> {
-        let mut texts = Vec::new(alloc);
-        for bytes in [b"permit in ip from any to any".as_slice(), b"permit out 17"] {
-            texts.push(FilterText::read(alloc, bytes)?.ok_or(AllocError)?)?;
+/// Merges two states, and gives them back where that is refused.
+fn merge(rt: &impl Print, given: &Given, ours: State, theirs: State) -> Option<(State, State)> {
+    begin(rt, "State::merge", "two states of one session");
+    let merged = ours.merge(theirs);
+    end(rt, merged.is_err());
+    match merged {
+        Ok(both) => {
+            judge(rt, is_state(given, "both", &both));
+            None
         }
-        Filters::of(texts).ok_or(AllocError)
+        Err((_, ours, theirs)) => {
+            judge(rt, is_state(given, "ours", &ours));
+            judge(rt, is_state(given, "theirs", &theirs));
+            Some((ours, theirs))
+        }
     }
 }
 
-fn qos() -> Option<RuleQos> {
-    Some(RuleQos {
-        class: QosClass::of(5)?,
-        priority: RetentionPriority {
-            level: PriorityLevel::of(9)?,
-            capability: Preemption::Disabled,
-            vulnerability: Preemption::Enabled,
-        },
-        max_uplink: 32_000,
-        max_downlink: 64_000,
-    })
-}
-
-impl Made for Rule {
-    fn made(alloc: Global) -> Result<Rule, AllocError> {
-        let name = RuleName::made(alloc)?;
-        let filters = Filters::made(alloc)?;
-        let qos = qos().ok_or(AllocError)?;
-        Ok(Rule::of(name, FlowStatus::Enabled, filters, qos, 40))
+/// Tries to merge two states.
+pub fn try_merge(rt: &impl Print, given: &Given) {
+    let (Some(ours), Some(theirs)) = (given.state("ours"), given.state("theirs")) else {
+        return judge(rt, None);
+    };
+    if let Some((ours, theirs)) = merge(rt, given, ours, theirs) {
+        drop(merge(rt, given, ours, theirs));
     }
 }
 
-impl Made for Delta {
-    fn made(alloc: Global) -> Result<Delta, AllocError> {
-        let mut removed = Vec::new(alloc);
-        removed.push(RuleName::made(alloc)?)?;
-        let mut installed = Vec::new(alloc);
-        installed.push(Rule::made(alloc)?)?;
-        Ok(Delta::of(removed, installed))
+/// The bytes of a letter, read and written.
+fn carried(alloc: Global, bytes: &[u8]) -> Result<Vec<u8>, LetterFault> {
+    let letter = read_letter(alloc, bytes, EDITION)?;
+    write_letter(alloc, &letter)
+}
+
+/// Reads and writes a letter, which are borrowed alone; whether that was refused.
+fn carry(rt: &impl Print, alloc: Global, bytes: &[u8], word: &str) -> bool {
+    begin(rt, "read_letter and write_letter", word);
+    let carried = carried(alloc, bytes);
+    let is_refused = matches!(&carried, Err(LetterFault::NoMemory));
+    end(rt, is_refused);
+    let is_right = match &carried {
+        Ok(written) => written.as_slice() == bytes,
+        Err(fault) => *fault == LetterFault::NoMemory,
+    };
+    judge(rt, Some(is_right));
+    is_refused
+}
+
+/// Tries to read and to write a letter.
+pub fn try_letter(rt: &impl Print, given: &Given, word: &str) {
+    let Some(bytes) = given.bytes(word) else {
+        return judge(rt, None);
+    };
+    if carry(rt, given.alloc, bytes.as_slice(), word) {
+        carry(rt, given.alloc, bytes.as_slice(), word);
     }
 }
