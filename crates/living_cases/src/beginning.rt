@@ -7,7 +7,6 @@ use crate::checks::{check, check_same};
 use crate::events::{attach, describe, push};
 use crate::sites::{Left, left_of_living, living, new_roster, new_site};
 use living_site::{Keeper, LivingSite, Roll, Roster, Seat};
-use shared_site::SharedSite;
 use site_machine::{Event, Site};
 use std::alloc::Global;
 use std::marker::Brand;

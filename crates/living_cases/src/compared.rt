@@ -105,7 +105,7 @@ fn replies_of_living<L: Roll, R: Threads + Wait + Abort + Sync>(
         let reply = call(rt, site, seat, event);
         replies.push(reply).expect(rt, "memory");
     }
-    let first = seats.get(0).expect(rt, "a seat");
+    let first = seats.first().expect(rt, "a seat");
     check_same(rt, numbers_of(site, first), (0, 7, Some(12)));
     let second = seats.get(1).expect(rt, "a seat");
     check_same(rt, numbers_of(site, second), (1, 7, Some(13)));
@@ -126,7 +126,7 @@ fn replies_of_locked<L: Ledger, R: Threads + Wait + Abort + Sync>(
         let reply = call(rt, site, seat, event);
         replies.push(reply).expect(rt, "memory");
     }
-    let first = seats.get(0).expect(rt, "a seat");
+    let first = seats.first().expect(rt, "a seat");
     check_same(rt, numbers_of(site, first), (0, 7, Some(12)));
     let second = seats.get(1).expect(rt, "a seat");
     check_same(rt, numbers_of(site, second), (1, 7, Some(13)));

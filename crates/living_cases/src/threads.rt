@@ -1,5 +1,5 @@
-//! Two and eight threads that share a site: each of their calls has its entry, and what stays is what one thread's calls leave of a
-//! site whose history is kept.
+//! Two and eight threads that ask one site for the same sessions at the same time: each of their calls has its entry, and what stays
+//! is what one thread's calls leave of a site whose history is kept.
 ghost use Rattle.std.specs.Prelude.{◌≡◌};
 ghost use Rattle.living_site.specs.Sound.{AreNames};
 
@@ -18,17 +18,17 @@ use std::sync::ledger::{Blank, Ledger};
 use std::test::*;
 use std::thread::{Threads, for_each_mut};
 
-/// How many threads there are at most.
-const THREADS: u8 = 8;
-
-/// How many sessions each thread has.
+/// How many sessions there are, which all threads ask for.
 const SESSIONS: u8 = 8;
 
-/// How often the gateway says of each session that it goes on.
+/// How often the gateway says of each session, by each thread, that it goes on.
 const UPDATES: u32 = 20;
 
-/// A seat has a session set up, updated, with questions in between, and called.
-fn make_session<S: SharedSite, R: Threads + Wait + Abort + Sync>(
+/// How many calls each thread makes.
+const CALLS: u64 = 200;
+
+/// A seat has a session set up, and updated with questions in between: 25 calls, of which 21 make an operation.
+fn ask_for_session<S: SharedSite, R: Threads + Wait + Abort + Sync>(
     rt: &R,
     alloc: Global,
     site: &S,
@@ -42,24 +42,23 @@ fn make_session<S: SharedSite, R: Threads + Wait + Abort + Sync>(
             is_replied(rt, site, seat, Event::AskOwn(0));
         }
     }
-    is_replied(rt, site, seat, describe(rt, alloc, number));
 }
 
-/// A seat makes all calls of the thread of a number: 26 for each session, of which 21 make an operation.
-fn make_calls<S: SharedSite, R: Threads + Wait + Abort + Sync>(
+/// A seat asks for all sessions, beginning with that of a place of its own.
+fn ask_for_all<S: SharedSite, R: Threads + Wait + Abort + Sync>(
     rt: &R,
     alloc: Global,
     site: &S,
     seat: &mut S::Seat,
-    thread: u8,
+    first: u8,
 ) {
-    let first = (thread % THREADS) * SESSIONS;
     for place in 0..SESSIONS {
-        make_session(rt, alloc, site, seat, first + place);
+        let number = (first % SESSIONS + place) % SESSIONS;
+        ask_for_session(rt, alloc, site, seat, number);
     }
 }
 
-/// A seat has the gateway told of a hundred sessions, as far as something is due: how many there were.
+/// How many of a hundred pushes tell the gateway a rule.
 fn push_all<S: SharedSite, R: Threads + Wait + Abort + Sync>(
     rt: &R,
     alloc: Global,
@@ -77,8 +76,23 @@ fn push_all<S: SharedSite, R: Threads + Wait + Abort + Sync>(
     count
 }
 
-/// Each seat makes the calls of its thread.
-fn make_calls_at_once<L: Roll + Send + Sync, R: Threads + Wait + Abort + Sync>(
+/// A seat has a call for each session taken, of which then each gateway is told by a push: 108 calls, of which eight make an
+/// operation.
+fn call_all<S: SharedSite, R: Threads + Wait + Abort + Sync>(
+    rt: &R,
+    alloc: Global,
+    site: &S,
+    seat: &mut S::Seat,
+) {
+    for number in 0..SESSIONS {
+        is_replied(rt, site, seat, describe(rt, alloc, number));
+    }
+    let pushed = push_all(rt, alloc, site, seat);
+    check_same(rt, pushed, 8);
+}
+
+/// Each seat asks for all sessions, in a thread of its own.
+fn ask_at_once<L: Roll + Send + Sync, R: Threads + Wait + Abort + Sync>(
     rt: &R,
     alloc: Global,
     site: &LivingSite<L>,
@@ -89,48 +103,46 @@ fn make_calls_at_once<L: Roll + Send + Sync, R: Threads + Wait + Abort + Sync>(
         seats,
         8,
         &|i: usize, seat: &mut Seat<L>| {
-            let thread = (i % 256) as u8;
-            make_calls(rt, alloc, site, seat, thread);
+            let first = (i % 8) as u8;
+            ask_for_all(rt, alloc, site, seat, first);
         },
     );
 }
 
-/// The number of each seat is its place, and each made the calls of a thread.
+/// The number of each seat is its place, and each made its calls.
 fn check_seats<L: Roll>(rt: &impl Abort, site: &LivingSite<L>, seats: &[Seat<L>]) {
     for (place, seat) in seats.iter().enumerate() {
         let (number, calls, last) = numbers_of(site, seat);
         check_same(rt, number, place);
-        check_same(rt, calls, 208);
+        check_same(rt, calls, CALLS);
         check(rt, last.is_some());
     }
 }
 
-/// What a thread for each seat leaves of a site, when the first seat has then had the gateway told of so many sessions.
+/// What a thread for each seat, and then the first seat, leave of a site.
 fn left_by_threads<L: Roll + Send + Sync, R: Threads + Wait + Abort + Sync>(
     rt: &R,
     alloc: Global,
     roster: Roster,
     site: Site,
-    due: u32,
 ) -> Left
     requires names { AreNames L.name_of L.seats roster.seats }
     requires keeper { roster.keeper ≡ L.keeper }
     requires opening { site.state ≡ L.opening }
 {
     let (site, mut seats, keeper) = living::<L>(rt, alloc, roster, site);
-    make_calls_at_once(rt, alloc, &site, seats.as_mut_slice());
+    ask_at_once(rt, alloc, &site, seats.as_mut_slice());
     check_seats(rt, &site, seats.as_slice());
-    let told = push_all(
+    call_all(
         rt,
         alloc,
         &site,
         seats.get_mut(0).expect(rt, "a seat"),
     );
-    check_same(rt, told, due);
     left_of_living(rt, alloc, site, seats, keeper)
 }
 
-/// What one thread leaves of a site whose history is kept, by the calls of so many threads and then the pushes.
+/// What one seat leaves of a site whose history is kept, by the calls of so many threads and those of the first seat.
 fn left_by_one<L: Ledger, R: Threads + Wait + Abort + Sync>(
     rt: &R,
     alloc: Global,
@@ -144,21 +156,11 @@ fn left_by_one<L: Ledger, R: Threads + Wait + Abort + Sync>(
 {
     let (site, mut seats) = locked::<L>(rt, alloc, blank, 1, 2_000, site);
     let seat = seats.get_mut(0).expect(rt, "a seat");
-    for thread in 0..threads {
-        make_calls(rt, alloc, &site, seat, thread);
+    for first in 0..threads {
+        ask_for_all(rt, alloc, &site, seat, first);
     }
-    let told = push_all(rt, alloc, &site, seat);
-    check_same(rt, told, u32::from(threads).saturating_mul(8));
+    call_all(rt, alloc, &site, seat);
     left_of_locked(rt, alloc, site, seats)
-}
-
-/// What an operator sees of sessions, without the clock, which is the first line. The clock of a site that takes operations of
-/// others depends on when it took them.
-fn sessions_of(text: &str) -> &str {
-    match text.split_once("\n") {
-        Some((_, sessions)) => sessions,
-        None => "",
-    }
 }
 
 /// Of both sites the same stays, as it is counted and as an operator sees it: so many entries, of which so many made an operation.
@@ -167,19 +169,16 @@ fn check_left(rt: &impl Abort, ours: &Left, theirs: &Left, entries: u64, logged:
     check_same(rt, theirs.entries, entries);
     check_same(rt, ours.logged, logged);
     check_same(rt, theirs.logged, logged);
-    check(
-        rt,
-        sessions_of(ours.text.as_str()) == sessions_of(theirs.text.as_str()),
-    );
+    check(rt, ours.text.as_str() == theirs.text.as_str());
 }
 
 #[test]
 fn two_threads_leave_what_one_leaves(rt: HostRuntime) {
     let alloc = rt.alloc();
     let roster = new_roster(&rt, alloc, 2);
-    let ours = left_by_threads::<Brand, _>(&rt, alloc, roster, new_site(&rt, alloc), 16);
+    let ours = left_by_threads::<Brand, _>(&rt, alloc, roster, new_site(&rt, alloc));
     let theirs = left_by_one::<Brand, _>(&rt, alloc, Blank::new(1), new_site(&rt, alloc), 2);
-    check_left(&rt, &ours, &theirs, 516, 352);
+    check_left(&rt, &ours, &theirs, 508, 344);
     drop(ours);
     drop(theirs);
 }
@@ -188,9 +187,9 @@ fn two_threads_leave_what_one_leaves(rt: HostRuntime) {
 fn eight_threads_leave_what_one_leaves(rt: HostRuntime) {
     let alloc = rt.alloc();
     let roster = new_roster(&rt, alloc, 8);
-    let ours = left_by_threads::<Brand, _>(&rt, alloc, roster, new_site(&rt, alloc), 64);
+    let ours = left_by_threads::<Brand, _>(&rt, alloc, roster, new_site(&rt, alloc));
     let theirs = left_by_one::<Brand, _>(&rt, alloc, Blank::new(1), new_site(&rt, alloc), 8);
-    check_left(&rt, &ours, &theirs, 1_764, 1_408);
+    check_left(&rt, &ours, &theirs, 1_708, 1_352);
     drop(ours);
     drop(theirs);
 }

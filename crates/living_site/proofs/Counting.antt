@@ -21,4 +21,4 @@ last_more xs r =
 
 -- of no receipts there is none
 pub last_none : (xs : List ReceiptValue) → xs ≡ [] → None ≡ last_place xs
-last_none xs none = rw none refl
+last_none xs empty = rw empty refl

@@ -1,6 +1,6 @@
 //! One site that threads share for months: its history, and the receipts of those who call it, stand in the proofs alone. When the
-//! program runs there is the site under its lock, and two numbers at each seat: nothing grows but what the site itself holds and
-//! made, and a call costs the site's own step.
+//! program runs there is the site under its lock with a count of its calls, and three numbers at each seat. So nothing grows but
+//! what the site itself holds and made, and a call costs the site's own step.
 #![tactic(auto)]
 
 mod anew;
