@@ -74,7 +74,8 @@ pub trait SharedSite {
             (seen seat.old) (event_value event.now) (reply_value reply) (seen seat.new)) }
         ensures err { OnErr result (seat.new ≡ seat.old) };
 
-    /// What `call` does, once the site has made more operations itself than so many, or can make none any more.
+    /// What `call` does, once the site has made more operations itself than so many, or its history is full, if it is one that
+    /// can be.
     fn call_grown<R: Threads + Wait + Sync>(
         &self,
         rt: &R,
