@@ -199,7 +199,11 @@ fn replies_and_what_stays_are_the_same(rt: HostRuntime) {
 /// the home of the session that was taken is another site.
 fn check_outcomes(rt: &impl Abort, ours: &Outcome, theirs: &Outcome) {
     let same = count_same(ours.replies.as_slice(), theirs.replies.as_slice());
-    check_same(rt, (same, ours.replies.len(), theirs.replies.len()), (14, 14, 14));
+    check_same(
+        rt,
+        (same, ours.replies.len(), theirs.replies.len()),
+        (14, 14, 14),
+    );
     check(rt, ours.left.state.equal(&theirs.left.state));
     check(rt, ours.left.text.as_str() == theirs.left.text.as_str());
     check_same(rt, (ours.left.entries, theirs.left.entries), (14, 14));

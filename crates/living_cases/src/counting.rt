@@ -125,12 +125,7 @@ fn at_its_end<L: Roll, R: Threads + Wait + Abort + Sync>(
     requires opening { site.state ≡ L.opening }
 {
     let (site, mut seats, keeper) = living::<L>(rt, alloc, roster, site);
-    push_at_the_end(
-        rt,
-        alloc,
-        &site,
-        seats.get_mut(0).expect(rt, "a seat"),
-    );
+    push_at_the_end(rt, alloc, &site, seats.get_mut(0).expect(rt, "a seat"));
     let left = left_of_living(rt, alloc, site, seats, keeper);
     let entries = left.entries;
     drop(left);

@@ -133,12 +133,7 @@ fn left_by_threads<L: Roll + Send + Sync, R: Threads + Wait + Abort + Sync>(
     let (site, mut seats, keeper) = living::<L>(rt, alloc, roster, site);
     ask_at_once(rt, alloc, &site, seats.as_mut_slice());
     check_seats(rt, &site, seats.as_slice());
-    call_all(
-        rt,
-        alloc,
-        &site,
-        seats.get_mut(0).expect(rt, "a seat"),
-    );
+    call_all(rt, alloc, &site, seats.get_mut(0).expect(rt, "a seat"));
     left_of_living(rt, alloc, site, seats, keeper)
 }
 
