@@ -1,5 +1,5 @@
 -- Counts of 64 bits.
-use Rattle.std.proofs.Common.{◌≡◌, ℕ, ◌+◌, ◌-◌, ◌^◌, min, List, [], ◌∷◌, ◌++◌, length, length-append, Option, Some, None, option_map, slice_get, refl, ◌∙◌, ap, arith}
+use Rattle.std.proofs.Common.{◌≡◌, ℕ, ◌+◌, ◌-◌, ◌^◌, min, List, [], ◌∷◌, ◌++◌, length, length-append, Some, None, option_map, slice_get, refl, ◌∙◌, ap, arith}
 use Rattle.site_book.specs.Books.{ReceiptValue}
 use Rattle.living_site.specs.Deeds.{counted_to, counted_place, last_place}
 

@@ -1,15 +1,15 @@
 -- What the entries of a history added. A new beginning adds nothing.
-use Rattle.std.proofs.Common.{◌≡◌, ℕ, List, [], ◌∷◌, map, take, Option, Some, None, refl, sym, ◌∙◌, ap}
+use Rattle.std.proofs.Common.{◌≡◌, ℕ, List, [], ◌∷◌, map, Option, Some, None, refl, sym, ◌∙◌, ap}
 use Rattle.pcrf_values.specs.Limits.{delta_limit}
 use Rattle.pcrf_model.specs.Tables.{Tables}
-use Rattle.pcrf_model.specs.Holdings.{Holding, nothing_held, union, kept_of}
+use Rattle.pcrf_model.specs.Holdings.{Holding, union, kept_of}
 use Rattle.pcrf_model.specs.Operations.{Operation}
 use Rattle.pcrf_model.specs.Replies.{ReplyValue, Taken}
 use Rattle.pcrf_model.specs.Serving.{serve}
 use Rattle.pcrf_model.specs.Pushing.{push}
-use Rattle.pcrf_model.specs.Steps.{SiteState, SiteEvent, with_own, state_after, kept_state_after, Serve, Push, Ops, Whole, AskOwn, AskWhole}
+use Rattle.pcrf_model.specs.Steps.{SiteState, SiteEvent, with_own, state_after, kept_state_after, Serve, Push, Ops, Whole}
 use Rattle.pcrf_model.proofs.UnionLaws.{union_assoc, union_nothing, kept_of-union, kept_of_twice}
-use Rattle.site_book.specs.Books.{EntryValue, called}
+use Rattle.site_book.specs.Books.{called}
 use Rattle.site_book.specs.Gains.{gain, gained, holding_added, HoldsAll}
 use Rattle.living_site.specs.Deeds.{Deed, Entered, BegunAnew, ChronicleValue, Runs, LeadsTo, calls, begun_anew, as_book}
 

@@ -8,7 +8,7 @@ use Rattle.pcrf_model.specs.Tables.{Tables}
 use Rattle.pcrf_model.specs.Steps.{SiteState}
 use Rattle.site_machine.specs.Sites.{SiteValue, SiteMayReply, after_event}
 use Rattle.site_book.specs.Books.{EntryValue, ReceiptValue, receipt_of}
-use Rattle.living_site.specs.Deeds.{Deed, Entered, BegunAnew, MayDo, after, Runs, LeadsTo, calls, beginnings_from, beginnings, receipts_from, account, OfSeats, site_begun_anew}
+use Rattle.living_site.specs.Deeds.{Deed, Entered, BegunAnew, MayDo, after, Runs, calls, beginnings_from, beginnings, receipts_from, account, OfSeats, site_begun_anew}
 use Rattle.living_site.specs.Sound.{IsSound, IsChair}
 use Rattle.living_site.proofs.Counting.{count_more}
 

@@ -1,10 +1,10 @@
 -- The accounts of all seats.
-use Rattle.std.proofs.Common.{◌≡◌, ℕ, zero, suc, ◌+◌, ◌<◌, ◌≤◌, ◌==◌, ltb, Bool, true, false, ◌&&◌, cond, List, [], ◌∷◌, ◌++◌, length, Option, Some, None, slice_get, slice_index_or, refl, sym, ◌∙◌, ap, subst, arith}
+use Rattle.std.proofs.Common.{◌≡◌, ℕ, zero, suc, ◌+◌, ◌≤◌, ◌==◌, Bool, true, false, ◌&&◌, cond, List, [], ◌∷◌, ◌++◌, length, Option, Some, None, slice_get, refl, sym, ◌∙◌, ap, subst, arith}
 use Rattle.std.specs.Prelude.{All}
 use Rattle.std.proofs.lemmas.Bool.Decides.{nat_tests}
 use Rattle.pcrf_model.specs.Steps.{SiteState}
 use Rattle.site_book.specs.Books.{EntryValue, ReceiptValue, SeatValue, receipt_of}
-use Rattle.site_book.specs.Settling.{times, EachOnce, receipts_in_all, receipts_of, Claim, claim, claims_of, claims_from, is_above, is_of_seat, is_placed, IsContent, AllStand, Settles}
+use Rattle.site_book.specs.Settling.{times, EachOnce, receipts_in_all, receipts_of, Claim, claims_of, claims_from, is_above, is_of_seat, IsContent, AllStand, Settles}
 use Rattle.living_site.specs.Deeds.{Deed, ChronicleValue, calls, receipts_from, account, IsAccountOf, OfSeats, as_book}
 
 all_rest : {X : Type 0} (P : X → Type 0) (x : X) (xs : List X) → All P (x ∷ xs) → All P xs

@@ -1,7 +1,5 @@
 -- A site that takes all that another holds when it took nothing yet.
-use Rattle.std.proofs.Common.{◌≡◌, ℕ, ap, ◌∙◌, [], refl}
-use Rattle.dia_base.specs.declared.identity.Identity.{Identity}
-use Rattle.pcrf_model.specs.Tables.{Tables}
+use Rattle.std.proofs.Common.{◌≡◌, ap, ◌∙◌, []}
 use Rattle.pcrf_model.specs.Holdings.{Holding, nothing_held, union, kept_of}
 use Rattle.pcrf_model.proofs.UnionLaws.{union_comm, union_nothing}
 use Rattle.site_machine.specs.Sites.{SiteValue, new_site, with_state}

@@ -1,5 +1,5 @@
 -- What who waited for growth is told.
-use Rattle.std.proofs.Common.{◌≡◌, ℕ, ◌<◌, length, Result, Ok, Err, IfOk}
+use Rattle.std.proofs.Common.{ℕ, ◌<◌, length, Result, Ok, Err, IfOk}
 use Rattle.pcrf_values.specs.Limits.{delta_limit}
 use Rattle.pcrf_model.specs.Steps.{SiteEvent}
 use Rattle.site_machine.specs.declared.event.Reply.{Reply}

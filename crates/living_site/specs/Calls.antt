@@ -1,10 +1,9 @@
 -- What a call through the lock gives.
 use Rattle.std.specs.Prelude.{◌≡◌, ℕ, List, [], ◌∷◌, ◌++◌}
-use Rattle.pcrf_model.specs.Tables.{Tables}
 use Rattle.pcrf_model.specs.Steps.{SiteState}
 use Rattle.site_machine.specs.Sites.{SiteValue}
 use Rattle.site_book.specs.Books.{SeatValue}
-use Rattle.living_site.specs.Deeds.{Deed, ChronicleValue, KeeperValue, LeadsTo, IsAccountOf}
+use Rattle.living_site.specs.Deeds.{Deed, KeeperValue, LeadsTo, IsAccountOf}
 
 -- one new beginning more, with so many calls before it
 abbrev pub GainsBeginning : KeeperValue → KeeperValue → Type 0

@@ -1,5 +1,5 @@
-use Rattle.std.proofs.Common.{rules, ◌≡◌, sym, ◌∙◌}
-use Rattle.pcrf_model.specs.Holdings.{Holding, kept_of}
+use Rattle.std.proofs.Common.{rules, ◌≡◌}
+use Rattle.pcrf_model.specs.Holdings.{kept_of}
 use Rattle.site_machine.specs.Sites.{SiteValue, new_site, with_state}
 use Rattle.living_site.proofs.Taking.{taken_anew}
 use Rattle.living_site.proofs.anew.begun_anew.Goals as goal
