@@ -1,5 +1,5 @@
 -- The place of a last receipt as a number of 64 bits.
-use Rattle.std.proofs.Common.{◌≡◌, ℕ, ◌<◌, ◌^◌, Option, Some, option_map, ◌∙◌, ap, arith}
+use Rattle.std.proofs.Common.{◌≡◌, ◌<◌, ◌^◌, Option, Some, option_map, ◌∙◌, ap, arith}
 use Rattle.site_book.specs.Books.{ReceiptValue}
 use Rattle.living_site.specs.Deeds.{counted_to, counted_place}
 
