@@ -36,7 +36,7 @@ pub fn told_by(reply: &Result<Reply, StepFault>) -> Told {
 }
 
 /// What a seat is told of an event.
-pub fn told<S: SharedSite, R: Threads + Wait + Sync>(
+pub fn ask<S: SharedSite, R: Threads + Wait + Sync>(
     rt: &R,
     site: &S,
     seat: &mut S::Seat,
@@ -49,7 +49,7 @@ pub fn told<S: SharedSite, R: Threads + Wait + Sync>(
 }
 
 /// What it is told in its own thread alone.
-pub fn told_alone<S: SharedSite, R: Wait>(
+pub fn ask_alone<S: SharedSite, R: Wait>(
     rt: &R,
     site: &S,
     seat: &mut S::Seat,
@@ -62,7 +62,7 @@ pub fn told_alone<S: SharedSite, R: Wait>(
 }
 
 /// What it is told once the site has made more operations than so many.
-pub fn told_past<S: SharedSite, R: Threads + Wait + Sync>(
+pub fn ask_past<S: SharedSite, R: Threads + Wait + Sync>(
     rt: &R,
     site: &S,
     seat: &mut S::Seat,
@@ -83,7 +83,7 @@ pub fn happens<S: SharedSite, R: Threads + Wait + Abort + Sync>(
     event: Event,
     wanted: Told,
 ) {
-    let found = told(rt, site, seat, &event);
+    let found = ask(rt, site, seat, &event);
     drop(event);
     check_same(rt, found, wanted);
 }

@@ -3,7 +3,7 @@
 ghost use Rattle.std.specs.Prelude.{◌≡◌};
 ghost use Rattle.living_site.specs.Sound.{AreNames};
 
-use crate::calling::{Told, happens, is_replied, numbers_of, told};
+use crate::calling::{Told, ask, happens, is_replied, numbers_of};
 use crate::checks::{check, check_same};
 use crate::events::{attach, describe, take_last};
 use crate::sites::{left_of_living, left_of_locked, living, locked, new_roster, new_site};
@@ -30,7 +30,7 @@ fn answered<S: SharedSite, R: Threads + Wait + Sync>(
 ) -> u64 {
     let full = Told::Fault(StepFault::HistoryFull);
     for count in 0..calls {
-        if told(rt, site, seat, &Event::AskOwn(0)) == full {
+        if ask(rt, site, seat, &Event::AskOwn(0)) == full {
             return count;
         }
     }

@@ -2,7 +2,7 @@
 ghost use Rattle.std.specs.Prelude.{◌≡◌};
 ghost use Rattle.living_site.specs.Sound.{AreNames};
 
-use crate::calling::{Told, is_replied, told_past};
+use crate::calling::{Told, ask_past, is_replied};
 use crate::checks::check_same;
 use crate::events::attach;
 use crate::sites::{left_of_living, living, new_roster, new_site};
@@ -36,7 +36,7 @@ fn is_told<L: Roll, R: Threads + Wait + Abort + Sync>(
 ) {
     check_same(
         rt,
-        told_past(rt, site, seat, &Event::AskOwn(0), past),
+        ask_past(rt, site, seat, &Event::AskOwn(0), past),
         wanted,
     );
 }

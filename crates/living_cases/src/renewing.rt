@@ -3,7 +3,7 @@
 ghost use Rattle.std.specs.Prelude.{◌≡◌};
 ghost use Rattle.living_site.specs.Sound.{AreNames};
 
-use crate::calling::{Told, told, told_alone};
+use crate::calling::{Told, ask, ask_alone};
 use crate::checks::{check, check_same};
 use crate::events::{attach, gateway_id};
 use crate::sites::{living, new_roster, new_site, numbered_site};
@@ -62,9 +62,9 @@ fn take_whole<L: Roll, R: Threads + Wait + Abort + Sync>(
 ) {
     let event = whole(rt, alloc);
     let found = if alone {
-        told_alone(rt, site, seat, &event)
+        ask_alone(rt, site, seat, &event)
     } else {
-        told(rt, site, seat, &event)
+        ask(rt, site, seat, &event)
     };
     drop(event);
     check_same(rt, found, Told::Done);

@@ -3,7 +3,7 @@
 ghost use Rattle.std.specs.Prelude.{◌≡◌};
 ghost use Rattle.living_site.specs.Sound.{AreNames};
 
-use crate::calling::{Told, is_replied, numbers_of, told};
+use crate::calling::{Told, ask, is_replied, numbers_of};
 use crate::checks::{check, check_same};
 use crate::events::{attach, describe, push, update};
 use crate::sites::{Left, left_of_living, left_of_locked, living, locked, new_roster, new_site};
@@ -68,7 +68,7 @@ fn push_all<S: SharedSite, R: Threads + Wait + Abort + Sync>(
     let event = push(rt, alloc);
     let mut count = 0u32;
     for _ in 0..100u32 {
-        if told(rt, site, seat, &event) == Told::Pushed(1) {
+        if ask(rt, site, seat, &event) == Told::Pushed(1) {
             count = count.saturating_add(1);
         }
     }
