@@ -1,0 +1,27 @@
+//! Tests of sites whose history stands in the proofs alone, beside those whose history is kept: what they are told, what stays of
+//! them, and what the numbers of their seats are.
+#![tactic(auto)]
+
+#[cfg(test)]
+mod beginning;
+#[cfg(test)]
+mod calling;
+#[cfg(test)]
+mod checks;
+#[cfg(test)]
+mod compared;
+#[cfg(test)]
+mod counting;
+#[cfg(test)]
+mod events;
+#[cfg(test)]
+mod growing;
+#[cfg(test)]
+mod renewing;
+#[cfg(test)]
+mod sites;
+#[cfg(test)]
+mod threads;
+
+/// Does nothing: what this crate has are tests.
+fn main() {}

@@ -1,0 +1,7 @@
+pub mod Growing
+pub mod Opening
+pub mod Settling
+pub mod Gains
+pub mod Taking
+pub mod Telling
+pub mod Counting

@@ -1,0 +1,14 @@
+-- What a call through the lock gives.
+use Rattle.std.specs.Prelude.{◌≡◌, ℕ, List, [], ◌∷◌, ◌++◌}
+use Rattle.pcrf_model.specs.Steps.{SiteState}
+use Rattle.site_machine.specs.Sites.{SiteValue}
+use Rattle.site_book.specs.Books.{SeatValue}
+use Rattle.living_site.specs.Deeds.{Deed, KeeperValue, LeadsTo, IsAccountOf}
+
+-- one new beginning more, with so many calls before it
+abbrev pub GainsBeginning : KeeperValue → KeeperValue → Type 0
+GainsBeginning before after = (place : ℕ) × (after.beginnings ≡ before.beginnings ++ place ∷ [])
+
+-- the history leads a site from its opening to something, and the seat has just a receipt for each of its entries in it
+abbrev pub IsAccount : ℕ → SiteState → List Deed → SeatValue → Type 0
+IsAccount seats opening history seat = ((site : SiteValue) × LeadsTo opening history site) × IsAccountOf seats history seat

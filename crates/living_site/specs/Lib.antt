@@ -1,0 +1,5 @@
+pub mod Deeds
+pub mod Sound
+pub mod Calls
+pub use Rattle.site_book.specs.Books
+pub use Rattle.site_machine.specs.Values

@@ -1,0 +1,20 @@
+//! One site that threads share for months: its history, and the receipts of those who call it, stand in the proofs alone. When the
+//! program runs there is the site under its lock with a count of its calls, and three numbers at each seat. So nothing grows but
+//! what the site itself holds and made, and a call costs the site's own step.
+#![tactic(auto)]
+
+mod anew;
+mod chronicle;
+mod keeper;
+mod locked;
+mod notes;
+mod roll;
+mod seat;
+
+pub use chronicle::Chronicle;
+pub use keeper::Keeper;
+pub use locked::LivingSite;
+pub use notes::{Beginnings, Deeds, Receipts};
+pub use roll::{Roll, Roster};
+pub use seat::Seat;
+pub use site_machine::{Event, Reply, Request, Rules, Site, StepFault};

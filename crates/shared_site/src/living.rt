@@ -1,0 +1,67 @@
+//! A site whose history stands in the proofs alone.
+use crate::shared::SharedSite;
+use dia_base::Identity;
+use living_site::{LivingSite, Roll, Seat};
+use site_machine::{Event, Reply, StepFault};
+use std::sync::Wait;
+use std::thread::Threads;
+
+impl<L: Roll> SharedSite for LivingSite<L> {
+    type Seat = Seat<L>;
+
+    ghost seen = { λ s. s };
+
+    ghost beside = { λ s. s };
+
+    fn identity(&self) -> &Identity {
+        self.identity()
+    }
+
+    fn edition(&self) -> u32 {
+        self.edition()
+    }
+
+    fn number(&self) -> u8 {
+        self.number()
+    }
+
+    fn number_of(&self, seat: &Seat<L>) -> usize {
+        seat.number()
+    }
+
+    fn calls_of(&self, seat: &Seat<L>) -> u64 {
+        seat.calls()
+    }
+
+    fn last_of(&self, seat: &Seat<L>) -> Option<u64> {
+        seat.last()
+    }
+
+    fn call<R: Threads + Wait + Sync>(
+        &self,
+        rt: &R,
+        seat: &mut Seat<L>,
+        event: &Event,
+    ) -> Result<Reply, StepFault> {
+        self.call(rt, seat, event)
+    }
+
+    fn call_alone<R: Wait>(
+        &self,
+        rt: &R,
+        seat: &mut Seat<L>,
+        event: &Event,
+    ) -> Result<Reply, StepFault> {
+        self.call_alone(rt, seat, event)
+    }
+
+    fn call_grown<R: Threads + Wait + Sync>(
+        &self,
+        rt: &R,
+        seat: &mut Seat<L>,
+        event: &Event,
+        past: u64,
+    ) -> Result<Reply, StepFault> {
+        self.call_grown(rt, seat, event, past)
+    }
+}

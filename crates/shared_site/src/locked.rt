@@ -1,0 +1,72 @@
+//! A site whose history is kept when the program runs: a book under a lock.
+use crate::shared::SharedSite;
+use dia_base::Identity;
+use site_lock::{LockedSite, Seat};
+use site_machine::{Event, Reply, StepFault};
+use std::sync::Wait;
+use std::sync::ledger::Ledger;
+use std::thread::Threads;
+
+impl<L: Ledger> SharedSite for LockedSite<L> {
+    type Seat = Seat<L>;
+
+    ghost seen = { λ s. s };
+
+    ghost beside = { λ s. s };
+
+    fn identity(&self) -> &Identity {
+        self.identity()
+    }
+
+    fn edition(&self) -> u32 {
+        self.edition()
+    }
+
+    fn number(&self) -> u8 {
+        self.number()
+    }
+
+    fn number_of(&self, seat: &Seat<L>) -> usize {
+        seat.number()
+    }
+
+    fn calls_of(&self, seat: &Seat<L>) -> u64 {
+        seat.receipts().len() as u64
+    }
+
+    #[tactic(auto, using(crate::proofs::Places::place_told))]
+    fn last_of(&self, seat: &Seat<L>) -> Option<u64> {
+        match seat.receipts().last() {
+            Some(receipt) => Some(receipt.place() as u64),
+            None => None,
+        }
+    }
+
+    fn call<R: Threads + Wait + Sync>(
+        &self,
+        rt: &R,
+        seat: &mut Seat<L>,
+        event: &Event,
+    ) -> Result<Reply, StepFault> {
+        self.call(rt, seat, event)
+    }
+
+    fn call_alone<R: Wait>(
+        &self,
+        rt: &R,
+        seat: &mut Seat<L>,
+        event: &Event,
+    ) -> Result<Reply, StepFault> {
+        self.call_alone(rt, seat, event)
+    }
+
+    fn call_grown<R: Threads + Wait + Sync>(
+        &self,
+        rt: &R,
+        seat: &mut Seat<L>,
+        event: &Event,
+        past: u64,
+    ) -> Result<Reply, StepFault> {
+        self.call_grown(rt, seat, event, past)
+    }
+}
