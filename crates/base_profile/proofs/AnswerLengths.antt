@@ -1,5 +1,5 @@
 -- Every answer of the base protocol fits a message.
-use Rattle.std.proofs.Common.{◌≡◌, ◌≤◌, ◌+◌, ◌∷◌, ◌++◌, [], ℕ, List, Option, length, sym, subst, arith}
+use Rattle.std.proofs.Common.{◌≡◌, ◌≤◌, ◌∷◌, length, sym, subst, arith}
 use Rattle.std.specs.List.{sum_by}
 use Rattle.pcrf_values.specs.Limits.{identity_limit}
 use Rattle.dia_codec.specs.declared.message.Header.{Header}

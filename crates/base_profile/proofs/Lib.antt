@@ -1,1 +1,2 @@
 pub mod AnswerLengths
+pub mod RequestLengths

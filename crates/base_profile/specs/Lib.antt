@@ -1,3 +1,4 @@
 pub mod Answers
 pub mod Avps
+pub mod OwnRequests
 pub mod Requests

@@ -19,6 +19,9 @@ pub(crate) mod avps {
     pub(crate) const PRODUCT_NAME: u32 = 269;
 }
 
+/// The Application-Id of the base protocol's own messages (RFC 6733, 2.4).
+pub(crate) const BASE: u32 = 0;
+
 /// The Application-Id of relays (RFC 6733, 2.4).
 pub(crate) const RELAY: u32 = 0xffff_ffff;
 

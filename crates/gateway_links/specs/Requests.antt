@@ -1,24 +1,40 @@
 -- The requests by which gateways are told of pushes.
-use Rattle.std.specs.Prelude.{ℕ, ◌-◌, ◌%◌, ◌^◌, List, length, slice_get, Option, Some, None, option_and_then}
+use Rattle.std.specs.Prelude.{◌≡◌, ℕ, ◌+◌, ◌-◌, ◌*◌, ◌%◌, ◌^◌, List, length, slice_get, Option, Some, None, option_and_then, option_map}
 use Rattle.dia_base.specs.declared.identity.Identity.{Identity}
 use Rattle.dia_codec.specs.Written.{written_spelling}
 use Rattle.gx_profile.specs.Pushes.{rar}
 use Rattle.link_ends.specs.Books.{ReceiptValue}
-use Rattle.link_ends.specs.Replies.{ReplyValue, Pushed}
+use Rattle.link_ends.specs.Deeds.{counted_place}
+use Rattle.link_ends.specs.Replies.{PushValue, ReplyValue, Pushed}
 
--- the bytes of the re-authorisation request of what was replied, if something was pushed: both of its identifiers are this number
-abbrev pub request_saying : Identity → ℕ → ReplyValue → Option (List ℕ)
-request_saying names id (Pushed (Some push)) = Some (written_spelling (rar names id id push))
-request_saying names id reply = None
-
--- the number of a request that stands at this place of the history, as far as identifiers can tell places apart
+-- a number as identifiers have it, which have 32 bits (RFC 6733, 3)
 abbrev pub identifier_at : ℕ → ℕ
-identifier_at place = place % 2 ^ 32
+identifier_at number = number % 2 ^ 32
 
--- those of a receipt: its place is its number
-abbrev pub request_of : Identity → ReceiptValue → Option (List ℕ)
-request_of names r = request_saying names (identifier_at r.place) r.reply
+-- The End-to-End Identifier from which those of a site count that started so many seconds after 1970: the low 12 bits of the seconds above
+-- 20 bits of a random number (RFC 6733, 3)
+abbrev pub first_end_id : ℕ → ℕ → ℕ
+first_end_id seconds random = seconds % 2 ^ 12 * 2 ^ 20 + random % 2 ^ 20
+
+-- The bytes of the re-authorisation request of what was replied at a place of a history, if something was pushed. The Hop-by-Hop
+-- Identifier is the place, and the End-to-End Identifier as much behind the first one.
+abbrev pub request_saying : Identity → ℕ → ℕ → ReplyValue → Option (List ℕ)
+request_saying names first place (Pushed (Some push)) = Some (written_spelling (rar names (identifier_at place) (identifier_at (first + place)) push))
+request_saying names first place reply = None
+
+-- those of a receipt: its place is as a count of 64 bits has it
+abbrev pub request_of : Identity → ℕ → ReceiptValue → Option (List ℕ)
+request_of names first r = request_saying names first (counted_place r) r.reply
 
 -- those of the last receipt
-abbrev pub last_request : Identity → List ReceiptValue → Option (List ℕ)
-last_request names receipts = option_and_then (request_of names) (slice_get receipts (length receipts - 1))
+abbrev pub last_request : Identity → ℕ → List ReceiptValue → Option (List ℕ)
+last_request names first receipts = option_and_then (request_of names first) (slice_get receipts (length receipts - 1))
+
+-- the last receipt has this reply
+abbrev pub WasReplied : List ReceiptValue → ReplyValue → Type 0
+WasReplied receipts reply = option_map (λ r. r.reply) (slice_get receipts (length receipts - 1)) ≡ Some reply
+
+-- what was pushed, by what was replied
+abbrev pub push_in : ReplyValue → Option PushValue
+push_in (Pushed push) = push
+push_in reply = None

@@ -11,11 +11,14 @@ use std::sync::{Arc, Mutex, Wait};
 #[derive(Drop)]
 pub(crate) struct Reached<W> {
     pub(crate) host: DiameterIdentity,
+    /// The number of the connection's seat.
+    pub(crate) connection: usize,
     pub(crate) half: Arc<Half<W>>,
 }
 
-/// For each host that sent an accepted capabilities exchange the writing half of the connection on which it did so last. Their
-/// lock is held for no write and no call of a site. An observer is told what happens at their connections.
+/// For each host that sent an accepted capabilities exchange the writing halves of the connections on which it did so, the last one
+/// behind: a host is reached by the last that is still open. Their lock is held for no write and no call of a site. An observer is
+/// told what happens at their connections.
 #[derive(Drop)]
 pub struct Gateways<W, O = Unobserved> {
     reached: Mutex<Vec<Reached<W>>>,
@@ -30,7 +33,7 @@ fn is_behind(host: &DiameterIdentity, last: Option<&DiameterIdentity>) -> bool {
     }
 }
 
-/// The least host behind that one.
+/// The least host behind that one, with the last of its halves.
 fn least_behind<'a, W>(
     reached: &'a [Reached<W>],
     last: Option<&DiameterIdentity>,
@@ -39,7 +42,7 @@ fn least_behind<'a, W>(
     for gateway in reached {
         if is_behind(&gateway.host, last) {
             match least {
-                Some(other) if other.host <= gateway.host => {}
+                Some(other) if other.host < gateway.host => {}
                 _ => least = Some(gateway),
             }
         }
@@ -68,18 +71,24 @@ impl<W: Write + Drop, O: Observer> Gateways<W, O> {
         &self.observer
     }
 
-    /// From now on a host is reached by that half, and by no other.
+    /// From now on a host is reached by that half, of the connection at the seat of that number, until it has ended: then by the one
+    /// before it again, if that is still open.
     pub fn register(
         &self,
         rt: &impl Wait,
         host: DiameterIdentity,
+        connection: usize,
         half: &Arc<Half<W>>,
     ) -> Result<(), AllocError> {
         let half = Arc::try_clone(half)?;
         let mut reached = self.reached.lock(rt);
         reached.reserve(1)?;
-        reached.retain(|other: &Reached<W>| other.host != host);
-        reached.push(Reached { host, half })?;
+        reached.retain(|other: &Reached<W>| other.host != host || other.connection != connection);
+        reached.push(Reached {
+            host,
+            connection,
+            half,
+        })?;
         Ok(())
     }
 
@@ -89,7 +98,7 @@ impl<W: Write + Drop, O: Observer> Gateways<W, O> {
         reached.retain(|gateway: &Reached<W>| !gateway.half.has_ended());
     }
 
-    /// How many hosts are reached.
+    /// How many connections reach a host.
     pub fn count(&self, rt: &impl Wait) -> usize {
         self.reached.lock(rt).len()
     }
@@ -106,6 +115,10 @@ impl<W: Write + Drop, O: Observer> Gateways<W, O> {
         };
         let half = Arc::try_clone(&gateway.half)?;
         let host = gateway.host.try_copy()?;
-        Ok(Some(Reached { host, half }))
+        Ok(Some(Reached {
+            host,
+            connection: gateway.connection,
+            half,
+        }))
     }
 }

@@ -1,4 +1,6 @@
 //! The writing half of a connection.
+ghost use Rattle.std.specs.Prelude.{◌≡◌};
+
 use std::io::Write;
 use std::sync::atomic::{AtomicBool, Ordering};
 use std::sync::{Mutex, Wait};
@@ -10,15 +12,35 @@ use std::sync::{Mutex, Wait};
 pub struct Half<W> {
     writer: Mutex<Option<W>>,
     ended: AtomicBool,
+    /// From which number the End-to-End Identifiers of re-authorisation requests count.
+    first_end_id: u32,
 }
 
 impl<W: Write + Drop> Half<W> {
-    /// A half without a writer yet.
-    pub fn start() -> Half<W> {
+    /// A half without a writer yet. Both identifiers of a re-authorisation request are its place in the site's history.
+    pub fn start() -> Half<W>
+        ensures { result.first_end_id ≡ 0 }
+    {
+        Half::counting_from(0)
+    }
+
+    /// A half without a writer yet. The Hop-by-Hop Identifier of a re-authorisation request is its place in the site's history, and the
+    /// End-to-End Identifier so much behind that number.
+    pub fn counting_from(first_end_id: u32) -> Half<W>
+        ensures { result.first_end_id ≡ first_end_id }
+    {
         Half {
             writer: Mutex::new(None),
             ended: AtomicBool::new(false),
+            first_end_id,
         }
+    }
+
+    /// From which number End-to-End Identifiers count.
+    pub(crate) fn first_end_id(&self) -> u32
+        ensures { result ≡ self.now.first_end_id }
+    {
+        self.first_end_id
     }
 
     /// Takes the writer in.

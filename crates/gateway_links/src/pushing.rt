@@ -1,7 +1,8 @@
 //! Pushes to the gateways that can be reached.
-ghost use Rattle.std.specs.Prelude.{◌≡◌, IfOk, option_map};
+ghost use Rattle.std.specs.Prelude.{◌≡◌, ◌+◌, None, IfNone, IfOk, option_map};
 ghost use Rattle.dia_codec.specs.Written.{written_spelling};
-ghost use Rattle.gateway_links.specs.Requests.{identifier_at, last_request, request_saying};
+ghost use Rattle.gateway_links.specs.Due.{NothingWasDue, WasAsked};
+ghost use Rattle.gateway_links.specs.Requests.{WasReplied, identifier_at, last_request, push_in, request_saying};
 ghost use Rattle.gx_profile.specs.Pushes.{rar};
 ghost use Rattle.link_ends.specs.Earlier.{Adds};
 ghost use Rattle.link_ends.specs.Events.{IsPushTo, IsPushToHost};
@@ -15,18 +16,17 @@ use crate::outgoing::Outgoing;
 use dia_base::Identity;
 use dia_codec::{WriteFault, write_message};
 use gx_profile::write_rar;
-use link_ends::{Event, LockedSite, Pushes, Reply, Seat, StepFault};
+use link_ends::{Event, Pushes, Reply, SharedSite, StepFault};
 use pcrf_values::DiameterIdentity;
 use ranked::Ranked;
 use reply_values::PushOut;
 use std::alloc::{AllocError, Global};
 use std::io::Write;
 use std::sync::Wait;
-use std::sync::ledger::Ledger;
 use std::thread::Threads;
 
-/// How many identifiers a request can have (RFC 6733, 3). A history has no more places.
-const IDENTIFIERS: usize = 1 << 32;
+/// How many identifiers a request can have (RFC 6733, 3).
+const IDENTIFIERS: u64 = 1 << 32;
 
 /// How the pushing to one gateway ended.
 #[derive(Clone, Copy, PartialEq, Eq)]
@@ -41,18 +41,19 @@ enum Pushed {
     ClockFull,
 }
 
-/// The bytes of a push's re-authorisation request, both of whose identifiers are this number.
+/// The bytes of a push's re-authorisation request with these identifiers.
 #[tactic(auto, unfolding(gx_profile::specs::Pushes::rar))]
 fn request_bytes(
     alloc: Global,
     identity: &Identity,
-    id: u32,
+    hop_id: u32,
+    end_id: u32,
     push: &PushOut,
 ) -> Result<Vec<u8>, AllocError>
     ensures { IfOk result (λ bytes. bytes.items
-        ≡ written_spelling (rar identity.now id id (push_view push.now))) }
+        ≡ written_spelling (rar identity.now hop_id end_id (push_view push.now))) }
 {
-    let request = write_rar(alloc, identity, id, id, push)?;
+    let request = write_rar(alloc, identity, hop_id, end_id, push)?;
     match write_message(alloc, &request) {
         Ok(bytes) => Ok(bytes),
         Err(WriteFault::TooLong) => unreachable!(),
@@ -60,97 +61,125 @@ fn request_bytes(
     }
 }
 
-/// The identifier of a request that stands at this place of the history.
-fn identifier_at(place: usize) -> u32
+/// The Hop-by-Hop Identifier of a request that stands at this place.
+fn hop_id_at(place: u64) -> u32
     ensures { result ≡ identifier_at place }
 {
     (place % IDENTIFIERS) as u32
 }
 
-/// The request of what was replied at a place of the history; none where nothing was due.
+/// The End-to-End Identifier of a request that stands at this place.
+fn end_id_at(first: u32, place: u64) -> u32
+    ensures { result ≡ identifier_at (first + place) }
+{
+    ((u64::from(first) + place % IDENTIFIERS) % IDENTIFIERS) as u32
+}
+
+/// The request of what was replied at a place; none where nothing was due.
 fn request_saying(
     alloc: Global,
     identity: &Identity,
-    place: usize,
+    first: u32,
+    place: u64,
     reply: &Reply,
 ) -> Result<Option<Vec<u8>>, AllocError>
-    ensures { IfOk result (λ request. option_map (λ bytes. bytes.items) request
-        ≡ request_saying identity.now (identifier_at place) (reply_value reply.now)) }
+    ensures request { IfOk result (λ request. option_map (λ bytes. bytes.items) request
+        ≡ request_saying identity.now first place (reply_value reply.now)) }
+    ensures none { IfOk result (λ request. IfNone request (push_in (reply_value reply.now) ≡ None)) }
 {
     let Reply::Pushed(Some(push)) = reply else {
         return Ok(None);
     };
-    let bytes = request_bytes(alloc, identity, identifier_at(place), push)?;
+    let (hop_id, end_id) = (hop_id_at(place), end_id_at(first, place));
+    let bytes = request_bytes(alloc, identity, hop_id, end_id, push)?;
     Ok(Some(bytes))
 }
 
-/// The request of the call that a seat made last, as its receipt has it: a push goes out just as it counts as told.
-fn last_request<L: Ledger>(
+/// The request of the call that a seat made last, which was replied to so, as its receipt has it: a push goes out just as it counts
+/// as told.
+#[tactic(auto, using(crate::proofs::Asked::asked_by_last, crate::proofs::Asked::asked_by_none))]
+fn last_request<S: SharedSite>(
     alloc: Global,
-    identity: &Identity,
-    seat: &Seat<L>,
+    site: &S,
+    seat: &S::Seat,
+    first: u32,
+    reply: &Reply,
 ) -> Result<Option<Vec<u8>>, AllocError>
-    ensures { IfOk result (λ request. option_map (λ bytes. bytes.items) request
-        ≡ last_request identity.now seat.now.receipts) }
+    requires { WasReplied (S.seen seat.now).receipts (reply_value reply.now) }
+    ensures request { IfOk result (λ request. option_map (λ bytes. bytes.items) request
+        ≡ last_request (S.beside site.now).identity first (S.seen seat.now).receipts) }
+    ensures none { IfOk result (λ request. IfNone request (push_in (reply_value reply.now) ≡ None)) }
 {
-    let Some(receipt) = seat.receipts().last() else {
-        return Ok(None);
-    };
-    request_saying(alloc, identity, receipt.place(), receipt.reply())
-}
-
-/// Makes a push, if something is due. The seat's last receipt has what is pushed.
-fn push_once<R: Threads + Wait + Sync, L: Ledger>(
-    rt: &R,
-    site: &LockedSite<L>,
-    seat: &mut Seat<L>,
-    event: &Event,
-) -> Result<(), StepFault>
-    ensures { Adds (λ e. e ≡ event_value event.now) seat.old seat.new }
-{
-    match site.call(rt, seat, event) {
-        Ok(_) => Ok(()),
-        Err(fault) => Err(fault),
+    match site.last_of(seat) {
+        Some(place) => request_saying(alloc, site.identity(), first, place, reply),
+        None => Ok(None),
     }
 }
 
-/// Writes the request of the push that the seat made last, behind the answers that are gathered: the bytes are those of
-/// `last_request`. None where nothing was due, and false if it can't be written.
-fn send<L: Ledger, W: Write + Drop>(
+/// Makes a push, if something is due: what is replied tells what is pushed, as the seat's last receipt does.
+fn push_once<R: Threads + Wait + Sync, S: SharedSite>(
+    rt: &R,
+    site: &S,
+    seat: &mut S::Seat,
+    event: &Event,
+) -> Result<Reply, StepFault>
+    ensures adds { Adds (λ e. e ≡ event_value event.now) (S.seen seat.old) (S.seen seat.new) }
+    ensures last { IfOk result (λ reply. WasReplied (S.seen seat.new).receipts (reply_value reply)) }
+    ensures asked { IfOk result (λ reply. WasAsked (S.seen seat.new).receipts (event_value event.now)) }
+{
+    site.call(rt, seat, event)
+}
+
+/// Writes the request of the push that the seat made last, which was replied to so, behind the answers that are gathered: the bytes
+/// are those of `last_request`. None where nothing was due, and false if it can't be written.
+fn send<S: SharedSite, W: Write + Drop>(
     rt: &impl Wait,
     alloc: Global,
-    site: &LockedSite<L>,
-    seat: &Seat<L>,
+    site: &S,
+    seat: &S::Seat,
+    reply: &Reply,
     half: &Half<W>,
     outgoing: &mut Outgoing<'_, W>,
-) -> Result<Option<bool>, AllocError> {
-    let Some(bytes) = last_request(alloc, site.identity(), seat)? else {
+) -> Result<Option<bool>, AllocError>
+    requires { WasReplied (S.seen seat.now).receipts (reply_value reply.now) }
+    ensures { IfOk result (λ sent. IfNone sent (push_in (reply_value reply.now) ≡ None)) }
+{
+    let Some(bytes) = last_request(alloc, site, seat, half.first_end_id(), reply)? else {
         return Ok(None);
     };
     let _is_written = outgoing.flush(rt);
     Ok(Some(half.put(rt, bytes.as_slice())))
 }
 
-/// Pushes to one gateway until nothing is due to it, or it can't go on.
-fn push_each<R: Threads + Wait + Sync, L: Ledger, W: Write + Drop>(
+/// Pushes to one gateway until nothing is due to its host, or it can't go on. No push is asked for where the site wants none.
+fn push_each<R: Threads + Wait + Sync, S: SharedSite, W: Write + Drop>(
     rt: &R,
     alloc: Global,
-    site: &LockedSite<L>,
-    seat: &mut Seat<L>,
+    site: &S,
+    seat: &mut S::Seat,
+    host: &DiameterIdentity,
     event: &Event,
     half: &Half<W>,
     outgoing: &mut Outgoing<'_, W>,
 ) -> Result<Pushed, AllocError>
-    ensures { Adds (λ e. e ≡ event_value event.now) seat.old seat.new }
+    requires { IsPushTo host.now (event_value event.now) }
+    ensures adds { Adds (IsPushTo host.now) (S.seen seat.old) (S.seen seat.new) }
+    ensures settled { IfOk result (λ pushed. pushed ≡ Pushed.All
+        → NothingWasDue S.found host.now (S.seen seat.new)) }
 {
     for _ in rt.forever() {
-        match push_once(rt, site, seat, event) {
-            Ok(()) => {}
+        if !site.wants_push(rt, seat, host) {
+            return Ok(Pushed::All);
+        }
+        let reply = match push_once(rt, site, seat, event) {
+            Ok(reply) => reply,
             Err(StepFault::HistoryFull) => return Ok(Pushed::HistoryFull),
             Err(StepFault::ClockFull) => return Ok(Pushed::ClockFull),
             Err(StepFault::NoMemory) => return Err(AllocError),
-        }
-        match send(rt, alloc, site, seat, half, outgoing)? {
+        };
+        let sent = send(rt, alloc, site, seat, &reply, half, outgoing);
+        drop(reply);
+        match sent? {
             Some(true) => {}
             Some(false) => return Ok(Pushed::Unreached),
             None => return Ok(Pushed::All),
@@ -167,40 +196,44 @@ fn push_to(host: &DiameterIdentity) -> Result<Event, AllocError>
 }
 
 /// Pushes to a gateway: to its host, by its half.
-fn push_gateway<R: Threads + Wait + Sync, L: Ledger, W: Write + Drop>(
+fn push_gateway<R: Threads + Wait + Sync, S: SharedSite, W: Write + Drop>(
     rt: &R,
     alloc: Global,
-    site: &LockedSite<L>,
-    seat: &mut Seat<L>,
+    site: &S,
+    seat: &mut S::Seat,
     gateway: &Reached<W>,
     outgoing: &mut Outgoing<'_, W>,
 ) -> Result<Pushed, AllocError>
-    ensures { Adds (IsPushTo gateway.now.host) seat.old seat.new }
+    ensures adds { Adds (IsPushTo gateway.now.host) (S.seen seat.old) (S.seen seat.new) }
+    ensures settled { IfOk result (λ pushed. pushed ≡ Pushed.All
+        → NothingWasDue S.found gateway.now.host (S.seen seat.new)) }
 {
-    let event = push_to(&gateway.host)?;
-    let pushed = push_each(rt, alloc, site, seat, &event, &gateway.half, outgoing);
+    let host = &gateway.host;
+    let event = push_to(host)?;
+    let pushed = push_each(rt, alloc, site, seat, host, &event, &gateway.half, outgoing);
     drop(event);
     pushed
 }
 
 /// Tells an observer how many entries the history had when the seat made its last call.
-pub fn tell_entries<L: Ledger, O: Observer>(observer: &O, seat: &Seat<L>) {
-    if let Some(receipt) = seat.receipts().last() {
-        observer.entered(receipt.place().saturating_add(1));
+pub fn tell_entries<S: SharedSite, O: Observer>(observer: &O, site: &S, seat: &S::Seat) {
+    if let Some(place) = site.last_of(seat) {
+        observer.entered(place.saturating_add(1) as usize);
     }
 }
 
 /// Tells the observer how the pushing to a host ended, which is reached no more if nothing can be written to it. True if there
 /// may be pushes to others.
-fn conclude<R: Threads + Wait + Sync, L: Ledger, W: Write + Drop, O: Observer>(
+fn conclude<R: Threads + Wait + Sync, S: SharedSite, W: Write + Drop, O: Observer>(
     rt: &R,
-    seat: &Seat<L>,
+    site: &S,
+    seat: &S::Seat,
     gateways: &Gateways<W, O>,
     host: &DiameterIdentity,
     pushed: Pushed,
 ) -> bool {
     let observer = gateways.observer();
-    tell_entries(observer, seat);
+    tell_entries(observer, site, seat);
     match pushed {
         Pushed::All => true,
         Pushed::Unreached => {
@@ -219,15 +252,15 @@ fn conclude<R: Threads + Wait + Sync, L: Ledger, W: Write + Drop, O: Observer>(
 /// Pushes to every gateway that can be reached, one host after another, until nothing is due to any. A full history or clock
 /// ends it; a gateway to which nothing can be written is reached no more. What was gathered is written before the first
 /// re-authorisation request, so that an answer comes before what it led to.
-pub fn push_all<R: Threads + Wait + Sync, L: Ledger, W: Write + Drop, O: Observer>(
+pub fn push_all<R: Threads + Wait + Sync, S: SharedSite, W: Write + Drop, O: Observer>(
     rt: &R,
     alloc: Global,
-    site: &LockedSite<L>,
-    seat: &mut Seat<L>,
+    site: &S,
+    seat: &mut S::Seat,
     gateways: &Gateways<W, O>,
     outgoing: &mut Outgoing<'_, W>,
 ) -> Result<(), AllocError>
-    ensures { Adds IsPushToHost seat.old seat.new }
+    ensures { Adds IsPushToHost (S.seen seat.old) (S.seen seat.new) }
 {
     let mut last: Option<DiameterIdentity> = None;
     for _ in rt.forever() {
@@ -235,7 +268,7 @@ pub fn push_all<R: Threads + Wait + Sync, L: Ledger, W: Write + Drop, O: Observe
             return Ok(());
         };
         let pushed = push_gateway(rt, alloc, site, seat, &gateway, outgoing)?;
-        if !conclude(rt, seat, gateways, &gateway.host, pushed) {
+        if !conclude(rt, site, seat, gateways, &gateway.host, pushed) {
             return Ok(());
         }
         last = Some(gateway.host);
@@ -244,12 +277,12 @@ pub fn push_all<R: Threads + Wait + Sync, L: Ledger, W: Write + Drop, O: Observe
 }
 
 impl<W: Write + Drop, O: Observer> Pushes for Gateways<W, O> {
-    fn push_all<R: Threads + Wait + Sync, L: Ledger>(
+    fn push_all<R: Threads + Wait + Sync, S: SharedSite>(
         &self,
         rt: &R,
         alloc: Global,
-        site: &LockedSite<L>,
-        seat: &mut Seat<L>,
+        site: &S,
+        seat: &mut S::Seat,
     ) -> Result<(), AllocError> {
         push_all(rt, alloc, site, seat, self, &mut Outgoing::nothing(alloc))
     }

@@ -1,5 +1,5 @@
 //! A state with its index.
-ghost use Rattle.std.specs.Prelude.{◌≡◌, ℕ, List, [], ◌<◌, ◌≤◌, Some, true, IfOk, IfSome, IsSome, OnOk, OnErr, map, option_map};
+ghost use Rattle.std.specs.Prelude.{◌≡◌, ℕ, ◌==◌, List, [], ◌<◌, ◌≤◌, Some, None, true, false, not, ◌||◌, IfOk, IfSome, IsSome, OnOk, OnErr, map, option_map};
 ghost use Rattle.std.specs.Option.{option_copied};
 ghost use Rattle.bind_index.specs.Asking.{with_record};
 ghost use Rattle.bind_index.specs.Listings.{sessions_of};
@@ -20,7 +20,7 @@ ghost use Rattle.ranked.specs.Sets.{Distinct};
 ghost use Rattle.rule_delta.specs.Pushed.{push_of, untold_difference};
 ghost use Rattle.session_index.specs.Index.{Covers};
 ghost use Rattle.site_join.specs.States.{record_facts};
-ghost use Rattle.waiting_sessions.specs.Waits.{DueWait};
+ghost use Rattle.waiting_sessions.specs.Waits.{DueWait, is_waiting};
 
 use crate::addresses::{address_of, forget_moved, touch_both, wait_both, wait_unlisted};
 use crate::following::follow;
@@ -289,6 +289,16 @@ impl IndexedState {
         next_push(self.alloc, &self.tables, &self.state, site, host)
     }
 
+    /// Whether a push may be due at a site for a host: a session waits under it, or all wait. Where none does nothing is due. It
+    /// is a look-up alone, and derives no rules.
+    #[tactic(auto, using(waiting_sessions::proofs::FirstDue::nobody_due))]
+    pub fn is_waiting(&self, site: u8, host: &DiameterIdentity) -> bool
+        ensures { result ≡ false → due_session self.now.tables site
+            (view self.now.holding.facts) (Some host.now) ≡ None }
+    {
+        waits_at(self.site, &self.waiting, site, host)
+    }
+
     /// The push that is due at a site for this host.
     fn push_waiting(
         &mut self,
@@ -338,6 +348,13 @@ fn wait_for(alloc: Global, waiting: &mut Waiting, of: &mut u8, site: u8)
     }
     *of = site;
     *waiting = Waiting::start(alloc);
+}
+
+/// Whether one waits at a site for a host, where those that wait may be due at this one: all do where it is another.
+fn waits_at(of: u8, waiting: &Waiting, site: u8, host: &DiameterIdentity) -> bool
+    ensures { result ≡ (not (of == site) || is_waiting waiting.now host.now) }
+{
+    of != site || waiting.is_waiting(host)
 }
 
 /// The host that is given, as a name under which sessions wait: none where none is given, or no name has these bytes.

@@ -9,6 +9,7 @@ mod pushes;
 pub use end::LinkEnd;
 pub use gate::Gate;
 pub use pushes::Pushes;
+pub use shared_site::SharedSite;
 pub use site_lock::{
     Event, HISTORY_LIMIT, LockedSite, Reply, Request, SEAT_LIMIT, Seat, Site, StepFault,
 };

@@ -3,10 +3,9 @@ ghost use Rattle.std.specs.Thread.{IsSync};
 ghost use Rattle.link_ends.specs.Earlier.{Adds};
 ghost use Rattle.link_ends.specs.Events.{IsPushToHost};
 
-use site_lock::{LockedSite, Seat};
+use shared_site::SharedSite;
 use std::alloc::{AllocError, Global};
 use std::sync::Wait;
-use std::sync::ledger::Ledger;
 use std::thread::Threads;
 
 /// Whoever knows how gateways are reached.
@@ -14,13 +13,13 @@ pub trait Pushes {
     /// Has the site make every push that is due to a gateway that can be reached, each as a call of the seat, and sends them.
     /// A history or a clock that is full ends the pushing, and a gateway to which nothing can be written is passed over; want
     /// of memory alone is an error. Each push is to a host that is named, so that no gateway gets what is another's.
-    fn push_all<R: Threads + Wait + Sync, L: Ledger>(
+    fn push_all<R: Threads + Wait + Sync, S: SharedSite>(
         &self,
         rt: &R,
         alloc: Global,
-        site: &LockedSite<L>,
-        seat: &mut Seat<L>,
+        site: &S,
+        seat: &mut S::Seat,
     ) -> Result<(), AllocError>
         requires { IsSync R.row }
-        ensures { Adds IsPushToHost seat.old seat.new };
+        ensures { Adds IsPushToHost (S.seen seat.old) (S.seen seat.new) };
 }

@@ -1,6 +1,6 @@
 //! Events: requests of the gateway `gw` on its sessions, calls that another site made, and pushes, by the numbers of sessions.
 use gx_profile::{Ccr, RequestKind};
-use pcrf_values::{AfSid, GxSid};
+use pcrf_values::{AfSid, DiameterIdentity, GxSid};
 use ranked::Tag;
 use samples::{SampleFault, call, ccr, initial, last_end, text};
 use site_join::Operation;
@@ -102,7 +102,12 @@ pub fn take_last(rt: &impl Abort, alloc: Global) -> Event {
     taken(rt, alloc, last_end(alloc, b'9').expect(rt, "an end"))
 }
 
+/// A host of that name.
+pub fn host(rt: &impl Abort, alloc: Global, name: &[u8]) -> DiameterIdentity {
+    text(alloc, name).expect(rt, "a host")
+}
+
 /// The gateway is to be told what it was not told.
 pub fn push(rt: &impl Abort, alloc: Global) -> Event {
-    Event::Push(Some(text(alloc, b"gw").expect(rt, "a host")))
+    Event::Push(Some(host(rt, alloc, b"gw")))
 }

@@ -22,6 +22,8 @@ mod renewing;
 mod sites;
 #[cfg(test)]
 mod threads;
+#[cfg(test)]
+mod waiting;
 
 /// Does nothing: what this crate has are tests.
 fn main() {}

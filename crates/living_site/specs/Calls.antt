@@ -12,3 +12,7 @@ GainsBeginning before after = (place : ℕ) × (after.beginnings ≡ before.begi
 -- the history leads a site from its opening to something, and the seat has just a receipt for each of its entries in it
 abbrev pub IsAccount : ℕ → SiteState → List Deed → SeatValue → Type 0
 IsAccount seats opening history seat = ((site : SiteValue) × LeadsTo opening history site) × IsAccountOf seats history seat
+
+-- a history leads from the opening to the site, and the seat has just a receipt for each of its entries in it: the seat may find the site so
+abbrev pub IsFound : ℕ → SiteState → SeatValue → SiteValue → Type 0
+IsFound seats opening seat site = (history : List Deed) × LeadsTo opening history site × IsAccountOf seats history seat

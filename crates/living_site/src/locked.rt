@@ -1,12 +1,12 @@
 //! A site under one lock, whose history stands in the proofs alone.
-ghost use Rattle.std.specs.Prelude.{◌≡◌, ◌≢◌, [], length, All, IfOk, IfErr, OnOk, OnErr};
+ghost use Rattle.std.specs.Prelude.{◌≡◌, ◌≢◌, false, [], length, All, IfOk, IfErr, OnOk, OnErr};
 ghost use Rattle.site_machine.specs.Values.{event_value, reply_value};
 ghost use Rattle.site_book.specs.Books.{new_seats};
 ghost use Rattle.site_book.specs.Gains.{HoldsAll};
 ghost use Rattle.site_book.specs.Settling.{EachOnce, Settles};
-ghost use Rattle.site_lock.specs.Calls.{GainsReceipt, TellsPast};
+ghost use Rattle.site_lock.specs.Calls.{FindsNothingDue, GainsReceipt, TellsPast};
 ghost use Rattle.site_lock.specs.Locked.{beside};
-ghost use Rattle.living_site.specs.Calls.{GainsBeginning, IsAccount};
+ghost use Rattle.living_site.specs.Calls.{GainsBeginning, IsAccount, IsFound};
 ghost use Rattle.living_site.specs.Deeds.{IsAccountOf, LeadsTo, OfSeats, as_book, beginnings, calls};
 ghost use Rattle.living_site.specs.Sound.{AreNames};
 
@@ -17,6 +17,7 @@ use crate::notes::Deeds;
 use crate::roll::{Roll, Roster};
 use crate::seat::Seat;
 use dia_base::Identity;
+use pcrf_values::DiameterIdentity;
 use site_machine::{Event, Reply, Site, StepFault};
 use std::alloc::{AllocError, Global};
 use std::marker::Model;
@@ -111,6 +112,19 @@ impl<L: Roll> LivingSite<L> {
         ensures { result ≡ self.now.number }
     {
         self.number
+    }
+
+    /// Whether something may be due to the gateways of a host, once the lock is free. Where it answers false nothing was due to
+    /// them at the site that a history had led to in which the seat has just a receipt for each of its entries: so after all
+    /// that the seat did. It makes no entry, and wakes nobody.
+    pub fn is_waiting<R: Wait>(&self, rt: &R, seat: &mut Seat<L>, host: &DiameterIdentity) -> bool
+        ensures none { result ≡ false
+            → FindsNothingDue (IsFound L.seats L.opening) seat.old host.now }
+        ensures same { seat.new ≡ seat.old }
+    {
+        let mut chronicle = self.chronicle.lock(rt);
+        chronicle.audit(seat);
+        chronicle.site().is_waiting(host)
     }
 
     /// Makes an event happen, as a call of a seat, once the lock is free. The seat gains the receipt of this event with the

@@ -2,7 +2,7 @@
 use crate::given::Given;
 use crate::trial::{begin, end, judge};
 use gateway_links::Half;
-use pcrf_serve::{Gate, Gateways, LinkEnd, Server, serve_connection};
+use pcrf_serve::{Gate, Gateways, LinkEnd, Server, Unrepeated, serve_connection};
 use site_book::{Receipt, Seat};
 use site_core::{Reply, Site};
 use site_lock::LockedSite;
@@ -93,6 +93,7 @@ fn serve<'a, R: Threads + Wait + Sync + Print, L: Ledger>(
         site,
         gateways: &gateways,
         gate: &gate,
+        repeats: &Unrepeated,
     };
     begin(rt, "serve_connection", "a connection");
     let (seat, how) = serve_connection(rt, &server, seat, messages, half);

@@ -15,18 +15,19 @@ zip_length P (x ∷ xs) [] z = absurd z
 zip_length P (x ∷ xs) (y ∷ ys) z = ap suc (zip_length P xs ys z.1)
 
 -- what began with the seats of the connections and was joined gives them back, with what was served behind
-pub joined : {L : _} {R W E : Type 0} (connections : List (SeatValue × R × W)) (begun : List (Begun L)) (ended : List (SeatValue × E))
-    → AllBegun connections begun → AllJoin begun ended → AllServe connections ended
-joined [] [] [] a b = tt
-joined [] [] (e ∷ ended) a b = absurd b
-joined [] (x ∷ begun) ended a b = absurd a
-joined (c ∷ connections) [] ended a b = absurd a
-joined (c ∷ connections) (x ∷ begun) [] a b = absurd b
-joined (c ∷ connections) (x ∷ begun) (e ∷ ended) a b = (b.0 c.0 a.0, joined connections begun ended a.1 b.1)
+pub joined : {S : _} {A R W E : Type 0} (seen : A → SeatValue) (connections : List (A × R × W)) (begun : List (Begun S A)) (ended : List (A × E))
+    → AllBegun seen connections begun → AllJoin seen begun ended → AllServe seen connections ended
+joined seen [] [] [] a b = tt
+joined seen [] [] (e ∷ ended) a b = absurd b
+joined seen [] (x ∷ begun) ended a b = absurd a
+joined seen (c ∷ connections) [] ended a b = absurd a
+joined seen (c ∷ connections) (x ∷ begun) [] a b = absurd b
+joined seen (c ∷ connections) (x ∷ begun) (e ∷ ended) a b = (b.0 (seen c.0) a.0, joined seen connections begun ended a.1 b.1)
 
 -- so each keeps its earlier receipts
-pub given_back : {R W E : Type 0} (connections : List (SeatValue × R × W)) (ended : List (SeatValue × E)) → AllServe connections ended → AllGiveBack connections ended
-given_back [] [] a = tt
-given_back [] (e ∷ ended) a = absurd a
-given_back (c ∷ connections) [] a = absurd a
-given_back (c ∷ connections) (e ∷ ended) a = (gains_earlier (λ r. IsOfConnection r.event) c.0 e.0 a.0, given_back connections ended a.1)
+pub given_back : {A R W E : Type 0} (seen : A → SeatValue) (connections : List (A × R × W)) (ended : List (A × E))
+    → AllServe seen connections ended → AllGiveBack seen connections ended
+given_back seen [] [] a = tt
+given_back seen [] (e ∷ ended) a = absurd a
+given_back seen (c ∷ connections) [] a = absurd a
+given_back seen (c ∷ connections) (e ∷ ended) a = (gains_earlier (λ r. IsOfConnection r.event) (seen c.0) (seen e.0) a.0, given_back seen connections ended a.1)

@@ -7,14 +7,14 @@ ghost use Rattle.pcrf_serve.specs.Serving.{IsOfConnection};
 
 use crate::link::{Link, Server};
 use crate::push_answers::tell_push_answer;
+use crate::repeats::Repeats;
 use crate::seat_at_site::SeatAtSite;
 use dia_codec::{Assembler, FrameFault};
 use gateway_links::{Half, Observer, push_all};
-use link_ends::{Gate, LinkEnd, Seat};
+use link_ends::{Gate, LinkEnd, SharedSite};
 use site_core::{Answer, answer_frame};
 use std::alloc::{AllocError, Global};
 use std::io::{Read, Write};
-use std::sync::ledger::Ledger;
 use std::sync::{Arc, Wait};
 use std::thread::Threads;
 
@@ -22,26 +22,26 @@ use std::thread::Threads;
 const PIECE_BYTES: usize = 1 << 16;
 
 /// Has a frame answered.
-fn answer<T: Threads + Wait + Sync, L: Ledger, O: Observer>(
+fn answer<T: Threads + Wait + Sync, S: SharedSite, O: Observer>(
     alloc: Global,
-    at: &mut SeatAtSite<'_, T, L, O>,
+    at: &mut SeatAtSite<'_, T, S, O>,
     frame: &[u8],
 ) -> Result<Answer, AllocError>
     requires { IsFrame frame.now }
-    ensures { Adds IsOfConnection at.old.seat at.new.seat }
+    ensures { Adds IsOfConnection (S.seen at.old.seat) (S.seen at.new.seat) }
 {
     let answer = answer_frame(alloc, at, frame)?;
     Ok(answer)
 }
 
 /// Pushes to every gateway that can be reached what the last message may have led to.
-fn push<T: Threads + Wait + Sync, L: Ledger, W: Write + Drop, O: Observer, G: Gate>(
+fn push<T: Threads + Wait + Sync, S: SharedSite, W: Write + Drop, O: Observer, G: Gate, K: Repeats>(
     rt: &T,
     alloc: Global,
-    at: &mut SeatAtSite<'_, T, L, O>,
-    link: &mut Link<'_, W, O, G>,
+    at: &mut SeatAtSite<'_, T, S, O>,
+    link: &mut Link<'_, W, O, G, K>,
 ) -> Result<(), AllocError>
-    ensures { Adds IsPushToHost at.old.seat at.new.seat }
+    ensures { Adds IsPushToHost (S.seen at.old.seat) (S.seen at.new.seat) }
 {
     push_all(
         rt,
@@ -54,10 +54,17 @@ fn push<T: Threads + Wait + Sync, L: Ledger, W: Write + Drop, O: Observer, G: Ga
 }
 
 /// Gathers an answer. The host of a capabilities exchange that it accepts is registered first.
-fn gather<T: Threads + Wait + Sync, L: Ledger, W: Write + Drop, O: Observer, G: Gate>(
+fn gather<
+    T: Threads + Wait + Sync,
+    S: SharedSite,
+    W: Write + Drop,
+    O: Observer,
+    G: Gate,
+    K: Repeats,
+>(
     rt: &T,
-    at: &mut SeatAtSite<'_, T, L, O>,
-    link: &mut Link<'_, W, O, G>,
+    at: &mut SeatAtSite<'_, T, S, O>,
+    link: &mut Link<'_, W, O, G, K>,
     answer: &Answer,
 ) -> Result<(), AllocError>
     ensures { at.new.seat ≡ at.old.seat }
@@ -68,22 +75,29 @@ fn gather<T: Threads + Wait + Sync, L: Ledger, W: Write + Drop, O: Observer, G: 
     link.gather(answer.bytes.as_slice())
 }
 
-/// Has one frame answered, its answer gathered, and pushes made if it was served. True if the connection ends with it.
-fn serve_frame<T: Threads + Wait + Sync, L: Ledger, W: Write + Drop, O: Observer, G: Gate>(
+/// Has one frame answered, its answer gathered, and if it was served kept, and pushes made. True if the connection ends with it.
+fn serve_anew<
+    T: Threads + Wait + Sync,
+    S: SharedSite,
+    W: Write + Drop,
+    O: Observer,
+    G: Gate,
+    K: Repeats,
+>(
     rt: &T,
     alloc: Global,
-    at: &mut SeatAtSite<'_, T, L, O>,
-    link: &mut Link<'_, W, O, G>,
+    at: &mut SeatAtSite<'_, T, S, O>,
+    link: &mut Link<'_, W, O, G, K>,
     frame: &[u8],
 ) -> Result<bool, LinkEnd>
     requires { IsFrame frame.now }
-    ensures { Adds IsOfConnection at.old.seat at.new.seat }
+    ensures { Adds IsOfConnection (S.seen at.old.seat) (S.seen at.new.seat) }
 {
-    link.enter()?;
     let calls = at.calls();
     let answer = answer(alloc, at, frame)?;
     gather(rt, at, link, &answer)?;
     if at.calls() > calls {
+        link.keep(rt, frame, answer.bytes.as_slice());
         push(rt, alloc, at, link)?;
     } else {
         tell_push_answer(alloc, link.gateways.observer(), frame);
@@ -91,15 +105,47 @@ fn serve_frame<T: Threads + Wait + Sync, L: Ledger, W: Write + Drop, O: Observer
     Ok(answer.last)
 }
 
-/// Serves each whole frame that was fed. An error is how the connection ends among them.
-fn drain<T: Threads + Wait + Sync, L: Ledger, W: Write + Drop, O: Observer, G: Gate>(
+/// Has one frame answered: by the answer that is kept for it, if it repeats a request, or else anew. True if the connection ends with it.
+fn serve_frame<
+    T: Threads + Wait + Sync,
+    S: SharedSite,
+    W: Write + Drop,
+    O: Observer,
+    G: Gate,
+    K: Repeats,
+>(
     rt: &T,
     alloc: Global,
-    at: &mut SeatAtSite<'_, T, L, O>,
-    link: &mut Link<'_, W, O, G>,
+    at: &mut SeatAtSite<'_, T, S, O>,
+    link: &mut Link<'_, W, O, G, K>,
+    frame: &[u8],
+) -> Result<bool, LinkEnd>
+    requires { IsFrame frame.now }
+    ensures { Adds IsOfConnection (S.seen at.old.seat) (S.seen at.new.seat) }
+{
+    link.enter()?;
+    if link.repeat(rt, frame)? {
+        return Ok(false);
+    }
+    serve_anew(rt, alloc, at, link, frame)
+}
+
+/// Serves each whole frame that was fed. An error is how the connection ends among them.
+fn drain<
+    T: Threads + Wait + Sync,
+    S: SharedSite,
+    W: Write + Drop,
+    O: Observer,
+    G: Gate,
+    K: Repeats,
+>(
+    rt: &T,
+    alloc: Global,
+    at: &mut SeatAtSite<'_, T, S, O>,
+    link: &mut Link<'_, W, O, G, K>,
     assembler: &mut Assembler,
 ) -> Result<(), LinkEnd>
-    ensures { Adds IsOfConnection at.old.seat at.new.seat }
+    ensures { Adds IsOfConnection (S.seen at.old.seat) (S.seen at.new.seat) }
 {
     for _ in rt.forever() {
         match assembler.next() {
@@ -119,19 +165,20 @@ fn drain<T: Threads + Wait + Sync, L: Ledger, W: Write + Drop, O: Observer, G: G
 /// Reads and serves what is whole, and writes the answers to what came by one read together, until the connection ends.
 fn serve_stream<
     T: Threads + Wait + Sync,
-    L: Ledger,
+    S: SharedSite,
     R: Read,
     W: Write + Drop,
     O: Observer,
     G: Gate,
+    K: Repeats,
 >(
     rt: &T,
     alloc: Global,
-    at: &mut SeatAtSite<'_, T, L, O>,
-    link: &mut Link<'_, W, O, G>,
+    at: &mut SeatAtSite<'_, T, S, O>,
+    link: &mut Link<'_, W, O, G, K>,
     reader: &mut R,
 ) -> Result<LinkEnd, LinkEnd>
-    ensures { Adds IsOfConnection at.old.seat at.new.seat }
+    ensures { Adds IsOfConnection (S.seen at.old.seat) (S.seen at.new.seat) }
 {
     let mut assembler = Assembler::start(alloc);
     let mut piece: Vec<u8> = vec![in alloc; 0; PIECE_BYTES]?;
@@ -156,14 +203,22 @@ fn serve_stream<
 }
 
 /// Serves a connection to its end. What was gathered is written whatever the end is, and comes before it.
-fn converse<T: Threads + Wait + Sync, L: Ledger, R: Read, W: Write + Drop, O: Observer, G: Gate>(
+fn converse<
+    T: Threads + Wait + Sync,
+    S: SharedSite,
+    R: Read,
+    W: Write + Drop,
+    O: Observer,
+    G: Gate,
+    K: Repeats,
+>(
     rt: &T,
     alloc: Global,
-    at: &mut SeatAtSite<'_, T, L, O>,
-    link: &mut Link<'_, W, O, G>,
+    at: &mut SeatAtSite<'_, T, S, O>,
+    link: &mut Link<'_, W, O, G, K>,
     reader: &mut R,
 ) -> LinkEnd
-    ensures { Adds IsOfConnection at.old.seat at.new.seat }
+    ensures { Adds IsOfConnection (S.seen at.old.seat) (S.seen at.new.seat) }
 {
     let end = match serve_stream(rt, alloc, at, link, reader) {
         Ok(end) | Err(end) => end,
@@ -181,22 +236,23 @@ fn converse<T: Threads + Wait + Sync, L: Ledger, R: Read, W: Write + Drop, O: Ob
 pub fn serve_connection<
     'a,
     T: Threads + Wait + Sync,
-    L: Ledger,
+    S: SharedSite,
     R: Read + Drop,
     W: Write + Drop,
     O: Observer,
     G: Gate,
+    K: Repeats,
 >(
     rt: &'a T,
-    server: &'a Server<'a, L, W, O, G>,
-    seat: Seat<L>,
+    server: &'a Server<'a, S, W, O, G, K>,
+    seat: S::Seat,
     mut reader: R,
     half: Arc<Half<W>>,
-) -> (Seat<L>, LinkEnd)
-    ensures earlier { HasEarlier seat result.0 }
-    ensures served { Adds IsOfConnection seat result.0 }
+) -> (S::Seat, LinkEnd)
+    ensures earlier { HasEarlier (S.seen seat) (S.seen result.0) }
+    ensures served { Adds IsOfConnection (S.seen seat) (S.seen result.0) }
 {
-    let number = seat.number();
+    let number = server.site.number_of(&seat);
     let observer = server.gateways.observer();
     if !half.is_open(rt) {
         observer.ended(number, LinkEnd::NoMemory);

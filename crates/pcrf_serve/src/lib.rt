@@ -7,6 +7,7 @@
 mod conversing;
 mod link;
 mod push_answers;
+mod repeats;
 mod seat_at_site;
 mod workers;
 
@@ -14,5 +15,6 @@ pub use conversing::serve_connection;
 pub use gateway_links::{Gateways, Observer};
 pub use link::Server;
 pub use link_ends::{Gate, HISTORY_LIMIT, LinkEnd, LockedSite, Pushes, SEAT_LIMIT, Seat, Site};
+pub use repeats::{Repeats, Unrepeated};
 pub use seat_at_site::SeatAtSite;
 pub use workers::{KeepsEarlier, serve_sessions};

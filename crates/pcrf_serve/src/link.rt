@@ -1,32 +1,37 @@
 //! A connection beside its seat.
+use crate::repeats::{Repeats, Unrepeated};
+use dia_codec::read_header;
 use gateway_links::{Gateways, Half, Observer, Outgoing};
-use link_ends::{Gate, LinkEnd, LockedSite};
+use link_ends::{Gate, LinkEnd};
 use pcrf_values::DiameterIdentity;
 use std::alloc::{AllocError, Global};
 use std::io::Write;
-use std::sync::ledger::Ledger;
 use std::sync::{Arc, Wait};
 
-/// What all connections of a server share: the site, the gateways that can be reached, and what lets messages through.
+/// What all connections of a server share: the site, the gateways that can be reached, what lets messages through, and who keeps answers.
 #[derive(Drop)]
-pub struct Server<'a, L: Ledger, W, O, G> {
+pub struct Server<'a, S, W, O, G, K = Unrepeated> {
     /// Where memory comes from.
     pub alloc: Global,
     /// The site at which requests are served.
-    pub site: &'a LockedSite<L>,
+    pub site: &'a S,
     /// The gateways that pushes go to.
     pub gateways: &'a Gateways<W, O>,
     /// What lets messages through.
     pub gate: &'a G,
+    /// Who keeps answers for requests that are repeated.
+    pub repeats: &'a K,
 }
 
 /// A connection, with the answers that are gathered for it.
 #[derive(Drop)]
-pub(crate) struct Link<'a, W, O, G> {
+pub(crate) struct Link<'a, W, O, G, K> {
+    alloc: Global,
     /// The number of its seat.
     number: usize,
     pub(crate) gateways: &'a Gateways<W, O>,
     gate: &'a G,
+    repeats: &'a K,
     half: &'a Arc<Half<W>>,
     pub(crate) outgoing: Outgoing<'a, W>,
     /// How many messages were let in.
@@ -37,17 +42,19 @@ pub(crate) struct Link<'a, W, O, G> {
     left: u64,
 }
 
-impl<'a, W: Write + Drop, O: Observer, G: Gate> Link<'a, W, O, G> {
+impl<'a, W: Write + Drop, O: Observer, G: Gate, K: Repeats> Link<'a, W, O, G, K> {
     /// A connection that goes by a number.
-    pub(crate) fn start<L: Ledger>(
-        server: &Server<'a, L, W, O, G>,
+    pub(crate) fn start<S>(
+        server: &Server<'a, S, W, O, G, K>,
         number: usize,
         half: &'a Arc<Half<W>>,
-    ) -> Link<'a, W, O, G> {
+    ) -> Link<'a, W, O, G, K> {
         Link {
+            alloc: server.alloc,
             number,
             gateways: server.gateways,
             gate: server.gate,
+            repeats: server.repeats,
             half,
             outgoing: Outgoing::by(server.alloc, half),
             entered: 0,
@@ -72,6 +79,28 @@ impl<'a, W: Write + Drop, O: Observer, G: Gate> Link<'a, W, O, G> {
         Ok(())
     }
 
+    /// Gathers the answer that is kept for a request, if it repeats one; whether it did.
+    pub(crate) fn repeat(&mut self, rt: &impl Wait, frame: &[u8]) -> Result<bool, AllocError> {
+        let Some(head) = frame.first_chunk() else {
+            return Ok(false);
+        };
+        let header = read_header(head);
+        if !header.flags.request || !header.flags.retransmitted {
+            return Ok(false);
+        }
+        let kept = self.repeats.answer_again(rt, self.alloc, &header, frame)?;
+        let Some(answer) = kept else {
+            return Ok(false);
+        };
+        self.gather(answer.as_slice())?;
+        Ok(true)
+    }
+
+    /// A request was served, and is answered so.
+    pub(crate) fn keep(&self, rt: &impl Wait, frame: &[u8], answer: &[u8]) {
+        self.repeats.keep(rt, self.alloc, frame, answer);
+    }
+
     /// Writes the answers that are gathered, and lets their messages leave.
     pub(crate) fn flush(&mut self, rt: &impl Wait) -> Result<(), LinkEnd> {
         if !self.outgoing.flush(rt) {
@@ -92,7 +121,7 @@ impl<'a, W: Write + Drop, O: Observer, G: Gate> Link<'a, W, O, G> {
         rt: &impl Wait,
         host: DiameterIdentity,
     ) -> Result<(), AllocError> {
-        self.gateways.register(rt, host, self.half)
+        self.gateways.register(rt, host, self.number, self.half)
     }
 
     /// The connection is over: its gateway is reached by it no more, and it is closed.

@@ -16,24 +16,25 @@ fn is_success(code: u32) -> bool {
     SUCCESSES.0 <= code && code < SUCCESSES.1
 }
 
-/// The re-authorisation answer that a frame is, if it can be read.
-fn read_push_answer(alloc: Global, frame: &[u8]) -> Option<Raa> {
+/// The re-authorisation answer that a frame is, if it can be read, with its Hop-by-Hop Identifier.
+fn read_push_answer(alloc: Global, frame: &[u8]) -> Option<(u32, Raa)> {
     let header = read_header(frame.first_chunk()?);
     if header.flags.request || header.command != RE_AUTH || header.application != GX {
         return None;
     }
     let message = read_message(alloc, frame).ok()?;
-    read_raa(alloc, &message).ok()
+    let answer = read_raa(alloc, &message).ok()?;
+    Some((header.hop_id, answer))
 }
 
 /// Tells an observer of a re-authorisation answer that is none of success. An answer that can't be read is passed over, also for
 /// want of memory.
 pub(crate) fn tell_push_answer<O: Observer>(alloc: Global, observer: &O, frame: &[u8]) {
-    let Some(answer) = read_push_answer(alloc, frame) else {
+    let Some((hop_id, answer)) = read_push_answer(alloc, frame) else {
         return;
     };
     let code = answer.result.or(answer.experimental);
     if !code.is_some_and(is_success) {
-        observer.push_refused(&answer.session, code);
+        observer.push_refused(hop_id, &answer.session, code);
     }
 }

@@ -9,20 +9,19 @@ use base_profile::BaseKind;
 use dia_base::codes::results::SUCCESS;
 use dia_base::{Identity, Origin};
 use gateway_links::{Observer, tell_entries};
-use link_ends::{Event, LockedSite, Reply, Request, Seat, StepFault};
+use link_ends::{Event, Reply, Request, SharedSite, StepFault};
 use site_core::{Serve, ServeFault};
 use std::alloc::AllocError;
 use std::sync::Wait;
-use std::sync::ledger::Ledger;
 
 /// A seat with the locked site at which it calls. Each request that it serves is a call of the seat, and an observer is told
 /// what comes of it.
 #[derive(Drop)]
-pub struct SeatAtSite<'a, R, L: Ledger, O> {
+pub struct SeatAtSite<'a, R, S: SharedSite, O> {
     rt: &'a R,
     observer: &'a O,
-    pub(crate) site: &'a LockedSite<L>,
-    pub(crate) seat: Seat<L>,
+    pub(crate) site: &'a S,
+    pub(crate) seat: S::Seat,
     /// The peer of the capabilities exchange that was accepted, until it is asked for.
     accepted: Option<Origin>,
 }
@@ -76,14 +75,9 @@ fn fault_of(fault: StepFault) -> ServeFault {
     }
 }
 
-impl<'a, R: Wait, L: Ledger, O: Observer> SeatAtSite<'a, R, L, O> {
+impl<'a, R: Wait, S: SharedSite, O: Observer> SeatAtSite<'a, R, S, O> {
     /// A seat that calls at that site.
-    pub fn of(
-        rt: &'a R,
-        site: &'a LockedSite<L>,
-        observer: &'a O,
-        seat: Seat<L>,
-    ) -> SeatAtSite<'a, R, L, O>
+    pub fn of(rt: &'a R, site: &'a S, observer: &'a O, seat: S::Seat) -> SeatAtSite<'a, R, S, O>
         ensures { result.seat ≡ seat }
     {
         SeatAtSite {
@@ -96,7 +90,7 @@ impl<'a, R: Wait, L: Ledger, O: Observer> SeatAtSite<'a, R, L, O> {
     }
 
     /// The seat, back.
-    pub fn into_seat(self) -> Seat<L>
+    pub fn into_seat(self) -> S::Seat
         ensures { result ≡ self.entry.seat }
     {
         let SeatAtSite {
@@ -109,9 +103,9 @@ impl<'a, R: Wait, L: Ledger, O: Observer> SeatAtSite<'a, R, L, O> {
         seat
     }
 
-    /// How many calls the seat has made.
-    pub(crate) fn calls(&self) -> usize {
-        self.seat.receipts().len()
+    /// How many calls the seat has made, 2^64 - 1 if there are more.
+    pub(crate) fn calls(&self) -> u64 {
+        self.site.calls_of(&self.seat)
     }
 
     /// The peer whose capabilities exchange was accepted since this was asked last.
@@ -123,9 +117,10 @@ impl<'a, R: Wait, L: Ledger, O: Observer> SeatAtSite<'a, R, L, O> {
 
     /// Tells the observer what came of a call that was made, by a peer if it was a capabilities exchange.
     fn tell(&self, peer: Option<&Origin>, code: Option<u32>) {
-        tell_entries(self.observer, &self.seat);
+        tell_entries(self.observer, self.site, &self.seat);
         if let (Some(peer), Some(code)) = (peer, code) {
-            self.observer.exchanged(peer, code);
+            let connection = self.site.number_of(&self.seat);
+            self.observer.exchanged(connection, peer, code);
         }
     }
 
@@ -139,8 +134,8 @@ impl<'a, R: Wait, L: Ledger, O: Observer> SeatAtSite<'a, R, L, O> {
     /// Has a request served, of which this peer is known if it is a capabilities exchange.
     fn call(&mut self, event: &Event, peer: Option<Origin>) -> Result<Reply, ServeFault>
         ensures site { self.new.site ≡ self.old.site }
-        ensures receipt { IfOk result (λ reply. GainsReceipt
-            self.old.seat (event_value event.now) (reply_value reply) self.new.seat) }
+        ensures receipt { IfOk result (λ reply. GainsReceipt (S.seen self.old.seat)
+            (event_value event.now) (reply_value reply) (S.seen self.new.seat)) }
         ensures err { OnErr result (self.new ≡ self.old) }
     {
         match self.site.call_alone(self.rt, &mut self.seat, event) {
@@ -160,13 +155,13 @@ impl<'a, R: Wait, L: Ledger, O: Observer> SeatAtSite<'a, R, L, O> {
     }
 }
 
-impl<R: Wait, L: Ledger, O: Observer> Serve for SeatAtSite<'_, R, L, O> {
+impl<R: Wait, S: SharedSite, O: Observer> Serve for SeatAtSite<'_, R, S, O> {
     ghost use Rattle.pcrf_serve.specs.Serving.{GainsReply, MayBeFull};
 
-    ghost names = { λ s. s.site.now.identity };
+    ghost names = { λ s. (S.beside s.site.now).identity };
 
     ghost may_reply = { λ old request reply new.
-        (new.site ≡ old.site) × GainsReply old.seat request reply new.seat };
+        (new.site ≡ old.site) × GainsReply (S.seen old.seat) request reply (S.seen new.seat) };
 
     ghost is_full = { MayBeFull };
 

@@ -4,34 +4,34 @@ ghost use Rattle.pcrf_serve.specs.Workers.{AllGiveBack, AllBegun, AllJoin, AllSe
 
 use crate::conversing::serve_connection;
 use crate::link::Server;
+use crate::repeats::Unrepeated;
 use gateway_links::{Gateways, Half, Observer};
-use link_ends::{Gate, LinkEnd, LockedSite, Seat};
+use link_ends::{Gate, LinkEnd, SharedSite};
 use std::alloc::{AllocError, Global};
 use std::io::{Read, Write};
 use std::snapshot::Snapshot;
-use std::sync::ledger::Ledger;
 use std::sync::{Arc, Wait};
 use std::thread::{self, Promise, PromisedHandle, Scope, Threads};
 
 /// That a worker gives its seat back, with its earlier receipts as a prefix, and behind them receipts of requests and of pushes
 /// to hosts alone.
 #[derive(Drop)]
-pub struct KeepsEarlier<L: Ledger> {
-    seat: Snapshot<Seat<L>>,
+pub struct KeepsEarlier<S: SharedSite> {
+    seat: Snapshot<S::Seat>,
 }
 
-impl<L: Ledger> Promise<(Seat<L>, LinkEnd)> for KeepsEarlier<L> {
+impl<S: SharedSite> Promise<(S::Seat, LinkEnd)> for KeepsEarlier<S> {
     ghost use Rattle.link_ends.specs.Earlier.{Adds};
     ghost use Rattle.pcrf_serve.specs.Serving.{IsOfConnection};
 
-    ghost kept_by = { λ p r. Adds IsOfConnection p.seat.value r.0 };
+    ghost kept_by = { λ p r. Adds IsOfConnection (S.seen p.seat.value) (S.seen r.0) };
 }
 
 /// A worker that runs, or one that could not be started.
 #[derive(Drop)]
-enum Begun<L: Ledger> {
-    Running(PromisedHandle<(Seat<L>, LinkEnd), KeepsEarlier<L>>),
-    Refused(Seat<L>, LinkEnd),
+enum Begun<S: SharedSite> {
+    Running(PromisedHandle<(S::Seat, LinkEnd), KeepsEarlier<S>>),
+    Refused(S::Seat, LinkEnd),
 }
 
 /// Begins a worker. One that can't be started ends its connection at once, since it finds no writer.
@@ -39,7 +39,7 @@ fn begin<
     's,
     E,
     T: Threads + Wait + Sync,
-    L: Ledger + Send + Sync + 's,
+    S: SharedSite + Sync + 's,
     R: Read + Send + Drop + 's,
     W: Write + Send + Drop + 's,
     O: Observer + Sync + 's,
@@ -47,13 +47,15 @@ fn begin<
 >(
     rt: &'s T,
     scope: &Scope<'s, E>,
-    server: &'s Server<'s, L, W, O, G>,
-    seat: Seat<L>,
+    server: &'s Server<'s, S, W, O, G>,
+    seat: S::Seat,
     reader: R,
     half: Arc<Half<W>>,
     own: &Half<W>,
-) -> Begun<L>
-    ensures { BegunFrom seat result }
+) -> Begun<S>
+where
+    S::Seat: Send,
+    ensures { BegunFrom S.seen (S.seen seat) result }
 {
     let promise = KeepsEarlier {
         seat: Snapshot::of(&seat),
@@ -79,7 +81,7 @@ fn begin_all<
     's,
     E,
     T: Threads + Wait + Sync,
-    L: Ledger + Send + Sync + 's,
+    S: SharedSite + Sync + 's,
     R: Read + Send + Drop + 's,
     W: Write + Send + Drop + 's,
     O: Observer + Sync + 's,
@@ -87,14 +89,16 @@ fn begin_all<
 >(
     rt: &'s T,
     scope: &Scope<'s, E>,
-    server: &'s Server<'s, L, W, O, G>,
-    connections: Vec<(Seat<L>, R, W)>,
+    server: &'s Server<'s, S, W, O, G>,
+    connections: Vec<(S::Seat, R, W)>,
     mut halves: Vec<Pair<W>>,
-    mut begun: Vec<Begun<L>>,
-) -> Vec<Begun<L>>
+    mut begun: Vec<Begun<S>>,
+) -> Vec<Begun<S>>
+where
+    S::Seat: Send,
     requires empty { begun.items ≡ [] }
     requires room { vec_len connections ≤ vec_capacity begun }
-    ensures { AllBegun connections.items result.items }
+    ensures { AllBegun S.seen connections.items result.items }
 {
     for (seat, reader, writer) in connections {
         let Some((own, half)) = halves.pop() else {
@@ -108,8 +112,8 @@ fn begin_all<
 }
 
 /// Waits for a worker.
-fn join_one<T: Threads, L: Ledger>(rt: &T, begun: Begun<L>) -> (Seat<L>, LinkEnd)
-    ensures { Joins begun result }
+fn join_one<T: Threads, S: SharedSite>(rt: &T, begun: Begun<S>) -> (S::Seat, LinkEnd)
+    ensures { Joins S.seen begun result }
 {
     match begun {
         Begun::Running(handle) => handle.join(rt),
@@ -118,14 +122,14 @@ fn join_one<T: Threads, L: Ledger>(rt: &T, begun: Begun<L>) -> (Seat<L>, LinkEnd
 }
 
 /// Waits for each worker, in order.
-fn join_all<T: Threads, L: Ledger>(
+fn join_all<T: Threads, S: SharedSite>(
     rt: &T,
-    begun: Vec<Begun<L>>,
-    mut ended: Vec<(Seat<L>, LinkEnd)>,
-) -> Vec<(Seat<L>, LinkEnd)>
+    begun: Vec<Begun<S>>,
+    mut ended: Vec<(S::Seat, LinkEnd)>,
+) -> Vec<(S::Seat, LinkEnd)>
     requires empty { ended.items ≡ [] }
     requires room { vec_len begun ≤ vec_capacity ended }
-    ensures { AllJoin begun.items result.items }
+    ensures { AllJoin S.seen begun.items result.items }
 {
     for worker in begun {
         ended.push_reserved(join_one(rt, worker));
@@ -135,10 +139,10 @@ fn join_all<T: Threads, L: Ledger>(
 
 /// What workers need, reserved before any is started.
 #[derive(Drop)]
-struct Room<L: Ledger, W> {
+struct Room<S: SharedSite, W> {
     halves: Vec<Pair<W>>,
-    begun: Vec<Begun<L>>,
-    ended: Vec<(Seat<L>, LinkEnd)>,
+    begun: Vec<Begun<S>>,
+    ended: Vec<(S::Seat, LinkEnd)>,
 }
 
 /// A half without a writer, for its worker and for who starts it.
@@ -158,10 +162,10 @@ fn make_pairs<W: Write + Drop>(alloc: Global, count: usize) -> Result<Vec<Pair<W
 }
 
 /// Room for so many workers.
-fn make_room<L: Ledger, W: Write + Drop>(
+fn make_room<S: SharedSite, W: Write + Drop>(
     alloc: Global,
     count: usize,
-) -> Result<Room<L, W>, AllocError>
+) -> Result<Room<S, W>, AllocError>
     ensures { IfOk result (λ room. IsRoomFor count room) }
 {
     let halves = make_pairs(alloc, count)?;
@@ -179,7 +183,7 @@ fn run<
     's,
     E,
     T: Threads + Wait + Sync,
-    L: Ledger + Send + Sync + 's,
+    S: SharedSite + Sync + 's,
     R: Read + Send + Drop + 's,
     W: Write + Send + Drop + 's,
     O: Observer + Sync + 's,
@@ -187,12 +191,14 @@ fn run<
 >(
     rt: &'s T,
     scope: &Scope<'s, E>,
-    server: &'s Server<'s, L, W, O, G>,
-    connections: Vec<(Seat<L>, R, W)>,
-    room: Room<L, W>,
-) -> Vec<(Seat<L>, LinkEnd)>
+    server: &'s Server<'s, S, W, O, G>,
+    connections: Vec<(S::Seat, R, W)>,
+    room: Room<S, W>,
+) -> Vec<(S::Seat, LinkEnd)>
+where
+    S::Seat: Send,
     requires { IsRoomFor (vec_len connections) room }
-    ensures { AllServe connections.items result.items }
+    ensures { AllServe S.seen connections.items result.items }
 {
     let Room {
         halves,
@@ -208,7 +214,7 @@ fn run<
 /// connection for want of memory.
 pub fn serve_sessions<
     T: Threads + Wait + Sync,
-    L: Ledger + Send + Sync,
+    S: SharedSite + Sync,
     R: Read + Send + Drop,
     W: Write + Send + Drop,
     O: Observer + Sync,
@@ -216,13 +222,15 @@ pub fn serve_sessions<
 >(
     rt: &T,
     alloc: Global,
-    site: &LockedSite<L>,
-    connections: Vec<(Seat<L>, R, W)>,
+    site: &S,
+    connections: Vec<(S::Seat, R, W)>,
     gateways: &Gateways<W, O>,
     gate: &G,
-) -> Result<Vec<(Seat<L>, LinkEnd)>, (AllocError, Vec<(Seat<L>, R, W)>)>
-    ensures seats { IfOk result (λ ended. AllGiveBack connections.items ended.items) }
-    ensures served { IfOk result (λ ended. AllServe connections.items ended.items) }
+) -> Result<Vec<(S::Seat, LinkEnd)>, (AllocError, Vec<(S::Seat, R, W)>)>
+where
+    S::Seat: Send,
+    ensures seats { IfOk result (λ ended. AllGiveBack S.seen connections.items ended.items) }
+    ensures served { IfOk result (λ ended. AllServe S.seen connections.items ended.items) }
     ensures refused { IfErr result (λ refused. refused.1 ≡ connections) }
 {
     let Ok(room) = make_room(alloc, connections.len()) else {
@@ -233,14 +241,15 @@ pub fn serve_sessions<
         site,
         gateways,
         gate,
+        repeats: &Unrepeated,
     };
     let server = &all;
     Ok(thread::scope(
         thread::scope_env(),
         rt,
-        move |scope| -> Vec<(Seat<L>, LinkEnd)>
+        move |scope| -> Vec<(S::Seat, LinkEnd)>
             requires { IsRoomFor (vec_len connections) room }
-            ensures { AllServe connections.items result.items }
+            ensures { AllServe S.seen connections.items result.items }
         { run(rt, scope, server, connections, room) },
     ))
 }

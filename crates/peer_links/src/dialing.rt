@@ -9,12 +9,11 @@ ghost use Rattle.peer_links.specs.Turns.{MakesLetter, Tells, asked_event, asked_
 
 use crate::letters::Letters;
 use crate::link::Link;
-use link_ends::{Event, Gate, LinkEnd, LockedSite, Reply, Seat, StepFault};
+use link_ends::{Event, Gate, LinkEnd, Reply, SharedSite, StepFault};
 use peer_cursors::{Ack, Cursors};
 use peer_exchange::{Letter, LetterFault};
 use std::io::{Read, Write};
 use std::sync::Wait;
-use std::sync::ledger::Ledger;
 use std::thread::Threads;
 
 /// What the site is to be asked for a letter, from which position of its log on, and past which length of its log; at once
@@ -53,14 +52,14 @@ fn next_question(cursors: &Cursors, first: Option<Ack>) -> Question
 }
 
 /// Asks the site.
-fn ask<T: Threads + Wait + Sync, L: Ledger>(
+fn ask<T: Threads + Wait + Sync, A: SharedSite>(
     rt: &T,
-    site: &LockedSite<L>,
-    seat: &mut Seat<L>,
+    site: &A,
+    seat: &mut A::Seat,
     question: &Question,
 ) -> Result<Reply, StepFault>
     ensures receipt { IfOk result (λ reply. GainsReceipt
-        seat.old (event_value question.now.event) (reply_value reply) seat.new) }
+        (A.seen seat.old) (event_value question.now.event) (reply_value reply) (A.seen seat.new)) }
     ensures past { IfOk result (λ reply. Tells question.now.past (reply_value reply)) }
     ensures err { OnErr result (seat.new ≡ seat.old) }
 {
@@ -71,16 +70,16 @@ fn ask<T: Threads + Wait + Sync, L: Ledger>(
 }
 
 /// The letter of the next turn.
-fn next_letter<T: Threads + Wait + Sync, L: Ledger>(
+fn next_letter<T: Threads + Wait + Sync, A: SharedSite>(
     rt: &T,
-    site: &LockedSite<L>,
-    seat: &mut Seat<L>,
+    site: &A,
+    seat: &mut A::Seat,
     cursors: &Cursors,
     first: Option<Ack>,
 ) -> Result<Letter, LinkEnd>
     ensures made { IfOk result (λ letter. MakesLetter
-        cursors.now site.now.edition first seat.old letter seat.new) }
-    ensures idle { Gains IsIdle seat.old seat.new }
+        cursors.now (A.beside site.now).edition first (A.seen seat.old) letter (A.seen seat.new)) }
+    ensures idle { Gains IsIdle (A.seen seat.old) (A.seen seat.new) }
 {
     let question = next_question(cursors, first);
     let reply = match ask(rt, site, seat, &question) {
@@ -111,17 +110,17 @@ fn acknowledged<S: Read + Write>(
 }
 
 /// Sends one letter, and reads its acknowledgement.
-fn send_letter<T: Threads + Wait + Sync, L: Ledger, S: Read + Write>(
+fn send_letter<T: Threads + Wait + Sync, A: SharedSite, S: Read + Write>(
     rt: &T,
-    site: &LockedSite<L>,
-    seat: &mut Seat<L>,
+    site: &A,
+    seat: &mut A::Seat,
     cursors: &mut Cursors,
     letters: &mut Letters<S>,
     first: Option<Ack>,
 ) -> Result<Ack, LinkEnd>
     ensures counted { IfOk result (λ ack. cursors.new ≡ cursors_after_ack cursors.old ack) }
     ensures not_counted { OnErr result (cursors.new ≡ cursors.old) }
-    ensures exchanged { Exchanged seat.old seat.new cursors.old.makers cursors.new.makers }
+    ensures exchanged { Exchanged (A.seen seat.old) (A.seen seat.new) cursors.old.makers cursors.new.makers }
 {
     let letter = next_letter(rt, site, seat, cursors, first)?;
     letters.write(&letter)?;
@@ -129,17 +128,17 @@ fn send_letter<T: Threads + Wait + Sync, L: Ledger, S: Read + Write>(
 }
 
 /// Sends so many letters, each once the one before is acknowledged and the site has grown past what the peer took.
-pub(crate) fn send_letters<T: Threads + Wait + Sync, L: Ledger, P, G: Gate, S: Read + Write>(
+pub(crate) fn send_letters<T: Threads + Wait + Sync, A: SharedSite, P, G: Gate, S: Read + Write>(
     rt: &T,
-    link: &Link<'_, L, P, G>,
-    seat: &mut Seat<L>,
+    link: &Link<'_, A, P, G>,
+    seat: &mut A::Seat,
     cursors: &mut Cursors,
     letters: &mut Letters<S>,
     turns: u32,
 ) -> Result<(), LinkEnd>
-    ensures { Exchanged seat.old seat.new cursors.old.makers cursors.new.makers }
+    ensures { Exchanged (A.seen seat.old) (A.seen seat.new) cursors.old.makers cursors.new.makers }
 {
-    let connection = seat.number();
+    let connection = link.site.number_of(seat);
     let mut first: Option<Ack> = None;
     for message in 0..turns {
         link.enter(connection, message)?;

@@ -6,12 +6,11 @@ use crate::dialing::send_letters;
 use crate::letters::Letters;
 use crate::link::Link;
 use crate::listening::take_letters;
-use link_ends::{Gate, LinkEnd, LockedSite, Pushes, Seat};
+use link_ends::{Gate, LinkEnd, Pushes, SharedSite};
 use peer_cursors::Cursors;
 use std::alloc::Global;
 use std::io::{Read, Write};
 use std::sync::Wait;
-use std::sync::ledger::Ledger;
 use std::thread::Threads;
 
 /// Which side of an exchange a worker is.
@@ -24,11 +23,11 @@ pub enum Role {
 }
 
 /// Exchanges so many letters.
-fn exchanged<T: Threads + Wait + Sync, L: Ledger, P: Pushes, S: Read + Write + Drop, G: Gate>(
+fn exchanged<T: Threads + Wait + Sync, A: SharedSite, P: Pushes, S: Read + Write + Drop, G: Gate>(
     rt: &T,
     alloc: Global,
-    site: &LockedSite<L>,
-    seat: &mut Seat<L>,
+    site: &A,
+    seat: &mut A::Seat,
     cursors: &mut Cursors,
     gateways: &P,
     role: Role,
@@ -36,7 +35,7 @@ fn exchanged<T: Threads + Wait + Sync, L: Ledger, P: Pushes, S: Read + Write + D
     turns: u32,
     gate: &G,
 ) -> Result<(), LinkEnd>
-    ensures { Exchanged seat.old seat.new cursors.old.makers cursors.new.makers }
+    ensures { Exchanged (A.seen seat.old) (A.seen seat.new) cursors.old.makers cursors.new.makers }
 {
     let link = Link {
         site,
@@ -61,15 +60,15 @@ fn exchanged<T: Threads + Wait + Sync, L: Ledger, P: Pushes, S: Read + Write + D
 /// acknowledged. What was taken stands, whatever the end is.
 pub fn exchange_with<
     T: Threads + Wait + Sync,
-    L: Ledger,
+    A: SharedSite,
     P: Pushes,
     S: Read + Write + Drop,
     G: Gate,
 >(
     rt: &T,
     alloc: Global,
-    site: &LockedSite<L>,
-    seat: &mut Seat<L>,
+    site: &A,
+    seat: &mut A::Seat,
     cursors: &mut Cursors,
     gateways: &P,
     role: Role,
@@ -77,7 +76,7 @@ pub fn exchange_with<
     turns: u32,
     gate: &G,
 ) -> LinkEnd
-    ensures { Exchanged seat.old seat.new cursors.old.makers cursors.new.makers }
+    ensures { Exchanged (A.seen seat.old) (A.seen seat.new) cursors.old.makers cursors.new.makers }
 {
     match exchanged(
         rt, alloc, site, seat, cursors, gateways, role, stream, turns, gate,

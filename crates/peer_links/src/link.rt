@@ -1,16 +1,15 @@
 //! What a connection to a peer shares with all others of its site.
-use link_ends::{Gate, LinkEnd, LockedSite};
-use std::sync::ledger::Ledger;
+use link_ends::{Gate, LinkEnd};
 
 /// The site under its lock, whoever reaches its gateways, and the gate of its connections.
 #[derive(Drop)]
-pub(crate) struct Link<'a, L: Ledger, P, G> {
-    pub(crate) site: &'a LockedSite<L>,
+pub(crate) struct Link<'a, A, P, G> {
+    pub(crate) site: &'a A,
     pub(crate) gateways: &'a P,
     pub(crate) gate: &'a G,
 }
 
-impl<L: Ledger, P, G: Gate> Link<'_, L, P, G> {
+impl<A, P, G: Gate> Link<'_, A, P, G> {
     /// A message of a connection is let in, or ends the connection.
     pub(crate) fn enter(&self, connection: usize, message: u32) -> Result<(), LinkEnd> {
         if self.gate.enter(connection, u64::from(message)) {

@@ -11,13 +11,12 @@ ghost use Rattle.peer_links.specs.Turns.{answer_to};
 use crate::heading::Heading;
 use crate::letters::Letters;
 use crate::link::Link;
-use link_ends::{Event, Gate, LinkEnd, LockedSite, Pushes, Reply, Seat};
+use link_ends::{Event, Gate, LinkEnd, Pushes, Reply, SharedSite};
 use peer_cursors::{Ack, Cursors};
 use peer_exchange::Letter;
 use std::alloc::Global;
 use std::io::{Read, Write};
 use std::sync::Wait;
-use std::sync::ledger::Ledger;
 use std::thread::Threads;
 
 /// Whether the reply says that all of the event was taken.
@@ -32,14 +31,14 @@ fn is_whole(event: &Event, reply: &Reply) -> bool
 }
 
 /// Has the site take what a letter brings. What is taken in part stands, for want of memory.
-fn take_whole<T: Threads + Wait + Sync, L: Ledger>(
+fn take_whole<T: Threads + Wait + Sync, A: SharedSite>(
     rt: &T,
-    site: &LockedSite<L>,
-    seat: &mut Seat<L>,
+    site: &A,
+    seat: &mut A::Seat,
     event: &Event,
 ) -> Result<(), LinkEnd>
-    ensures whole { OnOk result (GainsWhole seat.old seat.new (event_value event.now)) }
-    ensures part { OnErr result (GainsPart seat.old seat.new (event_value event.now)) }
+    ensures whole { OnOk result (GainsWhole (A.seen seat.old) (A.seen seat.new) (event_value event.now)) }
+    ensures part { OnErr result (GainsPart (A.seen seat.old) (A.seen seat.new) (event_value event.now)) }
 {
     let reply = match site.call(rt, seat, event) {
         Ok(reply) => reply,
@@ -52,10 +51,10 @@ fn take_whole<T: Threads + Wait + Sync, L: Ledger>(
 }
 
 /// Takes what a letter brings, counts the letter once it is taken whole, and tells what its sender is to be told.
-fn take_brought<T: Threads + Wait + Sync, L: Ledger>(
+fn take_brought<T: Threads + Wait + Sync, A: SharedSite>(
     rt: &T,
-    site: &LockedSite<L>,
-    seat: &mut Seat<L>,
+    site: &A,
+    seat: &mut A::Seat,
     cursors: &mut Cursors,
     heading: Heading,
     event: Event,
@@ -64,9 +63,9 @@ fn take_brought<T: Threads + Wait + Sync, L: Ledger>(
     ensures counted { OnOk result (cursors.new
         ≡ cursors_after_letter cursors.old (letter_with heading (event_value event))) }
     ensures ack { IfOk result (λ ack. ack ≡ ack_of cursors.new heading.site) }
-    ensures whole { OnOk result (GainsWhole seat.old seat.new (event_value event)) }
+    ensures whole { OnOk result (GainsWhole (A.seen seat.old) (A.seen seat.new) (event_value event)) }
     ensures not_counted { OnErr result (cursors.new ≡ cursors.old) }
-    ensures part { OnErr result (GainsPart seat.old seat.new (event_value event)) }
+    ensures part { OnErr result (GainsPart (A.seen seat.old) (A.seen seat.new) (event_value event)) }
 {
     take_whole(rt, site, seat, &event)?;
     let letter = heading.close(event);
@@ -74,19 +73,19 @@ fn take_brought<T: Threads + Wait + Sync, L: Ledger>(
 }
 
 /// Takes a letter, and tells what its sender is to be told; nothing after an acknowledgement, which is counted.
-fn take<T: Threads + Wait + Sync, L: Ledger>(
+fn take<T: Threads + Wait + Sync, A: SharedSite>(
     rt: &T,
-    site: &LockedSite<L>,
-    seat: &mut Seat<L>,
+    site: &A,
+    seat: &mut A::Seat,
     cursors: &mut Cursors,
     letter: Letter,
 ) -> Result<Option<Ack>, LinkEnd>
     ensures counted { OnOk result (cursors.new ≡ cursors_after ByCursors cursors.old letter) }
     ensures answer { IfOk result (λ answer. answer ≡ answer_to cursors.new letter) }
-    ensures whole { OnOk result (TakesIn seat.old seat.new letter.body) }
+    ensures whole { OnOk result (TakesIn (A.seen seat.old) (A.seen seat.new) letter.body) }
     ensures not_counted { OnErr result (cursors.new ≡ cursors.old) }
-    ensures part { OnErr result (Gains IsIdle seat.old seat.new) }
-    ensures exchanged { Exchanged seat.old seat.new cursors.old.makers cursors.new.makers }
+    ensures part { OnErr result (Gains IsIdle (A.seen seat.old) (A.seen seat.new)) }
+    ensures exchanged { Exchanged (A.seen seat.old) (A.seen seat.new) cursors.old.makers cursors.new.makers }
 {
     if let Some(ack) = Ack::carried_by(&letter) {
         cursors.take_ack(&ack);
@@ -100,44 +99,44 @@ fn take<T: Threads + Wait + Sync, L: Ledger>(
 }
 
 /// Reads one letter, takes it, has pushed what is then due, and acknowledges it.
-fn take_letter<T: Threads + Wait + Sync, L: Ledger, P: Pushes, G: Gate, S: Read + Write>(
+fn take_letter<T: Threads + Wait + Sync, A: SharedSite, P: Pushes, G: Gate, S: Read + Write>(
     rt: &T,
     alloc: Global,
-    link: &Link<'_, L, P, G>,
-    seat: &mut Seat<L>,
+    link: &Link<'_, A, P, G>,
+    seat: &mut A::Seat,
     cursors: &mut Cursors,
     letters: &mut Letters<S>,
     message: u32,
 ) -> Result<(), LinkEnd>
-    ensures { Exchanged seat.old seat.new cursors.old.makers cursors.new.makers }
+    ensures { Exchanged (A.seen seat.old) (A.seen seat.new) cursors.old.makers cursors.new.makers }
 {
     let letter = letters.read()?;
-    link.enter(seat.number(), message)?;
+    link.enter(link.site.number_of(seat), message)?;
     let Some(ack) = take(rt, link.site, seat, cursors, letter)? else {
-        return link.leave(seat.number(), message);
+        return link.leave(link.site.number_of(seat), message);
     };
     link.gateways.push_all(rt, alloc, link.site, seat)?;
     letters.acknowledge(&ack)?;
-    link.leave(seat.number(), message)
+    link.leave(link.site.number_of(seat), message)
 }
 
 /// Takes so many letters.
 pub(crate) fn take_letters<
     T: Threads + Wait + Sync,
-    L: Ledger,
+    A: SharedSite,
     P: Pushes,
     G: Gate,
     S: Read + Write,
 >(
     rt: &T,
     alloc: Global,
-    link: &Link<'_, L, P, G>,
-    seat: &mut Seat<L>,
+    link: &Link<'_, A, P, G>,
+    seat: &mut A::Seat,
     cursors: &mut Cursors,
     letters: &mut Letters<S>,
     turns: u32,
 ) -> Result<(), LinkEnd>
-    ensures { Exchanged seat.old seat.new cursors.old.makers cursors.new.makers }
+    ensures { Exchanged (A.seen seat.old) (A.seen seat.new) cursors.old.makers cursors.new.makers }
 {
     for message in 0..turns {
         take_letter(rt, alloc, link, seat, cursors, letters, message)?;

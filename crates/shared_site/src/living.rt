@@ -2,16 +2,21 @@
 use crate::shared::SharedSite;
 use dia_base::Identity;
 use living_site::{LivingSite, Roll, Seat};
+use pcrf_values::DiameterIdentity;
 use site_machine::{Event, Reply, StepFault};
 use std::sync::Wait;
 use std::thread::Threads;
 
 impl<L: Roll> SharedSite for LivingSite<L> {
+    ghost use Rattle.living_site.specs.Calls.{IsFound};
+
     type Seat = Seat<L>;
 
     ghost seen = { λ s. s };
 
     ghost beside = { λ s. s };
+
+    ghost found = { IsFound L.seats L.opening };
 
     fn identity(&self) -> &Identity {
         self.identity()
@@ -35,6 +40,10 @@ impl<L: Roll> SharedSite for LivingSite<L> {
 
     fn last_of(&self, seat: &Seat<L>) -> Option<u64> {
         seat.last()
+    }
+
+    fn wants_push<R: Wait>(&self, rt: &R, seat: &mut Seat<L>, host: &DiameterIdentity) -> bool {
+        self.is_waiting(rt, seat, host)
     }
 
     fn call<R: Threads + Wait + Sync>(

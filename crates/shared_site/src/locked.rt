@@ -1,6 +1,7 @@
 //! A site whose history is kept when the program runs: a book under a lock.
 use crate::shared::SharedSite;
 use dia_base::Identity;
+use pcrf_values::DiameterIdentity;
 use site_lock::{LockedSite, Seat};
 use site_machine::{Event, Reply, StepFault};
 use std::sync::Wait;
@@ -13,6 +14,8 @@ impl<L: Ledger> SharedSite for LockedSite<L> {
     ghost seen = { λ s. s };
 
     ghost beside = { λ s. s };
+
+    ghost found = { λ seat site. ⊥ };
 
     fn identity(&self) -> &Identity {
         self.identity()
@@ -40,6 +43,10 @@ impl<L: Ledger> SharedSite for LockedSite<L> {
             Some(receipt) => Some(receipt.place() as u64),
             None => None,
         }
+    }
+
+    fn wants_push<R: Wait>(&self, _rt: &R, _seat: &mut Seat<L>, _host: &DiameterIdentity) -> bool {
+        true
     }
 
     fn call<R: Threads + Wait + Sync>(

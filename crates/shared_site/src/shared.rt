@@ -1,13 +1,15 @@
 //! A site that threads share.
-ghost use Rattle.std.specs.Prelude.{◌≡◌, length, IfOk, OnErr};
+ghost use Rattle.std.specs.Prelude.{◌≡◌, false, length, IfOk, OnErr};
 ghost use Rattle.std.specs.Thread.{IsSync};
+ghost use Rattle.site_machine.specs.Sites.{SiteValue};
 ghost use Rattle.site_machine.specs.Values.{event_value, reply_value};
 ghost use Rattle.site_book.specs.Books.{SeatValue};
 ghost use Rattle.living_site.specs.Deeds.{counted_to, last_place};
-ghost use Rattle.site_lock.specs.Calls.{GainsReceipt, TellsPast};
+ghost use Rattle.site_lock.specs.Calls.{FindsNothingDue, GainsReceipt, TellsPast};
 ghost use Rattle.site_lock.specs.Locked.{LockedValue};
 
 use dia_base::Identity;
+use pcrf_values::DiameterIdentity;
 use site_machine::{Event, Reply, StepFault};
 use std::sync::Wait;
 use std::thread::Threads;
@@ -23,6 +25,9 @@ pub trait SharedSite {
 
     /// What never changes of it.
     ghost beside: { Self → LockedValue };
+
+    /// How a seat may find the site without a call: never, where each call is to have its entry.
+    ghost found: { SeatValue → SiteValue → Type 0 };
 
     /// The names that the site answers under. It waits for nobody.
     fn identity(&self) -> &Identity
@@ -48,6 +53,13 @@ pub trait SharedSite {
     /// the place of its last receipt, and a number by which messages that tell of the call can be known.
     fn last_of(&self, seat: &Self::Seat) -> Option<u64>
         ensures { result ≡ last_place (seen seat.now).receipts };
+
+    /// Whether a push to a host is to be asked for. Where it answers false the seat found that nothing was due to the host's
+    /// gateways, and made no call of it. A site whose history is kept when the program runs has each push there that is asked
+    /// for, of nothing too: it wants each.
+    fn wants_push<R: Wait>(&self, rt: &R, seat: &mut Self::Seat, host: &DiameterIdentity) -> bool
+        ensures none { result ≡ false → FindsNothingDue found (seen seat.old) host.now }
+        ensures same { seat.new ≡ seat.old };
 
     /// Makes an event happen, as a call of a seat, once the lock is free. The seat gains the receipt of this event with the
     /// reply that is answered, or stays as it was. Where the site took a whole state of another, the rules of its sessions are

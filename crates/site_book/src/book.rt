@@ -1,9 +1,9 @@
 //! The book: a site with its history, and the room for what settling it gives.
-ghost use Rattle.std.specs.Prelude.{◌≡◌, ◌≤◌, ◌<◌, length, true, Err, vec_len, vec_capacity, [], IfOk, IfErr, OnErr};
+ghost use Rattle.std.specs.Prelude.{◌≡◌, ◌≤◌, ◌<◌, length, true, false, Err, vec_len, vec_capacity, [], IfOk, IfErr, OnErr};
 ghost use Rattle.pcrf_model.specs.Views.{view};
 ghost use Rattle.site_machine.specs.Kept.{AreKept};
 ghost use Rattle.site_machine.specs.Many.{AreFresh};
-ghost use Rattle.site_machine.specs.Sites.{SiteMayReply};
+ghost use Rattle.site_machine.specs.Sites.{OwesNothing, SiteMayReply};
 ghost use Rattle.site_machine.specs.Values.{event_value, reply_value, event_lacks_counter};
 ghost use Rattle.site_book.specs.Books.{new_book, new_seats, with_entry, with_receipt, is_full, is_short, IsHistoryOf};
 ghost use Rattle.site_book.specs.Limits.{most_entries, most_seats};
@@ -11,6 +11,7 @@ ghost use Rattle.site_book.specs.Limits.{most_entries, most_seats};
 use crate::entry::Receipt;
 use crate::pages::Pages;
 use crate::seat::Seat;
+use pcrf_values::DiameterIdentity;
 use site_join::{Operation, State};
 use site_machine::{Event, Reply, Rules, Site, StepFault};
 use std::alloc::{AllocError, Global};
@@ -109,6 +110,14 @@ impl<L: Ledger> SiteBook<L> {
         ensures { result ≡ is_short self.now past }
     {
         self.entries() < self.limit() && self.site().logged() <= past
+    }
+
+    /// Whether something may be due to the gateways of a host, as the site's own `is_waiting` tells it: where it answers false
+    /// nothing is. It makes no entry.
+    pub fn is_waiting(&self, host: &DiameterIdentity) -> bool
+        ensures { result ≡ false → OwesNothing self.now.site host.now }
+    {
+        self.site().is_waiting(host)
     }
 
     /// Derives the rules of each live gateway's session of which the site keeps none, in as many threads as there are

@@ -1,7 +1,8 @@
 -- What a call leaves to its seat.
-use Rattle.std.specs.Prelude.{◌≡◌, ◌<◌, ℕ}
+use Rattle.std.specs.Prelude.{◌≡◌, ◌<◌, ℕ, List}
 use Rattle.pcrf_model.specs.Replies.{ReplyValue, Own, Copy}
 use Rattle.pcrf_model.specs.Steps.{SiteEvent}
+use Rattle.site_machine.specs.Sites.{OwesNothing, SiteValue}
 use Rattle.site_book.specs.Books.{SeatValue, with_receipt}
 
 -- one more receipt, of that event and that reply, at the place of some entry
@@ -13,3 +14,7 @@ abbrev pub TellsPast : ℕ → ReplyValue → Type 0
 TellsPast past (Own operations length) = past < length
 TellsPast past (Copy holding length) = past < length
 TellsPast past r = Unit {0}
+
+-- a seat finds that nothing is due to the host, where it may find the site so
+abbrev pub FindsNothingDue : (SeatValue → SiteValue → Type 0) → SeatValue → List ℕ → Type 0
+FindsNothingDue Found seat host = (site : SiteValue) × Found seat site × OwesNothing site host

@@ -56,6 +56,10 @@ module _ (s : SiteValue) (name : Option (List ℕ)) where
   unfolding lacks_counter
   nothing_lacks e = rw (none_due next (sym e)) refl
 
+  -- where none is due none is pushed
+  pub nothing_out : next ≡ None → None ≡ out
+  nothing_out e = sym (ap (option_map (push_of t v)) e)
+
   -- a session is due where one is pushed
   record IsPushed (p : PushValue) : Type 0 where
     session : Session

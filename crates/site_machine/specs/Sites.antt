@@ -1,5 +1,5 @@
 -- What is seen of a site, and what serving, pushes and letters make of it.
-use Rattle.std.specs.Prelude.{ℕ, ◌+◌, List, [], ◌∷◌, ◌++◌, Option, Some, None}
+use Rattle.std.specs.Prelude.{◌≡◌, ℕ, ◌+◌, List, [], ◌∷◌, ◌++◌, Option, Some, None}
 use Rattle.pcrf_facts.specs.Facts.{Fact}
 use Rattle.pcrf_values.specs.Limits.{delta_limit}
 use Rattle.pcrf_model.specs.Sessions.{Session}
@@ -8,9 +8,10 @@ use Rattle.pcrf_model.specs.Operations.{Operation, with_operation, holding_of}
 use Rattle.pcrf_model.specs.Requests.{CcrValue, AarValue, StrValue, RequestValue}
 use Rattle.pcrf_model.specs.Replies.{Outcome, ReplyValue}
 use Rattle.pcrf_model.specs.Serving.{serve, serve_ccr, serve_aar, serve_str}
-use Rattle.pcrf_model.specs.Pushing.{push}
+use Rattle.pcrf_model.specs.Pushing.{due_session, push}
 use Rattle.pcrf_model.specs.Steps.{SiteState, SiteEvent, MayReply, kept_state, state_after}
 use Rattle.pcrf_model.specs.Tables.{Tables}
+use Rattle.pcrf_model.specs.Views.{view}
 use Rattle.dia_base.specs.declared.identity.Identity.{Identity}
 
 -- a site: the operator tables that it decides by, the names that it answers under, its number, what it holds, and what it made
@@ -47,6 +48,10 @@ serve_outcome s q = serve delta_limit s.tables s.number s.state.holding q
 -- what they push of it to the gateway of a host, any where none is named
 abbrev pub push_outcome_at : SiteValue → Option (List ℕ) → Outcome
 push_outcome_at s name = push delta_limit s.tables s.number s.state.holding name
+
+-- nothing is due to the gateways of a host
+abbrev pub OwesNothing : SiteValue → List ℕ → Type 0
+OwesNothing s name = due_session s.tables s.number (view s.state.holding.facts) (Some name) ≡ None
 
 -- with one operation: what is kept of it is held
 abbrev pub with_one : SiteValue → Operation → SiteValue

@@ -1,15 +1,18 @@
-//! Sessions of a site that are looked up.
-ghost use Rattle.std.specs.Prelude.{◌≡◌, IfOk, IfSome};
+//! What is looked up at a site: sessions, and whether one may be due.
+ghost use Rattle.std.specs.Prelude.{◌≡◌, Some, false, IfOk, IfSome};
 ghost use Rattle.bind_index.specs.Listings.{sessions_of};
 ghost use Rattle.indexed_state.specs.Index.{Covers};
+ghost use Rattle.pcrf_model.specs.Pushing.{lacks_counter, nothing_pushed};
 ghost use Rattle.pcrf_model.specs.Views.{view};
 
 use crate::site::Site;
 use indexed_state::Index;
-use pcrf_values::{GxSid, Subscriber};
+use pcrf_values::{DiameterIdentity, GxSid, Subscriber};
 use std::alloc::AllocError;
 
 impl Site {
+    ghost use Rattle.site_machine.specs.Sites.{OwesNothing, push_outcome_at};
+
     /// The index of its sessions, where it is whole.
     pub fn index(&self) -> Option<&Index>
         ensures { IfSome result (λ index.
@@ -25,5 +28,19 @@ impl Site {
             ≡ sessions_of (view self.now.state.holding.facts) subscriber.now) }
     {
         self.held.sessions_of(subscriber)
+    }
+
+    /// Whether something may be due to the gateways of a host. Where it answers false nothing is: a push that is asked for the
+    /// host tells nothing, is never refused for want of a counter, and changes nothing. It answers true as long as a session of
+    /// the host waits to be looked at, as each does of which something changed since the last push for the host told nothing;
+    /// and of every host while all sessions wait, as they do until the first push after the site began, was emptied, took a
+    /// whole state or was refused memory for one that waits. It is a look-up, and derives no rules.
+    pub fn is_waiting(&self, host: &DiameterIdentity) -> bool
+        ensures none { result ≡ false → OwesNothing self.now host.now }
+        ensures push { result ≡ false → push_outcome_at self.now (Some host.now) ≡ nothing_pushed }
+        ensures room { result ≡ false → lacks_counter self.now.tables self.now.number
+            self.now.state.holding (Some host.now) ≡ false }
+    {
+        self.held.is_waiting(self.number, host)
     }
 }

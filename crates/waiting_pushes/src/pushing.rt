@@ -1,5 +1,5 @@
 //! The push of the first session that is due, of those that wait.
-ghost use Rattle.std.specs.Prelude.{◌≡◌, Some, false, IfOk, IfSome, map, option_map};
+ghost use Rattle.std.specs.Prelude.{◌≡◌, Some, false, IfNone, IfOk, IfSome, map, option_map};
 ghost use Rattle.ranked.specs.Sets.{Distinct};
 ghost use Rattle.pcrf_model.specs.Differences.{rule_name_of};
 ghost use Rattle.pcrf_model.specs.Pushing.{due_session};
@@ -10,7 +10,7 @@ ghost use Rattle.reply_values.specs.Replies.{push_view};
 ghost use Rattle.kept_rules.specs.Kept.{AreKept};
 ghost use Rattle.rule_delta.specs.Pushed.{push_of};
 ghost use Rattle.session_index.specs.Index.{Covers};
-ghost use Rattle.waiting_sessions.specs.Waits.{DueWait};
+ghost use Rattle.waiting_sessions.specs.Waits.{DueWait, is_waiting};
 
 use crate::telling::push_by;
 use kept_rules::Rules;
@@ -24,8 +24,8 @@ use std::alloc::{AllocError, Global};
 use waiting_sessions::Waiting;
 
 /// The push that is due at a site for a host, as `next_push` gives it, where not all wait and all that are due do. It looks at
-/// sessions that wait under the host alone; those that it looks at and that aren't due no longer wait. A refusal leaves what
-/// it found so far.
+/// sessions that wait under the host alone; those that it looks at and that aren't due no longer wait: where none is due,
+/// nobody waits under the host any more. A refusal leaves what it found so far.
 pub fn next_waiting(
     alloc: Global,
     tables: &Tables,
@@ -45,6 +45,7 @@ pub fn next_waiting(
         (due_session tables.now site (view state.now.facts) (Some host.now))) }
     ensures names { IfOk result (λ push. IfSome push (λ p. Distinct (map rule_name_of
         (rules tables.now (view state.now.facts) (gx p.session))))) }
+    ensures nobody { IfOk result (λ push. IfNone push (is_waiting waiting.new host.now ≡ false)) }
     ensures kept { AreKept tables.now (view state.now.facts) lists.new }
     ensures due { DueWait tables.now site (view state.now.facts) waiting.new }
 {

@@ -1,11 +1,11 @@
 -- The first that is due of those that wait.
-use Rattle.std.proofs.Common.{◌≡◌, ℕ, suc, ◌≤◌, arith, length, Bool, true, false, cond, drop, List, [], ◌∷◌, ◌⊎◌, map, Some, None, find, inl, inr, refl, sym, ap, ◌∙◌, subst, if◌then◌else◌}
+use Rattle.std.proofs.Common.{◌≡◌, ℕ, suc, ◌≤◌, arith, length, Bool, true, false, ◌||◌, cond, drop, List, [], ◌∷◌, ◌⊎◌, map, Option, Some, None, is_some, find, inl, inr, refl, sym, ap, ◌∙◌, subst, if◌then◌else◌}
 use Rattle.std.specs.Ordering.{is_eq}
 use Rattle.ranked.specs.Ascending.{Rises}
 use Rattle.ranked.specs.Orders.{text_cmp}
 use Rattle.ranked.specs.Sets.{In}
 use Rattle.ranked.proofs.OrderLaws.{text_ranked, eq_is, eq_itself}
-use Rattle.ranked.proofs.Plain.{none_some, some_same}
+use Rattle.ranked.proofs.Plain.{clash, none_some, some_same}
 use Rattle.pcrf_model.specs.Holdings.{SessionFact}
 use Rattle.pcrf_model.specs.Pushing.{is_due, due_session}
 use Rattle.pcrf_model.specs.Sessions.{gx}
@@ -14,7 +14,7 @@ use Rattle.pcrf_model.specs.Views.{view}
 use Rattle.pcrf_model.specs.Waiting.{LeavesOut}
 use Rattle.pcrf_model.proofs.WaitingLaws.{first_waits, only_due}
 use Rattle.session_lists.specs.Lists.{first_of, without_first}
-use Rattle.waiting_sessions.specs.Waits.{WaitingValue, waiting_of, DueWait, Keeps, WaitsUnder}
+use Rattle.waiting_sessions.specs.Waits.{WaitingValue, waiting_of, is_waiting, DueWait, Keeps, WaitsUnder}
 
 -- a list of which one comes first
 began : (ids : List (List ℕ)) (id : List ℕ) → Some id ≡ first_of ids → ids ≡ id ∷ drop 1 ids
@@ -25,6 +25,25 @@ began (x ∷ xs) id h = ap (λ (y : List ℕ). y ∷ xs) (sym (some_same id x h)
 empty : (ids : List (List ℕ)) → None ≡ first_of ids → ids ≡ []
 empty [] h = refl
 empty (x ∷ xs) h = none_some x h
+
+-- neither of two
+neither : (a b : Bool) → (a || b) ≡ false → (a ≡ false) × (b ≡ false)
+neither false b e = (refl, e)
+neither true b e = clash true refl e
+
+-- there is none
+is_none : (o : Option (List ℕ)) → is_some o ≡ false → None ≡ o
+is_none None e = refl
+is_none (Some x) e = clash true refl e
+
+-- where nobody waits under the host none is due
+pub nobody_due : (t : Tables) (i : ℕ) (facts : List SessionFact) (name : List ℕ) (w : WaitingValue) → DueWait t i (view facts) w → is_waiting w name ≡ false
+    → due_session t i (view facts) (Some name) ≡ None
+nobody_due t i facts name w h e =
+    let parts = neither w.all (is_some (first_of (waiting_of w name))) e in
+    let none : waiting_of w name ≡ [] = empty (waiting_of w name) (is_none (first_of (waiting_of w name)) parts.1) in
+    first_waits t i facts (waiting_of w) name (h.listed parts.0) (subst (λ (ids : List (List ℕ)). Rises text_cmp ids) (sym none) tt)
+    ∙ ap (λ (ids : List (List ℕ)). find (is_due t i (view facts) (Some name)) (map gx ids)) none
 
 module _ (t : Tables) (i : ℕ) (facts : List SessionFact) (name : List ℕ) (u w : WaitingValue)
     (rest : (other : List ℕ) → waiting_of w other ≡ without_first text_cmp u.lists name other) where

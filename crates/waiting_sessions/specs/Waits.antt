@@ -1,5 +1,5 @@
 -- Who waits to be looked at for a push, where all may wait.
-use Rattle.std.specs.Prelude.{◌≡◌, ℕ, Bool, true, false, List, Option, Some}
+use Rattle.std.specs.Prelude.{◌≡◌, ℕ, Bool, true, false, ◌||◌, List, Option, Some, is_some}
 use Rattle.std.specs.declared.net.ipv4_addr.Ipv4Addr.{Ipv4Addr}
 use Rattle.ranked.specs.Orders.{text_cmp}
 use Rattle.ranked.specs.Sets.{In}
@@ -8,7 +8,7 @@ use Rattle.pcrf_model.specs.Sessions.{Gx, Session, is_gx}
 use Rattle.pcrf_model.specs.Tables.{Tables}
 use Rattle.pcrf_model.specs.Views.{View, text}
 use Rattle.pcrf_model.specs.Waiting.{Waiting, AllDueWait, Stay}
-use Rattle.session_lists.specs.Lists.{ids_at}
+use Rattle.session_lists.specs.Lists.{first_of, ids_at}
 use Rattle.session_index.specs.Index.{IndexValue, listed_at}
 
 -- all sessions wait, or those of the lists, each under the host of its gateway
@@ -19,6 +19,10 @@ pub record WaitingValue : Type 0 where
 -- the lists, as the definitions have them
 abbrev pub waiting_of : WaitingValue → Waiting
 waiting_of w name = ids_at text_cmp w.lists name
+
+-- a session waits under the host, or all do
+abbrev pub is_waiting : WaitingValue → List ℕ → Bool
+is_waiting w name = w.all || is_some (first_of (waiting_of w name))
 
 -- each session that is due waits
 pub record DueWait (t : Tables) (i : ℕ) (v : View) (w : WaitingValue) : Type 0 where

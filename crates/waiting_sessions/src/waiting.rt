@@ -3,7 +3,7 @@ ghost use Rattle.std.specs.Prelude.{◌≡◌, ℕ, List, true, false};
 ghost use Rattle.ranked.specs.Orders.{text_cmp};
 ghost use Rattle.ranked.specs.Ascending.{Rises};
 ghost use Rattle.session_lists.specs.Lists.{first_of, ids_at, without_first};
-ghost use Rattle.waiting_sessions.specs.Waits.{Keeps, WaitsUnder, waiting_of};
+ghost use Rattle.waiting_sessions.specs.Waits.{Keeps, WaitsUnder, is_waiting, waiting_of};
 
 use pcrf_values::{DiameterIdentity, GxSid};
 use session_lists::SessionLists;
@@ -51,6 +51,19 @@ impl Waiting {
         ensures { result ≡ self.now.all }
     {
         self.all
+    }
+
+    /// A session waits under a host, or all do.
+    pub fn is_waiting(&self, host: &DiameterIdentity) -> bool
+        ensures { result ≡ is_waiting self.now host.now }
+    {
+        if self.all {
+            return true;
+        }
+        let Some(ids) = self.lists.at(host) else {
+            return false;
+        };
+        ids.iter().next().is_some()
     }
 
     /// Has a session wait under a host.

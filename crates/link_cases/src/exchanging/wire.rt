@@ -4,16 +4,13 @@ ghost use Rattle.link_ends.specs.Earlier.{Adds};
 ghost use Rattle.link_ends.specs.Events.{IsPushToHost};
 
 use dia_base::Origin;
-use link_ends::{Gate, Pushes};
+use link_ends::{Gate, Pushes, SharedSite};
 use samples::origin;
-use site_book::Seat;
-use site_lock::LockedSite;
 use site_machine::Event;
 use std::alloc::{AllocError, Global};
 use std::io;
 use std::io::{ErrorKind, Read, Write};
 use std::sync::Wait;
-use std::sync::ledger::Ledger;
 use std::thread::Threads;
 
 /// How many bytes are read at once.
@@ -100,13 +97,13 @@ pub enum Gateways {
 }
 
 /// The site is asked what is due to the gateway `gw`.
-fn ask<R: Threads + Wait + Sync, L: Ledger>(
+fn ask<R: Threads + Wait + Sync, S: SharedSite>(
     rt: &R,
     alloc: Global,
-    site: &LockedSite<L>,
-    seat: &mut Seat<L>,
+    site: &S,
+    seat: &mut S::Seat,
 ) -> Result<(), AllocError>
-    ensures { Adds IsPushToHost seat.old seat.new }
+    ensures { Adds IsPushToHost (S.seen seat.old) (S.seen seat.new) }
 {
     let Ok(gateway) = origin(alloc, b"gw") else {
         return Err(AllocError);
@@ -120,12 +117,12 @@ fn ask<R: Threads + Wait + Sync, L: Ledger>(
 }
 
 impl Pushes for Gateways {
-    fn push_all<R: Threads + Wait + Sync, L: Ledger>(
+    fn push_all<R: Threads + Wait + Sync, S: SharedSite>(
         &self,
         rt: &R,
         alloc: Global,
-        site: &LockedSite<L>,
-        seat: &mut Seat<L>,
+        site: &S,
+        seat: &mut S::Seat,
     ) -> Result<(), AllocError> {
         match self {
             Gateways::Unreached => Ok(()),

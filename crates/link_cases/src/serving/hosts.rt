@@ -1,15 +1,16 @@
 //! Pushes to two hosts at one site: each gets what is due to its own sessions.
 ghost use Rattle.std.specs.Prelude.{◌≡◌};
+ghost use Rattle.living_site.specs.Sound.{AreNames};
 
-use crate::books::{Settlement, opened, settled};
+use crate::books::{opened, settled};
 use crate::serving::connections::{Keeping, Place, Written};
 use crate::serving::frames::put_frames;
 use crate::serving::gates::Open;
 use gateway_links::{Gateways, Half, Outgoing, push_all};
+use living_site::{LivingSite, Roll, Roster};
 use pcrf_values::DiameterIdentity;
 use samples::{SampleFault, initial, names, origin, with_rules};
-use site_book::Seat;
-use site_lock::LockedSite;
+use shared_site::SharedSite;
 use site_machine::{Event, Request, Site};
 use std::alloc::{AllocError, Global};
 use std::fmt::Write as _;
@@ -52,11 +53,11 @@ fn site_with_rules(rt: &impl Abort, alloc: Global) -> Site {
 }
 
 /// A seat has the session of a host set up.
-fn set_up<L: Ledger, R: Threads + Wait + Abort + Sync>(
+fn set_up<S: SharedSite, R: Threads + Wait + Abort + Sync>(
     rt: &R,
     alloc: Global,
-    site: &LockedSite<L>,
-    seat: &mut Seat<L>,
+    site: &S,
+    seat: &mut S::Seat,
     gateway: Gateway,
 ) {
     let event = attach(alloc, gateway).expect(rt, "a request");
@@ -81,6 +82,7 @@ fn reach<'a, R: Wait + Abort>(
     alloc: Global,
     gateways: &Gateways<Writer<'a, R>>,
     gateway: Gateway,
+    connection: usize,
     place: &'a Place,
 ) {
     let half = Arc::new(alloc, Half::start()).expect(rt, "memory");
@@ -88,14 +90,14 @@ fn reach<'a, R: Wait + Abort>(
         rt,
         Keeping {
             rt,
-            connection: 0,
+            connection,
             place,
             failing: None,
             told: &Open,
         },
     );
     let host = host_of(alloc, gateway).expect(rt, "a host");
-    let registered = gateways.register(rt, host, &half);
+    let registered = gateways.register(rt, host, connection, &half);
     assert!(rt; registered.is_ok());
 }
 
@@ -108,64 +110,97 @@ fn new_place(alloc: Global) -> Place {
 }
 
 /// Has everything pushed that is due to the two hosts, of which the lesser is reached by the first place.
-fn push<L: Ledger, R: Threads + Wait + Abort + Sync>(
+fn push<S: SharedSite, R: Threads + Wait + Abort + Sync>(
     rt: &R,
     alloc: Global,
-    site: &LockedSite<L>,
-    seat: &mut Seat<L>,
+    site: &S,
+    seat: &mut S::Seat,
     places: &[Place; 2],
 ) {
     let gateways = Gateways::start(alloc);
-    reach(rt, alloc, &gateways, GREATER, &places[1]);
-    reach(rt, alloc, &gateways, LESSER, &places[0]);
+    reach(rt, alloc, &gateways, GREATER, 1, &places[1]);
+    reach(rt, alloc, &gateways, LESSER, 0, &places[0]);
     let mut outgoing = Outgoing::nothing(alloc);
     let pushed = push_all(rt, alloc, site, seat, &gateways, &mut outgoing);
     assert!(rt; pushed.is_ok());
 }
 
-/// The sessions of these hosts are set up, and what is due is pushed; tells what is left of the site.
+/// The sessions of these hosts are set up, and twice what is due is pushed.
+fn set_up_and_push<S: SharedSite, R: Threads + Wait + Abort + Sync>(
+    rt: &R,
+    alloc: Global,
+    site: &S,
+    seat: &mut S::Seat,
+    attached: &[Gateway],
+    places: &[Place; 2],
+) {
+    for gateway in attached {
+        set_up(rt, alloc, site, seat, *gateway);
+    }
+    push(rt, alloc, site, seat, places);
+    push(rt, alloc, site, seat, places);
+}
+
+/// So at a site whose history is kept; tells how many entries settle.
 fn left_of<L: Ledger, R: Threads + Wait + Abort + Sync>(
     rt: &R,
     alloc: Global,
     blank: Blank,
     attached: &[Gateway],
     places: &[Place; 2],
-) -> Option<Settlement>
+) -> usize
     requires name { blank.name ≡ L.name }
     requires parts { blank.parts ≡ L.parts }
     requires one { blank.parts ≡ 1 }
 {
     let (site, mut seats) = opened::<L>(rt, alloc, blank, 1, ROOM, site_with_rules(rt, alloc));
     if let Some(seat) = seats.first_mut() {
-        for gateway in attached {
-            set_up(rt, alloc, &site, seat, *gateway);
-        }
-        push(rt, alloc, &site, seat, places);
+        set_up_and_push(rt, alloc, &site, seat, attached, places);
     }
-    settled(site, seats)
+    match settled(site, seats) {
+        Some(settlement) => settlement.entries,
+        None => 0,
+    }
+}
+
+/// So at a site that lives; tells how many entries its history has.
+fn left_of_living<L: Roll, R: Threads + Wait + Abort + Sync>(
+    rt: &R,
+    alloc: Global,
+    roster: Roster,
+    site: Site,
+    attached: &[Gateway],
+    places: &[Place; 2],
+) -> usize
+    requires names { AreNames L.name_of L.seats roster.seats }
+    requires keeper { roster.keeper ≡ L.keeper }
+    requires opening { site.state ≡ L.opening }
+{
+    let Ok((site, mut seats, keeper)) = LivingSite::<L>::start(alloc, roster, site) else {
+        rt.abort()
+    };
+    if let Some(seat) = seats.first_mut() {
+        set_up_and_push(rt, alloc, &site, seat, attached, places);
+    }
+    let chronicle = site.settle(seats, keeper);
+    let entries = chronicle.entries();
+    drop(chronicle);
+    entries as usize
 }
 
 /// What was written to the lesser host and to the greater, a line each, and how many entries settled.
-fn text_of(
-    alloc: Global,
-    places: [Place; 2],
-    left: Option<Settlement>,
-) -> Result<String, AllocError> {
+fn text_of(alloc: Global, places: [Place; 2], entries: usize) -> Result<String, AllocError> {
     let mut out = String::new(alloc);
     let [lesser, greater] = places;
     write!(out, "lesser:")?;
     put_frames(&mut out, lesser.into_inner().bytes.as_slice())?;
     write!(out, "\ngreater:")?;
     put_frames(&mut out, greater.into_inner().bytes.as_slice())?;
-    writeln!(
-        out,
-        "\n{} entries",
-        left.map_or(0, |left: Settlement| left.entries)
-    )?;
+    writeln!(out, "\n{entries} entries")?;
     Ok(out)
 }
 
-/// What comes of sessions of these hosts.
+/// What comes of sessions of these hosts at a site whose history is kept.
 fn check<R: Threads + Wait + Abort + Sync>(
     rt: &R,
     alloc: Global,
@@ -178,15 +213,39 @@ fn check<R: Threads + Wait + Abort + Sync>(
     assert_eq!(rt; text.as_str(), outcome);
 }
 
+/// And at one that lives.
+fn check_living<R: Threads + Wait + Abort + Sync>(
+    rt: &R,
+    alloc: Global,
+    attached: &[Gateway],
+    outcome: &str,
+) {
+    let places = [new_place(alloc), new_place(alloc)];
+    let roster = Roster::new(alloc, 1).expect(rt, "memory");
+    let site = site_with_rules(rt, alloc);
+    let left = left_of_living::<Brand, _>(rt, alloc, roster, site, attached, &places);
+    let text = text_of(alloc, places, left).expect(rt, "memory");
+    assert_eq!(rt; text.as_str(), outcome);
+}
+
 #[test]
 fn a_push_reaches_its_own_host_alone(rt: HostRuntime) {
-    // The lesser host is asked first, and nothing is due to it.
-    let outcome = "lesser:\ngreater: 258#2#2:gz;1;1@gz\n4 entries\n";
+    // The lesser host is asked first, and nothing is due to it; the second time nothing is due to either.
+    let outcome = "lesser:\ngreater: 258#2#2:gz;1;1@gz\n6 entries\n";
     check(&rt, rt.alloc(), &[GREATER], outcome);
 }
 
 #[test]
 fn each_host_gets_its_own_push(rt: HostRuntime) {
-    let outcome = "lesser: 258#2#2:gw;1;1@gw\ngreater: 258#4#4:gz;1;1@gz\n6 entries\n";
+    let outcome = "lesser: 258#2#2:gw;1;1@gw\ngreater: 258#4#4:gz;1;1@gz\n8 entries\n";
     check(&rt, rt.alloc(), &[GREATER, LESSER], outcome);
+}
+
+#[test]
+fn a_site_that_lives_is_asked_for_no_push_of_nothing(rt: HostRuntime) {
+    // All wait until the first push. The second time nobody waits, so no push is asked for.
+    let outcome = "lesser:\ngreater: 258#2#2:gz;1;1@gz\n4 entries\n";
+    check_living(&rt, rt.alloc(), &[GREATER], outcome);
+    let outcome = "lesser: 258#2#2:gw;1;1@gw\ngreater: 258#4#4:gz;1;1@gz\n6 entries\n";
+    check_living(&rt, rt.alloc(), &[GREATER, LESSER], outcome);
 }

@@ -71,12 +71,12 @@ impl<'a, R: Wait> Notes<'a, R> {
 }
 
 impl<R: Wait> Observer for Notes<'_, R> {
-    fn exchanged(&self, peer: &Origin, code: u32) {
+    fn exchanged(&self, _connection: usize, peer: &Origin, code: u32) {
         let (host, realm) = (text(peer.host.as_slice()), text(peer.realm.as_slice()));
         self.note(&[host, realm], Some(code));
     }
 
-    fn push_refused(&self, session: &GxSid, code: Option<u32>) {
+    fn push_refused(&self, _hop_id: u32, session: &GxSid, code: Option<u32>) {
         self.note(&[text(session.as_slice()), "refused"], code);
     }
 

@@ -41,11 +41,11 @@ impl<'a, G: Log> Journal<'a, G> {
 }
 
 impl<G: Log> Observer for Journal<'_, G> {
-    fn exchanged(&self, peer: &Origin, code: u32) {
+    fn exchanged(&self, _connection: usize, peer: &Origin, code: u32) {
         tell_exchanged(self.log, &peer.host, &peer.realm, code);
     }
 
-    fn push_refused(&self, session: &GxSid, code: Option<u32>) {
+    fn push_refused(&self, _hop_id: u32, session: &GxSid, code: Option<u32>) {
         tell_refused_push(self.log, session, code);
     }
 

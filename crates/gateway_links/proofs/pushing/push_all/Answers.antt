@@ -12,12 +12,12 @@ pushed_then s t u host a b =
 
 pub returns-in_err-pushed : goal.returns-in_err-pushed
 returns-in_err-pushed g c =
-    pushed_then c.args.seat.now c.loop.seat c.push_gateway.new.seat c.in-Some-2.gateway.host c.loop.invariant c.push_gateway.ensures
+    pushed_then (g.S.SharedSite.seen c.args.seat.now) (g.S.SharedSite.seen c.loop.seat) (g.S.SharedSite.seen c.push_gateway.new.seat) c.in-Some-2.gateway.host c.loop.invariant c.push_gateway.ensures.adds
 
 pub returns-then-not-conclude : goal.returns-then-not-conclude
 returns-then-not-conclude g c =
-    pushed_then c.args.seat.now c.loop.seat c.push_gateway.new.seat c.in-Some-2.gateway.host c.loop.invariant c.push_gateway.ensures
+    pushed_then (g.S.SharedSite.seen c.args.seat.now) (g.S.SharedSite.seen c.loop.seat) (g.S.SharedSite.seen c.push_gateway.new.seat) c.in-Some-2.gateway.host c.loop.invariant c.push_gateway.ensures.adds
 
 pub loop-preserved : goal.loop-preserved
 loop-preserved g c =
-    pushed_then c.args.seat.now c.loop.seat c.push_gateway.new.seat c.in-Some-2.gateway.host c.loop.invariant c.push_gateway.ensures
+    pushed_then (g.S.SharedSite.seen c.args.seat.now) (g.S.SharedSite.seen c.loop.seat) (g.S.SharedSite.seen c.push_gateway.new.seat) c.in-Some-2.gateway.host c.loop.invariant c.push_gateway.ensures.adds

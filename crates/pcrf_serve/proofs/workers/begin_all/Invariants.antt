@@ -6,6 +6,6 @@ use Rattle.pcrf_serve.proofs.workers.begin_all.Given as goal
 
 abbrev pub invariant-loop-seat : goal.invariant-loop-seat
 invariant-loop-seat g l =
-    Covers (λ connection begun. BegunFrom connection.0 begun) l.fn.connections.items l.begun.items (into_iter_items l.seat-iterator)
+    Covers (λ connection begun. BegunFrom g.S.SharedSite.seen (g.S.SharedSite.seen connection.0) begun) l.fn.connections.items l.begun.items (into_iter_items l.seat-iterator)
     × (length (into_iter_items l.seat-iterator) ≡ into_iter_len l.seat-iterator)
     × (vec_len l.begun + into_iter_len l.seat-iterator ≤ vec_capacity l.begun)

@@ -4,10 +4,10 @@ use Rattle.peer_links.proofs.dialing.next_letter.Goals as goal
 
 pub returns-in-Some-clause-idle : goal.returns-in-Some-clause-idle
 returns-in-Some-clause-idle g c =
-    asked_gains c.args.cursors.now c.args.first c.args.seat.now c.ask.new.seat (event_value c.next_question-question.result.event) (reply_value c.in-Ok.reply)
+    asked_gains c.args.cursors.now c.args.first (g.A.SharedSite.seen c.args.seat.now) (g.A.SharedSite.seen c.ask.new.seat) (event_value c.next_question-question.result.event) (reply_value c.in-Ok.reply)
     c.next_question-question.ensures.event c.in-Ok.ensures.receipt
 
 pub returns-clause-idle : goal.returns-clause-idle
 returns-clause-idle g c =
-    asked_gains c.args.cursors.now c.args.first c.args.seat.now c.ask.new.seat (event_value c.next_question-question.result.event) (reply_value c.in-Ok.reply)
+    asked_gains c.args.cursors.now c.args.first (g.A.SharedSite.seen c.args.seat.now) (g.A.SharedSite.seen c.ask.new.seat) (event_value c.next_question-question.result.event) (reply_value c.in-Ok.reply)
     c.next_question-question.ensures.event c.in-Ok.ensures.receipt

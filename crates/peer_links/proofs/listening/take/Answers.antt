@@ -11,17 +11,17 @@ on_err (Err e) p = p
 
 pub returns-in_err-ack-clause-part : goal.returns-in_err-ack-clause-part
 returns-in_err-ack-clause-part g c =
-    on_err c.from_residual.result (part_gains c.args.seat.now c.take_brought.new.seat (event_value c.in-Some-open.event)
+    on_err c.from_residual.result (part_gains (g.A.SharedSite.seen c.args.seat.now) (g.A.SharedSite.seen c.take_brought.new.seat) (event_value c.in-Some-open.event)
     c.in-Some-open.ensures.opened.brought c.in_err-ack.ensures.part)
 
 pub returns-in_err-ack-clause-exchanged : goal.returns-in_err-ack-clause-exchanged
 returns-in_err-ack-clause-exchanged g c =
-    exchanged_part c.args.seat.now c.take_brought.new.seat c.args.cursors.now c.take_brought.new.cursors (event_value c.in-Some-open.event)
+    exchanged_part (g.A.SharedSite.seen c.args.seat.now) (g.A.SharedSite.seen c.take_brought.new.seat) c.args.cursors.now c.take_brought.new.cursors (event_value c.in-Some-open.event)
     c.in-Some-open.ensures.opened.brought c.in_err-ack.ensures.part c.in_err-ack.ensures.not_counted
 
 pub returns-clause-exchanged : goal.returns-clause-exchanged
 returns-clause-exchanged g c =
     let event = event_value c.in-Some-open.event in
-    exchanged_brought c.args.seat.now c.take_brought.new.seat c.args.cursors.now c.take_brought.new.cursors
+    exchanged_brought (g.A.SharedSite.seen c.args.seat.now) (g.A.SharedSite.seen c.take_brought.new.seat) c.args.cursors.now c.take_brought.new.cursors
     (letter_with c.in-Some-open.heading event) c.in-Some-open.heading.at event
     c.in-Some-open.ensures.opened.brought refl c.in_ok-ack.ensures.whole c.in_ok-ack.ensures.counted

@@ -3,12 +3,12 @@ use Rattle.peer_links.proofs.listening.take_letters.Goals as goal
 
 pub returns-in_err-take_letter : goal.returns-in_err-take_letter
 returns-in_err-take_letter g c =
-    exchanged_then c.args.seat.now c.loop-message.seat c.take_letter.new.seat
+    exchanged_then (g.A.SharedSite.seen c.args.seat.now) (g.A.SharedSite.seen c.loop-message.seat) (g.A.SharedSite.seen c.take_letter.new.seat)
     c.args.cursors.now.makers c.loop-message.cursors.makers c.take_letter.new.cursors.makers
     c.loop-message.invariant c.take_letter.ensures
 
 pub loop-message-preserved : goal.loop-message-preserved
 loop-message-preserved g c =
-    exchanged_then c.args.seat.now c.loop-message.seat c.take_letter.new.seat
+    exchanged_then (g.A.SharedSite.seen c.args.seat.now) (g.A.SharedSite.seen c.loop-message.seat) (g.A.SharedSite.seen c.take_letter.new.seat)
     c.args.cursors.now.makers c.loop-message.cursors.makers c.take_letter.new.cursors.makers
     c.loop-message.invariant c.take_letter.ensures

@@ -1,0 +1,4 @@
+pub mod Bytes
+pub mod Sealing
+pub mod Opening
+pub mod RoundTrip
