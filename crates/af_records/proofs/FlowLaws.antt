@@ -23,7 +23,7 @@ use Rattle.af_records.specs.declared.fact.ComponentValue.TheVariants as componen
 use Rattle.af_records.specs.declared.fact.FlowValue.{FlowValue}
 use Rattle.af_records.specs.declared.fact.FlowValue.TheVariants as flow
 use Rattle.af_records.specs.declared.fact.AfFact.{AfFact}
-use Rattle.af_records.specs.declared.fact.AfFact.TheVariants.{End, ComponentRemoved, FlowRemoved, Session, Component, Flow}
+use Rattle.af_records.specs.declared.fact.AfFact.TheVariants.{End, ComponentRemoved, FlowRemoved, Aborted, Session, Component, Flow}
 use Rattle.af_records.specs.FieldValues.{flow_number}
 use Rattle.af_records.specs.FlowLists.{numbers_cmp, flow_said, is_last, flows_after}
 use Rattle.af_records.specs.RecordFacts.{fact_of}
@@ -106,6 +106,7 @@ each_once (q ∷ qs) c = after_is q qs c.0 c.1
 same_flows : (xs : List AfFact) → filter_map flow_said xs ≡ filter_map flow_of (map fact_of xs)
 same_flows [] = refl
 same_flows (End ∷ xs) = same_flows xs
+same_flows (Aborted ∷ xs) = same_flows xs
 same_flows (ComponentRemoved c ∷ xs) = same_flows xs
 same_flows (FlowRemoved c n ∷ xs) = same_flows xs
 same_flows (Session t (session.Address x) ∷ xs) = same_flows xs
@@ -114,6 +115,7 @@ same_flows (Session t (session.Subscribers x) ∷ xs) = same_flows xs
 same_flows (Session t (session.Host x) ∷ xs) = same_flows xs
 same_flows (Session t (session.Realm x) ∷ xs) = same_flows xs
 same_flows (Session t (session.Last x) ∷ xs) = same_flows xs
+same_flows (Session t (session.Prefix x) ∷ xs) = same_flows xs
 same_flows (Component c t (component.MediaType x) ∷ xs) = same_flows xs
 same_flows (Component c t (component.Status x) ∷ xs) = same_flows xs
 same_flows (Component c t (component.RateUp x) ∷ xs) = same_flows xs
@@ -144,6 +146,7 @@ flow_below c n d m t u x w l = then_less (nat_cmp c d) (nat_cmp n m) (pair_cmp n
 -- below another, of any kind
 above : (c n : ℕ) (t : Tag) (x : FlowValue) (y : AfFact) (q : ℕ × ℕ) → flow_said y ≡ Some q → fact_cmp (fact_of (Flow c n t x)) (fact_of y) ≡ Less → is_gt (numbers_cmp (c, n) q) ≡ false
 above c n t x End q h l = none_some q h
+above c n t x Aborted q h l = none_some q h
 above c n t x (ComponentRemoved d) q h l = none_some q h
 above c n t x (FlowRemoved d m) q h l = none_some q h
 above c n t x (Session u w) q h l = none_some q h
@@ -154,6 +157,7 @@ above c n t x (Flow d m u w) q h l = subst (λ (z : ℕ × ℕ). is_gt (numbers_
 flows_climb : (xs : List AfFact) → Rises fact_cmp (map fact_of xs) → Climbs (filter_map flow_said xs)
 flows_climb [] r = tt
 flows_climb (End ∷ xs) r = flows_climb xs r.1
+flows_climb (Aborted ∷ xs) r = flows_climb xs r.1
 flows_climb (ComponentRemoved c ∷ xs) r = flows_climb xs r.1
 flows_climb (FlowRemoved c n ∷ xs) r = flows_climb xs r.1
 flows_climb (Session t x ∷ xs) r = flows_climb xs r.1

@@ -8,7 +8,7 @@ use Rattle.fact_records.specs.declared.session_value.SessionValue.TheVariants as
 use Rattle.af_records.specs.declared.fact.ComponentValue.TheVariants as component
 use Rattle.af_records.specs.declared.fact.FlowValue.TheVariants as flow
 use Rattle.af_records.specs.declared.fact.AfFact.{AfFact}
-use Rattle.af_records.specs.declared.fact.AfFact.TheVariants.{End, ComponentRemoved, FlowRemoved, Session, Component, Flow}
+use Rattle.af_records.specs.declared.fact.AfFact.TheVariants.{End, ComponentRemoved, FlowRemoved, Aborted, Session, Component, Flow}
 use Rattle.af_records.specs.RecordFacts.{fact_of}
 use Rattle.af_records.specs.RemovedLists.{removable_of, removed_part}
 
@@ -16,6 +16,7 @@ use Rattle.af_records.specs.RemovedLists.{removable_of, removed_part}
 same_removed : (xs : List AfFact) → map removable_of (filter_map removed_part xs) ≡ filter_map removal (map fact_of xs)
 same_removed [] = refl
 same_removed (End ∷ xs) = same_removed xs
+same_removed (Aborted ∷ xs) = same_removed xs
 same_removed (ComponentRemoved c ∷ xs) = ap (λ (l : List places.Removable). places.Component c ∷ l) (same_removed xs)
 same_removed (FlowRemoved c n ∷ xs) = ap (λ (l : List places.Removable). places.Flow c n ∷ l) (same_removed xs)
 same_removed (Session t (session.Address x) ∷ xs) = same_removed xs
@@ -24,6 +25,7 @@ same_removed (Session t (session.Subscribers x) ∷ xs) = same_removed xs
 same_removed (Session t (session.Host x) ∷ xs) = same_removed xs
 same_removed (Session t (session.Realm x) ∷ xs) = same_removed xs
 same_removed (Session t (session.Last x) ∷ xs) = same_removed xs
+same_removed (Session t (session.Prefix x) ∷ xs) = same_removed xs
 same_removed (Component c t (component.MediaType x) ∷ xs) = same_removed xs
 same_removed (Component c t (component.Status x) ∷ xs) = same_removed xs
 same_removed (Component c t (component.RateUp x) ∷ xs) = same_removed xs

@@ -4,7 +4,7 @@ use Rattle.std.specs.declared.cmp.Ordering.{Ordering}
 use Rattle.std.specs.Ordering.{is_eq, nat_cmp}
 use Rattle.ranked.specs.Orders.{pair_cmp}
 use Rattle.af_records.specs.declared.fact.AfFact.{AfFact}
-use Rattle.af_records.specs.declared.fact.AfFact.TheVariants.{End, ComponentRemoved, FlowRemoved, Session, Component, Flow}
+use Rattle.af_records.specs.declared.fact.AfFact.TheVariants.{Flow}
 
 -- pairs of numbers
 abbrev pub numbers_cmp : ℕ × ℕ → ℕ × ℕ → Ordering
@@ -12,12 +12,8 @@ numbers_cmp = pair_cmp nat_cmp nat_cmp
 
 -- the flow of which the fact is a field
 abbrev pub flow_said : AfFact → Option (ℕ × ℕ)
-flow_said End = None
-flow_said (ComponentRemoved c) = None
-flow_said (FlowRemoved c n) = None
-flow_said (Session t x) = None
-flow_said (Component c t x) = None
 flow_said (Flow c n t x) = Some (c, n)
+flow_said f = None
 
 -- the flow is the last one
 abbrev pub is_last : Option (ℕ × ℕ) → ℕ × ℕ → Bool

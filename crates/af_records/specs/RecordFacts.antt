@@ -9,13 +9,14 @@ use Rattle.fact_records.specs.SessionFacts.{session_fact}
 use Rattle.af_records.specs.declared.fact.ComponentValue.TheVariants as component_value
 use Rattle.af_records.specs.declared.fact.FlowValue.TheVariants as flow_value
 use Rattle.af_records.specs.declared.fact.AfFact.{AfFact}
-use Rattle.af_records.specs.declared.fact.AfFact.TheVariants.{End, ComponentRemoved, FlowRemoved, Session, Component, Flow}
+use Rattle.af_records.specs.declared.fact.AfFact.TheVariants.{End, ComponentRemoved, FlowRemoved, Aborted, Session, Component, Flow}
 
 -- a fact as what it says
 abbrev pub fact_of : AfFact → Fact
 fact_of End = facts.End
 fact_of (ComponentRemoved c) = Removed (places.Component c)
 fact_of (FlowRemoved c n) = Removed (places.Flow c n)
+fact_of Aborted = facts.Aborted
 fact_of (Session t x) = session_fact t x
 fact_of (Component c t (component_value.MediaType x)) = Field (OfComponent c MediaType) t (Number x)
 fact_of (Component c t (component_value.Status x)) = Field (OfComponent c ComponentStatus) t (Number x)

@@ -4,7 +4,7 @@ use Rattle.pcrf_facts.specs.Places as places
 use Rattle.af_records.specs.declared.removed.RemovedPart.{RemovedPart}
 use Rattle.af_records.specs.declared.removed.RemovedPart.TheVariants as part
 use Rattle.af_records.specs.declared.fact.AfFact.{AfFact}
-use Rattle.af_records.specs.declared.fact.AfFact.TheVariants.{End, ComponentRemoved, FlowRemoved, Session, Component, Flow}
+use Rattle.af_records.specs.declared.fact.AfFact.TheVariants.{ComponentRemoved, FlowRemoved}
 
 -- a part as what removals name
 abbrev pub removable_of : RemovedPart → places.Removable
@@ -13,9 +13,6 @@ removable_of (part.Flow c n) = places.Flow c n
 
 -- what the fact removes
 abbrev pub removed_part : AfFact → Option RemovedPart
-removed_part End = None
 removed_part (ComponentRemoved c) = Some (part.Component c)
 removed_part (FlowRemoved c n) = Some (part.Flow c n)
-removed_part (Session t x) = None
-removed_part (Component c t x) = None
-removed_part (Flow c n t x) = None
+removed_part f = None

@@ -44,6 +44,8 @@ pub enum AfFact {
     ComponentRemoved(u32),
     /// A flow of a component is removed.
     FlowRemoved(u32, u32),
+    /// The application function was asked to abort the session (TS 29.214, 4.4.6.1).
+    Aborted,
     /// A field of the session.
     Session(Tag, SessionValue<Enumerated<AfRequestType>>),
     /// A field of a component.
@@ -76,6 +78,7 @@ impl AfFact {
             AfFact::End => Ok(AfFact::End),
             AfFact::ComponentRemoved(component) => Ok(AfFact::ComponentRemoved(*component)),
             AfFact::FlowRemoved(component, flow) => Ok(AfFact::FlowRemoved(*component, *flow)),
+            AfFact::Aborted => Ok(AfFact::Aborted),
             AfFact::Session(tag, value) => Ok(AfFact::Session(*tag, value.try_copy()?)),
             AfFact::Component(component, tag, value) => {
                 Ok(AfFact::Component(*component, *tag, *value))

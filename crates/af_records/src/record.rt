@@ -3,7 +3,7 @@ ghost use Rattle.std.specs.Prelude.{◌≡◌, IfOk, IfSome, None, if◌then◌e
 ghost use Rattle.std.proofs.Common.{unwrap_or};
 ghost use Rattle.pcrf_values.specs.Numbers.{flow_status_number};
 ghost use Rattle.pcrf_facts.specs.FlowWords as words;
-ghost use Rattle.pcrf_facts.specs.Held.{kept_list, is_ended, entry_shown};
+ghost use Rattle.pcrf_facts.specs.Held.{kept_list, is_ended, is_aborted, entry_shown};
 ghost use Rattle.pcrf_facts.specs.Held as held_words;
 ghost use Rattle.pcrf_facts.specs.Live.{af_is_live};
 ghost use Rattle.pcrf_facts.specs.Places as places;
@@ -26,7 +26,9 @@ use crate::removed::RemovedParts;
 use crate::typed::{component_position, flow_position};
 use fact_records::{Record, SessionValue, copy_facts, position_of_field};
 use lattice_core::{FactSet, Join, Tag};
-use pcrf_values::{Apn, DiameterIdentity, Enumerated, Filters, FlowStatus, FlowUsage, Subscribers};
+use pcrf_values::{
+    Apn, DiameterIdentity, Enumerated, Filters, FlowStatus, FlowUsage, Ipv6Prefix, Subscribers,
+};
 use std::alloc::{AllocError, Global};
 use std::marker::Model;
 use std::net::Ipv4Addr;
@@ -153,7 +155,14 @@ impl AfRec {
         self.facts.ended()
     }
 
-    /// The session isn't ended, and shows an address.
+    /// The application function was asked to abort the session.
+    pub fn aborted(&self) -> bool
+        ensures { result ≡ is_aborted self.now }
+    {
+        self.facts.aborted()
+    }
+
+    /// The session isn't ended, and shows an address or a prefix.
     #[tactic(auto, using(crate::proofs::TypedLaws::said))]
     pub fn live(&self) -> bool
         ensures { result ≡ af_is_live self.now }
@@ -161,7 +170,7 @@ impl AfRec {
         if self.ended() {
             return false;
         }
-        self.address().is_some()
+        self.address().is_some() || self.prefix().is_some()
     }
 
     /// What the session's field of that number shows.
@@ -176,6 +185,7 @@ impl AfRec {
             Some(AfFact::End) => None,
             Some(AfFact::ComponentRemoved(_)) => None,
             Some(AfFact::FlowRemoved(_, _)) => None,
+            Some(AfFact::Aborted) => None,
             Some(AfFact::Session(tag, value)) => Some((*tag, value)),
             Some(AfFact::Component(_, _, _)) => None,
             Some(AfFact::Flow(_, _, _, _)) => None,
@@ -194,6 +204,7 @@ impl AfRec {
             Some(AfFact::End) => None,
             Some(AfFact::ComponentRemoved(_)) => None,
             Some(AfFact::FlowRemoved(_, _)) => None,
+            Some(AfFact::Aborted) => None,
             Some(AfFact::Session(_, _)) => None,
             Some(AfFact::Component(_, tag, value)) => Some((*tag, value)),
             Some(AfFact::Flow(_, _, _, _)) => None,
@@ -212,6 +223,7 @@ impl AfRec {
             Some(AfFact::End) => None,
             Some(AfFact::ComponentRemoved(_)) => None,
             Some(AfFact::FlowRemoved(_, _)) => None,
+            Some(AfFact::Aborted) => None,
             Some(AfFact::Session(_, _)) => None,
             Some(AfFact::Component(_, _, _)) => None,
             Some(AfFact::Flow(_, _, tag, value)) => Some((*tag, value)),
@@ -298,6 +310,20 @@ impl AfRec {
         };
         match value {
             SessionValue::Last(last) => Some((tag, last)),
+            _ => None,
+        }
+    }
+
+    /// The Framed-IPv6-Prefix of the user, with its tag.
+    pub fn prefix(&self) -> Option<(Tag, &Ipv6Prefix)>
+        ensures { entry_by values.Prefix (option_map (λ e. (e.0, e.1.now)) result)
+            ≡ entry_shown self.now places.prefix }
+    {
+        let Some((tag, value)) = self.field(7) else {
+            return None;
+        };
+        match value {
+            SessionValue::Prefix(prefix) => Some((tag, prefix)),
             _ => None,
         }
     }

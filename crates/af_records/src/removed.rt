@@ -69,6 +69,7 @@ fn removed_part(fact: &AfFact) -> Option<RemovedPart>
         AfFact::ComponentRemoved(component) => Some(RemovedPart::Component(*component)),
         AfFact::FlowRemoved(component, flow) => Some(RemovedPart::Flow(*component, *flow)),
         AfFact::End => None,
+        AfFact::Aborted => None,
         AfFact::Session(_, _) => None,
         AfFact::Component(_, _, _) => None,
         AfFact::Flow(_, _, _, _) => None,

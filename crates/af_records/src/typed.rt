@@ -113,6 +113,7 @@ impl TypedFact for AfFact {
             AfFact::End => Position::of_end(),
             AfFact::ComponentRemoved(component) => Position::of_component_removal(*component),
             AfFact::FlowRemoved(component, flow) => Position::of_flow_removal(*component, *flow),
+            AfFact::Aborted => Position::of_abort(),
             AfFact::Session(_, value) => session_position(value),
             AfFact::Component(component, _, value) => {
                 component_position(*component, component_field(value))
@@ -128,6 +129,7 @@ impl TypedFact for AfFact {
             AfFact::End => false,
             AfFact::ComponentRemoved(_) => false,
             AfFact::FlowRemoved(_, _) => false,
+            AfFact::Aborted => false,
             AfFact::Session(_, _) => true,
             AfFact::Component(_, _, _) => true,
             AfFact::Flow(_, _, _, _) => true,
@@ -137,7 +139,8 @@ impl TypedFact for AfFact {
     fn beneath(&self) -> Beneath {
         match self {
             AfFact::End => Beneath::Nothing,
-            AfFact::ComponentRemoved(_) | AfFact::Session(_, _) => Beneath::Session,
+            AfFact::ComponentRemoved(_) | AfFact::Aborted => Beneath::Session,
+            AfFact::Session(_, _) => Beneath::Session,
             AfFact::FlowRemoved(component, _) => Beneath::Component(*component),
             AfFact::Component(component, _, _) => Beneath::Component(*component),
             AfFact::Flow(component, flow, _, _) => Beneath::Flow(*component, *flow),
@@ -149,6 +152,7 @@ impl TypedFact for AfFact {
             AfFact::End => Ordering::Equal,
             AfFact::ComponentRemoved(_) => Ordering::Equal,
             AfFact::FlowRemoved(_, _) => Ordering::Equal,
+            AfFact::Aborted => Ordering::Equal,
             AfFact::Session(tag, value) => match other {
                 AfFact::Session(other_tag, other_value) => {
                     tag.cmp(other_tag).then(compare_values(value, other_value))

@@ -5,18 +5,16 @@ use Rattle.ranked.specs.Sets.{In}
 use Rattle.ranked.proofs.Plain.{clash, came_from}
 use Rattle.ranked.proofs.SetLaws.{Same-back, In-filter_map, filter_map-In, greatest-Same}
 use Rattle.pcrf_facts.specs.Facts.{Fact}
-use Rattle.pcrf_facts.specs.Held.{kept_list, entry_shown, removed_parts, is_ended}
+use Rattle.pcrf_facts.specs.Held.{kept_list, entry_shown, removed_parts, is_ended, is_aborted}
 use Rattle.pcrf_facts.specs.Laws.{ShowTheSame}
-use Rattle.pcrf_facts.specs.Places.{address}
-use Rattle.pcrf_facts.specs.Values.{Entry}
 use Rattle.pcrf_facts.proofs.ShownLaws.{members_show_the_same, held_shows_the_same}
 use Rattle.pcrf_model.specs.Bindings.{Candidate, candidate_cmp, candidate, matches, standing, bind}
 use Rattle.pcrf_model.specs.Holdings.{SessionFact, Holding, facts_on}
+use Rattle.pcrf_model.specs.Live.{is_live}
 use Rattle.pcrf_model.specs.Sessions.{Session, Kind, Gx, Af, gx, af, is_gx}
 use Rattle.pcrf_model.specs.Views.{View, view}
-use Rattle.pcrf_model.proofs.BindLaws.{candidate_ranked, of_gx, gx_is}
+use Rattle.pcrf_model.proofs.BindLaws.{candidate_ranked, matched, of_gx, gx_is, live-known}
 use Rattle.pcrf_model.proofs.HoldingLaws.{replaces_one}
-use Rattle.pcrf_model.proofs.ViewLaws.{shows-known}
 use Rattle.bind_index.specs.Asking.{with_record}
 use Rattle.bind_index.specs.Beside.{of_kind, beside}
 use Rattle.bind_index.specs.Matches.{match_of}
@@ -33,13 +31,13 @@ module _ (v : View) (a s : Session) (c : Candidate) (h : candidate v a s ≡ Som
   pub of_gateway : gx s.id ≡ s
   of_gateway = gx_is s s.kind refl (of_gx v a s (came_from (matches v a s) (standing v s) c h).0)
 
-  -- and shows an address
-  pub shows_address : (x : Entry) × (v.shows s address ≡ Some x)
-  shows_address = was_there _ (v.shows s address) c (came_from (matches v a s) (standing v s) c h).1
+  -- and is live
+  pub candidate_lives : is_live v s ≡ true
+  candidate_lives = (matched v a s (came_from (matches v a s) (standing v s) c h).0).lives
 
 -- so it is known
 pub candidate_known : (facts : List SessionFact) (a s : Session) (c : Candidate) → candidate (view facts) a s ≡ Some c → In s (view facts).sessions
-candidate_known facts a s c h = let x = shows_address (view facts) a s c h in shows-known facts s address x.0 x.1
+candidate_known facts a s c h = live-known facts s (candidate_lives (view facts) a s c h)
 
 -- ---- two sessions that show the same
 
@@ -54,6 +52,7 @@ beside_same gxs gys afs ays g f = λ i. record {
   shows = λ s p. (same_by_kind s.kind gxs gys afs ays g f).shows p i;
   ended = λ s. (same_by_kind s.kind gxs gys afs ays g f).ended i;
   removals = λ s. (same_by_kind s.kind gxs gys afs ays g f).removals i;
+  aborted = λ s. (same_by_kind s.kind gxs gys afs ays g f).aborts i;
   all = [];
   sessions = [];
 }
@@ -67,7 +66,7 @@ pub record HasRecord (first : List SessionFact) (asking : List Fact) (second : L
 
 -- the same facts show the same
 same_facts : (xs ys : List Fact) → xs ≡ ys → ShowTheSame xs ys
-same_facts xs ys e = record { shows = λ p. ap (λ (fs : List Fact). entry_shown fs p) e; ended = ap is_ended e; removals = ap removed_parts e }
+same_facts xs ys e = record { shows = λ p. ap (λ (fs : List Fact). entry_shown fs p) e; ended = ap is_ended e; removals = ap removed_parts e; aborts = ap is_aborted e }
 
 -- so it is where each Gx session has the same facts, and the record is what is kept of the AF session's
 pub kept_record : (first : List SessionFact) (asking : List Fact) (second : List SessionFact) (a : List ℕ)

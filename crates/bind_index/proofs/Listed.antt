@@ -1,23 +1,23 @@
 -- The sessions that are listed are those of the records that show what is asked.
-use Rattle.std.proofs.Common.{◌≡◌, ℕ, true, not, ◌&&◌, List, [], ◌∷◌, map, Option, Some, refl, sym, ap, ◌∙◌}
+use Rattle.std.proofs.Common.{◌≡◌, ℕ, true, ◌&&◌, List, [], ◌∷◌, map, Option, Some, refl, sym, ap, ◌∙◌}
 use Rattle.std.specs.Cmp.{first_so, second_so}
 use Rattle.ranked.specs.Ascending.{Rises}
 use Rattle.ranked.specs.Orders.{text_cmp}
 use Rattle.ranked.specs.Sets.{In}
-use Rattle.ranked.proofs.Plain.{came_from, some_same, some_is}
+use Rattle.ranked.proofs.Plain.{came_from, some_same}
 use Rattle.ranked.proofs.OrderLaws.{text_ranked}
 use Rattle.ranked.proofs.SetLaws.{In-filter_map, filter_map-In}
 use Rattle.ranked.proofs.AscendingLaws.{ascending-ascending, same_ascending, filter_map-ascending}
 use Rattle.lattice_core.specs.Entries.{IsAscending}
 use Rattle.lattice_core.proofs.MapParts.{below_member}
 use Rattle.pcrf_facts.specs.Facts.{Fact}
-use Rattle.pcrf_facts.specs.Places.{address}
+use Rattle.pcrf_facts.specs.Places.{Place}
 use Rattle.pcrf_facts.specs.Values.{Entry}
 use Rattle.pcrf_model.specs.Holdings.{SessionFact, facts_on}
 use Rattle.pcrf_model.specs.Live.{is_live}
 use Rattle.pcrf_model.specs.Sessions.{Session, session_cmp, gx, is_gx}
 use Rattle.pcrf_model.specs.Views.{View, view}
-use Rattle.pcrf_model.proofs.BindLaws.{has_address, gx_is}
+use Rattle.pcrf_model.proofs.BindLaws.{live_reached, gx_is}
 use Rattle.pcrf_model.proofs.HoldingLaws.{session_ranked}
 use Rattle.pcrf_model.proofs.ViewLaws.{its_session}
 use Rattle.site_join.specs.States.{Records}
@@ -28,7 +28,7 @@ use Rattle.bind_index.proofs.Entries.{AreRecordsOf, its_facts, has_record, is_th
 -- what is known of a session that is listed
 record IsListed (v : View) (q : Question) (s : Session) (id : List ℕ) : Type 0 where
   named : gx id ≡ s
-  address_shows : (x : Entry) × (v.shows s address ≡ Some x)
+  shows : (p : Place) × (x : Entry) × (v.shows s p ≡ Some x)
 
 -- so it is
 is_listed : (v : View) (q : Question) (s : Session) (id : List ℕ) → listed v q s ≡ Some id → IsListed v q s id
@@ -37,9 +37,10 @@ is_listed v q s id h =
     let lives : (is_gx s.kind && is_live v s) ≡ true = first_so _ _ c.0 in
     let of_gateway : is_gx s.kind ≡ true = first_so _ _ lives in
     let live : is_live v s ≡ true = second_so (is_gx s.kind) _ lives in
+    let r = live_reached v s live in
     record {
       named = ap gx (sym (some_same _ _ c.1)) ∙ gx_is s s.kind refl of_gateway;
-      address_shows = some_is (v.shows s address) (has_address v s s.kind of_gateway (second_so (not (v.ended s)) _ live));
+      shows = (r.0, r.2, r.3);
     }
 
 -- records stand in the order of their Session-Ids
@@ -70,10 +71,10 @@ module _ (facts : List SessionFact) (es : Records) (r : AreRecordsOf gx facts es
   forth id i =
       let w = filter_map-In (listed v q) id v.sessions i in
       let l = is_listed v q w.0 id w.2 in
-      let x = l.address_shows in
+      let x = l.shows in
       let here : listed v q (gx id) ≡ Some id = ap (listed v q) l.named ∙ w.2 in
-      let shows : v.shows (gx id) address ≡ Some x.0 = ap (λ (s : Session). v.shows s address) l.named ∙ x.1 in
-      In-filter_map of_record (id, facts_on facts (gx id)) id es (has_record facts es r id address x.0 shows) (alone id ∙ here)
+      let shows : v.shows (gx id) x.0 ≡ Some x.1 = ap (λ (s : Session). v.shows s x.0) l.named ∙ x.2 in
+      In-filter_map of_record (id, facts_on facts (gx id)) id es (has_record facts es r id x.0 x.1 shows) (alone id ∙ here)
 
   -- and each of a record is listed
   back : (id : List ℕ) → In id (listed_among q es) → In id (live_sessions v q)
@@ -81,8 +82,8 @@ module _ (facts : List SessionFact) (es : Records) (r : AreRecordsOf gx facts es
   back id i =
       let w = filter_map-In of_record id es i in
       let here : listed v q (gx w.0.0) ≡ Some id = sym (its_listing w.0 w.1) ∙ w.2 in
-      let x = (is_listed v q (gx w.0.0) id here).address_shows in
-      In-filter_map (listed v q) (gx w.0.0) id v.sessions (is_there facts es r w.0.0 address x.0 x.1) here
+      let x = (is_listed v q (gx w.0.0) id here).shows in
+      In-filter_map (listed v q) (gx w.0.0) id v.sessions (is_there facts es r w.0.0 x.0 x.1 x.2) here
 
   -- those of sessions rise
   sessions_rise : Rises text_cmp (live_sessions v q)

@@ -2,7 +2,7 @@
 -- AF session's flows, once it is bound.
 use Rattle.std.specs.Prelude.{List, []}
 use Rattle.pcrf_facts.specs.Facts.{Fact}
-use Rattle.pcrf_facts.specs.Held.{entry_shown, removed_parts, is_ended}
+use Rattle.pcrf_facts.specs.Held.{entry_shown, removed_parts, is_ended, is_aborted}
 use Rattle.pcrf_model.specs.Sessions.{Kind, Gx, Af}
 use Rattle.pcrf_model.specs.Views.{View}
 
@@ -17,6 +17,7 @@ beside gxs afs = record {
   shows = λ s. entry_shown (of_kind s.kind gxs afs);
   ended = λ s. is_ended (of_kind s.kind gxs afs);
   removals = λ s. removed_parts (of_kind s.kind gxs afs);
+  aborted = λ s. is_aborted (of_kind s.kind gxs afs);
   all = [];
   sessions = [];
 }

@@ -1,13 +1,14 @@
--- The live Gx sessions that have an address, or a subscriber.
+-- The live Gx sessions that have an address, a prefix that covers one, or a subscriber.
 use Rattle.std.specs.Prelude.{ℕ, Bool, ◌&&◌, if◌then◌else◌, List, [], ◌∷◌, Option, Some, None}
 use Rattle.std.specs.List.{filter_map}
 use Rattle.std.specs.Net.Addr.{ipv4_octets}
+use Rattle.pcrf_values.specs.Prefixes.{Ipv6Prefix}
 use Rattle.pcrf_facts.specs.Facts.{Fact}
 use Rattle.pcrf_facts.specs.FlowWords.{value_at}
 use Rattle.pcrf_facts.specs.Live.{Shows}
-use Rattle.pcrf_facts.specs.Places.{address, subscribers}
-use Rattle.pcrf_facts.specs.Values.{Address, Subscriber, Subscribers}
-use Rattle.pcrf_model.specs.Bindings.{agrees, meets}
+use Rattle.pcrf_facts.specs.Places.{address, prefix, subscribers}
+use Rattle.pcrf_facts.specs.Values.{Address, Subscriber, Subscribers, Prefix}
+use Rattle.pcrf_model.specs.Bindings.{agrees, is_covered, meets}
 use Rattle.pcrf_model.specs.Live.{is_live}
 use Rattle.pcrf_model.specs.Sessions.{Session, gx, is_gx}
 use Rattle.pcrf_model.specs.Views.{View}
@@ -18,11 +19,13 @@ use Rattle.bind_index.specs.declared.listing.Asked.TheVariants as on
 -- what a session is asked to have
 pub data Question : Type 0 where
   HasAddress : List ℕ → Question
+  Covers : Ipv6Prefix → Question
   HasSubscriber : Subscriber → Question
 
 -- it shows what is asked
 abbrev pub shows_asked : Question → Shows → Bool
 shows_asked (HasAddress a) shows = agrees (Some (Address a)) (value_at shows address)
+shows_asked (Covers p) shows = is_covered (Some (Prefix p)) (value_at shows prefix)
 shows_asked (HasSubscriber x) shows = meets (Some (Subscribers (x ∷ []))) (value_at shows subscribers)
 
 -- the Session-Id of a live Gx session that shows what is asked
@@ -37,6 +40,10 @@ live_sessions v q = filter_map (listed v q) v.sessions
 abbrev pub sessions_at : View → List ℕ → List (List ℕ)
 sessions_at v a = live_sessions v (HasAddress a)
 
+-- of those that have a prefix which covers that one
+abbrev pub sessions_covering : View → Ipv6Prefix → List (List ℕ)
+sessions_covering v p = live_sessions v (Covers p)
+
 -- and of those that have the subscriber among theirs
 abbrev pub sessions_of : View → Subscriber → List (List ℕ)
 sessions_of v x = live_sessions v (HasSubscriber x)
@@ -48,4 +55,5 @@ listed_among q = filter_map (λ (e : List ℕ × List Fact). listed (beside e.1 
 -- what the code asks
 abbrev pub asked_value : Asked → Question
 asked_value (on.Address a) = HasAddress (ipv4_octets a)
+asked_value (on.Prefix p) = Covers p.now
 asked_value (on.Subscriber x) = HasSubscriber x.now

@@ -6,9 +6,10 @@ use Rattle.std.specs.List.{filter_map}
 use Rattle.ranked.specs.Sets.{best, greatest}
 use Rattle.ranked.specs.declared.tag.Tag.{Tag}
 use Rattle.pcrf_facts.specs.Facts.{Fact}
+use Rattle.pcrf_values.specs.Prefixes.{Ipv6Prefix, covers}
 use Rattle.pcrf_facts.specs.Values.{Subscriber}
 use Rattle.pcrf_model.specs.Sessions.{gx, af}
-use Rattle.pcrf_model.specs.Bindings.{Candidate, candidate_cmp, candidate, matches, shares_one}
+use Rattle.pcrf_model.specs.Bindings.{Stamp, Candidate, candidate_cmp, candidate, matches, shares_one}
 use Rattle.bind_index.specs.Beside.{beside}
 use Rattle.bind_index.specs.declared.matching.Match.{Match}
 
@@ -23,6 +24,10 @@ match_of asking id facts = candidate (beside facts asking) (af []) (gx id)
 -- the matches among the records of Gx sessions
 abbrev pub matches_among : List Fact → List (List ℕ × List Fact) → List Candidate
 matches_among asking = filter_map (λ (e : List ℕ × List Fact). match_of asking e.0 e.1)
+
+-- the counter and the site of a tag
+abbrev pub stamp_in : Tag → Stamp
+stamp_in t = (t.counter, t.site)
 
 -- how a match of the code stands
 abbrev pub match_value : Match → Candidate
@@ -44,6 +49,12 @@ abbrev pub agrees_by : {T : Type 0} → (T → T → Ordering) → Option (Tag �
 agrees_by cmp None y = true
 agrees_by cmp (Some x) None = false
 agrees_by cmp (Some x) (Some y) = is_eq (cmp x.1 y.1)
+
+-- nothing is asked for, or a prefix is there that covers the one that is asked for
+abbrev pub is_covered_by : Option (Tag × Ipv6Prefix) → Option (Tag × Ipv6Prefix) → Bool
+is_covered_by None y = true
+is_covered_by (Some x) None = false
+is_covered_by (Some x) (Some y) = covers y.1 x.1
 
 -- nothing is asked for, or one of the subscribers that are asked for is there
 abbrev pub meets_by : Option (Tag × List Subscriber) → Option (Tag × List Subscriber) → Bool

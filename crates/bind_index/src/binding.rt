@@ -17,8 +17,9 @@ use std::cmp::Ordering;
 use std::collections::btree_map::Iter;
 
 /// The gateway's session to which an application function's session is bound, `None` where it is bound to none: of the live
-/// ones with its address, and as far as it shows them, one of its subscribers and its access point, the one whose address is
-/// the newest by counter and site, and of equal ones the one with the greatest Session-Id (TS 29.213, 5.2; what decides
+/// ones with its address and with a prefix that covers its prefix, and with one of its subscribers and its access point, each as
+/// far as it shows them, the one that was last reached by the counter and site of its address or its prefix, and of equal ones
+/// the one with the greatest Session-Id (TS 29.213, 5.2; what decides
 /// between several is this project's own). Its time grows with the number of gateways' sessions; it takes no memory.
 pub fn bind<'s>(state: &'s State, session: &AfSid) -> Option<&'s GxSid>
     ensures { option_map gx (option_copied result)

@@ -7,5 +7,5 @@ mod listing;
 mod matching;
 
 pub use binding::{bind, bind_by, greater};
-pub use listing::{sessions_at, sessions_of};
+pub use listing::{sessions_at, sessions_covering, sessions_of};
 pub use matching::{Match, match_of};

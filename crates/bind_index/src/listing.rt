@@ -1,13 +1,13 @@
-//! The live sessions of gateways that have an address, or a subscriber.
+//! The live sessions of gateways that have an address, a prefix that covers one, or a subscriber.
 ghost use Rattle.std.specs.Prelude.{◌≡◌, IfOk};
 ghost use Rattle.std.specs.Net.Addr.{ipv4_octets};
 ghost use Rattle.pcrf_model.specs.Views.{view};
 ghost use Rattle.pcrf_facts.specs.Held.{entry_shown};
-ghost use Rattle.bind_index.specs.Listings.{asked_value, listed_among, sessions_at, sessions_of, shows_asked};
+ghost use Rattle.bind_index.specs.Listings.{asked_value, listed_among, sessions_at, sessions_covering, sessions_of, shows_asked};
 
 use crate::matching::is_among;
 use gx_records::GxRec;
-use pcrf_values::{GxSid, Subscriber};
+use pcrf_values::{GxSid, Ipv6Prefix, Subscriber};
 use ranked::Ranked;
 use site_join::State;
 use std::alloc::{AllocError, Global};
@@ -19,6 +19,7 @@ use std::net::Ipv4Addr;
 #[derive(Clone, Copy)]
 enum Asked<'a> {
     Address(Ipv4Addr),
+    Prefix(&'a Ipv6Prefix),
     Subscriber(&'a Subscriber),
 }
 
@@ -33,6 +34,19 @@ pub fn sessions_at(
         ≡ sessions_at (view state.now.facts) (ipv4_octets address)) }
 {
     list(alloc, state.all_gx(), &Asked::Address(address))
+}
+
+/// The live sessions of gateways whose prefix covers this one, in the order of their Session-Ids. Their time grows with the
+/// number of gateways' sessions.
+pub fn sessions_covering(
+    alloc: Global,
+    state: &State,
+    prefix: &Ipv6Prefix,
+) -> Result<Vec<GxSid>, AllocError>
+    ensures { IfOk result (λ ids. ids.items
+        ≡ sessions_covering (view state.now.facts) prefix.now) }
+{
+    list(alloc, state.all_gx(), &Asked::Prefix(prefix))
 }
 
 /// The live sessions of gateways that have the subscriber, in the order of their Session-Ids. Their time grows with the
@@ -72,6 +86,10 @@ fn has(gateway: &GxRec, asked: &Asked<'_>) -> bool
     match asked {
         Asked::Address(wanted) => match gateway.address() {
             Some((_, address)) => wanted.cmp(address) == Ordering::Equal,
+            None => false,
+        },
+        Asked::Prefix(wanted) => match gateway.prefix() {
+            Some((_, prefix)) => prefix.covers(wanted),
             None => false,
         },
         Asked::Subscriber(wanted) => match gateway.subscribers() {

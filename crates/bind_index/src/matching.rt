@@ -1,21 +1,23 @@
 //! Whether a gateway's session matches an application function's session, by the record of each.
-ghost use Rattle.std.specs.Prelude.{◌≡◌, map, option_map};
+ghost use Rattle.std.specs.Prelude.{◌≡◌, [], ◌∷◌, map, option_map};
 ghost use Rattle.std.specs.List.{list_any};
-ghost use Rattle.std.specs.Ordering.{is_eq};
+ghost use Rattle.std.specs.Ordering.{is_eq, is_lt};
+ghost use Rattle.ranked.specs.Sets.{best};
+ghost use Rattle.pcrf_facts.specs.Held.{entry_shown};
 ghost use Rattle.pcrf_values.specs.Subscribers.{subscriber_cmp};
-ghost use Rattle.pcrf_model.specs.Bindings.{shares_one};
-ghost use Rattle.bind_index.specs.Matches.{agrees_by, match_of, match_value, matches_beside, meets_by};
+ghost use Rattle.pcrf_model.specs.Bindings.{last_reached, shares_one, stamp_cmp};
+ghost use Rattle.bind_index.specs.Matches.{agrees_by, is_covered_by, match_of, match_value, matches_beside, meets_by, stamp_in};
 
 use af_records::AfRec;
 use gx_records::GxRec;
-use pcrf_values::{GxSid, Subscriber, Subscribers};
+use pcrf_values::{GxSid, Ipv6Prefix, Subscriber, Subscribers};
 use ranked::{Ranked, Tag};
 use std::cmp::Ordering;
 
-/// A gateway's session that matches, with the tag of its address.
+/// A gateway's session that matches, with the tag by which it was last reached.
 #[derive(Clone, Copy)]
 pub struct Match<'s> {
-    /// The tag of its address.
+    /// Of the tags of its address and its prefix the later one by counter and site.
     pub tag: Tag,
     /// Its Session-Id.
     pub session: &'s GxSid,
@@ -28,20 +30,55 @@ pub fn match_of<'s>(asking: &AfRec, session: &'s GxSid, gateway: &GxRec) -> Opti
     if !matches(asking, gateway) {
         return None;
     }
-    let Some((tag, _)) = gateway.address() else {
+    let Some(tag) = last_reached(gateway) else {
         return None;
     };
     Some(Match { tag, session })
 }
 
-/// Both are live, and the gateway's session has the address, and as far as they are asked for, one of the subscribers and
-/// the access point.
+/// Of the tags of a session's address and its prefix the later one by counter and site.
+fn last_reached(gateway: &GxRec) -> Option<Tag>
+    ensures { option_map stamp_in result ≡ last_reached (entry_shown gateway.now) }
+{
+    let by_prefix = gateway.prefix();
+    let Some((tag, _)) = gateway.address() else {
+        return match by_prefix {
+            Some((tag, _)) => Some(tag),
+            None => None,
+        };
+    };
+    match by_prefix {
+        Some((other, _)) => Some(later(tag, other)),
+        None => Some(tag),
+    }
+}
+
+/// The later of two tags by counter and site.
+fn later(one: Tag, other: Tag) -> Tag
+    ensures { stamp_in result
+        ≡ best (λ x y. is_lt (stamp_cmp x y)) (stamp_in one) (stamp_in other ∷ []) }
+{
+    if one
+        .counter
+        .cmp(&other.counter)
+        .then(one.site.cmp(&other.site))
+        .is_lt()
+    {
+        other
+    } else {
+        one
+    }
+}
+
+/// Both are live, and the gateway's session has the address, a prefix that covers the prefix, one of the subscribers and the
+/// access point, each as far as it is asked for.
 fn matches(asking: &AfRec, gateway: &GxRec) -> bool
     ensures { result ≡ matches_beside asking.now gateway.now }
 {
     asking.live()
         && gateway.live()
         && agrees(asking.address(), gateway.address())
+        && is_covered(asking.prefix(), gateway.prefix())
         && meets(asking.subscribers(), gateway.subscribers())
         && agrees(asking.apn(), gateway.apn())
 }
@@ -58,6 +95,20 @@ fn agrees<T: Ranked>(asked: Option<(Tag, &T)>, there: Option<(Tag, &T)>) -> bool
         return false;
     };
     wanted.cmp(shown) == Ordering::Equal
+}
+
+/// Nothing is asked for, or a prefix is there that covers the one that is asked for.
+fn is_covered(asked: Option<(Tag, &Ipv6Prefix)>, there: Option<(Tag, &Ipv6Prefix)>) -> bool
+    ensures { result ≡ is_covered_by (option_map (λ e. (e.0, e.1.now)) asked.entry)
+        (option_map (λ e. (e.0, e.1.now)) there.entry) }
+{
+    let Some((_, wanted)) = asked else {
+        return true;
+    };
+    let Some((_, shown)) = there else {
+        return false;
+    };
+    shown.covers(wanted)
 }
 
 /// Nothing is asked for, or one of the subscribers that are asked for is there.

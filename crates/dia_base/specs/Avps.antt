@@ -40,10 +40,20 @@ experimental_result = base_key 297
 abbrev pub experimental_result_code : AvpKey
 experimental_result_code = base_key 298
 
--- ---- of network access (RFC 2865, 5.8 and 5.30; RFC 7155, 4.4.10.5.1)
+-- 6.6 and 6.5, of requests that a server makes
+abbrev pub destination_realm : AvpKey
+destination_realm = base_key 283
+
+abbrev pub destination_host : AvpKey
+destination_host = base_key 293
+
+-- ---- of network access (RFC 2865, 5.8 and 5.30; RFC 7155, 4.4.10.5.1; RFC 3162, 2.3)
 
 abbrev pub framed_ip_address : AvpKey
 framed_ip_address = base_key 8
+
+abbrev pub framed_ipv6_prefix : AvpKey
+framed_ipv6_prefix = base_key 97
 
 abbrev pub called_station_id : AvpKey
 called_station_id = base_key 30

@@ -5,6 +5,10 @@ use Rattle.std.specs.Prelude.{ℕ}
 abbrev pub aa_command : ℕ
 aa_command = 265
 
+-- Abort-Session of Rx (TS 29.214, 5.6.7)
+abbrev pub abort_session_command : ℕ
+abort_session_command = 274
+
 -- Credit-Control (RFC 8506, 3; TS 29.212, 5.6.2)
 abbrev pub credit_control_command : ℕ
 credit_control_command = 272

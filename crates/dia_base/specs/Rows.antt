@@ -1,8 +1,10 @@
 -- What a command's grammar asks of a message's AVPs (RFC 6733, 3.2), as rows of a table, and the first refusal of
 -- what breaks it (7.1.5).
-use Rattle.std.specs.Prelude.{◌≡◌, ℕ, Bool, false, ◌&&◌, ◌==◌, nat_lt, nat_le, if◌then◌else◌, List, [], ◌∷◌, length, find, Option, Some, None, option_map, option_to_list, unwrap_or, ⊤}
+use Rattle.std.specs.Prelude.{◌≡◌, ℕ, Bool, false, ◌&&◌, ◌==◌, nat_lt, nat_le, if◌then◌else◌, List, [], ◌∷◌, length, find, Option, Some, None, option_map, option_to_list, unwrap_or, is_some, ⊤}
 use Rattle.std.specs.List.{filter_map}
 use Rattle.std.specs.Option.{option_eq}
+use Rattle.std.proofs.Common.{option_and_then}
+use Rattle.pcrf_values.specs.Prefixes.{Ipv6Prefix, prefix_from}
 use Rattle.pcrf_values.specs.Results.{invalid_avp_value, missing_avp, avp_occurs_too_many_times, invalid_avp_length}
 use Rattle.pcrf_values.specs.declared.refusal.Refusal.{Refusal}
 use Rattle.dia_codec.specs.declared.message.Avp.{Avp}
@@ -54,6 +56,16 @@ value_in found = option_map (λ (avp : Avp). avp.value.items) found
 -- what was found, if anything was, is all that has the key
 abbrev pub IsOnlyAt : AvpKey → List AvpValue → Option Avp → Type 0
 IsOnlyAt key avps found = values_of key avps ≡ option_to_list (value_in found)
+
+-- the prefix that a value gives: a byte that doesn't count, the length in bits, and the bits (RFC 3162, 2.3)
+abbrev pub prefix_in : List ℕ → Option Ipv6Prefix
+prefix_in [] = None
+prefix_in (x ∷ []) = None
+prefix_in (x ∷ n ∷ bits) = prefix_from n bits
+
+-- the prefix that the first value at a key gives
+abbrev pub prefix_at : AvpKey → List AvpValue → Option Ipv6Prefix
+prefix_at key avps = option_and_then prefix_in (value_of key avps)
 
 -- ---- refusals
 
@@ -136,6 +148,10 @@ ipv4_address value = if length value == 4 then None else Some invalid_avp_value
 abbrev pub cut_refusal : List Row → Option (List AvpValue) → Option Refusal
 cut_refusal rows None = Some invalid_avp_length
 cut_refusal rows (Some avps) = rows_refusal rows avps
+
+-- an IPv6 prefix
+abbrev pub ipv6_prefix : Kind
+ipv6_prefix value = if is_some (prefix_in value) then None else Some invalid_avp_value
 
 -- AVPs that a table judges (Grouped, 4.4)
 abbrev pub grouped : List Row → Kind

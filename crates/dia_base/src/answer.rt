@@ -5,6 +5,7 @@ ghost use Rattle.std.specs.List.{flat_map};
 ghost use Rattle.dia_codec.specs.Spelling.{message_view};
 ghost use Rattle.dia_codec.specs.Written.{written_avp, written_len};
 ghost use Rattle.dia_codec.specs.Limits.{longest_message};
+ghost use Rattle.dia_base.specs.Requests.{request_header};
 ghost use Rattle.dia_base.specs.Answers.{AddsSome, IsShortId, answer_header, is_protocol_error, is_permanent_failure, names_application, experimental_avps, origin_avps, refusal_answer, result_avp};
 
 use crate::codes::{GX, RX, TGPP, avps, commands, results};
@@ -30,6 +31,24 @@ pub fn answer_header(header: &Header, refusal: Option<Refusal>) -> Header
         application: header.application,
         hop_id: header.hop_id,
         end_id: header.end_id,
+    }
+}
+
+/// The header of a request that this site makes: R and P (RFC 6733, 3).
+pub fn request_header(command: u32, application: u32, hop_id: u32, end_id: u32) -> Header
+    ensures { result ≡ request_header command application hop_id end_id }
+{
+    Header {
+        flags: Flags {
+            request: true,
+            proxiable: true,
+            error: false,
+            retransmitted: false,
+        },
+        command,
+        application,
+        hop_id,
+        end_id,
     }
 }
 

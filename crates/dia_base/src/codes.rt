@@ -15,15 +15,19 @@ pub mod commands {
     pub const CREDIT_CONTROL: u32 = 272;
     /// AA of Rx.
     pub const AUTHORIZATION: u32 = 265;
+    /// Abort-Session of Rx.
+    pub const ABORT_SESSION: u32 = 274;
     /// Session-Termination of Rx.
     pub const SESSION_TERMINATION: u32 = 275;
 }
 
-/// AVP codes (RFC 6733, 4.5; RFC 8506, 8; RFC 2865, 5).
+/// AVP codes (RFC 6733, 4.5; RFC 8506, 8; RFC 2865, 5; RFC 3162, 2).
 pub mod avps {
     pub const FRAMED_IP_ADDRESS: u32 = 8;
 
     pub const CALLED_STATION_ID: u32 = 30;
+
+    pub const FRAMED_IPV6_PREFIX: u32 = 97;
 
     pub const AUTH_APPLICATION_ID: u32 = 258;
 
@@ -34,6 +38,10 @@ pub mod avps {
     pub const VENDOR_ID: u32 = 266;
 
     pub const RESULT_CODE: u32 = 268;
+
+    pub const DESTINATION_REALM: u32 = 283;
+
+    pub const DESTINATION_HOST: u32 = 293;
 
     pub const ORIGIN_REALM: u32 = 296;
 

@@ -9,10 +9,11 @@ mod origin;
 mod read_fault;
 mod repeated;
 mod rows;
+mod session_answer;
 mod subscriptions;
 mod writer;
 
-pub use answer::{answer_header, put_origin, put_result, refusal_answer};
+pub use answer::{answer_header, put_origin, put_result, refusal_answer, request_header};
 pub use identity::Identity;
 pub use origin::{Origin, read_origin};
 pub use pcrf_values::Refusal;
@@ -20,7 +21,9 @@ pub use read_fault::ReadFault;
 pub use repeated::{FromValue, read_avps, read_each};
 pub use rows::{
     base_key, count_of, first_with, optional_address, optional_apn, optional_number,
-    optional_number_within, required_number, required_number_within, required_text, tgpp_key,
+    optional_number_within, optional_prefix, required_number, required_number_within,
+    required_text, tgpp_key,
 };
+pub use session_answer::{SessionAnswer, read_session_answer};
 pub use subscriptions::read_subscribers;
 pub use writer::AvpWriter;

@@ -6,7 +6,7 @@ ghost use Rattle.pcrf_values.specs.Results.{avp_occurs_too_many_times};
 ghost use Rattle.pcrf_values.specs.Texts.{small_letters};
 ghost use Rattle.dia_codec.specs.Spelling.{avp_view, avp_views};
 ghost use Rattle.dia_base.specs.Avps.{base_key, tgpp_key};
-ghost use Rattle.dia_base.specs.Rows.{first_at, values_of, value_of, value_in, number_at, IsOnlyAt, required, optional, unsigned32, enumerated, text_to, ipv4_address, Accepts, RefusesWith, RefusesAnyKind, FaultsWith};
+ghost use Rattle.dia_base.specs.Rows.{first_at, values_of, value_of, value_in, number_at, IsOnlyAt, required, optional, unsigned32, enumerated, text_to, ipv4_address, ipv6_prefix, prefix_at, prefix_in, Accepts, RefusesWith, RefusesAnyKind, FaultsWith};
 
 use crate::codes::TGPP;
 use crate::codes::results::{
@@ -14,7 +14,7 @@ use crate::codes::results::{
 };
 use crate::read_fault::ReadFault;
 use dia_codec::{Avp, AvpKey};
-use pcrf_values::{Apn, BoundedText, Refusal};
+use pcrf_values::{Apn, BoundedText, Ipv6Prefix, Refusal};
 use std::alloc::Global;
 use std::net::Ipv4Addr;
 
@@ -212,6 +212,32 @@ pub fn optional_address(avps: &[Avp], key: AvpKey) -> Result<Option<Ipv4Addr>, R
         return Err(Refusal::base(INVALID_AVP_VALUE));
     };
     Ok(Some(address))
+}
+
+/// The prefix that a value gives: a byte that doesn't count, the length in bits, and the bits.
+fn prefix_in(value: &[u8]) -> Option<Ipv6Prefix>
+    ensures { result ≡ prefix_in value.now }
+{
+    let (_, value) = value.split_first()?;
+    let (bits, bytes) = value.split_first()?;
+    Ipv6Prefix::of(*bits, bytes)
+}
+
+/// Reads an IPv6 prefix, which may stand once.
+#[tactic(auto, unfolding(crate::specs::Rows::row_refusal))]
+pub fn optional_prefix(avps: &[Avp], key: AvpKey) -> Result<Option<Ipv6Prefix>, Refusal>
+    ensures accepted { OnOk result (Accepts (optional key ipv6_prefix) (avp_views avps.now)) }
+    ensures prefix { IfOk result (λ prefix. prefix ≡ prefix_at key (avp_views avps.now)) }
+    ensures refused { IfErr result (RefusesWith (optional key ipv6_prefix) (avp_views avps.now)) }
+{
+    let found = at_most_once(avps, key)?;
+    let Some(avp) = found else {
+        return Ok(None);
+    };
+    let Some(prefix) = prefix_in(avp.text()) else {
+        return Err(Refusal::base(INVALID_AVP_VALUE));
+    };
+    Ok(Some(prefix))
 }
 
 /// Reads an access point name, which may stand once. Its ASCII capitals are folded to small letters.

@@ -3,7 +3,7 @@ use Rattle.std.proofs.Common.{◌≤◌, List, [], ◌∷◌, length, length-app
 use Rattle.std.proofs.lemmas.List.{length-map}
 use Rattle.std.specs.List.{flat_map}
 use Rattle.pcrf_facts.specs.Places.{Place, OfSession, OfComponent, OfFlow, OfRuleName, Component, Flow}
-use Rattle.pcrf_facts.specs.Facts.{Fact, End, Removed, Field}
+use Rattle.pcrf_facts.specs.Facts.{Fact, End, Removed, Field, Aborted}
 use Rattle.fact_codec.specs.Spelling.{word_bytes, value_bytes, place_bytes, fact_bytes, facts_bytes, tag_bytes, held_fact_bytes, held_facts_bytes}
 
 -- a place has a byte
@@ -17,6 +17,7 @@ place_least (OfRuleName t) = omega arith
 fact_least : (f : Fact) → 1 ≤ length (fact_bytes f)
 unfolding fact_bytes
 fact_least End = omega arith
+fact_least Aborted = omega arith
 fact_least (Removed (Component c)) = omega arith
 fact_least (Removed (Flow c n)) = omega arith
 fact_least (Field p t x) = omega (arith, place_least p, length-append (place_bytes p) (value_bytes x))
@@ -41,6 +42,7 @@ facts_least of xs = omega (arith, facts_no_more (map of xs), length-map xs of)
 held_fact_least : (f : Fact) → 1 ≤ length (held_fact_bytes f)
 unfolding held_fact_bytes
 held_fact_least End = fact_least End
+held_fact_least Aborted = fact_least Aborted
 held_fact_least (Removed r) = fact_least (Removed r)
 held_fact_least (Field p t x) = omega (arith, fact_least (Field p t x), length-append (fact_bytes (Field p t x)) (tag_bytes t))
 

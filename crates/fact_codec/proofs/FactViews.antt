@@ -5,7 +5,7 @@ use Rattle.pcrf_facts.specs.Places.{OfSession, OfComponent, OfFlow}
 use Rattle.pcrf_facts.specs.Facts.{Field}
 use Rattle.fact_records.specs.SessionFacts.{session_fact}
 use Rattle.fact_records.specs.declared.session_value.SessionValue.{SessionValue}
-use Rattle.fact_records.specs.declared.session_value.SessionValue.TheVariants.{Address, Apn, Subscribers, Host, Realm, Last}
+use Rattle.fact_records.specs.declared.session_value.SessionValue.TheVariants.{Address, Apn, Subscribers, Host, Realm, Last, Prefix}
 use Rattle.af_records.specs.RecordFacts.{fact_of}
 use Rattle.af_records.specs.declared.fact.AfFact.TheVariants.{Component, Flow}
 use Rattle.af_records.specs.declared.fact.ComponentValue.{ComponentValue}
@@ -22,6 +22,7 @@ session_is t (Subscribers ss) = refl
 session_is t (Host n) = refl
 session_is t (Realm n) = refl
 session_is t (Last n) = refl
+session_is t (Prefix p) = refl
 
 -- of a component
 pub component_is : (c : ℕ) (t : Tag) (x : ComponentValue) → fact_of (Component c t x) ≡ Field (OfComponent c (component_says x).0) t (component_says x).1

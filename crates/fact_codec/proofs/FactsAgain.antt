@@ -7,18 +7,19 @@ use Rattle.ranked.specs.Orders.{text_cmp}
 use Rattle.ranked.specs.Tags.{tag_cmp}
 use Rattle.ranked.specs.declared.tag.Tag.{Tag}
 use Rattle.ranked.proofs.OrderLaws.{eq_is, text_ranked}
+use Rattle.ranked.proofs.Plain.{both}
 use Rattle.pcrf_values.specs.Limits.{identity_limit, rule_name_limit}
-use Rattle.pcrf_facts.specs.Places.{SessionField, FramedIpAddress, CalledStationId, SubscriptionIds, OriginHost, OriginRealm, RequestType, ComponentField, MediaType, ComponentStatus, ComponentRateUp, ComponentRateDown, FlowField, FlowDescriptions, FlowUsage, FlowStatus, FlowRateUp, FlowRateDown, session_field_number, component_field_number, flow_field_number, Place, OfSession, OfComponent, OfFlow, OfRuleName, Component, Flow}
-use Rattle.pcrf_facts.specs.Values.{Value, Number, Text, Address, Subscribers, Filters, Untold, Told}
-use Rattle.pcrf_facts.specs.Facts.{Fact, End, Removed, Field}
+use Rattle.pcrf_facts.specs.Places.{SessionField, FramedIpAddress, CalledStationId, SubscriptionIds, OriginHost, OriginRealm, RequestType, FramedIpv6Prefix, ComponentField, MediaType, ComponentStatus, ComponentRateUp, ComponentRateDown, FlowField, FlowDescriptions, FlowUsage, FlowStatus, FlowRateUp, FlowRateDown, session_field_number, component_field_number, flow_field_number, Place, OfSession, OfComponent, OfFlow, OfRuleName, Component, Flow}
+use Rattle.pcrf_facts.specs.Values.{Value, Number, Text, Address, Subscribers, Filters, Untold, Told, Prefix}
+use Rattle.pcrf_facts.specs.Facts.{Fact, End, Removed, Field, Aborted}
 use Rattle.pcrf_facts.proofs.FactLaws.{tag_ranked}
 use Rattle.pcrf_model.specs.Sessions.{Kind, Gx, Af}
 use Rattle.pcrf_model.specs.Forms.{is_text, is_rule, is_unsigned, fits, is_tagged, fits_session_field, fits_component_field, fits_flow_field, fits_rule_name}
 use Rattle.fact_codec.specs.Spelling.{word_bytes, text_bytes, value_bytes, rule_bytes, fact_bytes, facts_bytes}
 use Rattle.fact_codec.specs.Reading.{Reader, byte}
-use Rattle.fact_codec.specs.Said.{session_value, session_said, component_said, flow_said, rule, told_value, told_said, stamped, gx_fact, af_fact, facts}
+use Rattle.fact_codec.specs.Said.{has_field, has_fact, session_value, session_said, component_said, flow_said, rule, told_value, told_said, stamped, gx_fact, af_fact, facts}
 use Rattle.fact_codec.proofs.NumberLaws.{word_again}
-use Rattle.fact_codec.proofs.ValuesAgain.{many_again, word_within_again, unsigned_again, text_again, apn_again, octets_again, subscribers_again, filters_again, rule_again}
+use Rattle.fact_codec.proofs.ValuesAgain.{many_again, word_within_again, unsigned_again, text_again, apn_again, octets_again, prefix_again, subscribers_again, filters_again, rule_again}
 
 -- the range of the type of the last request in sessions of each kind
 abbrev pub least_last : Kind → ℕ
@@ -33,6 +34,7 @@ most_last Af = 0
 session_value_again : (k : Kind) (f : SessionField) (x : Value) (rest : List ℕ) → fits_session_field k f x ≡ true → session_value (least_last k) (most_last k) f (value_bytes x ++ rest) ≡ Some (x, rest)
 unfolding value_bytes
 session_value_again k FramedIpAddress (Address a) rest h = rw (octets_again a rest h) refl
+session_value_again k FramedIpv6Prefix (Prefix p) rest h = rw (prefix_again p rest h) refl
 session_value_again k CalledStationId (Text t) rest h = rw (apn_again t rest h) refl
 session_value_again k SubscriptionIds (Subscribers ss) rest h = rw (subscribers_again ss rest h) refl
 session_value_again k OriginHost (Text t) rest h = rw (text_again identity_limit t rest (omega arith) h) refl
@@ -43,15 +45,16 @@ session_value_again Af RequestType (Number n) rest h =
     rw (word_within_again 0 0 n rest (omega arith) (rw none refl)) refl
 session_value_again k f x rest h = absurd cc
 
--- a field of a session by its number
-session_said_again : (k : Kind) (f : SessionField) (x : Value) (rest : List ℕ) → fits_session_field k f x ≡ true → session_said (least_last k) (most_last k) (session_field_number f ∷ (value_bytes x ++ rest)) ≡ Some ((f, x), rest)
+-- a field of a session by its number, in letters that have it
+session_said_again : (v : ℕ) (k : Kind) (f : SessionField) (x : Value) (rest : List ℕ) → has_field v f ≡ true → fits_session_field k f x ≡ true → session_said v (least_last k) (most_last k) (session_field_number f ∷ (value_bytes x ++ rest)) ≡ Some ((f, x), rest)
 unfolding session_said byte
-session_said_again k FramedIpAddress x rest h = rw (session_value_again k FramedIpAddress x rest h) refl
-session_said_again k CalledStationId x rest h = rw (session_value_again k CalledStationId x rest h) refl
-session_said_again k SubscriptionIds x rest h = rw (session_value_again k SubscriptionIds x rest h) refl
-session_said_again k OriginHost x rest h = rw (session_value_again k OriginHost x rest h) refl
-session_said_again k OriginRealm x rest h = rw (session_value_again k OriginRealm x rest h) refl
-session_said_again k RequestType x rest h = rw (session_value_again k RequestType x rest h) refl
+session_said_again v k FramedIpAddress x rest o h = rw (session_value_again k FramedIpAddress x rest h) refl
+session_said_again v k CalledStationId x rest o h = rw (session_value_again k CalledStationId x rest h) refl
+session_said_again v k SubscriptionIds x rest o h = rw (session_value_again k SubscriptionIds x rest h) refl
+session_said_again v k OriginHost x rest o h = rw (session_value_again k OriginHost x rest h) refl
+session_said_again v k OriginRealm x rest o h = rw (session_value_again k OriginRealm x rest h) refl
+session_said_again v k RequestType x rest o h = rw (session_value_again k RequestType x rest h) refl
+session_said_again v k FramedIpv6Prefix x rest o h = rw (o, session_value_again k FramedIpv6Prefix x rest h) refl
 
 -- a field of a component
 component_said_again : (f : ComponentField) (x : Value) (rest : List ℕ) → fits_component_field f x ≡ true → component_said (component_field_number f ∷ (value_bytes x ++ rest)) ≡ Some ((f, x), rest)
@@ -105,29 +108,30 @@ under {p} {x} {rest} t u h = ap (field_and p x rest) (sym (eq_is tag_ranked t u 
 abbrev pub is_made : Kind → ℕ → ℕ → ℕ → Fact → Bool
 is_made k counter site number f = fits k f && is_tagged k counter site number f
 
-module _ (counter site number : ℕ) where
+module _ (v counter site number : ℕ) where
   -- of a gateway's session
-  pub gx_fact_again : (f : Fact) (rest : List ℕ) → is_made Gx counter site number f ≡ true → gx_fact (stamped number counter site) (stamped 0 counter site) (fact_bytes f ++ rest) ≡ Some (f, rest)
+  pub gx_fact_again : (f : Fact) (rest : List ℕ) → has_fact v f ≡ true → is_made Gx counter site number f ≡ true → gx_fact v (stamped number counter site) (stamped 0 counter site) (fact_bytes f ++ rest) ≡ Some (f, rest)
   unfolding gx_fact byte fact_bytes
-  gx_fact_again End rest h = refl
-  gx_fact_again (Field (OfSession f) t x) rest h =
-      rw (session_said_again Gx f x rest (first_so _ _ h)) (under t _ (second_so (fits_session_field Gx f x) _ h))
-  gx_fact_again (Field (OfRuleName name) t x) rest h =
+  gx_fact_again End rest o h = refl
+  gx_fact_again (Field (OfSession f) t x) rest o h =
+      rw (session_said_again v Gx f x rest o (first_so _ _ h)) (under t _ (second_so (fits_session_field Gx f x) _ h))
+  gx_fact_again (Field (OfRuleName name) t x) rest o h =
       rw (append_assoc (text_bytes name) (value_bytes x) rest, told_said_again name x rest (first_so _ _ h))
       (under t _ (second_so (is_text rule_name_limit name && fits_rule_name name x) _ h))
-  gx_fact_again f rest h = absurd cc
+  gx_fact_again f rest o h = absurd cc
 
   -- of an application function's session
-  pub af_fact_again : (f : Fact) (rest : List ℕ) → is_made Af counter site number f ≡ true → af_fact (stamped 0 counter site) (fact_bytes f ++ rest) ≡ Some (f, rest)
+  pub af_fact_again : (f : Fact) (rest : List ℕ) → has_fact v f ≡ true → is_made Af counter site number f ≡ true → af_fact v (stamped 0 counter site) (fact_bytes f ++ rest) ≡ Some (f, rest)
   unfolding af_fact byte fact_bytes
-  af_fact_again End rest h = refl
-  af_fact_again (Removed (Component c)) rest h = rw (unsigned_again c rest (first_so _ _ h)) refl
-  af_fact_again (Removed (Flow c n)) rest h =
+  af_fact_again End rest o h = refl
+  af_fact_again Aborted rest o h = rw o refl
+  af_fact_again (Removed (Component c)) rest o h = rw (unsigned_again c rest (first_so _ _ h)) refl
+  af_fact_again (Removed (Flow c n)) rest o h =
       let both : (is_unsigned c && is_unsigned n) ≡ true = first_so _ _ h in
       rw (append_assoc (word_bytes c) (word_bytes n) rest, unsigned_again c (word_bytes n ++ rest) (first_so _ _ both), unsigned_again n rest (second_so (is_unsigned c) _ both)) refl
-  af_fact_again (Field (OfSession f) t x) rest h =
-      rw (session_said_again Af f x rest (first_so _ _ h)) (under t _ (second_so (fits_session_field Af f x) _ h))
-  af_fact_again (Field (OfComponent c f) t x) rest h =
+  af_fact_again (Field (OfSession f) t x) rest o h =
+      rw (session_said_again v Af f x rest o (first_so _ _ h)) (under t _ (second_so (fits_session_field Af f x) _ h))
+  af_fact_again (Field (OfComponent c f) t x) rest o h =
       let fit : (is_unsigned c && fits_component_field f x) ≡ true = first_so _ _ h in
       let number_of = component_field_number f in
       let after = number_of ∷ (value_bytes x ++ rest) in
@@ -135,7 +139,7 @@ module _ (counter site number : ℕ) where
       append_assoc (word_bytes c ++ number_of ∷ []) (value_bytes x) rest ∙ append_assoc (word_bytes c) (number_of ∷ []) (value_bytes x ++ rest) in
       rw (parts, unsigned_again c after (first_so _ _ fit), component_said_again f x rest (second_so (is_unsigned c) _ fit))
       (under t _ (second_so (is_unsigned c && fits_component_field f x) _ h))
-  af_fact_again (Field (OfFlow c n f) t x) rest h =
+  af_fact_again (Field (OfFlow c n f) t x) rest o h =
       let fit : (is_unsigned c && is_unsigned n && fits_flow_field f x) ≡ true = first_so _ _ h in
       let numbers : (is_unsigned c && is_unsigned n) ≡ true = first_so _ _ fit in
       let number_of = flow_field_number f in
@@ -146,7 +150,13 @@ module _ (counter site number : ℕ) where
       ∙ append_assoc (word_bytes c) (word_bytes n) after in
       rw (parts, unsigned_again c (word_bytes n ++ after) (first_so _ _ numbers), unsigned_again n after (second_so (is_unsigned c) _ numbers), flow_said_again f x rest (second_so (is_unsigned c && is_unsigned n) _ fit))
       (under t _ (second_so (is_unsigned c && is_unsigned n && fits_flow_field f x) _ h))
-  af_fact_again f rest h = absurd cc
+  af_fact_again f rest o h = absurd cc
+
+-- what passes two tests passes both
+pub all_both : {A : Type 0} (p q : A → Bool) (xs : List A) → list_all p xs ≡ true → list_all q xs ≡ true → list_all (λ x. p x && q x) xs ≡ true
+all_both p q [] h k = refl
+all_both p q (x ∷ xs) h k =
+    both (p x && q x) _ (both (p x) (q x) (first_so (p x) _ h) (first_so (q x) _ k)) (all_both p q xs (second_so (p x) _ h) (second_so (q x) _ k))
 
 -- facts, and before them how many they are
 pub facts_again : (fact : Reader Fact) (ok : Fact → Bool) → ((f : Fact) (rest : List ℕ) → ok f ≡ true → fact (fact_bytes f ++ rest) ≡ Some (f, rest))
@@ -156,9 +166,9 @@ facts_again fact ok each fs rest low all =
     rw (append_assoc (word_bytes (length fs)) (flat_map fact_bytes fs) rest, word_again (length fs) (flat_map fact_bytes fs ++ rest) low, many_again fact fact_bytes ok each fs rest all) refl
 
 -- those of an operation on a gateway's session
-pub gx_facts_again : (counter site number : ℕ) (fs : List Fact) (rest : List ℕ) → length fs < 2 ^ 32 → list_all (is_made Gx counter site number) fs ≡ true → facts (gx_fact (stamped number counter site) (stamped 0 counter site)) (facts_bytes fs ++ rest) ≡ Some (fs, rest)
-gx_facts_again counter site number = facts_again (gx_fact (stamped number counter site) (stamped 0 counter site)) (is_made Gx counter site number) (gx_fact_again counter site number)
+pub gx_facts_again : (v counter site number : ℕ) (fs : List Fact) (rest : List ℕ) → length fs < 2 ^ 32 → list_all (is_made Gx counter site number) fs ≡ true → list_all (has_fact v) fs ≡ true → facts (gx_fact v (stamped number counter site) (stamped 0 counter site)) (facts_bytes fs ++ rest) ≡ Some (fs, rest)
+gx_facts_again v counter site number fs rest low made had = facts_again (gx_fact v (stamped number counter site) (stamped 0 counter site)) (λ f. has_fact v f && is_made Gx counter site number f) (λ f more h. gx_fact_again v counter site number f more (first_so (has_fact v f) _ h) (second_so (has_fact v f) _ h)) fs rest low (all_both (has_fact v) (is_made Gx counter site number) fs had made)
 
 -- and on an application function's
-pub af_facts_again : (counter site number : ℕ) (fs : List Fact) (rest : List ℕ) → length fs < 2 ^ 32 → list_all (is_made Af counter site number) fs ≡ true → facts (af_fact (stamped 0 counter site)) (facts_bytes fs ++ rest) ≡ Some (fs, rest)
-af_facts_again counter site number = facts_again (af_fact (stamped 0 counter site)) (is_made Af counter site number) (af_fact_again counter site number)
+pub af_facts_again : (v counter site number : ℕ) (fs : List Fact) (rest : List ℕ) → length fs < 2 ^ 32 → list_all (is_made Af counter site number) fs ≡ true → list_all (has_fact v) fs ≡ true → facts (af_fact v (stamped 0 counter site)) (facts_bytes fs ++ rest) ≡ Some (fs, rest)
+af_facts_again v counter site number fs rest low made had = facts_again (af_fact v (stamped 0 counter site)) (λ f. has_fact v f && is_made Af counter site number f) (λ f more h. af_fact_again v counter site number f more (first_so (has_fact v f) _ h) (second_so (has_fact v f) _ h)) fs rest low (all_both (has_fact v) (is_made Af counter site number) fs had made)

@@ -8,17 +8,17 @@ use Rattle.ranked.specs.declared.tag.Tag.{Tag}
 use Rattle.ranked.proofs.Plain.{both}
 use Rattle.pcrf_facts.specs.Places.{Place, OfSession, OfComponent, OfFlow, OfRuleName}
 use Rattle.pcrf_facts.specs.Values.{Value}
-use Rattle.pcrf_facts.specs.Facts.{Fact, End, Removed, Field}
+use Rattle.pcrf_facts.specs.Facts.{Fact, End, Removed, Field, Aborted}
 use Rattle.pcrf_values.specs.Limits.{last_counter}
 use Rattle.pcrf_model.specs.Sessions.{Kind, Gx, Af}
 use Rattle.pcrf_model.specs.Forms.{fits, is_counted, is_stamp, is_unsigned, is_tagged, number_at}
 use Rattle.pcrf_model.proofs.FormLaws.{within_most}
 use Rattle.fact_codec.specs.Spelling.{word_bytes, long_bytes, fact_bytes, tag_bytes, held_fact_bytes, held_facts_bytes}
 use Rattle.fact_codec.specs.Reading.{byte}
-use Rattle.fact_codec.specs.Said.{stamped, gx_fact, af_fact, facts, tag, untagged, held_gx_fact, held_af_fact}
+use Rattle.fact_codec.specs.Said.{has_fact, stamped, gx_fact, af_fact, facts, tag, untagged, held_gx_fact, held_af_fact}
 use Rattle.fact_codec.proofs.NumberLaws.{word_again, long_again}
 use Rattle.fact_codec.proofs.ValuesAgain.{many_again}
-use Rattle.fact_codec.proofs.FactsAgain.{gx_fact_again, af_fact_again}
+use Rattle.fact_codec.proofs.FactsAgain.{all_both, gx_fact_again, af_fact_again}
 
 -- a tag
 tag_again : (t : Tag) (rest : List ℕ) → t.number < 2 ^ 32 → t.counter < 2 ^ 64 → tag (tag_bytes t ++ rest) ≡ Some (t, rest)
@@ -50,44 +50,55 @@ zero_tagged Gx (OfFlow c n f) x = refl
 zero_tagged Gx (OfRuleName n) x = refl
 zero_tagged Af p x = refl
 
+-- letters that have a fact have it under any tag
+pub same_had : (v : ℕ) (p : Place) (t u : Tag) (x : Value) → has_fact v (Field p t x) ≡ has_fact v (Field p u x)
+same_had v (OfSession f) t u x = refl
+same_had v (OfComponent c f) t u x = refl
+same_had v (OfFlow c n f) t u x = refl
+same_had v (OfRuleName n) t u x = refl
+
 -- a fact that a state with that clock may hold
 abbrev pub may_hold : Kind → ℕ → Fact → Bool
 may_hold k clock f = fits k f && is_counted k clock f
 
 -- of a gateway's session
-pub held_gx_fact_again : (clock : ℕ) (f : Fact) (rest : List ℕ) → may_hold Gx clock f ≡ true → held_gx_fact (held_fact_bytes f ++ rest) ≡ Some (f, rest)
+pub held_gx_fact_again : (v clock : ℕ) (f : Fact) (rest : List ℕ) → has_fact v f ≡ true → may_hold Gx clock f ≡ true → held_gx_fact v (held_fact_bytes f ++ rest) ≡ Some (f, rest)
 unfolding held_gx_fact held_fact_bytes
-held_gx_fact_again clock End rest h = rw (gx_fact_again 0 0 0 End rest refl) refl
-held_gx_fact_again clock (Removed r) rest h = absurd cc
-held_gx_fact_again clock (Field p t x) rest h =
+held_gx_fact_again v clock End rest o h = rw (gx_fact_again v 0 0 0 End rest refl refl) refl
+held_gx_fact_again v clock (Removed r) rest o h = absurd cc
+held_gx_fact_again v clock Aborted rest o h = absurd cc
+held_gx_fact_again v clock (Field p t x) rest o h =
     let own = tag_bytes t ++ rest in
     let low = counted_low Gx clock p t x (second_so (fits Gx (Field p t x)) (is_counted Gx clock (Field p t x)) h) in
     let made = both (fits Gx (Field p untagged x)) (is_tagged Gx 0 0 0 (Field p untagged x)) (first_so (fits Gx (Field p t x)) (is_counted Gx clock (Field p t x)) h) (zero_tagged Gx p x) in
-    let first : gx_fact untagged untagged (fact_bytes (Field p t x) ++ own) ≡ Some (Field p untagged x, own) =
-    ap (λ (b : List ℕ). gx_fact untagged untagged (b ++ own)) (same_bytes p t untagged x) ∙ gx_fact_again 0 0 0 (Field p untagged x) own made in
+    let first : gx_fact v untagged untagged (fact_bytes (Field p t x) ++ own) ≡ Some (Field p untagged x, own) =
+    ap (λ (b : List ℕ). gx_fact v untagged untagged (b ++ own)) (same_bytes p t untagged x) ∙ gx_fact_again v 0 0 0 (Field p untagged x) own (same_had v p untagged t x ∙ o) made in
     rw (append_assoc (fact_bytes (Field p t x)) (tag_bytes t) rest, first, tag_again t rest low.0 low.1) refl
 
 -- of an application function's session
-pub held_af_fact_again : (clock : ℕ) (f : Fact) (rest : List ℕ) → may_hold Af clock f ≡ true → held_af_fact (held_fact_bytes f ++ rest) ≡ Some (f, rest)
+pub held_af_fact_again : (v clock : ℕ) (f : Fact) (rest : List ℕ) → has_fact v f ≡ true → may_hold Af clock f ≡ true → held_af_fact v (held_fact_bytes f ++ rest) ≡ Some (f, rest)
 unfolding held_af_fact held_fact_bytes
-held_af_fact_again clock End rest h = rw (af_fact_again 0 0 0 End rest refl) refl
-held_af_fact_again clock (Removed r) rest h = rw (af_fact_again 0 0 0 (Removed r) rest h) refl
-held_af_fact_again clock (Field p t x) rest h =
+held_af_fact_again v clock End rest o h = rw (af_fact_again v 0 0 0 End rest refl refl) refl
+held_af_fact_again v clock (Removed r) rest o h = rw (af_fact_again v 0 0 0 (Removed r) rest refl h) refl
+held_af_fact_again v clock Aborted rest o h = rw (af_fact_again v 0 0 0 Aborted rest o refl) refl
+held_af_fact_again v clock (Field p t x) rest o h =
     let own = tag_bytes t ++ rest in
     let low = counted_low Af clock p t x (second_so (fits Af (Field p t x)) (is_counted Af clock (Field p t x)) h) in
     let made = both (fits Af (Field p untagged x)) (is_tagged Af 0 0 0 (Field p untagged x)) (first_so (fits Af (Field p t x)) (is_counted Af clock (Field p t x)) h) (zero_tagged Af p x) in
-    let first : af_fact untagged (fact_bytes (Field p t x) ++ own) ≡ Some (Field p untagged x, own) =
-    ap (λ (b : List ℕ). af_fact untagged (b ++ own)) (same_bytes p t untagged x) ∙ af_fact_again 0 0 0 (Field p untagged x) own made in
+    let first : af_fact v untagged (fact_bytes (Field p t x) ++ own) ≡ Some (Field p untagged x, own) =
+    ap (λ (b : List ℕ). af_fact v untagged (b ++ own)) (same_bytes p t untagged x) ∙ af_fact_again v 0 0 0 (Field p untagged x) own (same_had v p untagged t x ∙ o) made in
     rw (append_assoc (fact_bytes (Field p t x)) (tag_bytes t) rest, first, tag_again t rest low.0 low.1) refl
 
 -- those of a gateway's session
-pub held_gx_facts_again : (clock : ℕ) (fs : List Fact) (rest : List ℕ) → length fs < 2 ^ 32 → list_all (may_hold Gx clock) fs ≡ true → facts held_gx_fact (held_facts_bytes fs ++ rest) ≡ Some (fs, rest)
+pub held_gx_facts_again : (v clock : ℕ) (fs : List Fact) (rest : List ℕ) → length fs < 2 ^ 32 → list_all (may_hold Gx clock) fs ≡ true → list_all (has_fact v) fs ≡ true → facts (held_gx_fact v) (held_facts_bytes fs ++ rest) ≡ Some (fs, rest)
 unfolding facts held_facts_bytes
-held_gx_facts_again clock fs rest low all =
-    rw (append_assoc (word_bytes (length fs)) (flat_map held_fact_bytes fs) rest, word_again (length fs) (flat_map held_fact_bytes fs ++ rest) low, many_again held_gx_fact held_fact_bytes (may_hold Gx clock) (held_gx_fact_again clock) fs rest all) refl
+held_gx_facts_again v clock fs rest low all had =
+    let each = many_again (held_gx_fact v) held_fact_bytes (λ f. has_fact v f && may_hold Gx clock f) (λ f more h. held_gx_fact_again v clock f more (first_so (has_fact v f) _ h) (second_so (has_fact v f) _ h)) fs rest (all_both (has_fact v) (may_hold Gx clock) fs had all) in
+    rw (append_assoc (word_bytes (length fs)) (flat_map held_fact_bytes fs) rest, word_again (length fs) (flat_map held_fact_bytes fs ++ rest) low, each) refl
 
 -- and of an application function's
-pub held_af_facts_again : (clock : ℕ) (fs : List Fact) (rest : List ℕ) → length fs < 2 ^ 32 → list_all (may_hold Af clock) fs ≡ true → facts held_af_fact (held_facts_bytes fs ++ rest) ≡ Some (fs, rest)
+pub held_af_facts_again : (v clock : ℕ) (fs : List Fact) (rest : List ℕ) → length fs < 2 ^ 32 → list_all (may_hold Af clock) fs ≡ true → list_all (has_fact v) fs ≡ true → facts (held_af_fact v) (held_facts_bytes fs ++ rest) ≡ Some (fs, rest)
 unfolding facts held_facts_bytes
-held_af_facts_again clock fs rest low all =
-    rw (append_assoc (word_bytes (length fs)) (flat_map held_fact_bytes fs) rest, word_again (length fs) (flat_map held_fact_bytes fs ++ rest) low, many_again held_af_fact held_fact_bytes (may_hold Af clock) (held_af_fact_again clock) fs rest all) refl
+held_af_facts_again v clock fs rest low all had =
+    let each = many_again (held_af_fact v) held_fact_bytes (λ f. has_fact v f && may_hold Af clock f) (λ f more h. held_af_fact_again v clock f more (first_so (has_fact v f) _ h) (second_so (has_fact v f) _ h)) fs rest (all_both (has_fact v) (may_hold Af clock) fs had all) in
+    rw (append_assoc (word_bytes (length fs)) (flat_map held_fact_bytes fs) rest, word_again (length fs) (flat_map held_fact_bytes fs ++ rest) low, each) refl

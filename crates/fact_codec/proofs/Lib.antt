@@ -2,6 +2,7 @@ pub mod Added
 pub mod FactLengths
 pub mod FactViews
 pub mod FactsAgain
+pub mod HadLaws
 pub mod HeldAgain
 pub mod Loops
 pub mod NumberLaws

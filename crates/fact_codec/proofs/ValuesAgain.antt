@@ -1,20 +1,23 @@
 -- What is spelled so is read again, whatever follows it: texts and values.
-use Rattle.std.proofs.Common.{◌≡◌, ℕ, ◌^◌, ◌<◌, ◌==◌, Bool, true, ◌&&◌, List, [], ◌∷◌, ◌++◌, length, Some, refl, sym, ap, ◌∙◌, append_assoc, arith, ltb-true, eqb-true}
+use Rattle.std.proofs.Common.{◌≡◌, ℕ, zero, suc, ◌-◌, ◌^◌, ◌<◌, ◌≤◌, ◌==◌, Bool, true, ◌&&◌, nat_le, List, [], ◌∷◌, ◌++◌, length, take, drop, get_or, replicate, Some, refl, sym, ap, subst, ◌∙◌, append_assoc, arith, ltb-true, eqb-true}
+use Rattle.std.proofs.lemmas.Bool.Decides.{nat_tests}
+use Rattle.std.proofs.lemmas.List.{take_all, length-take}
 use Rattle.std.specs.Cmp.{first_so, second_so}
 use Rattle.std.specs.List.{flat_map, list_all}
 use Rattle.std.specs.Ordering.{is_eq}
 use Rattle.ranked.specs.Orders.{text_cmp}
-use Rattle.ranked.proofs.OrderLaws.{eq_is, text_ranked}
+use Rattle.ranked.proofs.OrderLaws.{eq_is, eq_itself, text_ranked}
 use Rattle.pcrf_values.specs.Limits.{apn_limit, subscription_data_limit, subscribers_limit, filters_limit, filter_limit}
+use Rattle.pcrf_values.specs.Prefixes.{Ipv6Prefix, address_bits, address_octets, first_of_byte, first_bits, octets_for, padded, prefix_from}
 use Rattle.pcrf_values.specs.RuleValues.{RuleValue}
 use Rattle.pcrf_values.specs.Subscribers.{subscriber_cmp}
 use Rattle.pcrf_values.specs.Texts.{one_to, small_letters}
 use Rattle.pcrf_facts.specs.Values.{Subscriber}
-use Rattle.pcrf_model.specs.Forms.{is_within, is_unsigned, is_text, is_rising, is_address, is_apn, is_subscriber, are_subscribers, are_filters, is_rule}
+use Rattle.pcrf_model.specs.Forms.{is_within, is_unsigned, is_text, is_rising, is_address, is_apn, is_byte, is_prefix, is_subscriber, are_subscribers, are_filters, is_rule}
 use Rattle.pcrf_model.proofs.FormLaws.{within_most}
-use Rattle.fact_codec.specs.Spelling.{short_bytes, word_bytes, text_bytes, subscriber_bytes, filters_bytes, class_bytes, rule_bytes}
+use Rattle.fact_codec.specs.Spelling.{prefix_bytes, short_bytes, word_bytes, text_bytes, subscriber_bytes, filters_bytes, class_bytes, rule_bytes}
 use Rattle.fact_codec.specs.Reading.{Reader, many, byte, word, exactly}
-use Rattle.fact_codec.specs.Said.{byte_within, word_within, text, apn_name, octets, subscriber, subscribers, filters, rule}
+use Rattle.fact_codec.specs.Said.{byte_within, word_within, text, apn_name, octets, prefix, subscriber, subscribers, filters, rule}
 use Rattle.fact_codec.proofs.NumberLaws.{short_again, word_again, exactly_again}
 
 -- ---- lists
@@ -80,6 +83,66 @@ octets_again a rest h =
     let is : length a ≡ 4 = eqb-true (length a) 4 four in
     let taken : exactly 4 (a ++ rest) ≡ Some (a, rest) = ap (λ n. exactly n (a ++ rest)) (sym is) ∙ exactly_again a rest in
     rw (four, taken) refl
+
+-- what is zero past n bits is its first bytes, and zeros
+zeros_past : (n : ℕ) (bs : List ℕ) → list_all is_byte bs ≡ true → first_bits n bs ≡ bs → take (octets_for n) bs ++ replicate (length bs - octets_for n) 0 ≡ bs
+zeros_past n [] h z =
+    let k = octets_for n in
+    let none : 0 - k ≡ 0 = omega arith in
+    ap (λ m. take k [] ++ replicate m 0) none ∙ ap (λ l. l ++ []) (take_all {A = ℕ} k [] (omega arith))
+zeros_past n (b ∷ bs) h z = by (zeros_past (n - 8) bs (second_so (is_byte b) _ h) (ap (drop 1) z)) (octets_for n) refl
+  where
+    low : b < 2 ^ 8
+    low = ltb-true b (2 ^ 8) (first_so (is_byte b) _ h)
+
+    here : first_of_byte n b ≡ b
+    here = ap (λ (l : List ℕ). get_or l 0 0) z
+
+    by : take (octets_for (n - 8)) bs ++ replicate (length bs - octets_for (n - 8)) 0 ≡ bs → (k : ℕ) → octets_for n ≡ k → take k (b ∷ bs) ++ replicate (length (b ∷ bs) - k) 0 ≡ b ∷ bs
+    by more zero e =
+        let no_bits : n ≡ 0 = omega (arith, e) in
+        let no_more : octets_for (n - 8) ≡ 0 = omega (arith, no_bits) in
+        let cut : first_of_byte 0 b ≡ b = subst (λ m. first_of_byte m b ≡ b) no_bits here in
+        let nought : 0 ≡ b = omega (arith, cut, low) in
+        let rest : take 0 bs ++ replicate (length bs - 0) 0 ≡ bs = subst (λ k. take k bs ++ replicate (length bs - k) 0 ≡ bs) no_more more in
+        let len : length (b ∷ bs) - 0 ≡ suc (length bs - 0) = omega arith in
+        ap (λ m. take 0 (b ∷ bs) ++ replicate m 0) len ∙ (λ i. nought i ∷ rest i)
+    by more (suc k) e =
+        let fewer : octets_for (n - 8) ≡ k = omega (arith, e) in
+        let rest : take k bs ++ replicate (length bs - k) 0 ≡ bs = subst (λ k. take k bs ++ replicate (length bs - k) 0 ≡ bs) fewer more in
+        let len : length (b ∷ bs) - suc k ≡ length bs - k = omega arith in
+        ap (λ m. b ∷ (take k bs ++ replicate m 0)) len ∙ ap (λ l. b ∷ l) rest
+
+-- an IPv6 prefix
+pub prefix_again : (p : Ipv6Prefix) (rest : List ℕ) → is_prefix p ≡ true → prefix (prefix_bytes p ++ rest) ≡ Some (p, rest)
+unfolding prefix byte
+prefix_again p rest h =
+    let n = p.0 in
+    let bs = p.1 in
+    let k = octets_for n in
+    let front = take k bs in
+    let three = first_so (nat_le n address_bits && length bs == address_octets && list_all is_byte bs) _ h in
+    let two = first_so (nat_le n address_bits && length bs == address_octets) _ three in
+    let past : first_bits n bs ≡ bs = eq_is text_ranked (first_bits n bs) bs (second_so (nat_le n address_bits && length bs == address_octets && list_all is_byte bs) _ h) in
+    let bytes : list_all is_byte bs ≡ true = second_so (nat_le n address_bits && length bs == address_octets) _ three in
+    let few : nat_le n address_bits ≡ true = first_so _ _ two in
+    let all : length bs ≡ address_octets = eqb-true (length bs) address_octets (second_so (nat_le n address_bits) _ two) in
+    let within : n ≤ address_bits = le_is n address_bits few in
+    let long : length front ≡ k = omega (arith, length-take k bs, all, within) in
+    let taken : exactly k (front ++ rest) ≡ Some (front, rest) = ap (λ m. exactly m (front ++ rest)) (sym long) ∙ exactly_again front rest in
+    let enough : nat_le k (length front) ≡ true = le_so k (length front) (omega (arith, long)) in
+    let short : nat_le (length front) address_octets ≡ true = le_so (length front) address_octets (omega (arith, long, within)) in
+    let room : address_octets - length front ≡ length bs - k = omega (arith, long, all) in
+    let whole : first_bits n (padded front) ≡ bs = ap (λ m. first_bits n (front ++ replicate m 0)) room ∙ ap (first_bits n) (zeros_past n bs bytes past) ∙ past in
+    let same : Some (n, first_bits n (padded front)) ≡ Some (n, bs) = ap (λ l. Some (n, l)) whole in
+    let made : prefix_from n front ≡ Some (n, bs) = rw (few, enough, short) same in
+    rw (taken, made, eq_itself text_ranked front) refl
+  where
+    le_so : (m o : ℕ) → m ≤ o → nat_le m o ≡ true
+    le_so m o l = grind (arith, nat_tests, l)
+
+    le_is : (m o : ℕ) → nat_le m o ≡ true → m ≤ o
+    le_is m o h = grind (arith, nat_tests, h)
 
 -- a subscriber
 pub subscriber_again : (s : Subscriber) (rest : List ℕ) → is_subscriber s ≡ true → subscriber (subscriber_bytes s ++ rest) ≡ Some (s, rest)

@@ -1,20 +1,40 @@
 -- Readers of what facts say, and of facts: the rows of fields with the kind of value of each.
-use Rattle.std.specs.Prelude.{ℕ, Bool, ◌==◌, List, if◌then◌else◌}
+use Rattle.std.specs.Prelude.{ℕ, Bool, true, ◌&&◌, ◌==◌, nat_le, List, take, if◌then◌else◌}
 use Rattle.std.specs.Ordering.{is_eq}
 use Rattle.ranked.specs.Orders.{text_cmp}
 use Rattle.ranked.specs.declared.tag.Tag.{Tag}
 use Rattle.pcrf_values.specs.Limits.{identity_limit, apn_limit, subscription_data_limit, subscribers_limit, filters_limit, filter_limit, rule_name_limit}
 use Rattle.pcrf_values.specs.Numbers.{number_within}
+use Rattle.pcrf_values.specs.Prefixes.{Ipv6Prefix, octets_for, prefix_from}
 use Rattle.pcrf_values.specs.RuleValues.{RuleValue}
 use Rattle.pcrf_values.specs.Subscribers.{subscriber_cmp}
 use Rattle.pcrf_values.specs.Texts.{one_to, small_letters}
-use Rattle.pcrf_facts.specs.Places.{SessionField, FramedIpAddress, CalledStationId, SubscriptionIds, OriginHost, OriginRealm, RequestType, ComponentField, MediaType, ComponentStatus, ComponentRateUp, ComponentRateDown, FlowField, FlowDescriptions, FlowUsage, FlowStatus, FlowRateUp, FlowRateDown, session_field_number, component_field_number, flow_field_number, OfSession, OfComponent, OfFlow, OfRuleName, Component, Flow}
-use Rattle.pcrf_facts.specs.Values.{Subscriber, Value, Number, Text, Address, Subscribers, Filters, Untold, Told}
-use Rattle.pcrf_facts.specs.Facts.{Fact, End, Removed, Field}
+use Rattle.pcrf_facts.specs.Places.{SessionField, FramedIpAddress, CalledStationId, SubscriptionIds, OriginHost, OriginRealm, RequestType, FramedIpv6Prefix, session_fields, ComponentField, MediaType, ComponentStatus, ComponentRateUp, ComponentRateDown, FlowField, FlowDescriptions, FlowUsage, FlowStatus, FlowRateUp, FlowRateDown, session_field_number, component_field_number, flow_field_number, OfSession, OfComponent, OfFlow, OfRuleName, Component, Flow}
+use Rattle.pcrf_facts.specs.Values.{Subscriber, Value, Number, Text, Address, Subscribers, Filters, Untold, Told, Prefix}
+use Rattle.pcrf_facts.specs.Facts.{Fact, End, Removed, Field, Aborted}
 use Rattle.pcrf_model.specs.Forms.{is_rising}
-use Rattle.fact_records.specs.SessionFacts.{session_fields}
 use Rattle.af_records.specs.RecordFacts.{component_fields, flow_fields}
 use Rattle.fact_codec.specs.Reading.{Reader, ◌>>=◌, give, refuse, given, many, row_with, byte, short, word, long, exactly}
+
+-- ---- what the versions of letters have
+
+-- the first that has prefixes, and the first that has aborts, which is the one that is written
+abbrev pub first_with_prefixes : ℕ
+first_with_prefixes = 2
+
+abbrev pub first_with_aborts : ℕ
+first_with_aborts = 3
+
+-- letters of version v have that field of sessions
+abbrev pub has_field : ℕ → SessionField → Bool
+has_field v FramedIpv6Prefix = nat_le first_with_prefixes v
+has_field v f = true
+
+-- and that fact
+abbrev pub has_fact : ℕ → Fact → Bool
+has_fact v (Field (OfSession f) t x) = has_field v f
+has_fact v Aborted = nat_le first_with_aborts v
+has_fact v f = true
 
 -- ---- numbers and texts in their ranges
 
@@ -57,6 +77,14 @@ octets = do
   n ← byte
   a ← passed (n == 4) 4
   exactly a
+
+-- an IPv6 prefix: its length, and the bytes that its bits need, with zeros past them
+unfoldable pub prefix : Reader Ipv6Prefix
+prefix = do
+  n ← byte
+  bs ← exactly (octets_for n)
+  p ← given (prefix_from n bs)
+  passed (is_eq (text_cmp (take (octets_for p.0) p.1) bs)) p
 
 -- a subscriber
 unfoldable pub subscriber : Reader Subscriber
@@ -127,6 +155,9 @@ session_value least most OriginRealm = do
 session_value least most RequestType = do
   n ← word_within least most
   give (Number n)
+session_value least most FramedIpv6Prefix = do
+  p ← prefix
+  give (Prefix p)
 
 -- of a component
 abbrev pub component_value : ComponentField → Reader Value
@@ -161,11 +192,12 @@ flow_value FlowRateDown = do
   n ← word
   give (Number n)
 
--- a field by its number, and what it says
-unfoldable pub session_said : ℕ → ℕ → Reader (SessionField × Value)
-session_said least most = do
+-- a field by its number, in a letter of version v, and what it says
+unfoldable pub session_said : ℕ → ℕ → ℕ → Reader (SessionField × Value)
+session_said v least most = do
   n ← byte
-  f ← given (row_with session_field_number session_fields n)
+  row ← given (row_with session_field_number session_fields n)
+  f ← passed (has_field v row) row
   x ← session_value least most f
   give (f, x)
 
@@ -205,9 +237,9 @@ told_said = do
 -- ---- facts
 
 -- a field of a session, under that tag
-abbrev pub session_field : ℕ → ℕ → Tag → Reader Fact
-session_field least most tag = do
-  x ← session_said least most
+abbrev pub session_field : ℕ → ℕ → ℕ → Tag → Reader Fact
+session_field v least most tag = do
+  x ← session_said v least most
   give (Field (OfSession x.0) tag x.1)
 
 -- what was told of a rule
@@ -246,34 +278,35 @@ flow_fact tag = do
 abbrev pub stamped : ℕ → ℕ → ℕ → Tag
 stamped number counter site = record { number = number; counter = counter; site = site }
 
--- a fact of that kind of a gateway's session
-abbrev pub gx_fact_of : Tag → Tag → ℕ → Reader Fact
-gx_fact_of field_tag told_tag code =
+-- a fact of that kind of a gateway's session, in a letter of version v
+abbrev pub gx_fact_of : ℕ → Tag → Tag → ℕ → Reader Fact
+gx_fact_of v field_tag told_tag code =
     if code == 1 then give End else
-    if code == 2 then session_field 1 2 field_tag else
+    if code == 2 then session_field v 1 2 field_tag else
     if code == 7 then told_field told_tag else refuse
 
 -- a fact of a gateway's session: of its fields under the first tag, of what was told under the second
-unfoldable pub gx_fact : Tag → Tag → Reader Fact
-gx_fact field_tag told_tag = do
+unfoldable pub gx_fact : ℕ → Tag → Tag → Reader Fact
+gx_fact v field_tag told_tag = do
   code ← byte
-  gx_fact_of field_tag told_tag code
+  gx_fact_of v field_tag told_tag code
 
 -- a fact of that kind of an application function's session
-abbrev pub af_fact_of : Tag → ℕ → Reader Fact
-af_fact_of tag code =
+abbrev pub af_fact_of : ℕ → Tag → ℕ → Reader Fact
+af_fact_of v tag code =
     if code == 1 then give End else
-    if code == 2 then session_field 0 0 tag else
+    if code == 2 then session_field v 0 0 tag else
     if code == 3 then component_removed else
     if code == 4 then flow_removed else
     if code == 5 then component_fact tag else
-    if code == 6 then flow_fact tag else refuse
+    if code == 6 then flow_fact tag else
+    if code == 8 then passed (has_fact v Aborted) Aborted else refuse
 
 -- a fact of an application function's session, under that tag
-unfoldable pub af_fact : Tag → Reader Fact
-af_fact tag = do
+unfoldable pub af_fact : ℕ → Tag → Reader Fact
+af_fact v tag = do
   code ← byte
-  af_fact_of tag code
+  af_fact_of v tag code
 
 -- facts, as many as the number before them says
 unfoldable pub facts : Reader Fact → Reader (List Fact)
@@ -297,20 +330,19 @@ untagged = stamped 0 0 0
 
 -- the fact under its own tag, which follows a value
 abbrev pub with_tag : Fact → Reader Fact
-with_tag End = give End
-with_tag (Removed r) = give (Removed r)
 with_tag (Field p t x) = do
   own ← tag
   give (Field p own x)
+with_tag f = give f
 
 -- a fact of a gateway's session
-unfoldable pub held_gx_fact : Reader Fact
-held_gx_fact = do
-  f ← gx_fact untagged untagged
+unfoldable pub held_gx_fact : ℕ → Reader Fact
+held_gx_fact v = do
+  f ← gx_fact v untagged untagged
   with_tag f
 
 -- and of an application function's session
-unfoldable pub held_af_fact : Reader Fact
-held_af_fact = do
-  f ← af_fact untagged
+unfoldable pub held_af_fact : ℕ → Reader Fact
+held_af_fact v = do
+  f ← af_fact v untagged
   with_tag f

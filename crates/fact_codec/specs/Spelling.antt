@@ -1,12 +1,13 @@
 -- The one spelling of what facts say, in bytes (this project's profile).
-use Rattle.std.specs.Prelude.{ℕ, List, [], ◌∷◌, ◌++◌, length}
+use Rattle.std.specs.Prelude.{ℕ, List, [], ◌∷◌, ◌++◌, length, take}
 use Rattle.std.specs.List.{flat_map}
 use Rattle.std.specs.Int.{w16, w32, w64, to_be_bytes}
 use Rattle.ranked.specs.declared.tag.Tag.{Tag}
+use Rattle.pcrf_values.specs.Prefixes.{Ipv6Prefix, octets_for}
 use Rattle.pcrf_values.specs.RuleValues.{RuleValue}
 use Rattle.pcrf_facts.specs.Places.{session_field_number, component_field_number, flow_field_number, Place, OfSession, OfComponent, OfFlow, OfRuleName, Removable, Component, Flow}
-use Rattle.pcrf_facts.specs.Values.{Subscriber, Value, Number, Text, Address, Subscribers, Filters, Untold, Told}
-use Rattle.pcrf_facts.specs.Facts.{Fact, End, Removed, Field}
+use Rattle.pcrf_facts.specs.Values.{Subscriber, Value, Number, Text, Address, Subscribers, Filters, Untold, Told, Prefix}
+use Rattle.pcrf_facts.specs.Facts.{Fact, End, Removed, Field, Aborted}
 
 -- ---- numbers and texts
 
@@ -42,6 +43,10 @@ class_bytes r = r.qci ∷ r.priority ∷ r.capability ∷ r.vulnerability ∷ []
 unfoldable pub rule_bytes : RuleValue → List ℕ
 rule_bytes r = r.status ∷ [] ++ filters_bytes r.filters ++ class_bytes r ++ word_bytes r.precedence
 
+-- an IPv6 prefix: its length, and the bytes that its bits need
+abbrev pub prefix_bytes : Ipv6Prefix → List ℕ
+prefix_bytes p = p.0 ∷ [] ++ take (octets_for p.0) p.1
+
 -- a value; an address with the number of its octets, and what was told with whether it is a rule
 unfoldable pub value_bytes : Value → List ℕ
 value_bytes (Number n) = word_bytes n
@@ -51,6 +56,7 @@ value_bytes (Subscribers ss) = short_bytes (length ss) ++ flat_map subscriber_by
 value_bytes (Filters fs) = filters_bytes fs
 value_bytes Untold = 0 ∷ []
 value_bytes (Told r) = 1 ∷ [] ++ rule_bytes r
+value_bytes (Prefix p) = prefix_bytes p
 
 -- ---- facts
 
@@ -71,6 +77,7 @@ unfoldable pub fact_bytes : Fact → List ℕ
 fact_bytes End = 1 ∷ []
 fact_bytes (Removed r) = removable_bytes r
 fact_bytes (Field p t x) = place_bytes p ++ value_bytes x
+fact_bytes Aborted = 8 ∷ []
 
 -- facts: how many they are, and these
 unfoldable pub facts_bytes : List Fact → List ℕ
@@ -84,9 +91,8 @@ tag_bytes t = word_bytes t.number ++ long_bytes t.counter ++ t.site ∷ []
 
 -- a fact; behind a value its tag
 unfoldable pub held_fact_bytes : Fact → List ℕ
-held_fact_bytes End = fact_bytes End
-held_fact_bytes (Removed r) = fact_bytes (Removed r)
 held_fact_bytes (Field p t x) = fact_bytes (Field p t x) ++ tag_bytes t
+held_fact_bytes f = fact_bytes f
 
 -- facts: how many they are, and these
 unfoldable pub held_facts_bytes : List Fact → List ℕ

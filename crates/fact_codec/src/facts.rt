@@ -11,21 +11,23 @@ use crate::fault::Unread;
 use crate::numbers::{byte_at, word_at};
 use crate::rules::told_at;
 use crate::said::{component_value_at, flow_value_at, session_value_at};
+use crate::version::{LetterVersion, has_aborts};
 use af_records::AfFact;
 use gx_records::GxFact;
 use lattice_core::Tag;
 use std::alloc::Global;
 
-/// A fact of a gateway's session.
+/// A fact of a gateway's session, as letters of the version have it.
 #[tactic(auto, using(crate::proofs::FactViews::session_is), unfolding(crate::specs::Said::gx_fact, crate::specs::Spelling::fact_bytes))]
 pub(crate) fn gx_fact_at(
     alloc: Global,
+    version: LetterVersion,
     field_tag: Tag,
     told_tag: Tag,
     bytes: &[u8],
 ) -> Result<(GxFact, &[u8]), Unread>
     ensures read { Gives (λ x. (gx_facts.fact_of x.0, x.1.now)) result
-        (gx_fact field_tag told_tag bytes.now) }
+        (gx_fact version field_tag told_tag bytes.now) }
     ensures spelled { IfOk result (λ x. bytes.now
         ≡ fact_bytes (gx_facts.fact_of x.0) ++ x.1.now) }
 {
@@ -33,7 +35,7 @@ pub(crate) fn gx_fact_at(
     match code {
         1 => Ok((GxFact::End, rest)),
         2 => {
-            let (value, rest) = session_value_at(alloc, rest)?;
+            let (value, rest) = session_value_at(alloc, version, rest)?;
             Ok((GxFact::Field(field_tag, value), rest))
         }
         7 => {
@@ -44,10 +46,15 @@ pub(crate) fn gx_fact_at(
     }
 }
 
-/// A fact of an AF session.
+/// A fact of an AF session, as letters of the version have it.
 #[tactic(auto, using(crate::proofs::FactViews::session_is, crate::proofs::FactViews::component_is, crate::proofs::FactViews::flow_is), unfolding(crate::specs::Said::af_fact, crate::specs::Spelling::fact_bytes))]
-pub(crate) fn af_fact_at(alloc: Global, tag: Tag, bytes: &[u8]) -> Result<(AfFact, &[u8]), Unread>
-    ensures read { Gives (λ x. (af_facts.fact_of x.0, x.1.now)) result (af_fact tag bytes.now) }
+pub(crate) fn af_fact_at(
+    alloc: Global,
+    version: LetterVersion,
+    tag: Tag,
+    bytes: &[u8],
+) -> Result<(AfFact, &[u8]), Unread>
+    ensures read { Gives (λ x. (af_facts.fact_of x.0, x.1.now)) result (af_fact version tag bytes.now) }
     ensures spelled { IfOk result (λ x. bytes.now
         ≡ fact_bytes (af_facts.fact_of x.0) ++ x.1.now) }
 {
@@ -55,7 +62,7 @@ pub(crate) fn af_fact_at(alloc: Global, tag: Tag, bytes: &[u8]) -> Result<(AfFac
     match code {
         1 => Ok((AfFact::End, rest)),
         2 => {
-            let (value, rest) = session_value_at(alloc, rest)?;
+            let (value, rest) = session_value_at(alloc, version, rest)?;
             Ok((AfFact::Session(tag, value), rest))
         }
         3 => {
@@ -80,6 +87,12 @@ pub(crate) fn af_fact_at(alloc: Global, tag: Tag, bytes: &[u8]) -> Result<(AfFac
             let (value, rest) = flow_value_at(alloc, rest)?;
             Ok((AfFact::Flow(component, flow, tag, value), rest))
         }
+        8 => {
+            if !has_aborts(version) {
+                return Err(Unread::BadShape);
+            }
+            Ok((AfFact::Aborted, rest))
+        }
         _ => Err(Unread::BadShape),
     }
 }
@@ -87,13 +100,14 @@ pub(crate) fn af_fact_at(alloc: Global, tag: Tag, bytes: &[u8]) -> Result<(AfFac
 /// So many facts of a gateway's session. Room is made for each as it is read.
 fn list_of_gx_facts(
     alloc: Global,
+    version: LetterVersion,
     field_tag: Tag,
     told_tag: Tag,
     count: u32,
     bytes: &[u8],
 ) -> Result<(Vec<GxFact>, &[u8]), Unread>
     ensures read { Gives (λ x. (map gx_facts.fact_of x.0.items, x.1.now)) result
-        (many (gx_fact field_tag told_tag) count bytes.now) }
+        (many (gx_fact version field_tag told_tag) count bytes.now) }
     ensures spelled { IfOk result (λ x. bytes.now
         ≡ flat_map fact_bytes (map gx_facts.fact_of x.0.items) ++ x.1.now) }
     ensures counted { IfOk result (λ x. length (map gx_facts.fact_of x.0.items) ≡ count) }
@@ -101,7 +115,7 @@ fn list_of_gx_facts(
     let mut items = Vec::new(alloc);
     let mut rest = bytes;
     for _ in 0..count {
-        let (item, after) = gx_fact_at(alloc, field_tag, told_tag, rest)?;
+        let (item, after) = gx_fact_at(alloc, version, field_tag, told_tag, rest)?;
         items.push(item)?;
         rest = after;
     }
@@ -111,12 +125,13 @@ fn list_of_gx_facts(
 /// So many facts of an AF session. Room is made for each as it is read.
 fn list_of_af_facts(
     alloc: Global,
+    version: LetterVersion,
     tag: Tag,
     count: u32,
     bytes: &[u8],
 ) -> Result<(Vec<AfFact>, &[u8]), Unread>
     ensures read { Gives (λ x. (map af_facts.fact_of x.0.items, x.1.now)) result
-        (many (af_fact tag) count bytes.now) }
+        (many (af_fact version tag) count bytes.now) }
     ensures spelled { IfOk result (λ x. bytes.now
         ≡ flat_map fact_bytes (map af_facts.fact_of x.0.items) ++ x.1.now) }
     ensures counted { IfOk result (λ x. length (map af_facts.fact_of x.0.items) ≡ count) }
@@ -124,7 +139,7 @@ fn list_of_af_facts(
     let mut items = Vec::new(alloc);
     let mut rest = bytes;
     for _ in 0..count {
-        let (item, after) = af_fact_at(alloc, tag, rest)?;
+        let (item, after) = af_fact_at(alloc, version, tag, rest)?;
         items.push(item)?;
         rest = after;
     }
@@ -136,27 +151,33 @@ fn list_of_af_facts(
 #[tactic(auto, unfolding(crate::specs::Said::facts, crate::specs::Spelling::facts_bytes))]
 pub fn gx_facts_at(
     alloc: Global,
+    version: LetterVersion,
     field_tag: Tag,
     told_tag: Tag,
     bytes: &[u8],
 ) -> Result<(Vec<GxFact>, &[u8]), Unread>
     ensures read { Gives (λ x. (map gx_facts.fact_of x.0.items, x.1.now)) result
-        (facts (gx_fact field_tag told_tag) bytes.now) }
+        (facts (gx_fact version field_tag told_tag) bytes.now) }
     ensures spelled { IfOk result (λ x. bytes.now
         ≡ facts_bytes (map gx_facts.fact_of x.0.items) ++ x.1.now) }
 {
     let (count, rest) = word_at(bytes)?;
-    list_of_gx_facts(alloc, field_tag, told_tag, count, rest)
+    list_of_gx_facts(alloc, version, field_tag, told_tag, count, rest)
 }
 
 /// The facts of an AF session under that tag, as many as the number before them says.
 #[tactic(auto, unfolding(crate::specs::Said::facts, crate::specs::Spelling::facts_bytes))]
-pub fn af_facts_at(alloc: Global, tag: Tag, bytes: &[u8]) -> Result<(Vec<AfFact>, &[u8]), Unread>
+pub fn af_facts_at(
+    alloc: Global,
+    version: LetterVersion,
+    tag: Tag,
+    bytes: &[u8],
+) -> Result<(Vec<AfFact>, &[u8]), Unread>
     ensures read { Gives (λ x. (map af_facts.fact_of x.0.items, x.1.now)) result
-        (facts (af_fact tag) bytes.now) }
+        (facts (af_fact version tag) bytes.now) }
     ensures spelled { IfOk result (λ x. bytes.now
         ≡ facts_bytes (map af_facts.fact_of x.0.items) ++ x.1.now) }
 {
     let (count, rest) = word_at(bytes)?;
-    list_of_af_facts(alloc, tag, count, rest)
+    list_of_af_facts(alloc, version, tag, count, rest)
 }

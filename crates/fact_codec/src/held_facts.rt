@@ -10,6 +10,7 @@ ghost use Rattle.fact_codec.specs.Said.{tag, untagged, held_gx_fact, held_af_fac
 use crate::facts::{af_fact_at, gx_fact_at};
 use crate::fault::Unread;
 use crate::numbers::{byte_at, long_at, word_at};
+use crate::version::LetterVersion;
 use af_records::AfFact;
 use gx_records::GxFact;
 use lattice_core::Tag;
@@ -45,12 +46,17 @@ fn untagged() -> Tag
 
 /// A fact of a gateway's session, with its tag.
 #[tactic(auto, using(crate::proofs::Added::added, crate::proofs::FactViews::session_is), unfolding(crate::specs::Said::held_gx_fact, crate::specs::Spelling::fact_bytes, crate::specs::Spelling::held_fact_bytes))]
-fn held_gx_fact_at(alloc: Global, bytes: &[u8]) -> Result<(GxFact, &[u8]), Unread>
-    ensures read { Gives (λ x. (gx_facts.fact_of x.0, x.1.now)) result (held_gx_fact bytes.now) }
+fn held_gx_fact_at(
+    alloc: Global,
+    version: LetterVersion,
+    bytes: &[u8],
+) -> Result<(GxFact, &[u8]), Unread>
+    ensures read { Gives (λ x. (gx_facts.fact_of x.0, x.1.now)) result
+        (held_gx_fact version bytes.now) }
     ensures spelled { IfOk result (λ x. bytes.now
         ≡ held_fact_bytes (gx_facts.fact_of x.0) ++ x.1.now) }
 {
-    let (fact, rest) = gx_fact_at(alloc, untagged(), untagged(), bytes)?;
+    let (fact, rest) = gx_fact_at(alloc, version, untagged(), untagged(), bytes)?;
     match fact {
         GxFact::End => Ok((GxFact::End, rest)),
         GxFact::Field(_, value) => {
@@ -66,14 +72,20 @@ fn held_gx_fact_at(alloc: Global, bytes: &[u8]) -> Result<(GxFact, &[u8]), Unrea
 
 /// A fact of an AF session, with its tag.
 #[tactic(auto, using(crate::proofs::Added::added, crate::proofs::FactViews::session_is, crate::proofs::FactViews::component_is, crate::proofs::FactViews::flow_is), unfolding(crate::specs::Said::held_af_fact, crate::specs::Spelling::fact_bytes, crate::specs::Spelling::held_fact_bytes))]
-fn held_af_fact_at(alloc: Global, bytes: &[u8]) -> Result<(AfFact, &[u8]), Unread>
-    ensures read { Gives (λ x. (af_facts.fact_of x.0, x.1.now)) result (held_af_fact bytes.now) }
+fn held_af_fact_at(
+    alloc: Global,
+    version: LetterVersion,
+    bytes: &[u8],
+) -> Result<(AfFact, &[u8]), Unread>
+    ensures read { Gives (λ x. (af_facts.fact_of x.0, x.1.now)) result
+        (held_af_fact version bytes.now) }
     ensures spelled { IfOk result (λ x. bytes.now
         ≡ held_fact_bytes (af_facts.fact_of x.0) ++ x.1.now) }
 {
-    let (fact, rest) = af_fact_at(alloc, untagged(), bytes)?;
+    let (fact, rest) = af_fact_at(alloc, version, untagged(), bytes)?;
     match fact {
         AfFact::End => Ok((AfFact::End, rest)),
+        AfFact::Aborted => Ok((AfFact::Aborted, rest)),
         AfFact::ComponentRemoved(component) => Ok((AfFact::ComponentRemoved(component), rest)),
         AfFact::FlowRemoved(component, flow) => Ok((AfFact::FlowRemoved(component, flow), rest)),
         AfFact::Session(_, value) => {
@@ -94,11 +106,12 @@ fn held_af_fact_at(alloc: Global, bytes: &[u8]) -> Result<(AfFact, &[u8]), Unrea
 /// So many facts of a gateway's session. Room is made for each as it is read.
 fn list_of_held_gx_facts(
     alloc: Global,
+    version: LetterVersion,
     count: u32,
     bytes: &[u8],
 ) -> Result<(Vec<GxFact>, &[u8]), Unread>
     ensures read { Gives (λ x. (map gx_facts.fact_of x.0.items, x.1.now)) result
-        (many held_gx_fact count bytes.now) }
+        (many (held_gx_fact version) count bytes.now) }
     ensures spelled { IfOk result (λ x. bytes.now
         ≡ flat_map held_fact_bytes (map gx_facts.fact_of x.0.items) ++ x.1.now) }
     ensures counted { IfOk result (λ x. length (map gx_facts.fact_of x.0.items) ≡ count) }
@@ -106,7 +119,7 @@ fn list_of_held_gx_facts(
     let mut items = Vec::new(alloc);
     let mut rest = bytes;
     for _ in 0..count {
-        let (item, after) = held_gx_fact_at(alloc, rest)?;
+        let (item, after) = held_gx_fact_at(alloc, version, rest)?;
         items.push(item)?;
         rest = after;
     }
@@ -116,11 +129,12 @@ fn list_of_held_gx_facts(
 /// So many facts of an AF session. Room is made for each as it is read.
 fn list_of_held_af_facts(
     alloc: Global,
+    version: LetterVersion,
     count: u32,
     bytes: &[u8],
 ) -> Result<(Vec<AfFact>, &[u8]), Unread>
     ensures read { Gives (λ x. (map af_facts.fact_of x.0.items, x.1.now)) result
-        (many held_af_fact count bytes.now) }
+        (many (held_af_fact version) count bytes.now) }
     ensures spelled { IfOk result (λ x. bytes.now
         ≡ flat_map held_fact_bytes (map af_facts.fact_of x.0.items) ++ x.1.now) }
     ensures counted { IfOk result (λ x. length (map af_facts.fact_of x.0.items) ≡ count) }
@@ -128,7 +142,7 @@ fn list_of_held_af_facts(
     let mut items = Vec::new(alloc);
     let mut rest = bytes;
     for _ in 0..count {
-        let (item, after) = held_af_fact_at(alloc, rest)?;
+        let (item, after) = held_af_fact_at(alloc, version, rest)?;
         items.push(item)?;
         rest = after;
     }
@@ -137,24 +151,32 @@ fn list_of_held_af_facts(
 
 /// The facts that a state holds of a gateway's session, as many as the number before them says, each value with its tag.
 #[tactic(auto, unfolding(crate::specs::Said::facts, crate::specs::Spelling::held_facts_bytes))]
-pub fn held_gx_facts_at(alloc: Global, bytes: &[u8]) -> Result<(Vec<GxFact>, &[u8]), Unread>
+pub fn held_gx_facts_at(
+    alloc: Global,
+    version: LetterVersion,
+    bytes: &[u8],
+) -> Result<(Vec<GxFact>, &[u8]), Unread>
     ensures read { Gives (λ x. (map gx_facts.fact_of x.0.items, x.1.now)) result
-        (facts held_gx_fact bytes.now) }
+        (facts (held_gx_fact version) bytes.now) }
     ensures spelled { IfOk result (λ x. bytes.now
         ≡ held_facts_bytes (map gx_facts.fact_of x.0.items) ++ x.1.now) }
 {
     let (count, rest) = word_at(bytes)?;
-    list_of_held_gx_facts(alloc, count, rest)
+    list_of_held_gx_facts(alloc, version, count, rest)
 }
 
 /// Those of an AF session.
 #[tactic(auto, unfolding(crate::specs::Said::facts, crate::specs::Spelling::held_facts_bytes))]
-pub fn held_af_facts_at(alloc: Global, bytes: &[u8]) -> Result<(Vec<AfFact>, &[u8]), Unread>
+pub fn held_af_facts_at(
+    alloc: Global,
+    version: LetterVersion,
+    bytes: &[u8],
+) -> Result<(Vec<AfFact>, &[u8]), Unread>
     ensures read { Gives (λ x. (map af_facts.fact_of x.0.items, x.1.now)) result
-        (facts held_af_fact bytes.now) }
+        (facts (held_af_fact version) bytes.now) }
     ensures spelled { IfOk result (λ x. bytes.now
         ≡ held_facts_bytes (map af_facts.fact_of x.0.items) ++ x.1.now) }
 {
     let (count, rest) = word_at(bytes)?;
-    list_of_held_af_facts(alloc, count, rest)
+    list_of_held_af_facts(alloc, version, count, rest)
 }

@@ -13,6 +13,7 @@ mod rules;
 mod said;
 mod texts;
 mod values;
+mod version;
 
 pub use facts::{af_facts_at, gx_facts_at};
 pub use fault::{Unread, Unwritten};
@@ -22,3 +23,4 @@ pub use put_facts::{put_af_facts, put_gx_facts};
 pub use put_held_facts::{put_held_af_facts, put_held_gx_facts};
 pub use put_values::{put_long, put_short, put_text, put_word};
 pub use texts::text_at;
+pub use version::LetterVersion;

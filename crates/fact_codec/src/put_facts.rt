@@ -53,6 +53,7 @@ pub(crate) fn put_af_fact(out: &mut Vec<u8>, fact: &AfFact) -> Result<(), AllocE
 {
     match fact {
         AfFact::End => out.push(1)?,
+        AfFact::Aborted => out.push(8)?,
         AfFact::Session(_, value) => {
             out.push(2)?;
             put_session_value(out, value)?;

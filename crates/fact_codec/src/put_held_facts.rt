@@ -47,6 +47,7 @@ fn put_held_af_fact(out: &mut Vec<u8>, fact: &AfFact) -> Result<(), AllocError>
     put_af_fact(out, fact)?;
     match fact {
         AfFact::End => Ok(()),
+        AfFact::Aborted => Ok(()),
         AfFact::ComponentRemoved(_) => Ok(()),
         AfFact::FlowRemoved(_, _) => Ok(()),
         AfFact::Session(tag, _) => put_tag(out, tag),

@@ -2,14 +2,16 @@
 ghost use Rattle.std.specs.Prelude.{◌≡◌, ◌++◌, ◌∷◌, ◌<◌, ◌^◌, [], length, OnOk};
 ghost use Rattle.std.specs.List.{flat_map};
 ghost use Rattle.pcrf_facts.specs.Places.{session_field_number, component_field_number, flow_field_number};
-ghost use Rattle.fact_codec.specs.Spelling.{short_bytes, word_bytes, long_bytes, text_bytes, subscriber_bytes, filters_bytes, class_bytes, rule_bytes, value_bytes};
+ghost use Rattle.fact_codec.specs.Spelling.{short_bytes, word_bytes, long_bytes, text_bytes, subscriber_bytes, filters_bytes, class_bytes, prefix_bytes, rule_bytes, value_bytes};
 ghost use Rattle.fact_codec.specs.Values.{session_says, component_says, flow_says};
 ghost use Rattle.gx_records.specs.GxFacts as gx_facts;
 ghost use Rattle.fact_records.specs.SessionFacts.{address_value};
 
 use af_records::{ComponentValue, FlowValue};
 use fact_records::SessionValue;
-use pcrf_values::{Enumerated, Enumeration, Filters, Rule, RuleQos, Subscriber, Subscribers};
+use pcrf_values::{
+    Enumerated, Enumeration, Filters, Ipv6Prefix, Rule, RuleQos, Subscriber, Subscribers,
+};
 use std::alloc::AllocError;
 use std::net::Ipv4Addr;
 
@@ -98,6 +100,16 @@ fn put_address(out: &mut Vec<u8>, address: &Ipv4Addr) -> Result<(), AllocError>
     Ok(())
 }
 
+/// Adds an IPv6 prefix.
+#[tactic(auto, using(crate::proofs::Added::added))]
+fn put_prefix(out: &mut Vec<u8>, prefix: &Ipv6Prefix) -> Result<(), AllocError>
+    ensures { OnOk result (out.new.items ≡ out.old.items ++ prefix_bytes prefix.now) }
+{
+    out.push(prefix.bits())?;
+    out.extend_from_slice(prefix.needed())?;
+    Ok(())
+}
+
 /// Adds the class of service of a rule.
 #[tactic(auto, using(crate::proofs::Added::added))]
 fn put_class(out: &mut Vec<u8>, rule: &Rule) -> Result<(), AllocError>
@@ -160,6 +172,7 @@ fn put_session_said<E: Enumeration>(
         SessionValue::Host(host) => put_text(out, host.as_slice()),
         SessionValue::Realm(realm) => put_text(out, realm.as_slice()),
         SessionValue::Last(last) => put_word(out, last.number()),
+        SessionValue::Prefix(prefix) => put_prefix(out, prefix),
     }
 }
 
@@ -174,6 +187,7 @@ fn session_number<E: Enumeration>(value: &SessionValue<Enumerated<E>>) -> u8
         SessionValue::Host(_) => 4,
         SessionValue::Realm(_) => 5,
         SessionValue::Last(_) => 6,
+        SessionValue::Prefix(_) => 7,
     }
 }
 

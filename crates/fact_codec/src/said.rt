@@ -9,7 +9,8 @@ ghost use Rattle.fact_codec.specs.Values.{session_says, component_says, flow_say
 use crate::fault::Unread;
 use crate::numbers::{byte_at, word_at};
 use crate::texts::{apn_at, text_at};
-use crate::values::{address_at, filters_at, subscribers_at};
+use crate::values::{address_at, filters_at, prefix_at, subscribers_at};
+use crate::version::{LetterVersion, has_prefixes};
 use af_records::{ComponentValue, FlowValue};
 use fact_records::SessionValue;
 use pcrf_values::{Enumerated, Enumeration};
@@ -19,10 +20,11 @@ use std::alloc::Global;
 #[tactic(auto, unfolding(crate::specs::Said::session_said, crate::specs::Said::word_within, crate::specs::Spelling::value_bytes))]
 pub(crate) fn session_value_at<E: Enumeration>(
     alloc: Global,
+    version: LetterVersion,
     bytes: &[u8],
 ) -> Result<(SessionValue<Enumerated<E>>, &[u8]), Unread>
     ensures read { Gives (λ x. (session_says x.0, x.1.now)) result
-        (session_said E.LEAST E.MOST bytes.now) }
+        (session_said version E.LEAST E.MOST bytes.now) }
     ensures spelled { IfOk result (λ x. bytes.now ≡ session_field_number (session_says x.0).0
         ∷ [] ++ value_bytes (session_says x.0).1 ++ x.1.now) }
 {
@@ -55,6 +57,10 @@ pub(crate) fn session_value_at<E: Enumeration>(
             };
             Ok((SessionValue::Last(last), rest))
         }
+        7 if has_prefixes(version) => match prefix_at(rest) {
+            Ok((prefix, rest)) => Ok((SessionValue::Prefix(prefix), rest)),
+            Err(fault) => Err(fault),
+        },
         _ => Err(Unread::BadShape),
     }
 }

@@ -3,16 +3,17 @@ ghost use Rattle.std.specs.Prelude.{◌≡◌, ◌++◌, ◌∷◌, [], length, 
 ghost use Rattle.std.specs.List.{flat_map};
 ghost use Rattle.std.specs.Net.Addr.{ipv4_octets};
 ghost use Rattle.pcrf_values.specs.Limits.{filter_limit};
+ghost use Rattle.pcrf_values.specs.Prefixes.{octets_for};
 ghost use Rattle.pcrf_values.specs.Subscribers.{subscriber_cmp};
 ghost use Rattle.pcrf_model.specs.Forms.{is_rising};
-ghost use Rattle.fact_codec.specs.Spelling.{text_bytes, short_bytes, subscriber_bytes, filters_bytes};
+ghost use Rattle.fact_codec.specs.Spelling.{prefix_bytes, text_bytes, short_bytes, subscriber_bytes, filters_bytes};
 ghost use Rattle.fact_codec.specs.Reading.{Gives, many};
-ghost use Rattle.fact_codec.specs.Said.{text, octets, subscriber, subscribers, filters};
+ghost use Rattle.fact_codec.specs.Said.{text, octets, prefix, subscriber, subscribers, filters};
 
 use crate::fault::Unread;
 use crate::numbers::{byte_at, bytes_at, short_at};
 use crate::texts::{subscription_type_at, text_at};
-use pcrf_values::{FilterText, Filters, Subscriber, Subscribers};
+use pcrf_values::{FilterText, Filters, Ipv6Prefix, Subscriber, Subscribers};
 use std::alloc::Global;
 use std::net::Ipv4Addr;
 
@@ -32,6 +33,30 @@ pub(crate) fn address_at(bytes: &[u8]) -> Result<(Ipv4Addr, &[u8]), Unread>
         return Err(Unread::BadShape);
     };
     Ok((Ipv4Addr::from_octets(octets), rest))
+}
+
+/// How many bytes so many bits need.
+fn octets_for(bits: u8) -> usize
+    ensures { result ≡ octets_for bits }
+{
+    usize::from(bits).div_ceil(8)
+}
+
+/// An IPv6 prefix.
+#[tactic(auto, unfolding(crate::specs::Said::prefix))]
+pub(crate) fn prefix_at(bytes: &[u8]) -> Result<(Ipv6Prefix, &[u8]), Unread>
+    ensures read { Gives (λ x. (x.0, x.1.now)) result (prefix bytes.now) }
+    ensures spelled { IfOk result (λ x. bytes.now ≡ prefix_bytes x.0 ++ x.1.now) }
+{
+    let (bits, rest) = byte_at(bytes)?;
+    let (octets, rest) = bytes_at(octets_for(bits), rest)?;
+    let Some(prefix) = Ipv6Prefix::of(bits, octets) else {
+        return Err(Unread::BadShape);
+    };
+    if !prefix.needed().cmp(octets).is_eq() {
+        return Err(Unread::BadShape);
+    }
+    Ok((prefix, rest))
 }
 
 /// A subscriber.

@@ -1,5 +1,5 @@
 -- The facts that tell a gateway of rules stand in the order of their names, and behind the fields of a request.
-use Rattle.std.proofs.Common.{◌≡◌, ℕ, List, [], ◌∷◌, ◌++◌, map, Option, Some, None, inl, inr, refl, sym, ap, ◌∙◌, subst, Ordering, Less, Equal}
+use Rattle.std.proofs.Common.{◌≡◌, ℕ, List, [], ◌∷◌, ◌++◌, map, Option, Some, None, inl, inr, refl, sym, ap, ◌∙◌, subst, flat_map, Ordering, Less, Equal}
 use Rattle.std.specs.Ordering.{ordering_then}
 use Rattle.std.specs.Option.{option_cmp}
 use Rattle.std.specs.Cmp.{tied_itself}
@@ -9,18 +9,21 @@ use Rattle.ranked.specs.Orders.{pair_cmp, text_cmp}
 use Rattle.ranked.specs.Sets.{In, Same}
 use Rattle.ranked.specs.Tags.{tag_cmp}
 use Rattle.ranked.specs.declared.tag.Tag.{Tag}
+use Rattle.ranked.proofs.PartLaws.{flat_map-In}
 use Rattle.ranked.proofs.AscendingLaws.{map-ascending, ascending-In, ascending-ascending, ascending-Same, ascending-itself}
 use Rattle.ranked.proofs.OrderLaws.{IsRanked, text_ranked, pair_ranked, option_ranked}
 use Rattle.ranked.proofs.SetLaws.{In-right, In-cases, map-Same, Same-back, Same-append, Same-itself}
 use Rattle.pcrf_values.specs.Numbers.{request_kind_number}
 use Rattle.pcrf_values.specs.RuleValues.{RuleValue, DeltaValue, rule_cmp}
 use Rattle.pcrf_facts.specs.Facts.{Fact, Field, fact_cmp}
-use Rattle.pcrf_facts.specs.Places.{OfSession, OfRuleName, address, apn, subscribers, host, realm, last}
-use Rattle.pcrf_facts.specs.Values.{Subscriber, Number, Text, Address, Subscribers, value_cmp}
+use Rattle.pcrf_facts.specs.Places.{SessionField, OriginHost, session_fields, OfSession, OfRuleName, place_cmp, host}
+use Rattle.pcrf_facts.specs.Values.{Value, Text, value_cmp, entry_cmp}
 use Rattle.pcrf_facts.proofs.FactLaws.{tag_ranked, rule_ranked, fact_ranked}
+use Rattle.fact_records.proofs.FieldLists.{fields_rise}
 use Rattle.gx_records.specs.GxFacts.{told_value}
-use Rattle.pcrf_model.specs.Making.{given_fact, session_fields, ccr_fields, told_facts}
+use Rattle.pcrf_model.specs.Making.{given_fact, request_says, said_facts, ccr_fields, told_facts}
 use Rattle.pcrf_model.specs.Requests.{CcrValue}
+use Rattle.pcrf_model.proofs.MadeForms.{said_there}
 use Rattle.pcrf_model.proofs.ProvisionLaws.{IsField, of_request}
 use Rattle.pcrf_model.proofs.ToldFacts.{Tells, told-tells}
 use Rattle.fact_making.specs.Told.{ToldName, removed_entry, installed_entry, entries_told, told_fact}
@@ -83,16 +86,35 @@ module _ (t : Tag) (d : DeltaValue) where
 
 -- ---- behind the fields of a request
 
--- the fields of a request stand in order
-pub fields_in_order : (t : Tag) (a n : Option (List ℕ)) (ids : Option (List Subscriber)) (h r : List ℕ) (k : ℕ) → ascending fact_cmp (session_fields t a n ids h r k) ≡ session_fields t a n ids h r k
-fields_in_order t None None None h r k = refl
-fields_in_order t None None (Some ids) h r k = refl
-fields_in_order t None (Some n) None h r k = refl
-fields_in_order t None (Some n) (Some ids) h r k = refl
-fields_in_order t (Some a) None None h r k = refl
-fields_in_order t (Some a) None (Some ids) h r k = refl
-fields_in_order t (Some a) (Some n) None h r k = refl
-fields_in_order t (Some a) (Some n) (Some ids) h r k = refl
+module _ (t : Tag) (says : SessionField → Option Value) where
+  -- what is said in a field
+  abbrev said : SessionField → List Fact
+  said f = given_fact (OfSession f) t (λ x. x) (says f)
+
+  -- a field is below what is said in one after it
+  field_below : (f g : SessionField) (v : Value) (y : Fact) → place_cmp (OfSession f) (OfSession g) ≡ Less → In y (said g) → fact_cmp (Field (OfSession f) t v) y ≡ Less
+  field_below f g v y l i = of_value (says g) i
+    where
+      of_value : (o : Option Value) → In y (given_fact (OfSession g) t (λ x. x) o) → fact_cmp (Field (OfSession f) t v) y ≡ Less
+      of_value None j = absurd j
+      of_value (Some w) (inl e) = ap (fact_cmp (Field (OfSession f) t v)) e ∙ ap (λ o. ordering_then o (entry_cmp (t, v) (t, w))) l
+      of_value (Some w) (inr j) = absurd j
+
+  -- so what is said in rising fields rises
+  said_rises : (fs : List SessionField) → Rises (λ f g. place_cmp (OfSession f) (OfSession g)) fs → Rises fact_cmp (flat_map said fs)
+  said_rises [] r = tt
+  said_rises (f ∷ fs) r = of_value (said_rises fs r.1) (says f)
+    where
+      of_value : Rises fact_cmp (flat_map said fs) → (o : Option Value) → Rises fact_cmp (given_fact (OfSession f) t (λ x. x) o ++ flat_map said fs)
+      of_value rest None = rest
+      of_value rest (Some v) = (
+        λ y i. let w = flat_map-In said y fs i in field_below f w.0 v y (r.0 w.0 w.1) w.2,
+        rest,
+      )
+
+  -- the fields of a request stand in order
+  pub fields_in_order : ascending fact_cmp (said_facts t says) ≡ said_facts t says
+  fields_in_order = ascending-itself fact_cmp fact_ranked (said_facts t says) (said_rises session_fields fields_rise)
 
 -- two lists that rise, the first below the second
 rises_both : (xs ys : List Fact) → Rises fact_cmp xs → Rises fact_cmp ys → ((x y : Fact) → In x xs → In y ys → fact_cmp x y ≡ Less) → Rises fact_cmp (xs ++ ys)
@@ -121,7 +143,7 @@ module _ (q : CcrValue) (t g : Tag) (d : DeltaValue) where
   -- so all stand in order where what is told does
   pub fields_then_told : ascending fact_cmp (fields ++ told_facts g d) ≡ fields ++ told
   fields_then_told =
-      let in_order = fields_in_order t q.address q.apn q.subscribers q.host q.realm _ in
+      let in_order = fields_in_order t (request_says q.user q.host q.realm (request_kind_number q.kind)) in
       let rise : Rises fact_cmp fields = subst (Rises fact_cmp) in_order (ascending-ascending fact_cmp fact_ranked fields) in
       let same : Same (fields ++ told_facts g d) (fields ++ told) =
       Same-append fields (told_facts g d) fields told (Same-itself fields) (Same-back told (told_facts g d) (ascending-In fact_cmp fact_ranked (told_facts g d))) in
@@ -130,7 +152,4 @@ module _ (q : CcrValue) (t g : Tag) (d : DeltaValue) where
 
 -- the host is among the fields
 pub host_is_set : (q : CcrValue) (t : Tag) → In (Field host t (Text q.host)) (ccr_fields q t)
-host_is_set q t =
-    let own : Fact = Field host t (Text q.host) in
-    In-right own (given_fact address t Address q.address ++ given_fact apn t Text q.apn ++ given_fact subscribers t Subscribers q.subscribers)
-    (own ∷ Field realm t (Text q.realm) ∷ Field last t (Number (request_kind_number q.kind)) ∷ []) (inl refl)
+host_is_set q t = said_there (request_says q.user q.host q.realm (request_kind_number q.kind)) t OriginHost (Text q.host) refl

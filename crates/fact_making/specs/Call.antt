@@ -3,7 +3,7 @@ use Rattle.std.specs.Prelude.{ℕ, List}
 use Rattle.ranked.specs.declared.tag.Tag.{Tag}
 use Rattle.pcrf_facts.specs.Facts.{Fact}
 use Rattle.pcrf_model.specs.Requests.{AarValue}
-use Rattle.pcrf_model.specs.Making.{session_fields, aar_facts}
+use Rattle.pcrf_model.specs.Making.{request_says, said_facts, aar_facts}
 
 -- what it describes; an AA request has no number
 abbrev pub call_facts : ℕ → ℕ → AarValue → List Fact
@@ -11,4 +11,4 @@ call_facts site counter q = aar_facts q (record { number = 0; counter = counter;
 
 -- of that the fields of the session; what stands for the type of its request is 0
 abbrev pub call_fields : AarValue → Tag → List Fact
-call_fields q t = session_fields t q.address q.apn q.subscribers q.host q.realm 0
+call_fields q t = said_facts t (request_says q.user q.host q.realm 0)

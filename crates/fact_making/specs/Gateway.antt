@@ -5,11 +5,11 @@ use Rattle.pcrf_values.specs.declared.request_kind.RequestKind.{RequestKind}
 use Rattle.pcrf_values.specs.declared.request_kind.RequestKind.TheVariants.{Initial, Update, Termination}
 use Rattle.pcrf_facts.specs.Facts.{Fact, End}
 use Rattle.pcrf_model.specs.Requests.{CcrValue}
-use Rattle.pcrf_model.specs.Making.{session_fields, ccr_fields}
+use Rattle.pcrf_model.specs.Making.{request_says, said_facts, ccr_fields}
 
 -- the fields that a request sets, with that as the type of the last request
 abbrev pub fields_set : CcrValue → Tag → ℕ → List Fact
-fields_set q t last = session_fields t q.address q.apn q.subscribers q.host q.realm last
+fields_set q t last = said_facts t (request_says q.user q.host q.realm last)
 
 -- fields, or the end
 abbrev pub made_facts : CcrValue → RequestKind → Tag → List Fact

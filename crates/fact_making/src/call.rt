@@ -11,7 +11,7 @@ ghost use Rattle.fact_making.specs.Call.{call_fields, call_facts};
 
 use crate::component::put_components;
 use crate::forms::note_aar;
-use crate::session::session_values;
+use crate::session::{User, session_values};
 use af_records::{AfFact, AfRec, AfRequestType, SessionValue};
 use pcrf_values::Enumerated;
 use ranked::Tag;
@@ -35,11 +35,17 @@ fn of_values(
 }
 
 /// The fields of the session that a request sets.
+#[tactic(auto, using(crate::proofs::GivenFields::values_say))]
 fn fields_of(alloc: Global, aar: &Aar, tag: Tag) -> Result<Vec<AfFact>, AllocError>
     ensures { IfOk result (λ facts. map fact_of facts.items ≡ call_fields (aar_view aar.now) tag) }
 {
     let last = Enumerated::of(AfRequestType::AaRequest);
-    let user = (aar.address, &aar.apn, &aar.subscribers);
+    let user = User {
+        address: aar.address,
+        prefix: aar.prefix,
+        apn: &aar.apn,
+        subscribers: &aar.subscribers,
+    };
     let values = session_values(alloc, user, &aar.origin, last)?;
     of_values(alloc, tag, values)
 }

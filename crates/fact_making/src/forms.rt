@@ -5,7 +5,8 @@ ghost use Rattle.std.specs.Prelude.{◌≡◌, map, option_copied, option_map, t
 ghost use Rattle.std.specs.List.{list_all};
 ghost use Rattle.std.specs.Net.Addr.{ipv4_octets};
 ghost use Rattle.pcrf_model.specs.Requests as request;
-ghost use Rattle.pcrf_model.specs.Forms.{are_apart, are_filters, are_subscribers, is_address, is_apn, is_component, is_flow, is_none_or, is_origin, is_request, is_unsigned, is_user};
+ghost use Rattle.pcrf_model.specs.Sessions.{Kind};
+ghost use Rattle.pcrf_model.specs.Forms.{are_apart, are_filters, are_subscribers, is_address, is_apn, is_component, is_flow, is_none_or, is_origin, is_prefix, is_request, is_unsigned, is_user};
 ghost use Rattle.gx_profile.specs.Requests.{ccr_view};
 ghost use Rattle.rx_profile.specs.Requests.{aar_view};
 ghost use Rattle.rx_profile.specs.Services.{component_numbers};
@@ -13,8 +14,8 @@ ghost use Rattle.rx_profile.specs.Terminations.{str_view};
 
 use dia_base::Origin;
 use gx_profile::Ccr;
-use pcrf_model::ranges::{note_address, note_apn, note_subscribers, note_text};
-use pcrf_values::{Apn, PermitFilters, SessionId, Subscribers};
+use pcrf_model::ranges::{note_address, note_apn, note_prefix, note_subscribers, note_text};
+use pcrf_values::{Apn, Ipv6Prefix, PermitFilters, SessionId, Subscribers};
 use rx_profile::{Aar, Component, Components, Flow, Str};
 use std::net::Ipv4Addr;
 
@@ -23,7 +24,7 @@ pub fn note_ccr(ccr: &Ccr)
     ensures { is_request (request.Ccr (ccr_view ccr.now)) ≡ true }
 {
     note_origin(ccr.session.id(), &ccr.origin);
-    note_user(ccr.address, &ccr.apn, &ccr.subscribers);
+    note_user(ccr.address, ccr.prefix, &ccr.apn, &ccr.subscribers);
     note_unsigned(ccr.number);
 }
 
@@ -32,7 +33,7 @@ pub fn note_aar(aar: &Aar)
     ensures { is_request (request.Aar (aar_view aar.now)) ≡ true }
 {
     note_origin(aar.session.id(), &aar.origin);
-    note_user(aar.address, &aar.apn, &aar.subscribers);
+    note_user(aar.address, aar.prefix, &aar.apn, &aar.subscribers);
     note_components(&aar.components);
 }
 
@@ -53,10 +54,21 @@ fn note_origin(session: &SessionId, origin: &Origin)
 }
 
 /// What is given of whom a session serves is within its range.
-fn note_user(address: Option<Ipv4Addr>, apn: &Option<Apn>, subscribers: &Option<Subscribers>)
-    ensures { is_user (option_map ipv4_octets address) apn.now subscribers.now ≡ true }
+fn note_user(
+    address: Option<Ipv4Addr>,
+    prefix: Option<Ipv6Prefix>,
+    apn: &Option<Apn>,
+    subscribers: &Option<Subscribers>,
+)
+    ensures { (k : Kind) → is_user k (record {
+      address = option_map ipv4_octets address;
+      prefix = prefix;
+      apn = apn.now;
+      subscribers = subscribers.now;
+    }) ≡ true }
 {
     note_address_given(address);
+    note_prefix_given(prefix);
     note_apn_given(apn);
     note_subscribers_given(subscribers);
 }
@@ -67,6 +79,15 @@ fn note_address_given(address: Option<Ipv4Addr>)
 {
     if let Some(address) = address {
         note_address(&address);
+    }
+}
+
+/// A prefix, if it is given.
+fn note_prefix_given(prefix: Option<Ipv6Prefix>)
+    ensures { is_none_or is_prefix prefix ≡ true }
+{
+    if let Some(prefix) = prefix {
+        note_prefix(&prefix);
     }
 }
 

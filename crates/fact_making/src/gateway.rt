@@ -7,7 +7,7 @@ ghost use Rattle.gx_records.specs.Numbers.{open_request_number};
 ghost use Rattle.gx_profile.specs.Requests.{ccr_view};
 ghost use Rattle.fact_making.specs.Gateway.{fields_set, made_facts};
 
-use crate::session::session_values;
+use crate::session::{User, session_values};
 use gx_profile::Ccr;
 use gx_records::{GxFact, GxRec, OpenRequestType, SessionValue};
 use pcrf_values::{Enumerated, RequestKind};
@@ -31,6 +31,7 @@ fn of_values(
 }
 
 /// The fields that an initial request or an update sets.
+#[tactic(auto, using(crate::proofs::GivenFields::values_say))]
 fn fields_of(
     alloc: Global,
     ccr: &Ccr,
@@ -40,7 +41,12 @@ fn fields_of(
     ensures { IfOk result (λ facts.
         map fact_of facts.items ≡ fields_set (ccr_view ccr.now) tag (open_request_number last)) }
 {
-    let user = (ccr.address, &ccr.apn, &ccr.subscribers);
+    let user = User {
+        address: ccr.address,
+        prefix: ccr.prefix,
+        apn: &ccr.apn,
+        subscribers: &ccr.subscribers,
+    };
     let values = session_values(alloc, user, &ccr.origin, Enumerated::of(last))?;
     of_values(alloc, tag, values)
 }

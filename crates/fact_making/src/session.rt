@@ -5,10 +5,19 @@ ghost use Rattle.fact_making.specs.Given.{values_given};
 
 use dia_base::Origin;
 use fact_records::SessionValue;
-use pcrf_values::{Apn, Subscribers};
+use pcrf_values::{Apn, Ipv6Prefix, Subscribers};
 use ranked::Ranked;
 use std::alloc::{AllocError, Global};
 use std::net::Ipv4Addr;
+
+/// What a request says of its user.
+#[derive(Clone, Copy)]
+pub(crate) struct User<'a> {
+    pub address: Option<Ipv4Addr>,
+    pub prefix: Option<Ipv6Prefix>,
+    pub apn: &'a Option<Apn>,
+    pub subscribers: &'a Option<Subscribers>,
+}
 
 /// Adds a value, if it is given.
 fn put<L: Drop>(
@@ -28,6 +37,13 @@ fn address<L>(given: Option<Ipv4Addr>) -> Option<SessionValue<L>>
     ensures { result ≡ option_map value.Address given }
 {
     Some(SessionValue::Address(given?))
+}
+
+/// The prefix, if it is given.
+fn prefix<L>(given: Option<Ipv6Prefix>) -> Option<SessionValue<L>>
+    ensures { result ≡ option_map value.Prefix given }
+{
+    Some(SessionValue::Prefix(given?))
 }
 
 /// A copy of the access point name, if it is given.
@@ -53,19 +69,21 @@ fn subscribers<L>(given: &Option<Subscribers>) -> Result<Option<SessionValue<L>>
 /// What a request says of its session: whom it serves, as far as that is given, who sends it, and of which type it is.
 pub(crate) fn session_values<L: Drop>(
     alloc: Global,
-    user: (Option<Ipv4Addr>, &Option<Apn>, &Option<Subscribers>),
+    user: User<'_>,
     origin: &Origin,
     last: L,
 ) -> Result<Vec<SessionValue<L>>, AllocError>
     ensures { IfOk result (λ values. values.items ≡ values_given
-        user.entry.0 user.entry.1.now user.entry.2.now origin.now.host origin.now.realm last) }
+        user.entry.address user.entry.prefix user.entry.apn.now user.entry.subscribers.now
+        origin.now.host origin.now.realm last) }
 {
     let mut values = Vec::new(alloc);
-    put(&mut values, address(user.0))?;
-    put(&mut values, apn(user.1)?)?;
-    put(&mut values, subscribers(user.2)?)?;
+    put(&mut values, address(user.address))?;
+    put(&mut values, apn(user.apn)?)?;
+    put(&mut values, subscribers(user.subscribers)?)?;
     values.push(SessionValue::Host(origin.host.try_copy()?))?;
     values.push(SessionValue::Realm(origin.realm.try_copy()?))?;
     values.push(SessionValue::Last(last))?;
+    put(&mut values, prefix(user.prefix))?;
     Ok(values)
 }

@@ -8,7 +8,7 @@ use Rattle.ranked.proofs.SetLaws.{any-none, In-map}
 use Rattle.ranked.specs.declared.tag.Tag.{Tag}
 use Rattle.pcrf_facts.specs.Places.{Place, OfSession, OfComponent, OfFlow, OfRuleName, Component, Flow, position_cmp}
 use Rattle.pcrf_facts.specs.Values.{Value, entry_cmp}
-use Rattle.pcrf_facts.specs.Facts.{Fact, End, Removed, Field, position, is_shaded_by}
+use Rattle.pcrf_facts.specs.Facts.{Fact, End, Removed, Field, Aborted, position, is_shaded_by}
 use Rattle.fact_records.specs.Beneath.{beneath_place, beneath_of, removes}
 use Rattle.fact_records.specs.declared.fact.Beneath.{Beneath}
 use Rattle.fact_records.specs.declared.fact.Beneath.TheVariants as beneath
@@ -83,6 +83,17 @@ field_removes (beneath.Flow c n) (OfRuleName x) u w = refl
 -- at another position a fact overshadows one just where it removes what that is beneath
 pub shades_beneath : (f g : Fact) → is_eq (position_cmp (position f) (position g)) ≡ false → is_shaded_by f g ≡ removes (beneath_of f) g
 shades_beneath End g e = refl
+shades_beneath Aborted End e = refl
+shades_beneath Aborted (Removed (Component d)) e = refl
+shades_beneath Aborted (Removed (Flow d m)) e = refl
+shades_beneath Aborted (Field p t v) e = sym (field_removes beneath.Session p t v)
+shades_beneath Aborted Aborted e = refl
+shades_beneath (Removed (Component c)) Aborted e = refl
+shades_beneath (Removed (Flow c n)) Aborted e = refl
+shades_beneath (Field (OfSession x) t v) Aborted e = refl
+shades_beneath (Field (OfComponent c x) t v) Aborted e = refl
+shades_beneath (Field (OfFlow c n x) t v) Aborted e = refl
+shades_beneath (Field (OfRuleName x) t v) Aborted e = refl
 shades_beneath (Removed (Component c)) End e = refl
 shades_beneath (Removed (Component c)) (Removed (Component d)) e = refl
 shades_beneath (Removed (Component c)) (Removed (Flow d m)) e = refl

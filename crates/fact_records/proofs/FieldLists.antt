@@ -2,9 +2,8 @@
 use Rattle.std.proofs.Common.{◌≡◌, List, [], ◌∷◌, inl, inr, refl, sym, subst, Ordering, Less}
 use Rattle.ranked.specs.Ascending.{Rises, IsBelowAll}
 use Rattle.ranked.specs.Sets.{In}
-use Rattle.pcrf_facts.specs.Places.{place_cmp, SessionField, OfSession}
+use Rattle.pcrf_facts.specs.Places.{place_cmp, SessionField, OfSession, session_fields}
 use Rattle.pcrf_facts.specs.Places as places
-use Rattle.fact_records.specs.SessionFacts.{session_fields}
 
 module _ {A : Type 0} (R : A → A → Ordering) where
   -- below each of these, one by one
@@ -25,21 +24,24 @@ field_cmp f g = place_cmp (OfSession f) (OfSession g)
 -- those fields are in the order of their places
 pub fields_rise : Rises field_cmp session_fields
 fields_rise = (
-  below_each places.FramedIpAddress (places.CalledStationId ∷ places.SubscriptionIds ∷ places.OriginHost ∷ places.OriginRealm ∷ places.RequestType ∷ []) (refl, (refl, (refl, (refl, (refl, tt))))),
+  below_each places.FramedIpAddress (places.CalledStationId ∷ after_apn) (refl, (refl, (refl, (refl, (refl, (refl, tt)))))),
   (
-    below_each places.CalledStationId (places.SubscriptionIds ∷ places.OriginHost ∷ places.OriginRealm ∷ places.RequestType ∷ []) (refl, (refl, (refl, (refl, tt)))),
+    below_each places.CalledStationId after_apn (refl, (refl, (refl, (refl, (refl, tt))))),
     (
-      below_each places.SubscriptionIds (places.OriginHost ∷ places.OriginRealm ∷ places.RequestType ∷ []) (refl, (refl, (refl, tt))),
+      below_each places.SubscriptionIds (places.OriginHost ∷ places.OriginRealm ∷ places.RequestType ∷ places.FramedIpv6Prefix ∷ []) (refl, (refl, (refl, (refl, tt)))),
       (
-        below_each places.OriginHost (places.OriginRealm ∷ places.RequestType ∷ []) (refl, (refl, tt)),
+        below_each places.OriginHost (places.OriginRealm ∷ places.RequestType ∷ places.FramedIpv6Prefix ∷ []) (refl, (refl, (refl, tt))),
         (
-          below_each places.OriginRealm (places.RequestType ∷ []) (refl, tt),
-          (below_each places.RequestType [] tt, tt),
+          below_each places.OriginRealm (places.RequestType ∷ places.FramedIpv6Prefix ∷ []) (refl, (refl, tt)),
+          (below_each places.RequestType (places.FramedIpv6Prefix ∷ []) (refl, tt), (below_each places.FramedIpv6Prefix [] tt, tt)),
         ),
       ),
     ),
   ),
 )
   where
+    after_apn : List SessionField
+    after_apn = places.SubscriptionIds ∷ places.OriginHost ∷ places.OriginRealm ∷ places.RequestType ∷ places.FramedIpv6Prefix ∷ []
+
     below_each : (f : SessionField) (gs : List SessionField) → Precedes field_cmp f gs → IsBelowAll field_cmp f gs
     below_each = all_below field_cmp

@@ -13,7 +13,7 @@ use Rattle.ranked.proofs.SetLaws.{In-left, In-right, In-cases, any-In, none-any,
 use Rattle.ranked.proofs.AscendingLaws.{ascending-ascending, ascending-itself}
 use Rattle.pcrf_facts.specs.Places.{Place, OfSession, OfComponent, OfFlow, OfRuleName, Removable, Component, Flow, Position, position_cmp, contains, covers}
 use Rattle.pcrf_facts.specs.Values.{Value, entry_cmp}
-use Rattle.pcrf_facts.specs.Facts.{Fact, End, Removed, Field, position, entry, fact_cmp, is_shaded_by}
+use Rattle.pcrf_facts.specs.Facts.{Fact, End, Removed, Field, Aborted, position, entry, fact_cmp, is_shaded_by}
 use Rattle.pcrf_facts.specs.Held.{kept_set, kept_list, join_of}
 use Rattle.pcrf_facts.proofs.FactLaws.{fact_ranked, position_ranked, shaded_irr, shaded_trans}
 use Rattle.pcrf_facts.proofs.JoinedLaws.{kept-In, In-kept, sorted-In, sorted-Same, held-Same, joined-held}
@@ -77,6 +77,21 @@ held_drop f g zs i u = sorted-Same (kept_set (zs ++ f ∷ [])) (kept_set zs) (λ
 -- a fact below another at its position is overshadowed by it
 pub same_position : (x y : Fact) → position_cmp (position x) (position y) ≡ Equal → fact_cmp x y ≡ Less → is_shaded_by x y ≡ true
 same_position End End e h = cc
+same_position End Aborted e h = cc
+same_position (Removed (Component c)) Aborted e h = cc
+same_position (Removed (Flow c n)) Aborted e h = cc
+same_position (Field (OfSession a) t v) Aborted e h = cc
+same_position (Field (OfComponent c a) t v) Aborted e h = cc
+same_position (Field (OfFlow c n a) t v) Aborted e h = cc
+same_position (Field (OfRuleName a) t v) Aborted e h = cc
+same_position Aborted End e h = cc
+same_position Aborted (Removed (Component d)) e h = cc
+same_position Aborted (Removed (Flow d m)) e h = cc
+same_position Aborted (Field (OfSession b) u w) e h = cc
+same_position Aborted (Field (OfComponent d b) u w) e h = cc
+same_position Aborted (Field (OfFlow d m b) u w) e h = cc
+same_position Aborted (Field (OfRuleName b) u w) e h = cc
+same_position Aborted Aborted e h = cc
 same_position End (Removed (Component d)) e h = cc
 same_position End (Removed (Flow d m)) e h = cc
 same_position End (Field (OfSession b) u w) e h = cc
@@ -112,6 +127,12 @@ same_position (Field p t v) (Field q u w) e h =
 -- at another position only what stands before a fact overshadows it
 pub shader_before : (x y : Fact) → is_shaded_by x y ≡ true → is_eq (position_cmp (position x) (position y)) ≡ false → position_cmp (position y) (position x) ≡ Less
 shader_before End g s e = clash false s refl
+shader_before Aborted End s e = refl
+shader_before Aborted (Removed r) s e = clash false s refl
+shader_before Aborted (Field q u w) s e = clash false s refl
+shader_before Aborted Aborted s e = clash false s refl
+shader_before (Removed r) Aborted s e = clash false s refl
+shader_before (Field p t v) Aborted s e = clash false s refl
 shader_before (Removed (Component c)) End s e = refl
 shader_before (Removed (Flow c n)) End s e = refl
 shader_before (Removed (Component c)) (Removed t) s e = lone_component c t s

@@ -8,6 +8,5 @@ pub mod PartLaws
 pub mod PutLaws
 pub mod RecordLaws
 pub mod SearchLaws
-pub mod SessionLaws
 pub mod SubsetLaws
 pub mod ThereLaws

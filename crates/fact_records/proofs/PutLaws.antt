@@ -13,7 +13,7 @@ use Rattle.ranked.proofs.Plain.{clash, is_false}
 use Rattle.ranked.proofs.SetLaws.{In-left, In-right, In-cases, none-any, Same-itself, Same-append, Same-turn}
 use Rattle.pcrf_facts.specs.Places.{Position, position_cmp}
 use Rattle.pcrf_facts.specs.Values.{entry_cmp}
-use Rattle.pcrf_facts.specs.Facts.{Fact, End, Removed, Field, position, entry, fact_cmp, is_shaded_by}
+use Rattle.pcrf_facts.specs.Facts.{Fact, End, Removed, Field, Aborted, position, entry, fact_cmp, is_shaded_by}
 use Rattle.pcrf_facts.specs.Held.{kept_list, join_of}
 use Rattle.pcrf_facts.proofs.FactLaws.{fact_ranked, position_ranked, shaded_irr, shaded_trans}
 use Rattle.pcrf_facts.proofs.JoinedLaws.{held-Same, joined-held}
@@ -58,6 +58,8 @@ rises_mid (x ∷ js) ks f r s b low high = (
 field_shades : (f x : Fact) → is_field f ≡ true → is_shaded_by x f ≡ true → is_eq (position_cmp (position x) (position f)) ≡ true
 field_shades End x h s = clash false h refl
 field_shades (Removed r) x h s = clash false h refl
+field_shades Aborted x h s = clash false h refl
+field_shades (Field p t v) Aborted h s = clash false s refl
 field_shades (Field p t v) End h s = clash false s refl
 field_shades (Field p t v) (Removed r) h s = clash false s refl
 field_shades (Field p t v) (Field q u w) h s = first_so _ _ s

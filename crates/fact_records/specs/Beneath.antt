@@ -3,7 +3,7 @@ use Rattle.std.specs.Prelude.{Bool, false, ◌||◌}
 use Rattle.std.specs.Ordering.{is_eq}
 use Rattle.pcrf_facts.specs.Places.{Place, OfSession, OfComponent, OfFlow, OfRuleName, Removable, Position, position_cmp, removed_position}
 use Rattle.pcrf_facts.specs.Places as places
-use Rattle.pcrf_facts.specs.Facts.{Fact, End, Removed, Field, position}
+use Rattle.pcrf_facts.specs.Facts.{Fact, End, Removed, Field, Aborted, position}
 use Rattle.fact_records.specs.declared.fact.Beneath.{Beneath}
 use Rattle.fact_records.specs.declared.fact.Beneath.TheVariants.{Nothing, Session, Component, Flow}
 
@@ -24,6 +24,7 @@ abbrev pub beneath_of : Fact → Beneath
 beneath_of End = Nothing
 beneath_of (Removed r) = beneath_removal r
 beneath_of (Field p t v) = beneath_place p
+beneath_of Aborted = Session
 
 -- the fact stands there
 abbrev pub stands_at : Position → Fact → Bool

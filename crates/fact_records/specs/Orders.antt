@@ -5,7 +5,7 @@ use Rattle.std.specs.declared.cmp.Ordering.{Ordering}
 use Rattle.ranked.specs.Orders.{pair_cmp, text_cmp}
 use Rattle.std.specs.declared.cmp.Ordering.TheVariants.{Less}
 use Rattle.ranked.specs.Sets.{In, Same}
-use Rattle.pcrf_facts.specs.Facts.{Fact, End, Removed, Field, position, fact_cmp, is_shaded_by}
+use Rattle.pcrf_facts.specs.Facts.{Fact, Field, position, fact_cmp, is_shaded_by}
 use Rattle.pcrf_facts.specs.Held.{kept_list}
 use Rattle.pcrf_facts.specs.Places.{Position, position_cmp}
 use Rattle.fact_records.specs.Beneath.{stands_at}
@@ -56,9 +56,8 @@ IsCovered f zs = (g : Fact) × In g zs × AtOrUnder f g
 
 -- the fact is a field
 abbrev pub is_field : Fact → Bool
-is_field End = false
-is_field (Removed r) = false
 is_field (Field p t v) = true
+is_field f = false
 
 -- all of these stand below the position, and all of those above it
 pub record IsGap (p : Position) (lows highs : List Fact) : Type 0 where

@@ -1,15 +1,14 @@
 -- The facts of the fields of a session.
-use Rattle.std.specs.Prelude.{ℕ, List, [], ◌∷◌}
+use Rattle.std.specs.Prelude.{ℕ}
 use Rattle.std.specs.Net.Addr.{ipv4_octets}
 use Rattle.std.specs.declared.net.ipv4_addr.Ipv4Addr.{Ipv4Addr}
 use Rattle.ranked.specs.declared.tag.Tag.{Tag}
-use Rattle.pcrf_facts.specs.Places.{SessionField, FramedIpAddress, CalledStationId, SubscriptionIds, OriginHost, OriginRealm, RequestType}
 use Rattle.pcrf_facts.specs.Places as places
 use Rattle.pcrf_facts.specs.Values.{Value, Number, Text}
 use Rattle.pcrf_facts.specs.Values as values
 use Rattle.pcrf_facts.specs.Facts.{Fact, Field}
 use Rattle.fact_records.specs.declared.session_value.SessionValue.{SessionValue}
-use Rattle.fact_records.specs.declared.session_value.SessionValue.TheVariants.{Address, Apn, Subscribers, Host, Realm, Last}
+use Rattle.fact_records.specs.declared.session_value.SessionValue.TheVariants.{Address, Apn, Subscribers, Host, Realm, Last, Prefix}
 
 -- an address as its octets
 abbrev pub address_value : Ipv4Addr → Value
@@ -23,7 +22,4 @@ session_fact t (Subscribers x) = Field places.subscribers t (values.Subscribers 
 session_fact t (Host x) = Field places.host t (Text x)
 session_fact t (Realm x) = Field places.realm t (Text x)
 session_fact t (Last x) = Field places.last t (Number x)
-
--- the fields of a session
-abbrev pub session_fields : List SessionField
-session_fields = FramedIpAddress ∷ CalledStationId ∷ SubscriptionIds ∷ OriginHost ∷ OriginRealm ∷ RequestType ∷ []
+session_fact t (Prefix x) = Field places.prefix t (values.Prefix x)

@@ -5,7 +5,7 @@ use Rattle.pcrf_facts.specs.Values.{Value, Number, Text, Entry}
 use Rattle.pcrf_facts.specs.Values as values
 use Rattle.fact_records.specs.SessionFacts.{address_value}
 use Rattle.fact_records.specs.declared.session_value.SessionValue.{SessionValue}
-use Rattle.fact_records.specs.declared.session_value.SessionValue.TheVariants.{Address, Apn, Subscribers, Host, Realm, Last}
+use Rattle.fact_records.specs.declared.session_value.SessionValue.TheVariants.{Address, Apn, Subscribers, Host, Realm, Last, Prefix}
 
 -- the value
 abbrev pub session_value : SessionValue ℕ → Value
@@ -15,6 +15,7 @@ session_value (Subscribers x) = values.Subscribers x
 session_value (Host x) = Text x
 session_value (Realm x) = Text x
 session_value (Last x) = Number x
+session_value (Prefix x) = values.Prefix x
 
 -- the number of its field
 abbrev pub session_number : SessionValue ℕ → ℕ
@@ -24,6 +25,7 @@ session_number (Subscribers x) = 3
 session_number (Host x) = 4
 session_number (Realm x) = 5
 session_number (Last x) = 6
+session_number (Prefix x) = 7
 
 -- with its tag
 abbrev pub session_entry : Option (Tag × SessionValue ℕ) → Option Entry

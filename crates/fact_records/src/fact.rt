@@ -3,7 +3,7 @@ ghost use Rattle.std.specs.Prelude.{◌≡◌, IfOk};
 ghost use Rattle.std.specs.Option.{option_cmp};
 ghost use Rattle.pcrf_facts.specs.Places.{Component, Flow, position_cmp, removed_position};
 ghost use Rattle.pcrf_facts.specs.Values.{entry_cmp};
-ghost use Rattle.pcrf_facts.specs.Facts.{Fact, End, position, entry, fact_cmp};
+ghost use Rattle.pcrf_facts.specs.Facts.{Fact, End, Aborted, position, entry, fact_cmp};
 ghost use Rattle.fact_records.specs.Beneath.{beneath_of};
 ghost use Rattle.fact_records.specs.Orders.{is_field, parts_cmp, fields_cmp};
 
@@ -25,6 +25,8 @@ pub const COMPONENT_FIELD: u8 = 5;
 pub const FLOW_FIELD: u8 = 6;
 
 pub const RULE_NAME: u8 = 7;
+
+const ABORTED: u8 = 8;
 
 /// Where a fact stands among those of its session: by the kind of fact, component, flow, field and name.
 #[derive(Drop)]
@@ -88,6 +90,19 @@ impl<'a> Position<'a> {
     {
         Position {
             code: END,
+            component: 0,
+            flow: 0,
+            field: 0,
+            name: &[],
+        }
+    }
+
+    /// Where it stands that the session was aborted.
+    pub fn of_abort() -> Position<'a>
+        ensures { result ≡ position Aborted }
+    {
+        Position {
+            code: ABORTED,
             component: 0,
             flow: 0,
             field: 0,

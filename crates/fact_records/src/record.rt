@@ -5,7 +5,7 @@ ghost use Rattle.std.specs.Ordering.{is_eq};
 ghost use Rattle.std.specs.List.{filter, list_any};
 ghost use Rattle.std.specs.Vec.{vec_len, vec_capacity};
 ghost use Rattle.pcrf_facts.specs.Facts.{Fact, fact_cmp};
-ghost use Rattle.pcrf_facts.specs.Held.{kept_list, is_ended, entry_shown};
+ghost use Rattle.pcrf_facts.specs.Held.{kept_list, is_ended, is_aborted, entry_shown};
 ghost use Rattle.pcrf_facts.specs.Places.{Place, place_position};
 ghost use Rattle.fact_records.specs.Found.{IsFound, entry_found, stands_in};
 ghost use Rattle.fact_records.specs.Sets.{facts_subset};
@@ -171,6 +171,13 @@ impl<F: TypedFact> Record<F> {
         ensures { result ≡ is_ended self.now }
     {
         search::is_ended(self.items.as_slice())
+    }
+
+    /// The session was asked to abort.
+    pub fn aborted(&self) -> bool
+        ensures { result ≡ is_aborted self.now }
+    {
+        search::has_at(self.items.as_slice(), &Position::of_abort())
     }
 }
 

@@ -8,7 +8,7 @@ ghost use Rattle.fact_records.specs.SessionValues.{session_number, session_value
 
 use crate::fact::{Position, SESSION_FIELD};
 use lattice_core::Ranked;
-use pcrf_values::{Apn, DiameterIdentity, Enumerated, Enumeration, Subscribers};
+use pcrf_values::{Apn, DiameterIdentity, Enumerated, Enumeration, Ipv6Prefix, Subscribers};
 use std::alloc::AllocError;
 use std::cmp::Ordering;
 use std::net::Ipv4Addr;
@@ -28,6 +28,8 @@ pub enum SessionValue<L> {
     Realm(DiameterIdentity),
     /// CC-Request-Type of the last request (RFC 8506, 8.3), 0 for Rx.
     Last(L),
+    /// Framed-IPv6-Prefix (RFC 7155, 4.4.10.5.6).
+    Prefix(Ipv6Prefix),
 }
 
 impl<L: Ranked> SessionValue<L> {
@@ -42,6 +44,7 @@ impl<L: Ranked> SessionValue<L> {
             SessionValue::Host(host) => Ok(SessionValue::Host(host.try_copy()?)),
             SessionValue::Realm(realm) => Ok(SessionValue::Realm(realm.try_copy()?)),
             SessionValue::Last(last) => Ok(SessionValue::Last(last.try_copy()?)),
+            SessionValue::Prefix(prefix) => Ok(SessionValue::Prefix(*prefix)),
         }
     }
 }
@@ -57,6 +60,7 @@ fn number_of<E: Enumeration>(value: &SessionValue<Enumerated<E>>) -> u8
         SessionValue::Host(_) => 4,
         SessionValue::Realm(_) => 5,
         SessionValue::Last(_) => 6,
+        SessionValue::Prefix(_) => 7,
     }
 }
 
@@ -111,6 +115,10 @@ pub fn compare_values<E: Enumeration>(
         },
         SessionValue::Last(one) => match other {
             SessionValue::Last(other) => one.cmp(other),
+            _ => Ordering::Equal,
+        },
+        SessionValue::Prefix(one) => match other {
+            SessionValue::Prefix(other) => one.cmp(other),
             _ => Ordering::Equal,
         },
     }

@@ -11,14 +11,14 @@ use Rattle.dia_codec.specs.Fields.{AvpValue, MessageValue}
 use Rattle.dia_codec.specs.Limits.{longest_message}
 use Rattle.dia_codec.specs.Written.{word_bytes, written_avp, padded_len, written_len}
 use Rattle.dia_codec.specs.Written as written
-use Rattle.dia_base.specs.Avps.{base_key, cc_request_type, cc_request_number}
+use Rattle.dia_base.specs.Avps.{base_key, destination_realm, destination_host, cc_request_type, cc_request_number}
 use Rattle.dia_base.specs.Answers.{text_avp, number_avp, result_avp}
 use Rattle.dia_base.specs.declared.identity.Identity.{Identity}
 use Rattle.dia_base.proofs.AnswerLengths.{text_within, number_within, result_within}
 use Rattle.pcrf_values.specs.Numbers.{request_kind_number}
 use Rattle.gx_profile.specs.Answers.{cca}
 use Rattle.reply_values.specs.Replies.{reply_refusal, reply_delta, reply_quality}
-use Rattle.gx_profile.specs.Avps.{destination_realm, destination_host, re_auth_request_type}
+use Rattle.gx_profile.specs.Avps.{re_auth_request_type}
 use Rattle.gx_profile.specs.Lengths.{delta_room, opening_room}
 use Rattle.gx_profile.specs.Openings.{opening_avps}
 use Rattle.gx_profile.specs.Pushes.{rar, authorize_only}

@@ -92,14 +92,6 @@ max_requested_bandwidth_ul = tgpp_key 516
 
 -- ---- of requests that a server makes (RFC 6733)
 
--- 6.6
-abbrev pub destination_realm : AvpKey
-destination_realm = base_key 283
-
 -- 8.12
 abbrev pub re_auth_request_type : AvpKey
 re_auth_request_type = base_key 285
-
--- 6.5
-abbrev pub destination_host : AvpKey
-destination_host = base_key 293

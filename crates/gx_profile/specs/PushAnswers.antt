@@ -1,52 +1,7 @@
 -- Re-authorisation answers as they are read (TS 29.212, 5.6.5).
-use Rattle.std.specs.Prelude.{ℕ, List, [], ◌∷◌, Option, Some, None, option_map, unwrap_or}
-use Rattle.pcrf_values.specs.declared.refusal.Refusal.{Refusal}
-use Rattle.dia_codec.specs.Fields.{AvpValue}
-use Rattle.dia_codec.specs.Reading.{avps_of}
-use Rattle.dia_base.specs.Avps.{session_id, result_code, experimental_result, experimental_result_code}
-use Rattle.dia_base.specs.Rows.{Kind, Row, optional, unsigned32, grouped, value_of, number_at, text_at, rows_refusal}
-use Rattle.dia_base.specs.Sessions.{session_row}
+use Rattle.dia_base.specs.declared.session_answer.SessionAnswer.{SessionAnswer}
 use Rattle.gx_profile.specs.declared.raa.Raa.{Raa}
 
--- ---- the table
-
--- an Experimental-Result (RFC 6733, 7.6): what this profile reads of it is its Experimental-Result-Code
-abbrev pub experimental_rows : List Row
-experimental_rows = optional experimental_result_code unsigned32 ∷ []
-
-abbrev pub experimental : Kind
-experimental = grouped experimental_rows
-
--- the row of an Experimental-Result
-abbrev pub experimental_row : Row
-experimental_row = optional experimental_result experimental
-
--- this project's profile of a re-authorisation answer, in the order in which the rows are judged
-abbrev pub raa_rows : List Row
-raa_rows = session_row ∷ optional result_code unsigned32 ∷ experimental_row ∷ []
-
--- the first refusal of a re-authorisation answer's AVPs by its table
-abbrev pub raa_table_refusal : List AvpValue → Option Refusal
-raa_table_refusal avps = rows_refusal raa_rows avps
-
--- ---- what is read
-
--- the code in a group
-abbrev pub code_in : Option (List AvpValue) → Option ℕ
-code_in None = None
-code_in (Some avps) = number_at experimental_result_code avps
-
-abbrev pub code_of : List ℕ → Option ℕ
-code_of value = code_in (avps_of value)
-
--- the Experimental-Result-Code, if there is one
-abbrev pub experimental_at : List AvpValue → Option ℕ
-experimental_at avps = unwrap_or (option_map code_of (value_of experimental_result avps)) None
-
--- what AVPs that aren't refused say
-abbrev pub raa_of : List AvpValue → Raa
-raa_of avps = record {
-  session = text_at session_id avps;
-  result = number_at result_code avps;
-  experimental = experimental_at avps;
-}
+-- the answer, of whatever session
+abbrev pub raa_view : Raa → SessionAnswer
+raa_view a = record { session = a.session; result = a.result; experimental = a.experimental }

@@ -1,12 +1,13 @@
 -- Re-authorisation requests as they are written (TS 29.212, 5.6.4).
-use Rattle.std.specs.Prelude.{ℕ, true, false, ◌∷◌, ◌++◌}
+use Rattle.std.specs.Prelude.{ℕ, ◌∷◌, ◌++◌}
 use Rattle.pcrf_values.specs.Applications.{gx_application}
 use Rattle.pcrf_model.specs.Replies.{PushValue}
-use Rattle.dia_codec.specs.declared.message.Header.{Header}
 use Rattle.dia_codec.specs.Fields.{MessageValue}
 use Rattle.dia_base.specs.Answers.{text_avp, number_avp}
 use Rattle.dia_base.specs.declared.identity.Identity.{Identity}
-use Rattle.gx_profile.specs.Avps.{destination_realm, destination_host, re_auth_request_type}
+use Rattle.dia_base.specs.Avps.{destination_realm, destination_host}
+use Rattle.dia_base.specs.Requests.{request_header}
+use Rattle.gx_profile.specs.Avps.{re_auth_request_type}
 use Rattle.gx_profile.specs.Openings.{opening_avps}
 use Rattle.gx_profile.specs.Rules.{delta_avps}
 
@@ -18,21 +19,11 @@ re_auth_command = 258
 abbrev pub authorize_only : ℕ
 authorize_only = 0
 
--- a request under Gx that agents may pass on, with R and P (RFC 6733, 3 and 8.3.1)
-abbrev pub rar_header : ℕ → ℕ → Header
-rar_header hop_id end_id = record {
-  flags = record { request = true; proxiable = true; error = false; retransmitted = false };
-  command = re_auth_command;
-  application = gx_application;
-  hop_id = hop_id;
-  end_id = end_id;
-}
-
 -- Session-Id, Auth-Application-Id for Gx, Origin-Host, Origin-Realm, Destination-Realm, Destination-Host, Re-Auth-Request-Type, and the rules that
 -- are removed and installed
 unfoldable pub rar : Identity → ℕ → ℕ → PushValue → MessageValue
 rar i hop_id end_id p = record {
-  header = rar_header hop_id end_id;
+  header = request_header re_auth_command gx_application hop_id end_id;
   avps =
       opening_avps p.session i
       ++ text_avp destination_realm p.realm

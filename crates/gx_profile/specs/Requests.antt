@@ -9,9 +9,9 @@ use Rattle.pcrf_values.specs.declared.request_kind.RequestKind.{RequestKind}
 use Rattle.pcrf_values.specs.declared.request_kind.RequestKind.TheVariants.{Initial, Termination}
 use Rattle.dia_codec.specs.Fields.{AvpValue}
 use Rattle.pcrf_model.specs.Requests.{CcrValue}
-use Rattle.dia_base.specs.Avps.{session_id, origin_host, origin_realm, framed_ip_address, called_station_id, cc_request_number, cc_request_type}
+use Rattle.dia_base.specs.Avps.{session_id, origin_host, origin_realm, framed_ip_address, framed_ipv6_prefix, called_station_id, cc_request_number, cc_request_type}
 use Rattle.dia_base.specs.Origins.{origin_rows}
-use Rattle.dia_base.specs.Rows.{Row, required, optional, unsigned32, enumerated, text_to, ipv4_address, value_of, number_at, text_at, rows_refusal}
+use Rattle.dia_base.specs.Rows.{Row, required, optional, unsigned32, enumerated, text_to, ipv4_address, ipv6_prefix, value_of, prefix_at, number_at, text_at, rows_refusal}
 use Rattle.dia_base.specs.Sessions.{session_row}
 use Rattle.dia_base.specs.Subscriptions.{subscription_row, subscribers_of}
 use Rattle.gx_profile.specs.declared.ccr.Ccr.{Ccr}
@@ -24,9 +24,12 @@ ccr_view q = record {
   realm = q.origin.realm;
   kind = q.kind;
   number = q.number;
-  address = option_map ipv4_octets q.address;
-  apn = q.apn;
-  subscribers = q.subscribers;
+  user = record {
+    address = option_map ipv4_octets q.address;
+    prefix = q.prefix;
+    apn = q.apn;
+    subscribers = q.subscribers;
+  };
 }
 
 -- ---- the table
@@ -39,11 +42,12 @@ request_type_row = required cc_request_type (enumerated (request_kind_number Ini
 abbrev pub request_rows : List Row
 request_rows = request_type_row ∷ required cc_request_number unsigned32 ∷ []
 
--- Subscription-Id, Framed-IP-Address and Called-Station-Id
+-- Subscription-Id, Framed-IP-Address, Framed-IPv6-Prefix and Called-Station-Id
 abbrev pub access_rows : List Row
 access_rows =
     subscription_row
     ∷ optional framed_ip_address ipv4_address
+    ∷ optional framed_ipv6_prefix ipv6_prefix
     ∷ optional called_station_id (text_to apn_limit)
     ∷ []
 
@@ -69,7 +73,10 @@ ccr_of avps = record {
   realm = text_at origin_realm avps;
   kind = kind_at avps;
   number = unwrap_or (number_at cc_request_number avps) 0;
-  address = value_of framed_ip_address avps;
-  apn = option_map small_letters (value_of called_station_id avps);
-  subscribers = subscribers_of avps;
+  user = record {
+    address = value_of framed_ip_address avps;
+    prefix = prefix_at framed_ipv6_prefix avps;
+    apn = option_map small_letters (value_of called_station_id avps);
+    subscribers = subscribers_of avps;
+  };
 }

@@ -3,21 +3,22 @@ ghost use Rattle.std.specs.Prelude.{◌≡◌, ◌↔◌, OnOk, IfOk, IfErr, IsT
 ghost use Rattle.std.specs.Net.Addr.{ipv4_octets};
 ghost use Rattle.pcrf_values.specs.Texts.{small_letters};
 ghost use Rattle.dia_codec.specs.Spelling.{avp_views};
-ghost use Rattle.dia_base.specs.Avps.{called_station_id, framed_ip_address};
-ghost use Rattle.dia_base.specs.Rows.{Accepts, AcceptsAll, RefusesWith, IsFaultOf, rows_refusal, value_of};
+ghost use Rattle.dia_base.specs.Avps.{called_station_id, framed_ip_address, framed_ipv6_prefix};
+ghost use Rattle.dia_base.specs.Rows.{Accepts, AcceptsAll, RefusesWith, IsFaultOf, rows_refusal, value_of, prefix_at};
 ghost use Rattle.dia_base.specs.Subscriptions.{subscribers_of};
 ghost use Rattle.gx_profile.specs.Requests.{access_rows, ccr_of, ccr_rows, ccr_table_refusal, ccr_view, kind_at, request_type_row};
 
 use dia_base::codes::avps::{
-    CALLED_STATION_ID, CC_REQUEST_NUMBER, CC_REQUEST_TYPE, FRAMED_IP_ADDRESS, SESSION_ID,
+    CALLED_STATION_ID, CC_REQUEST_NUMBER, CC_REQUEST_TYPE, FRAMED_IP_ADDRESS, FRAMED_IPV6_PREFIX,
+    SESSION_ID,
 };
 use dia_base::{
-    Origin, ReadFault, Refusal, base_key, optional_address, optional_apn, read_origin,
-    read_subscribers, required_number, required_number_within, required_text,
+    Origin, ReadFault, Refusal, base_key, optional_address, optional_apn, optional_prefix,
+    read_origin, read_subscribers, required_number, required_number_within, required_text,
 };
 use dia_codec::{Avp, Message};
 use exact_values::{Exact, same, same_address};
-use pcrf_values::{Apn, GxSid, RequestKind, Subscribers};
+use pcrf_values::{Apn, GxSid, Ipv6Prefix, RequestKind, Subscribers};
 use ranked::Ranked;
 use std::alloc::{AllocError, Global};
 use std::net::Ipv4Addr;
@@ -35,6 +36,8 @@ pub struct Ccr {
     pub number: u32,
     /// Framed-IP-Address: the address that the gateway gave the subscriber.
     pub address: Option<Ipv4Addr>,
+    /// Framed-IPv6-Prefix: the prefix that the gateway gave the subscriber.
+    pub prefix: Option<Ipv6Prefix>,
     /// Called-Station-Id: the access point name, in small letters.
     pub apn: Option<Apn>,
     /// The Subscription-Ids, each once; None where none was given.
@@ -56,6 +59,7 @@ impl Ccr {
             kind: self.kind,
             number: self.number,
             address: self.address,
+            prefix: self.prefix,
             apn,
             subscribers,
         })
@@ -70,6 +74,7 @@ impl Ccr {
             && self.kind == other.kind
             && self.number == other.number
             && same_address(self.address, other.address)
+            && same(&self.prefix, &other.prefix)
             && same(&self.apn, &other.apn)
             && same(&self.subscribers, &other.subscribers)
     }
@@ -80,6 +85,7 @@ impl Ccr {
 struct Access {
     subscribers: Option<Subscribers>,
     address: Option<Ipv4Addr>,
+    prefix: Option<Ipv6Prefix>,
     apn: Option<Apn>,
 }
 
@@ -98,23 +104,27 @@ fn read_kind(avps: &[Avp]) -> Result<RequestKind, Refusal>
     Ok(kind)
 }
 
-/// Reads the Subscription-Ids, the Framed-IP-Address and the Called-Station-Id.
+/// Reads the Subscription-Ids, the Framed-IP-Address, the Framed-IPv6-Prefix and the Called-Station-Id.
 fn read_access(alloc: Global, avps: &[Avp]) -> Result<Access, ReadFault>
     ensures accepted { OnOk result (AcceptsAll access_rows (avp_views avps.now)) }
     ensures subscribers { IfOk result (λ access.
         access.subscribers ≡ subscribers_of (avp_views avps.now)) }
     ensures address { IfOk result (λ access.
         option_map ipv4_octets access.address ≡ value_of framed_ip_address (avp_views avps.now)) }
+    ensures prefix { IfOk result (λ access.
+        access.prefix ≡ prefix_at framed_ipv6_prefix (avp_views avps.now)) }
     ensures apn { IfOk result (λ access.
         access.apn ≡ option_map small_letters (value_of called_station_id (avp_views avps.now))) }
     ensures refused { IfErr result (IsFaultOf (rows_refusal access_rows (avp_views avps.now))) }
 {
     let subscribers = read_subscribers(alloc, avps)?;
     let address = optional_address(avps, base_key(FRAMED_IP_ADDRESS))?;
+    let prefix = optional_prefix(avps, base_key(FRAMED_IPV6_PREFIX))?;
     let apn = optional_apn(alloc, avps, base_key(CALLED_STATION_ID))?;
     Ok(Access {
         subscribers,
         address,
+        prefix,
         apn,
     })
 }
@@ -136,6 +146,7 @@ pub fn read_ccr(alloc: Global, message: &Message) -> Result<Ccr, ReadFault>
     let Access {
         subscribers,
         address,
+        prefix,
         apn,
     } = access;
     Ok(Ccr {
@@ -144,6 +155,7 @@ pub fn read_ccr(alloc: Global, message: &Message) -> Result<Ccr, ReadFault>
         kind,
         number,
         address,
+        prefix,
         apn,
         subscribers,
     })

@@ -71,14 +71,8 @@ pub mod base {
     /// The command Re-Auth (8.3).
     pub const RE_AUTH: u32 = 258;
 
-    /// 6.6.
-    pub const DESTINATION_REALM: u32 = 283;
-
     /// 8.12.
     pub const RE_AUTH_REQUEST_TYPE: u32 = 285;
-
-    /// 6.5.
-    pub const DESTINATION_HOST: u32 = 293;
 
     /// The Re-Auth-Request-Type that asks for an authorisation alone (8.12).
     pub const AUTHORIZE_ONLY: u32 = 0;

@@ -3,35 +3,17 @@ ghost use Rattle.std.specs.Prelude.{◌≡◌, ◌≤◌, IfOk};
 ghost use Rattle.dia_codec.specs.Limits.{longest_message};
 ghost use Rattle.dia_codec.specs.Spelling.{message_view};
 ghost use Rattle.dia_codec.specs.Written.{written_len};
-ghost use Rattle.gx_profile.specs.Pushes.{rar, rar_header};
+ghost use Rattle.gx_profile.specs.Pushes.{rar};
 ghost use Rattle.reply_values.specs.Replies.{push_view};
 
 use crate::codes::base;
 use crate::opening::put_opening;
 use crate::rules::put_delta;
-use dia_base::codes::GX;
-use dia_base::{AvpWriter, Identity};
-use dia_codec::{Flags, Header, Message};
+use dia_base::codes::{GX, avps};
+use dia_base::{AvpWriter, Identity, request_header};
+use dia_codec::Message;
 use reply_values::PushOut;
 use std::alloc::{AllocError, Global};
-
-/// The header of a re-authorisation request with these identifiers.
-fn rar_header(hop_id: u32, end_id: u32) -> Header
-    ensures { result ≡ rar_header hop_id end_id }
-{
-    Header {
-        flags: Flags {
-            request: true,
-            proxiable: true,
-            error: false,
-            retransmitted: false,
-        },
-        command: base::RE_AUTH,
-        application: GX,
-        hop_id,
-        end_id,
-    }
-}
 
 /// The re-authorisation request of a push. Every one fits a message.
 #[tactic(auto, unfolding(crate::specs::Pushes::rar))]
@@ -48,12 +30,12 @@ pub fn write_rar(
 {
     let mut out = AvpWriter::start(alloc);
     put_opening(&mut out, &push.session, identity)?;
-    out.text(base::DESTINATION_REALM, push.realm.as_slice())?;
-    out.text(base::DESTINATION_HOST, push.host.as_slice())?;
+    out.text(avps::DESTINATION_REALM, push.realm.as_slice())?;
+    out.text(avps::DESTINATION_HOST, push.host.as_slice())?;
     out.number(base::RE_AUTH_REQUEST_TYPE, base::AUTHORIZE_ONLY)?;
     put_delta(alloc, &mut out, &push.delta)?;
     Ok(Message {
-        header: rar_header(hop_id, end_id),
+        header: request_header(base::RE_AUTH, GX, hop_id, end_id),
         avps: out.into_avps(),
     })
 }

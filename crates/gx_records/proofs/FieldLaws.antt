@@ -20,7 +20,7 @@ use Rattle.gx_records.specs.declared.fact.GxFact.{GxFact}
 use Rattle.gx_records.specs.declared.fact.GxFact.TheVariants.{End, Field, Told}
 use Rattle.fact_records.specs.SessionFacts.{session_fact}
 use Rattle.fact_records.specs.declared.session_value.SessionValue.{SessionValue}
-use Rattle.fact_records.specs.declared.session_value.SessionValue.TheVariants.{Address, Apn, Subscribers, Host, Realm, Last}
+use Rattle.fact_records.specs.declared.session_value.SessionValue.TheVariants.{Address, Apn, Subscribers, Host, Realm, Last, Prefix}
 use Rattle.gx_records.specs.GxFacts.{told_value, fact_of, rules_told}
 
 -- what was told compares as its values do
@@ -41,6 +41,7 @@ one_number t u x y e = sym (number_at t x) ∙ ap (λ p. p.1.1.1.0) e ∙ number
     number_at t (Host x) = refl
     number_at t (Realm x) = refl
     number_at t (Last x) = refl
+    number_at t (Prefix x) = refl
 
 -- the entry of a field's fact
 pub entry_of_field : (t : Tag) (x : SessionValue ℕ) → Some (t, session_value x) ≡ entry (session_fact t x)
@@ -50,6 +51,7 @@ entry_of_field t (Subscribers x) = refl
 entry_of_field t (Host x) = refl
 entry_of_field t (Realm x) = refl
 entry_of_field t (Last x) = refl
+entry_of_field t (Prefix x) = refl
 
 -- ---- what shows
 
@@ -67,6 +69,7 @@ no_component c f (Field t (Subscribers x)) = refl
 no_component c f (Field t (Host x)) = refl
 no_component c f (Field t (Realm x)) = refl
 no_component c f (Field t (Last x)) = refl
+no_component c f (Field t (Prefix x)) = refl
 no_component c f (Told t name r) = refl
 
 -- and at no flow
@@ -78,6 +81,7 @@ no_flow c n f (Field t (Subscribers x)) = refl
 no_flow c n f (Field t (Host x)) = refl
 no_flow c n f (Field t (Realm x)) = refl
 no_flow c n f (Field t (Last x)) = refl
+no_flow c n f (Field t (Prefix x)) = refl
 no_flow c n f (Told t name r) = refl
 
 -- no entry
@@ -122,5 +126,6 @@ rules_listed (Field t (Subscribers x) ∷ xs) = rules_listed xs
 rules_listed (Field t (Host x) ∷ xs) = rules_listed xs
 rules_listed (Field t (Realm x) ∷ xs) = rules_listed xs
 rules_listed (Field t (Last x) ∷ xs) = rules_listed xs
+rules_listed (Field t (Prefix x) ∷ xs) = rules_listed xs
 rules_listed (Told t name None ∷ xs) = rules_listed xs
 rules_listed (Told t name (Some r) ∷ xs) = ap (λ (l : List ToldRule). (name, r) ∷ l) (rules_listed xs)

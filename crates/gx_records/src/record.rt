@@ -19,7 +19,7 @@ use crate::open_request_type::OpenRequestType;
 use crate::told::Told;
 use fact_records::{Record, SessionValue, copy_facts, position_of_field};
 use lattice_core::{FactSet, Join, Tag};
-use pcrf_values::{Apn, DiameterIdentity, Enumerated, Rule, RuleName, Subscribers};
+use pcrf_values::{Apn, DiameterIdentity, Enumerated, Ipv6Prefix, Rule, RuleName, Subscribers};
 use ranked::Ranked;
 use std::alloc::{AllocError, Global};
 use std::marker::Model;
@@ -154,7 +154,7 @@ impl GxRec {
         if self.ended() {
             return false;
         }
-        self.address().is_some()
+        (self.address().is_some() || self.prefix().is_some())
             && self.apn().is_some()
             && self.subscribers().is_some()
             && self.host().is_some()
@@ -266,6 +266,20 @@ impl GxRec {
         };
         match value {
             SessionValue::Last(last) => Some((tag, last)),
+            _ => None,
+        }
+    }
+
+    /// The Framed-IPv6-Prefix, with its tag.
+    pub fn prefix(&self) -> Option<(Tag, &Ipv6Prefix)>
+        ensures { entry_by values.Prefix (option_map (λ e. (e.0, e.1.now)) result)
+            ≡ entry_shown self.now places.prefix }
+    {
+        let Some((tag, value)) = self.field(7) else {
+            return None;
+        };
+        match value {
+            SessionValue::Prefix(prefix) => Some((tag, prefix)),
             _ => None,
         }
     }

@@ -7,14 +7,13 @@ use Rattle.ranked.specs.declared.tag.Tag.{Tag}
 use Rattle.ranked.proofs.Plain.{none_some, some_same}
 use Rattle.ranked.proofs.SetLaws.{filter_map-In, In-filter_map}
 use Rattle.ranked.proofs.AscendingLaws.{filter_map-ascending, same_ascending}
-use Rattle.pcrf_facts.specs.Places.{SessionField, ComponentField, FlowField, Place, OfSession, OfComponent, OfFlow, OfRuleName, place_cmp}
+use Rattle.pcrf_facts.specs.Places.{SessionField, ComponentField, FlowField, Place, OfSession, OfComponent, OfFlow, OfRuleName, place_cmp, session_fields}
 use Rattle.pcrf_facts.specs.Values.{Value, value_cmp, Entry}
 use Rattle.pcrf_facts.specs.Facts.{Fact}
 use Rattle.pcrf_facts.specs.Held.{entry_shown}
+use Rattle.pcrf_facts.proofs.FactLaws.{every_session_field}
 use Rattle.pcrf_model.specs.OperatorValues.{FieldShown, field_shown}
-use Rattle.fact_records.specs.SessionFacts.{session_fields}
 use Rattle.fact_records.proofs.FieldLists.{fields_rise}
-use Rattle.fact_records.proofs.SessionLaws.{session_complete}
 use Rattle.operator_view.specs.Fields.{field_at, shown_at, fields_of}
 use Rattle.operator_view.proofs.FieldsAlone.{field_cmp, field_ranked, facts_rise, field_shows, shows_field}
 
@@ -39,7 +38,7 @@ module _ (facts : List Fact) (components : (c : ℕ) (f : ComponentField) → No
 
   -- what shows is a field of the session
   forth : (p : Place) (x : Value) (t : Tag) → entry_shown facts p ≡ Some (t, x) → field_shown p x ≡ Some (p, x) → In (p, x) (shown_at (entry_shown facts) session_fields)
-  forth (OfSession f) x t h k = In-filter_map (field_at (entry_shown facts)) f (OfSession f, x) session_fields (session_complete f) (ap (without_tag f) h)
+  forth (OfSession f) x t h k = In-filter_map (field_at (entry_shown facts)) f (OfSession f, x) session_fields (every_session_field f) (ap (without_tag f) h)
   forth (OfComponent c f) x t h k = none_some (t, x) (components c f ∙ h)
   forth (OfFlow c n f) x t h k = none_some (t, x) (flows c n f ∙ h)
   forth (OfRuleName n) x t h k = none_some (OfRuleName n, x) k

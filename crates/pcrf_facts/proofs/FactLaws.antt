@@ -1,16 +1,18 @@
 -- The orders of facts and their parts, and that overshadowing is a strict order.
 use Rattle.std.proofs.lemmas.Bool.Decides.{nat_tests}
-use Rattle.std.proofs.Common.{◌≡◌, inl, inr, arith, ℕ, cond, ◌==◌, true, false, Option, Some, None, refl, sym, ap, subst}
+use Rattle.std.proofs.Common.{◌≡◌, inl, inr, arith, ℕ, cond, find, unwrap_or, ◌==◌, true, false, Option, Some, None, refl, sym, ap, subst}
 use Rattle.std.specs.Ordering.{is_eq}
 use Rattle.std.specs.Cmp.{first_so, second_so}
 use Rattle.pcrf_values.specs.Subscribers.{subscriber_cmp}
 use Rattle.pcrf_values.specs.laws.Values.{subscriber_total, subscriber_same, rule_total, rule_same}
 use Rattle.pcrf_values.specs.RuleValues.{rule_cmp}
 use Rattle.ranked.specs.declared.tag.Tag.{Tag}
+use Rattle.ranked.specs.Sets.{In}
 use Rattle.ranked.specs.Tags.{tag_cmp}
-use Rattle.pcrf_facts.specs.Places.{SessionField, FramedIpAddress, CalledStationId, SubscriptionIds, OriginHost, OriginRealm, RequestType, ComponentField, MediaType, ComponentStatus, ComponentRateUp, ComponentRateDown, FlowField, FlowDescriptions, FlowUsage, FlowStatus, FlowRateUp, FlowRateDown, session_field_number, component_field_number, flow_field_number, Place, OfSession, OfComponent, OfFlow, OfRuleName, Removable, Component, Flow, Position, position_cmp, place_position, place_cmp, contains, covers}
-use Rattle.pcrf_facts.specs.Values.{Value, Number, Text, Address, Subscribers, Filters, Untold, Told, ValueKey, value_key, value_cmp, Entry, entry_cmp}
-use Rattle.pcrf_facts.specs.Facts.{Fact, End, Removed, Field, position, entry, fact_cmp, is_shaded_by}
+use Rattle.pcrf_facts.specs.Places.{SessionField, FramedIpAddress, CalledStationId, SubscriptionIds, OriginHost, OriginRealm, RequestType, FramedIpv6Prefix, ComponentField, MediaType, ComponentStatus, ComponentRateUp, ComponentRateDown, FlowField, FlowDescriptions, FlowUsage, FlowStatus, FlowRateUp, FlowRateDown, session_fields, session_field_number, component_field_number, flow_field_number, Place, OfSession, OfComponent, OfFlow, OfRuleName, Removable, Component, Flow, Position, position_cmp, place_position, place_cmp, contains, covers}
+use Rattle.pcrf_values.specs.Prefixes.{prefix_cmp}
+use Rattle.pcrf_facts.specs.Values.{Value, Number, Text, Address, Subscribers, Filters, Untold, Told, Prefix, ValueKey, value_key, value_cmp, Entry, entry_cmp}
+use Rattle.pcrf_facts.specs.Facts.{Fact, End, Removed, Field, Aborted, position, entry, fact_cmp, is_shaded_by}
 use Rattle.ranked.proofs.Plain.{clash, is_false, both}
 use Rattle.ranked.proofs.OrderLaws.{IsRanked, nat_ranked, list_ranked, text_ranked, pair_ranked, either_ranked, on_ranked, option_ranked, eq_is}
 use Rattle.ranked.proofs.SetLaws.{less_irr, less_trans}
@@ -27,6 +29,10 @@ subscriber_ranked = record { total = subscriber_total; same = subscriber_same }
 pub rule_ranked : IsRanked rule_cmp
 rule_ranked = record { total = rule_total; same = rule_same }
 
+-- prefixes are ranked
+pub prefix_ranked : IsRanked prefix_cmp
+prefix_ranked = pair_ranked nat_ranked text_ranked
+
 -- the value of those parts
 abbrev value_back : ValueKey → Value
 value_back (inl n) = Number n
@@ -35,7 +41,8 @@ value_back (inr (inr (inl a))) = Address a
 value_back (inr (inr (inr (inl s)))) = Subscribers s
 value_back (inr (inr (inr (inr (inl f))))) = Filters f
 value_back (inr (inr (inr (inr (inr (inl n)))))) = Untold
-value_back (inr (inr (inr (inr (inr (inr r)))))) = Told r
+value_back (inr (inr (inr (inr (inr (inr (inl r))))))) = Told r
+value_back (inr (inr (inr (inr (inr (inr (inr p))))))) = Prefix p
 
 -- parts of values are undone
 value_undo : (v : Value) → value_back (value_key v) ≡ v
@@ -46,10 +53,14 @@ value_undo (Subscribers s) = refl
 value_undo (Filters f) = refl
 value_undo Untold = refl
 value_undo (Told r) = refl
+value_undo (Prefix p) = refl
 
 -- values are ranked
 pub value_ranked : IsRanked value_cmp
-value_ranked = on_ranked value_key value_back value_undo (either_ranked nat_ranked (either_ranked text_ranked (either_ranked text_ranked (either_ranked (list_ranked subscriber_ranked) (either_ranked (list_ranked text_ranked) (either_ranked nat_ranked rule_ranked))))))
+value_ranked = on_ranked value_key value_back value_undo
+    (either_ranked nat_ranked (either_ranked text_ranked (either_ranked text_ranked
+    (either_ranked (list_ranked subscriber_ranked) (either_ranked (list_ranked text_ranked)
+    (either_ranked nat_ranked (either_ranked rule_ranked prefix_ranked)))))))
 
 -- entries are ranked
 pub entry_ranked : IsRanked entry_cmp
@@ -57,7 +68,7 @@ entry_ranked = pair_ranked tag_ranked value_ranked
 
 -- the session field of that number
 abbrev session_back : ℕ → SessionField
-session_back n = cond (n == 1) FramedIpAddress (cond (n == 2) CalledStationId (cond (n == 3) SubscriptionIds (cond (n == 4) OriginHost (cond (n == 5) OriginRealm RequestType))))
+session_back n = unwrap_or (find (λ f. session_field_number f == n) session_fields) RequestType
 
 -- numbers of session fields are undone
 session_undo : (f : SessionField) → session_back (session_field_number f) ≡ f
@@ -67,6 +78,17 @@ session_undo SubscriptionIds = refl
 session_undo OriginHost = refl
 session_undo OriginRealm = refl
 session_undo RequestType = refl
+session_undo FramedIpv6Prefix = refl
+
+-- each session field is listed
+pub every_session_field : (f : SessionField) → In f session_fields
+every_session_field FramedIpAddress = inl refl
+every_session_field CalledStationId = inr (inl refl)
+every_session_field SubscriptionIds = inr (inr (inl refl))
+every_session_field OriginHost = inr (inr (inr (inl refl)))
+every_session_field OriginRealm = inr (inr (inr (inr (inl refl))))
+every_session_field RequestType = inr (inr (inr (inr (inr (inl refl)))))
+every_session_field FramedIpv6Prefix = inr (inr (inr (inr (inr (inr (inl refl))))))
 
 -- the component field of that number
 abbrev component_back : ℕ → ComponentField
@@ -114,7 +136,9 @@ place_ranked = on_ranked place_position place_back place_undo position_ranked
 
 -- what stands at that position without an entry
 abbrev plain_back : Position → Fact
-plain_back q = cond (q.0 == 1) End (cond (q.0 == 3) (Removed (Component q.1.0)) (Removed (Flow q.1.0 q.1.1.0)))
+plain_back q =
+    cond (q.0 == 1) End (cond (q.0 == 3) (Removed (Component q.1.0))
+    (cond (q.0 == 4) (Removed (Flow q.1.0 q.1.1.0)) Aborted))
 
 -- the fact of those parts
 abbrev fact_back : Position × Option Entry → Fact
@@ -127,6 +151,7 @@ fact_undo End = refl
 fact_undo (Removed (Component c)) = refl
 fact_undo (Removed (Flow c n)) = refl
 fact_undo (Field p t v) = ap (λ (q : Place). Field q t v) (place_undo p)
+fact_undo Aborted = refl
 
 -- facts are ranked
 pub fact_ranked : IsRanked fact_cmp
@@ -162,12 +187,16 @@ same_place p q t u v w h = eq_is place_ranked p q (first_so _ _ h)
 pub shaded_irr : (f : Fact) → is_shaded_by f f ≡ false
 shaded_irr End = refl
 shaded_irr (Removed r) = contains_irr r
+shaded_irr Aborted = refl
 shaded_irr (Field p t v) = is_false _ (λ h. clash _ (second_so (is_eq (place_cmp p p)) _ h) (less_irr entry_cmp entry_ranked.total entry_ranked.same (t, v)))
 
 -- overshadowing goes through
 pub shaded_trans : (f g h : Fact) → is_shaded_by f g ≡ true → is_shaded_by g h ≡ true → is_shaded_by f h ≡ true
 shaded_trans End g h a b = clash false a refl
 shaded_trans f End h a b = clash false b refl
+shaded_trans f Aborted h a b = clash false a refl
+shaded_trans f g Aborted a b = clash false b refl
+shaded_trans Aborted g h a b = clash false a refl
 shaded_trans (Removed r) (Removed s) End a b = refl
 shaded_trans (Removed r) (Removed s) (Removed t) a b = contains_once r s t a b
 shaded_trans (Removed r) (Removed s) (Field q u w) a b = clash false b refl

@@ -3,7 +3,7 @@ use Rattle.std.proofs.lemmas.Bool.Decides.{nat_tests}
 use Rattle.std.proofs.Common.{◌≡◌, ℕ, true, false, nat_eq, ◌⊎◌, Option, Some, None, inl, inr, refl, ap, ◌∙◌, subst, arith}
 use Rattle.std.specs.Cmp.{first_so, second_so}
 use Rattle.pcrf_facts.specs.Places.{SessionField, ComponentField, FlowField, Place, OfSession, OfComponent, OfFlow, OfRuleName, Removable, Component, Flow, contains, covers}
-use Rattle.pcrf_facts.specs.Facts.{Fact, End, Removed, Field, is_shaded_by}
+use Rattle.pcrf_facts.specs.Facts.{Fact, End, Removed, Field, Aborted, is_shaded_by}
 use Rattle.ranked.proofs.Plain.{clash, none_some}
 use Rattle.pcrf_facts.proofs.FactLaws.{same_place}
 use Rattle.ranked.proofs.PartLaws.{IsRising}
@@ -21,6 +21,7 @@ abbrev pub key_by : {K : Type 0} → (Place → Option K) → (Removable → Opt
 key_by places removals End = None
 key_by places removals (Removed r) = removals r
 key_by places removals (Field p t v) = places p
+key_by places removals Aborted = None
 
 -- such a key rises where it does by what a removal contains and covers
 pub key_rises : {K : Type 0} (places : Place → Option K) (removals : Removable → Option K)
@@ -31,9 +32,12 @@ key_rises {K} places removals f g = record { rise = rise }
   where
     rise : (a b : Fact) (k : K) → is_shaded_by a b ≡ true → key_by places removals b ≡ Some k → key_by places removals a ≡ Some k
     rise a End k h e = none_some k e
+    rise a Aborted k h e = none_some k e
     rise End (Removed s) k h e = clash false h refl
     rise (Removed r) (Removed s) k h e = f s r k h e
     rise (Field p t v) (Removed s) k h e = g s p k h e
+    rise Aborted (Removed s) k h e = clash false h refl
+    rise Aborted (Field q u w) k h e = clash false h refl
     rise End (Field q u w) k h e = clash false h refl
     rise (Removed r) (Field q u w) k h e = clash false h refl
     rise (Field p t v) (Field q u w) k h e = ap places (same_place p q t u v w h) ∙ e

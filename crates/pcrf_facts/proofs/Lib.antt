@@ -1,3 +1,4 @@
+pub mod AbortLaws
 pub mod FactLaws
 pub mod JoinedLaws
 pub mod KeyLaws

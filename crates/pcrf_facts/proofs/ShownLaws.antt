@@ -2,16 +2,16 @@
 use Rattle.std.proofs.Common.{◌≡◌, Bool, true, false, cond, List, [], ◌∷◌, ◌⊎◌, Option, Some, None, inl, inr, refl, sym, ap, ◌∙◌, subst}
 use Rattle.std.specs.Ordering.{is_eq, is_lt}
 use Rattle.std.specs.Cmp.{second_so}
-use Rattle.std.specs.List.{filter_map}
+use Rattle.std.specs.List.{list_any, filter_map}
 use Rattle.ranked.proofs.Plain.{clash, is_false, some_same, none_some}
 use Rattle.ranked.specs.Sets.{In, Same, greatest}
 use Rattle.pcrf_facts.specs.Places.{Place, place_cmp, covers}
 use Rattle.pcrf_facts.specs.Values.{Value, Entry, entry_cmp}
-use Rattle.pcrf_facts.specs.Facts.{Fact, End, Removed, Field, is_shaded_by}
+use Rattle.pcrf_facts.specs.Facts.{Fact, End, Removed, Field, Aborted, is_shaded_by}
 use Rattle.pcrf_facts.specs.Laws.{ShowTheSame, IsGreatestAt}
 use Rattle.ranked.specs.declared.tag.Tag.{Tag}
 use Rattle.ranked.proofs.Greatest.{greatest_is, greatest_some}
-use Rattle.pcrf_facts.specs.Held.{kept_set, kept_list, removal, ends, is_ended, blocks, is_gone, entry_at, value_at, entry_shown}
+use Rattle.pcrf_facts.specs.Held.{kept_set, kept_list, removal, ends, is_ended, blocks, is_gone, entry_at, value_at, entry_shown, aborts}
 use Rattle.ranked.proofs.SetLaws.{In-any, any-In, any-Same, top_of, any-maximal, greatest_reached, greatest-Same, In-filter_map, filter_map-In, filter_map-Same}
 use Rattle.ranked.proofs.OrderLaws.{eq_is, eq_itself}
 use Rattle.pcrf_facts.proofs.FactLaws.{place_ranked, entry_ranked, covers_more, same_place, shaded_irr, shaded_trans}
@@ -23,25 +23,26 @@ blocks_up p End g b s = clash false s refl
 blocks_up p (Removed q) End b s = refl
 blocks_up p (Removed q) (Removed r) b s = covers_more q r p b s
 blocks_up p (Removed q) (Field r t v) b s = clash false s refl
-blocks_up p (Field q t v) g b s = clash false b refl
+blocks_up p (Removed q) Aborted b s = clash false s refl
+blocks_up p f g b s = clash false b refl
 
 -- the end is above all
 ends_up : (f g : Fact) → ends f ≡ true → is_shaded_by f g ≡ true → ends g ≡ true
 ends_up End g b s = clash false s refl
-ends_up (Removed r) g b s = clash false b refl
-ends_up (Field p t v) g b s = clash false b refl
+ends_up f g b s = clash false b refl
 
 -- what overshadows a field at a place and is no field there blocks the place
 pub blocks_field : (p : Place) (e : Entry) (g : Fact) → is_shaded_by (Field p e.0 e.1) g ≡ true → blocks p g ≡ false → (d : Entry) × (g ≡ Field p d.0 d.1) × (is_lt (entry_cmp e d) ≡ true)
 blocks_field p e End s b = clash true refl b
 blocks_field p e (Removed r) s b = clash (covers r p) s b
+blocks_field p e Aborted s b = clash false s refl
 blocks_field p e (Field q u w) s b = ((u, w), ap (λ (x : Place). Field x u w) (sym (same_place p q e.0 u e.1 w s)), second_so (is_eq (place_cmp p q)) _ s)
 
 -- and what blocks a place overshadows each field there
 pub field_blocked : (p : Place) (e : Entry) (g : Fact) → blocks p g ≡ true → is_shaded_by (Field p e.0 e.1) g ≡ true
 field_blocked p e End b = refl
 field_blocked p e (Removed r) b = b
-field_blocked p e (Field q u w) b = clash false b refl
+field_blocked p e f b = clash false b refl
 
 -- what is gone is so by what is kept
 pub is_gone-kept : (facts : List Fact) (p : Place) → is_gone (kept_set facts) p ≡ is_gone facts p
@@ -76,6 +77,7 @@ field_entry p e = ap (λ b. cond b (Some (e.0, e.1)) None) (eq_itself place_rank
 pub entry_field : (p : Place) (f : Fact) (e : Entry) → entry_at p f ≡ Some e → f ≡ Field p e.0 e.1
 entry_field p End e h = cc
 entry_field p (Removed r) e h = cc
+entry_field p Aborted e h = cc
 entry_field p (Field q t v) e h =
     let k = some_entry (is_eq (place_cmp p q)) (t, v) e h in
     let same : q ≡ p = sym (eq_is place_ranked p q k.0) in
@@ -164,6 +166,7 @@ members_show_the_same xs ys s = record {
   shows = λ p. shown-Same xs ys p s;
   ended = is_ended-Same xs ys s;
   removals = ap (filter_map removal) (held-Same xs ys s);
+  aborts = ap (list_any aborts) (held-Same xs ys s);
 }
 
 -- what is kept shows the same
@@ -172,6 +175,7 @@ held_shows_the_same facts = record {
   shows = λ p. shown-held facts p;
   ended = is_ended-held facts;
   removals = ap (filter_map removal) (held_twice facts);
+  aborts = ap (list_any aborts) (held_twice facts);
 }
 
 -- the value is of a fact, and none is above it

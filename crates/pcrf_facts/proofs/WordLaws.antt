@@ -1,5 +1,5 @@
 -- What is said of live sessions, flows and told rules is the same on what is kept.
-use Rattle.std.proofs.Common.{◌≡◌, ℕ, not, ◌&&◌, List, Option, ap}
+use Rattle.std.proofs.Common.{◌≡◌, ℕ, not, ◌&&◌, List, ap}
 use Rattle.std.specs.List.{filter_map}
 use Rattle.std.specs.Ordering.{nat_cmp}
 use Rattle.ranked.specs.Orders.{pair_cmp}

@@ -5,24 +5,21 @@ use Rattle.std.specs.Ordering.{nat_cmp}
 use Rattle.std.specs.List.{filter_map}
 use Rattle.ranked.specs.Orders.{pair_cmp}
 use Rattle.ranked.specs.Ascending.{ascending}
-use Rattle.pcrf_facts.specs.Places.{ComponentField, ComponentStatus, FlowField, FlowUsage, FlowStatus, Place, OfSession, OfComponent, OfFlow, OfRuleName}
-use Rattle.pcrf_facts.specs.Values.{Value, Number, Text, Address, Subscribers, Filters, Untold, Told, Entry}
-use Rattle.pcrf_facts.specs.Facts.{Fact, End, Removed, Field}
+use Rattle.pcrf_facts.specs.Places.{ComponentField, ComponentStatus, FlowField, FlowUsage, FlowStatus, Place, OfComponent, OfFlow}
+use Rattle.pcrf_facts.specs.Values.{Value, Number, Entry}
+use Rattle.pcrf_facts.specs.Facts.{Fact, Field}
 use Rattle.pcrf_facts.specs.Held.{kept_list}
 use Rattle.pcrf_facts.specs.Live.{Shows}
 
 -- the component and the flow of which the place is a field
 abbrev pub flow_of_place : Place → Option (ℕ × ℕ)
-flow_of_place (OfSession f) = None
-flow_of_place (OfComponent c f) = None
 flow_of_place (OfFlow c n f) = Some (c, n)
-flow_of_place (OfRuleName t) = None
+flow_of_place p = None
 
 -- of which the fact gives a field
 abbrev pub flow_of : Fact → Option (ℕ × ℕ)
-flow_of End = None
-flow_of (Removed r) = None
 flow_of (Field p t v) = flow_of_place p
+flow_of f = None
 
 -- the flows of which a field shows, each once, ascending by component and flow
 abbrev pub flows : List Fact → List (ℕ × ℕ)
@@ -31,12 +28,7 @@ flows facts = ascending (pair_cmp nat_cmp nat_cmp) (filter_map flow_of (kept_lis
 -- the value as a number, if it is one
 abbrev pub as_number : Value → Option ℕ
 as_number (Number n) = Some n
-as_number (Text t) = None
-as_number (Address a) = None
-as_number (Subscribers s) = None
-as_number (Filters f) = None
-as_number Untold = None
-as_number (Told r) = None
+as_number x = None
 
 -- the value that shows at the place
 abbrev pub value_at : Shows → Place → Option Value

@@ -6,7 +6,7 @@ use Rattle.ranked.specs.Ascending.{ascending}
 use Rattle.ranked.specs.Sets.{greatest, maximal}
 use Rattle.pcrf_facts.specs.Places.{Place, Removable, place_cmp, covers}
 use Rattle.pcrf_facts.specs.Values.{Entry, entry_cmp}
-use Rattle.pcrf_facts.specs.Facts.{Fact, End, Removed, Field, fact_cmp, is_shaded_by}
+use Rattle.pcrf_facts.specs.Facts.{Fact, End, Removed, Field, Aborted, fact_cmp, is_shaded_by}
 
 -- the facts that none overshadows
 abbrev pub kept_set : List Fact → List Fact
@@ -23,8 +23,7 @@ join_of xs ys = kept_list (xs ++ ys)
 -- the fact is the end
 abbrev pub ends : Fact → Bool
 ends End = true
-ends (Removed r) = false
-ends (Field p t v) = false
+ends f = false
 
 -- the session is ended
 abbrev pub is_ended : List Fact → Bool
@@ -34,7 +33,7 @@ is_ended = list_any ends
 abbrev pub blocks : Place → Fact → Bool
 blocks p End = true
 blocks p (Removed r) = covers r p
-blocks p (Field q t v) = false
+blocks p f = false
 
 -- the session is ended, or what the place is in was removed
 abbrev pub is_gone : List Fact → Place → Bool
@@ -42,9 +41,8 @@ is_gone facts p = list_any (blocks p) facts
 
 -- the tag and value of the fact, if it stands at the place
 abbrev pub entry_at : Place → Fact → Option Entry
-entry_at p End = None
-entry_at p (Removed r) = None
 entry_at p (Field q t v) = if is_eq (place_cmp p q) then Some (t, v) else None
+entry_at p f = None
 
 -- the greatest tag and value at the place, none where there is no fact
 abbrev pub value_at : List Fact → Place → Option Entry
@@ -56,10 +54,18 @@ entry_shown facts p = if is_gone facts p then None else value_at facts p
 
 -- what the fact says is removed
 abbrev pub removal : Fact → Option Removable
-removal End = None
 removal (Removed r) = Some r
-removal (Field p t v) = None
+removal f = None
 
 -- the components and flows that are removed, as far as that is kept, components first
 abbrev pub removed_parts : List Fact → List Removable
 removed_parts facts = filter_map removal (kept_list facts)
+
+-- the fact is that the session was asked to abort
+abbrev pub aborts : Fact → Bool
+aborts Aborted = true
+aborts f = false
+
+-- the session was asked to abort, as far as that is kept
+abbrev pub is_aborted : List Fact → Bool
+is_aborted facts = list_any aborts (kept_list facts)

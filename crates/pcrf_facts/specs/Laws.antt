@@ -1,5 +1,6 @@
 -- What holds of the facts of one session.
-use Rattle.std.specs.Prelude.{◌≡◌, ℕ, false, List, Some}
+use Rattle.std.specs.Prelude.{◌≡◌, ℕ, false, not, ◌&&◌, List, Some}
+use Rattle.std.specs.List.{list_any}
 use Rattle.std.specs.Ordering.{is_lt}
 use Rattle.ranked.specs.declared.tag.Tag.{Tag}
 use Rattle.ranked.specs.Sets.{In, Same}
@@ -9,7 +10,7 @@ use Rattle.pcrf_facts.specs.Places.{Place, ComponentField, FlowField}
 use Rattle.pcrf_facts.specs.ToldWords.{told_entries}
 use Rattle.pcrf_facts.specs.Values.{Value, Entry, entry_cmp}
 use Rattle.pcrf_facts.specs.Facts.{Fact, Field}
-use Rattle.pcrf_facts.specs.Held.{kept_list, join_of, is_ended, value_at, entry_shown, removed_parts}
+use Rattle.pcrf_facts.specs.Held.{kept_list, join_of, is_ended, value_at, entry_shown, removed_parts, aborts, is_aborted}
 
 -- What is kept of a union: in either order, of three either way, of a union with itself, and of parts that were kept before.
 pub record JoinsHeld : Type 0 where
@@ -19,11 +20,13 @@ pub record JoinsHeld : Type 0 where
   pub held_first : (xs ys : List Fact) → join_of (kept_list xs) ys ≡ join_of xs ys
   pub held_once : (xs : List Fact) → kept_list (kept_list xs) ≡ kept_list xs
 
--- two lists of facts show the same, are both ended or neither, and have the same removed
+-- two lists of facts show the same, are both ended or neither, have the same removed, and were both
+-- asked to abort or neither
 pub record ShowTheSame (xs ys : List Fact) : Type 0 where
   pub shows : (p : Place) → entry_shown xs p ≡ entry_shown ys p
   pub ended : is_ended xs ≡ is_ended ys
   pub removals : removed_parts xs ≡ removed_parts ys
+  pub aborts : is_aborted xs ≡ is_aborted ys
 
 -- so what is kept
 abbrev pub HeldShowsTheSame : Type 0
@@ -45,6 +48,11 @@ ValueIsTheGreatest = (facts : List Fact) (p : Place) (e : Entry) → value_at fa
 -- there is one where there is a fact
 abbrev pub FactGivesAValue : Type 0
 FactGivesAValue = (facts : List Fact) (p : Place) (t : Tag) (x : Value) → In (Field p t x) facts → (e : Entry) × (value_at facts p ≡ Some e)
+
+-- the session was asked to abort where one of its facts says so, until it ends
+abbrev pub AbortedUntilTheEnd : Type 0
+AbortedUntilTheEnd = (facts : List Fact) →
+    is_aborted facts ≡ (not (is_ended facts) && list_any aborts facts)
 
 -- what is said of live sessions, flows and told rules is the same on what is kept
 pub record HeldSaysTheSame : Type 0 where

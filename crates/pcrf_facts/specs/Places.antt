@@ -1,13 +1,15 @@
 -- Where in a session a field stands, and what of a session can be removed. TS 29.214, 4.4.1 and 4.4.2: what a request leaves out stays, so each field has a place of its own.
-use Rattle.std.specs.Prelude.{ℕ, Bool, false, ◌&&◌, nat_eq, List, []}
+use Rattle.std.specs.Prelude.{ℕ, Bool, false, ◌&&◌, nat_eq, List, [], ◌∷◌}
 use Rattle.std.proofs.Common.{Ordering}
 use Rattle.std.specs.Ordering.{nat_cmp, on}
 use Rattle.ranked.specs.Orders.{pair_cmp, text_cmp}
 
--- The fields of a session, by the AVP that gives them: Framed-IP-Address (RFC 7155, 4.4.10.5.1), Called-Station-Id (RFC 7155, 4.2.5),
--- Subscription-Id (RFC 8506, 8.46), Origin-Host and Origin-Realm (RFC 6733, 6.3 and 6.4), CC-Request-Type (RFC 8506, 8.3).
+-- The fields of a session, by the AVP that gives them: Framed-IP-Address (RFC 7155, 4.4.10.5.1),
+-- Called-Station-Id (RFC 7155, 4.2.5), Subscription-Id (RFC 8506, 8.46), Origin-Host and Origin-Realm
+-- (RFC 6733, 6.3 and 6.4), CC-Request-Type (RFC 8506, 8.3), Framed-IPv6-Prefix (RFC 7155, 4.4.10.5.6).
 pub data SessionField : Type 0 where
   FramedIpAddress CalledStationId SubscriptionIds OriginHost OriginRealm RequestType : SessionField
+  FramedIpv6Prefix : SessionField
 
 -- Of a media component: Media-Type, Flow-Status, Max-Requested-Bandwidth-UL and -DL (TS 29.214, 5.3).
 pub data ComponentField : Type 0 where
@@ -25,6 +27,13 @@ session_field_number SubscriptionIds = 3
 session_field_number OriginHost = 4
 session_field_number OriginRealm = 5
 session_field_number RequestType = 6
+session_field_number FramedIpv6Prefix = 7
+
+-- all of them, by these numbers
+abbrev pub session_fields : List SessionField
+session_fields =
+    FramedIpAddress ∷ CalledStationId ∷ SubscriptionIds ∷ OriginHost ∷ OriginRealm ∷ RequestType
+    ∷ FramedIpv6Prefix ∷ []
 
 -- of a component's fields
 abbrev pub component_field_number : ComponentField → ℕ
@@ -57,6 +66,10 @@ pub data Removable : Type 0 where
 -- the fields of the session, by what they say
 abbrev pub address : Place
 address = OfSession FramedIpAddress
+
+-- the IPv6 prefix of its user
+abbrev pub prefix : Place
+prefix = OfSession FramedIpv6Prefix
 
 -- its access point
 abbrev pub apn : Place

@@ -4,20 +4,16 @@ use Rattle.std.proofs.Common.{option_and_then}
 use Rattle.std.specs.List.{filter_map}
 use Rattle.pcrf_values.specs.RuleValues.{RuleValue}
 use Rattle.ranked.specs.declared.tag.Tag.{Tag}
-use Rattle.pcrf_facts.specs.Places.{Place, OfSession, OfComponent, OfFlow, OfRuleName}
-use Rattle.pcrf_facts.specs.Values.{Value, Number, Text, Address, Subscribers, Filters, Untold, Told}
-use Rattle.pcrf_facts.specs.Facts.{Fact, End, Removed, Field}
+use Rattle.pcrf_facts.specs.Places.{Place, OfRuleName}
+use Rattle.pcrf_facts.specs.Values.{Value, Untold, Told}
+use Rattle.pcrf_facts.specs.Facts.{Fact, Field}
 use Rattle.pcrf_facts.specs.Held.{kept_list}
 
 -- the rule that the value is, or nothing where the gateway was told to remove it
 abbrev pub as_told : Value → Option (Option RuleValue)
-as_told (Number n) = None
-as_told (Text t) = None
-as_told (Address a) = None
-as_told (Subscribers s) = None
-as_told (Filters f) = None
 as_told Untold = Some None
 as_told (Told r) = Some (Some r)
+as_told x = None
 
 -- a name under which a gateway was told a rule or nothing, with that and its tag
 abbrev pub ToldEntry : Type 0
@@ -30,16 +26,13 @@ named_entry name t (Some r) = Some (name, (t, r))
 
 -- at the place of a name
 abbrev pub told_at_place : Place → Tag → Value → Option ToldEntry
-told_at_place (OfSession f) t v = None
-told_at_place (OfComponent c f) t v = None
-told_at_place (OfFlow c n f) t v = None
 told_at_place (OfRuleName name) t v = named_entry name t (as_told v)
+told_at_place p t v = None
 
 -- what the fact tells of a rule
 abbrev pub told_entry : Fact → Option ToldEntry
-told_entry End = None
-told_entry (Removed r) = None
 told_entry (Field p t v) = told_at_place p t v
+told_entry f = None
 
 -- each name that shows a rule or nothing, with that and its tag, ascending by name
 abbrev pub told_entries : List Fact → List ToldEntry

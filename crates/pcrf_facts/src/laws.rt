@@ -1,6 +1,6 @@
 //! The laws of the facts of one session, each the contract of a function without a body.
 
-ghost use Rattle.pcrf_facts.specs.Laws.{JoinsHeld, HeldShowsTheSame, MembersShowTheSame, HeldSaysTheSame, ValueIsTheGreatest, FactGivesAValue};
+ghost use Rattle.pcrf_facts.specs.Laws.{JoinsHeld, HeldShowsTheSame, MembersShowTheSame, HeldSaysTheSame, ValueIsTheGreatest, FactGivesAValue, AbortedUntilTheEnd};
 
 /// What is kept of a union is commutative, associative and idempotent, whether or not its parts were kept before.
 pub fn kept_facts_join()
@@ -23,4 +23,9 @@ pub fn value_is_the_greatest_fact()
 /// facts say.
 pub fn kept_facts_say_the_same()
     ensures { HeldSaysTheSame }
+{}
+
+/// That a session was asked to abort is known as soon as one fact says so, until the session ends.
+pub fn abort_is_known_until_the_end()
+    ensures { AbortedUntilTheEnd }
 {}

@@ -1,15 +1,14 @@
 -- The session that is pushed is the first that is due.
-use Rattle.std.proofs.Common.{◌≡◌, ℕ, zero, suc, ◌+◌, ◌-◌, ◌≤◌, map, Bool, true, false, cond, not, List, [], ◌∷◌, length, find, take, Option, Some, None, inl, inr, refl, sym, ap, ◌∙◌, subst, Ordering, Less, arith}
+use Rattle.std.proofs.Common.{◌≡◌, ℕ, zero, suc, ◌+◌, ◌-◌, ◌≤◌, map, Bool, true, false, cond, List, [], ◌∷◌, length, find, take, Option, Some, None, inl, inr, refl, sym, ap, ◌∙◌, subst, Ordering, Less, arith}
 use Rattle.std.specs.Ordering.{is_lt}
 use Rattle.std.specs.Cmp.{tied_itself, first_so, second_so}
 use Rattle.ranked.specs.Ascending.{Rises}
 use Rattle.ranked.specs.Sets.{In}
-use Rattle.ranked.proofs.Plain.{clash, some_same, none_some, some_is}
+use Rattle.ranked.proofs.Plain.{clash, is_false, some_same, none_some}
 use Rattle.ranked.proofs.OrderLaws.{IsRanked}
 use Rattle.ranked.proofs.AscendingLaws.{ascending-ascending}
 use Rattle.pcrf_values.specs.RuleValues.{DeltaValue}
-use Rattle.pcrf_facts.specs.Places.{address}
-use Rattle.pcrf_model.specs.Sessions.{Session, session_cmp}
+use Rattle.pcrf_model.specs.Sessions.{Session, session_cmp, is_gx}
 use Rattle.pcrf_model.specs.Holdings.{SessionFact}
 use Rattle.pcrf_model.specs.Views.{view}
 use Rattle.pcrf_model.specs.Live.{is_live}
@@ -18,8 +17,8 @@ use Rattle.pcrf_model.specs.Differences.{first}
 use Rattle.pcrf_model.specs.Pushing.{is_due, due_session}
 use Rattle.pcrf_model.specs.Laws.{IsFirstDue}
 use Rattle.pcrf_model.proofs.HoldingLaws.{session_ranked}
-use Rattle.pcrf_model.proofs.ViewLaws.{shows-known, its_session}
-use Rattle.pcrf_model.proofs.BindLaws.{has_address}
+use Rattle.pcrf_model.proofs.ViewLaws.{its_session}
+use Rattle.pcrf_model.proofs.BindLaws.{live-known}
 
 -- ---- the first that passes
 
@@ -70,35 +69,51 @@ module _ {A : Type 0} (cmp : A → A → Ordering) (o : IsRanked cmp) (p : A →
     | false ↦ λ f k. elim i [ inl e ↦ clash (p x) (sym (ap p e) ∙ t) f | inr j ↦ found_none xs k r j t ]
   ] refl h
 
--- ---- pushes
-
--- a session that is due has facts
-due_known : (t : Tables) (i : ℕ) (facts : List SessionFact) (name : Option (List ℕ)) (s : Session) → is_due t i (view facts) name s ≡ true → In s (view facts).sessions
-due_known t i facts name s h =
-    let both = first_so _ _ (first_so _ _ (first_so _ _ h)) in
-    let lives = second_so (not ((view facts).ended s)) _ (second_so _ (is_live (view facts) s) both) in
-    let shows = some_is ((view facts).shows s address) (has_address (view facts) s s.kind (first_so _ _ both) lives) in
-    shows-known facts s address shows.0 shows.1
-
 -- the sessions rise
 sessions_rise : (facts : List SessionFact) → Rises session_cmp (view facts).sessions
 unfolding view
 sessions_rise facts = ascending-ascending session_cmp session_ranked (map its_session facts)
 
+-- a test that only live sessions pass
+module _ (facts : List SessionFact) (test : Session → Bool)
+    (lives : (s : Session) → test s ≡ true → is_live (view facts) s ≡ true) where
+  -- whoever passes has facts
+  passing_known : (s : Session) → test s ≡ true → In s (view facts).sessions
+  passing_known s h = live-known facts s (lives s h)
+
+  -- who is found is the first that passes
+  pub first_passing : (s : Session) → find test (view facts).sessions ≡ Some s
+      → (test s ≡ true) × ((r : Session) → test r ≡ true → session_cmp r s ≡ Less → ⊥)
+  first_passing s h =
+      let rise = sessions_rise facts in
+      let f = found_first session_cmp session_ranked test (view facts).sessions s rise h in
+      (f.0, λ r u l. f.1 r (passing_known r u) u l)
+
+  -- and where none is found none passes
+  pub none_passing : find test (view facts).sessions ≡ None → (s : Session) → test s ≡ false
+  none_passing h s = is_false (test s) (λ u.
+      found_none session_cmp session_ranked test (view facts).sessions h s (passing_known s u) u)
+
+-- ---- pushes
+
+-- a session that is due is live
+due_lives : (t : Tables) (i : ℕ) (facts : List SessionFact) (name : Option (List ℕ)) (s : Session)
+    → is_due t i (view facts) name s ≡ true → is_live (view facts) s ≡ true
+due_lives t i facts name s h =
+    second_so (is_gx s.kind) _ (first_so _ _ (first_so _ _ (first_so _ _ h)))
+
 -- the one that is pushed is the first that is due
 pub first_due : (t : Tables) (i : ℕ) (facts : List SessionFact) (name : Option (List ℕ)) (s : Session) → due_session t i (view facts) name ≡ Some s → IsFirstDue t i facts name s
 unfolding due_session
 first_due t i facts name s h =
-    let f = found_first session_cmp session_ranked (is_due t i (view facts) name) (view facts).sessions s (sessions_rise facts) h in
-    record { is_one = f.0; none_before = λ r u l. f.1 r (due_known t i facts name r u) u l }
+    let f = first_passing facts (is_due t i (view facts) name) (due_lives t i facts name) s h in
+    record { is_one = f.0; none_before = f.1 }
 
 -- and none is where none is found
 pub none_due : (t : Tables) (i : ℕ) (facts : List SessionFact) (name : Option (List ℕ)) → due_session t i (view facts) name ≡ None → (s : Session) → is_due t i (view facts) name s ≡ false
 unfolding due_session
-none_due t i facts name h s = elim (is_due t i (view facts) name s) as (λ b. is_due t i (view facts) name s ≡ b → b ≡ false) [
-  | true ↦ λ u. absurd (found_none session_cmp session_ranked (is_due t i (view facts) name) (view facts).sessions h s (due_known t i facts name s u) u)
-  | false ↦ λ _. refl
-] refl
+none_due t i facts name h =
+    none_passing facts (is_due t i (view facts) name) (due_lives t i facts name) h
 
 -- ---- differences
 

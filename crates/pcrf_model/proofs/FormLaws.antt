@@ -14,7 +14,7 @@ use Rattle.ranked.proofs.SetLaws.{In-cases, In-map}
 use Rattle.ranked.proofs.AscendingLaws.{map-ascending, ascending-ascending}
 use Rattle.pcrf_facts.specs.Places.{Place, OfSession, OfComponent, OfFlow, OfRuleName, position_cmp}
 use Rattle.pcrf_facts.specs.Values.{entry_cmp}
-use Rattle.pcrf_facts.specs.Facts.{Fact, End, Removed, Field, position, entry, fact_cmp}
+use Rattle.pcrf_facts.specs.Facts.{Fact, Field, position, entry, fact_cmp}
 use Rattle.pcrf_facts.proofs.FactLaws.{tag_ranked}
 use Rattle.pcrf_values.specs.Limits.{last_counter}
 use Rattle.pcrf_model.specs.Sessions.{Kind, Gx, Af, Session}
@@ -84,13 +84,12 @@ test_by_form h f =
 
 -- what is counted up to a clock is counted up to a later one
 counted_later : (k : Kind) (m n : ℕ) (f : Fact) → m ≤ n → is_counted k m f ≡ true → is_counted k n f ≡ true
-counted_later k m n End l h = refl
-counted_later k m n (Removed r) l h = refl
 counted_later k m n (Field p t x) l h =
     let three = first_so _ _ h in
     let two = first_so _ _ three in
     let low = passes_le t.counter m (second_so _ _ two) in
     both _ _ (both _ _ (both _ _ (first_so _ _ two) (le_passes t.counter n (omega (arith, l, low)))) (second_so _ _ three)) (second_so _ _ h)
+counted_later k m n f l h = refl
 
 -- what is held up to a clock is held up to a later one
 held_later : (m n : ℕ) (x : SessionFact) → m ≤ n → is_held m x ≡ true → is_held n x ≡ true
@@ -169,8 +168,6 @@ number_stays Af p n h = refl
 
 -- a fact with the operation's tag is counted up to the operation's counter
 pub counted_by_tag : (o : Operation) → IsFormed o → (f : Fact) → is_tagged o.session.kind o.counter o.site o.number f ≡ true → is_counted o.session.kind o.counter f ≡ true
-counted_by_tag o w End h = refl
-counted_by_tag o w (Removed r) h = refl
 counted_by_tag o w (Field p t x) h =
     let k : Kind = o.session.kind in
     let own : Tag = record { number = number_at k p o.number; counter = o.counter; site = o.site } in
@@ -178,6 +175,7 @@ counted_by_tag o w (Field p t x) h =
     let itself : nat_le o.counter o.counter ≡ true = le_passes o.counter o.counter (omega arith) in
     let counted : is_counted k o.counter (Field p own x) ≡ true = both _ _ (both _ _ (both _ _ w.stamp itself) (first_so _ _ numbers)) (second_so _ _ numbers) in
     subst (λ (g : Tag). is_counted k o.counter (Field p g x) ≡ true) (sym (eq_is tag_ranked t own h)) counted
+counted_by_tag o w f h = refl
 
 -- facts are in order where their positions are
 less_by_position : (s : Session) (f g : Fact) → position_cmp (position f) (position g) ≡ Less → session_fact_cmp (s, f) (s, g) ≡ Less

@@ -19,10 +19,10 @@ use Rattle.pcrf_facts.proofs.JoinedLaws.{kept-In, In-kept, sorted-Same}
 use Rattle.pcrf_facts.proofs.KeyLaws.{number_is}
 use Rattle.pcrf_model.specs.Sessions.{Af}
 use Rattle.pcrf_model.specs.Requests.{FlowValue, ComponentValue, AarValue}
-use Rattle.pcrf_model.specs.Making.{is_removed, flow_facts, component_facts, aar_facts}
+use Rattle.pcrf_model.specs.Making.{request_says, is_removed, flow_facts, component_facts, aar_facts}
 use Rattle.pcrf_model.specs.Forms.{is_within, is_unsigned, is_none_or, is_status, is_usage, are_filters, is_tagged, fits, fits_session_field, fits_component_field, fits_flow_field, is_flow, are_apart, is_component}
 use Rattle.pcrf_model.proofs.FormReading.{each_passes}
-use Rattle.pcrf_model.proofs.MadeForms.{IsField, field, clear_fields, MayMake, Each, none, more, either, ◌and◌, all_of, all_given, given_passes, session_value, session_each, one_place, one_field, one_session_field}
+use Rattle.pcrf_model.proofs.MadeForms.{IsField, field, clear_fields, MayMake, Each, none, more, either, ◌and◌, all_of, all_given, given_passes, said_each, one_place, one_field, one_session_field}
 
 -- ---- what requests say of components and flows
 
@@ -276,13 +276,13 @@ pub described_is_held : (q : AarValue) (k i : ℕ) → Distinct (map component_n
 described_is_held q k i differ flows_differ = sorted-Same (kept_set facts) facts (λ f. (λ m. (kept-In f facts m).0, is_kept f))
   where
     says : SessionField → Option Value
-    says = session_value q.address q.apn q.subscribers q.host q.realm 0
+    says = request_says q.user q.host q.realm 0
 
     facts : List Fact
     facts = aar_facts q (tag k i)
 
     all : Each (IsOfFunction k i says q.components) facts
-    all = session_each q.address q.apn q.subscribers q.host q.realm 0 (tag k i) at_session and components_each k i says q.components
+    all = said_each says (tag k i) at_session and components_each k i says q.components
 
     is_kept : (f : Fact) → In f facts → In f (kept_set facts)
     is_kept f m = In-kept f facts m (λ g n. clear k i says q.components differ flows_differ f g (all.so f m) (all.so g n))

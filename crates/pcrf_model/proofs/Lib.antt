@@ -1,3 +1,4 @@
+pub mod AbortingLaws
 pub mod BindLaws
 pub mod CursorEntries
 pub mod CursorGaps

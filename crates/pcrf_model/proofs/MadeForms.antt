@@ -2,25 +2,28 @@
 use Rattle.std.proofs.lemmas.Bool.Decides.{nat_tests}
 use Rattle.std.proofs.Common.{◌≡◌, ℕ, ◌+◌, ◌<◌, Bool, true, false, cond, not, ◌&&◌, nat_le, nat_lt, List, [], ◌∷◌, ◌++◌, map, length, Option, Some, None, inl, inr, refl, sym, ap, ◌∙◌, subst, option_map, flat_map, Ordering, Less, Equal, Greater, arith}
 use Rattle.std.specs.Ordering.{is_lt, ordering_then}
-use Rattle.std.specs.Cmp.{first_so, second_so, tied_itself}
+use Rattle.std.specs.Cmp.{tied_itself}
 use Rattle.std.specs.List.{list_any}
 use Rattle.std.specs.Option.{option_cmp}
 use Rattle.ranked.specs.Ascending.{ascending}
 use Rattle.ranked.specs.Sets.{In}
 use Rattle.ranked.specs.declared.tag.Tag.{Tag}
-use Rattle.ranked.proofs.Plain.{clash, is_false, both, some_same}
-use Rattle.ranked.proofs.SetLaws.{In-left, In-right, In-cases, any-none}
+use Rattle.ranked.proofs.Plain.{clash, is_false, both, none_some, some_same}
+use Rattle.ranked.proofs.SetLaws.{In-left, In-cases, any-none}
+use Rattle.ranked.proofs.PartLaws.{In-flat_map}
 use Rattle.ranked.proofs.AscendingLaws.{map-ascending, ascending-ascending}
-use Rattle.pcrf_facts.specs.Places.{SessionField, FramedIpAddress, CalledStationId, SubscriptionIds, OriginHost, OriginRealm, RequestType, Place, OfSession, place_position, position_cmp, address, apn, subscribers, host}
-use Rattle.pcrf_facts.specs.Values.{Subscriber, Value, Number, Text, Address, Subscribers, entry_cmp}
+use Rattle.pcrf_facts.specs.Places.{SessionField, OriginHost, OriginRealm, RequestType, session_fields, Place, OfSession, place_position, position_cmp, host}
+use Rattle.pcrf_facts.specs.Values.{Value, Number, Text, entry_cmp}
 use Rattle.pcrf_facts.specs.Facts.{Fact, End, Field, position, entry, fact_cmp, is_shaded_by}
-use Rattle.pcrf_facts.proofs.FactLaws.{place_ranked, position_ranked, fact_ranked, shaded_irr, same_place}
+use Rattle.pcrf_facts.proofs.FactLaws.{every_session_field, place_ranked, position_ranked, fact_ranked, shaded_irr, same_place}
 use Rattle.pcrf_facts.proofs.JoinedLaws.{sorted-In}
 use Rattle.pcrf_values.specs.Limits.{last_counter, site_limit}
 use Rattle.pcrf_model.specs.Sessions.{Kind, Session}
 use Rattle.pcrf_model.specs.Holdings.{Holding}
-use Rattle.pcrf_model.specs.Making.{given_fact, session_fields, next_operation}
-use Rattle.pcrf_model.specs.Forms.{is_tagged, is_session, is_request_number, is_none_or, is_address, is_apn, is_identity, are_subscribers, is_user, is_stamp, fits_session_field, stand_together, fits, is_operation}
+use Rattle.pcrf_model.specs.Requests.{UserValue}
+use Rattle.pcrf_model.specs.Making.{given_fact, user_says, request_says, said_facts, next_operation}
+use Rattle.pcrf_model.specs.Forms.{is_tagged, is_session, is_request_number, is_none_or, is_identity, is_user, is_stamp, fits_session_field, stand_together, fits, is_operation}
+use Rattle.pcrf_model.proofs.FormReading.{each_passes}
 use Rattle.pcrf_model.proofs.FormLaws.{test_by_rises, le_passes, test_by_formed}
 
 -- ---- facts that stand together
@@ -118,25 +121,36 @@ pub made_in_form : (i : ℕ) (h : Holding) (n : ℕ) (s : Session) (facts : List
     → is_operation (next_operation i h n s facts) ≡ true
 made_in_form i h n s facts a = stamped_in_form (h.clock + 1) i n s facts (stamp_left i h a)
 
--- the end alone stands
-end_stands : CanStand (End ∷ [])
-end_stands = record {
-  some = (End, inl refl);
+-- one fact alone stands
+alone_stands : (x : Fact) → CanStand (x ∷ [])
+alone_stands x = record {
+  some = (x, inl refl);
   apart = λ f g i j _. only f i ∙ sym (only g j);
   clear = λ f g i j. clear_itself f g (only f i ∙ sym (only g j));
 }
   where
-    only : (f : Fact) → In f (End ∷ []) → f ≡ End
+    only : (f : Fact) → In f (x ∷ []) → f ≡ x
     only f (inl e) = e
     only f (inr i) = absurd i
 
--- so an end is of the form
+-- so it makes an operation of the form, if it fits
+pub alone_in_form : (counter i n : ℕ) (s : Session) (x : Fact) → is_stamp counter i ≡ true
+    → is_request_number s.kind n ≡ true → is_session s ≡ true
+    → (fits s.kind x && is_tagged s.kind counter i n x) ≡ true
+    → is_operation (record { counter = counter; site = i; number = n; session = s; facts = x ∷ [] }) ≡ true
+alone_in_form counter i n s x stamp number session fit =
+    stamped_in_form counter i n s (x ∷ []) stamp number session
+    (record { stand = alone_stands x; each = λ f. elim [ inl e ↦ same f e | inr j ↦ absurd j ] })
+  where
+    same : (f : Fact) → f ≡ x → (fits s.kind f && is_tagged s.kind counter i n f) ≡ true
+    same f e =
+        subst (λ (g : Fact). (fits s.kind g && is_tagged s.kind counter i n g) ≡ true) (sym e) fit
+
+-- as an end does
 pub end_in_form : (counter i n : ℕ) (s : Session) → is_stamp counter i ≡ true → is_request_number s.kind n ≡ true → is_session s ≡ true
     → is_operation (record { counter = counter; site = i; number = n; session = s; facts = End ∷ [] }) ≡ true
-end_in_form counter i n s stamp number session = stamped_in_form counter i n s (End ∷ []) stamp number session (record {
-  stand = end_stands;
-  each = λ f. elim [ inl e ↦ subst (λ (g : Fact). (fits s.kind g && is_tagged s.kind counter i n g) ≡ true) (sym e) refl | inr j ↦ absurd j ];
-})
+end_in_form counter i n s stamp number session =
+    alone_in_form counter i n s End stamp number session refl
 
 -- ---- all facts of a list
 
@@ -191,37 +205,67 @@ given_passes test as_value (Some y) v good fit h e = subst (λ (z : Value). good
 -- ---- the fields of a session
 
 -- what a request says in each
-abbrev pub session_value : Option (List ℕ) → Option (List ℕ) → Option (List Subscriber) → List ℕ → List ℕ → ℕ → SessionField → Option Value
-session_value a n ids of_host of_realm kind FramedIpAddress = option_map Address a
-session_value a n ids of_host of_realm kind CalledStationId = option_map Text n
-session_value a n ids of_host of_realm kind SubscriptionIds = option_map Subscribers ids
-session_value a n ids of_host of_realm kind OriginHost = Some (Text of_host)
-session_value a n ids of_host of_realm kind OriginRealm = Some (Text of_realm)
-session_value a n ids of_host of_realm kind RequestType = Some (Number kind)
-
-module _ (a n : Option (List ℕ)) (ids : Option (List Subscriber)) (of_host of_realm : List ℕ) (kind : ℕ) where
+module _ (says : SessionField → Option Value) where
   -- each fact of them says that
-  pub session_each : {P : Fact → Type 0} (t : Tag) → ((f : SessionField) (v : Value) → session_value a n ids of_host of_realm kind f ≡ Some v → P (Field (OfSession f) t v)) → Each P (session_fields t a n ids of_host of_realm kind)
-  session_each t h =
-      all_given address t Address a (h FramedIpAddress) and all_given apn t Text n (h CalledStationId) and all_given subscribers t Subscribers ids (h SubscriptionIds)
-      and more (h OriginHost (Text of_host) refl) (more (h OriginRealm (Text of_realm) refl) (more (h RequestType (Number kind) refl) none))
+  pub said_each : {P : Fact → Type 0} (t : Tag)
+      → ((f : SessionField) (v : Value) → says f ≡ Some v → P (Field (OfSession f) t v))
+      → Each P (said_facts t says)
+  said_each {P} t h = all_of said session_fields (λ f i. of_field f (says f) (h f))
+    where
+      said : SessionField → List Fact
+      said f = given_fact (OfSession f) t (λ x. x) (says f)
+
+      of_field : (f : SessionField) (x : Option Value)
+          → ((v : Value) → x ≡ Some v → P (Field (OfSession f) t v))
+          → Each P (given_fact (OfSession f) t (λ y. y) x)
+      of_field f None k = none
+      of_field f (Some y) k = more (k y refl) none
+
+  -- and what it says is there
+  pub said_there : (t : Tag) (f : SessionField) (v : Value) → says f ≡ Some v
+      → In (Field (OfSession f) t v) (said_facts t says)
+  said_there t f v e = In-flat_map said f own session_fields (every_session_field f) there
+    where
+      own : Fact
+      own = Field (OfSession f) t v
+
+      said : SessionField → List Fact
+      said g = given_fact (OfSession g) t (λ x. x) (says g)
+
+      there : In own (said f)
+      there =
+          subst (λ (x : Option Value). In own (given_fact (OfSession f) t (λ y. y) x)) (sym e)
+          (inl refl)
+
+-- what is said passes a test of all that may be said
+said_passes : (test : Value → Bool) (x : Option Value) (v : Value) → is_none_or test x ≡ true
+    → x ≡ Some v → test v ≡ true
+said_passes test None v h e = none_some v e
+said_passes test (Some y) v h e = subst (λ (z : Value). test z ≡ true) (some_same y v e) h
+
+module _ (u : UserValue) (of_host of_realm : List ℕ) (kind : ℕ) where
+  -- what it says
+  abbrev says : SessionField → Option Value
+  says = request_says u of_host of_realm kind
 
   -- one of them is there
-  pub session_some : (t : Tag) → (f : Fact) × In f (session_fields t a n ids of_host of_realm kind)
-  session_some t = (Field host t (Text of_host), In-right _ (given_fact address t Address a ++ given_fact apn t Text n ++ given_fact subscribers t Subscribers ids) _ (inl refl))
+  pub session_some : (t : Tag) → (f : Fact) × In f (said_facts t says)
+  session_some t = (Field host t (Text of_host), said_there says t OriginHost (Text of_host) refl)
 
   -- and what it says fits
-  pub session_fits : (k : Kind) → is_user a n ids ≡ true → is_identity of_host ≡ true → is_identity of_realm ≡ true → fits_session_field k RequestType (Number kind) ≡ true
-      → (f : SessionField) (v : Value) → session_value a n ids of_host of_realm kind f ≡ Some v → fits_session_field k f v ≡ true
-  session_fits k user hosts realms last FramedIpAddress v e =
-      given_passes is_address Address a v (fits_session_field k FramedIpAddress) (λ y h. h) (first_so _ _ (first_so _ _ user)) e
-  session_fits k user hosts realms last CalledStationId v e =
-      given_passes is_apn Text n v (fits_session_field k CalledStationId) (λ y h. h) (second_so _ _ (first_so _ _ user)) e
-  session_fits k user hosts realms last SubscriptionIds v e =
-      given_passes are_subscribers Subscribers ids v (fits_session_field k SubscriptionIds) (λ y h. h) (second_so _ _ user) e
+  pub session_fits : (k : Kind) → is_user k u ≡ true → is_identity of_host ≡ true
+      → is_identity of_realm ≡ true → fits_session_field k RequestType (Number kind) ≡ true
+      → (f : SessionField) (v : Value) → says f ≡ Some v → fits_session_field k f v ≡ true
   session_fits k user hosts realms last OriginHost v e = subst (λ (z : Value). fits_session_field k OriginHost z ≡ true) (some_same (Text of_host) v e) hosts
   session_fits k user hosts realms last OriginRealm v e = subst (λ (z : Value). fits_session_field k OriginRealm z ≡ true) (some_same (Text of_realm) v e) realms
   session_fits k user hosts realms last RequestType v e = subst (λ (z : Value). fits_session_field k RequestType z ≡ true) (some_same (Number kind) v e) last
+  session_fits k user hosts realms last f v e = said_passes (fits_session_field k f) (user_says u f) v so e
+    where
+      passes : SessionField → Bool
+      passes g = is_none_or (fits_session_field k g) (user_says u g)
+
+      so : passes f ≡ true
+      so = each_passes passes session_fields user f (every_session_field f)
 
 -- ---- places
 

@@ -1,62 +1,131 @@
 -- Which rules can change where the facts of one session alone change.
-use Rattle.std.proofs.Common.{◌≡◌, Bool, true, false, cond, not, ◌&&◌, List, [], ◌++◌, ◌⊎◌, map, Option, Some, None, is_some, inl, inr, refl, sym, ap, ◌∙◌, subst, option_map, option_and_then, unwrap_or}
+use Rattle.std.proofs.Common.{◌≡◌, Bool, true, false, cond, not, ◌&&◌, List, [], ◌++◌, ◌⊎◌, map, Option, Some, None, inl, inr, refl, sym, ap, ◌∙◌, subst, option_map, option_and_then, unwrap_or}
 use Rattle.std.specs.Ordering.{is_eq}
-use Rattle.std.specs.Cmp.{first_so, second_so}
-use Rattle.ranked.proofs.Plain.{clash, is_false, not_true, some_same, some_is, came_from, split}
+use Rattle.ranked.proofs.Plain.{clash, is_false, none_some, came_from, split}
 use Rattle.ranked.specs.Ascending.{ascending}
 use Rattle.ranked.specs.Sets.{In, Same}
 use Rattle.ranked.proofs.OrderLaws.{eq_is, eq_itself}
 use Rattle.ranked.proofs.SetLaws.{Same-back, Same-itself, Same-append, In-filter_map, filter_map-In}
 use Rattle.ranked.proofs.AscendingLaws.{ascending-Same}
 use Rattle.pcrf_values.specs.RuleValues.{RuleValue}
-use Rattle.pcrf_facts.specs.Places.{FlowDescriptions, Place, OfFlow, address, apn, subscribers}
-use Rattle.pcrf_facts.specs.Values.{Value, Entry}
+use Rattle.pcrf_facts.specs.Places.{FlowDescriptions, Place, OfFlow, address, prefix, apn}
+use Rattle.pcrf_facts.specs.Values.{Value, Prefix, Entry}
 use Rattle.pcrf_facts.proofs.FactLaws.{value_ranked}
 use Rattle.pcrf_facts.proofs.ShownLaws.{members_show_the_same}
-use Rattle.pcrf_model.specs.Sessions.{Kind, Gx, Af, Session, session_cmp, is_gx}
+use Rattle.pcrf_model.specs.Sessions.{Session, session_cmp, is_gx}
 use Rattle.pcrf_model.specs.Holdings.{SessionFact, facts_on}
 use Rattle.pcrf_model.specs.Views.{View, Shown, view, value, as_text}
-use Rattle.pcrf_model.specs.Live.{is_live, has_what_it_needs}
-use Rattle.pcrf_model.specs.Bindings.{agrees, meets, matches, standing, bind, is_bound_to}
+use Rattle.pcrf_model.specs.Live.{is_live}
+use Rattle.pcrf_model.specs.Bindings.{agrees, is_covered, Party, party, suits, matches, standing, bind, is_bound_to}
 use Rattle.pcrf_model.specs.Tables.{ApnRow, Tables, apn_row}
 use Rattle.pcrf_model.specs.Flows.{FlowId}
 use Rattle.pcrf_model.specs.Rules.{flow_at, rule_of, rule_at, operator_rule, operator_rules, flow_rules, listed_cmp, rules}
-use Rattle.pcrf_model.specs.Laws.{Exceeds, DifferInOne, HasAddress, NeverMeet, BindsAlike}
+use Rattle.pcrf_model.specs.Laws.{Exceeds, DifferInOne, HasAddress, ShowsNoPrefix, NeverMeet, BindsAlike}
 use Rattle.pcrf_model.proofs.HoldingLaws.{session_ranked}
 use Rattle.pcrf_model.proofs.ViewLaws.{In-all, all-shows}
-use Rattle.pcrf_model.proofs.BindLaws.{bind-greatest, has_address, of_gx, live_asking}
+use Rattle.pcrf_model.proofs.BindLaws.{bind-greatest, matched, of_gx, live_asking, live_reached}
 use Rattle.pcrf_model.proofs.RuleNames.{listed_ranked}
 
--- ---- what a match says of addresses
-
--- a live session of either kind shows an address
-live_shows : (v : View) (s : Session) → is_live v s ≡ true → (x : Value) × (value v s address ≡ Some x)
-live_shows v s h =
-    let w = some_is (v.shows s address) (by_kind s.kind (second_so (not (v.ended s)) _ h)) in
-    (w.0.1, ap (option_map (λ (e : Entry). e.1)) w.1)
-  where
-    by_kind : (k : Kind) → has_what_it_needs v s k ≡ true → is_some (v.shows s address) ≡ true
-    by_kind Gx g = has_address v s Gx refl g
-    by_kind Af g = g
+-- ---- what a match says of addresses and prefixes
 
 -- what agrees is equal
 agreed : (x : Value) (o : Option Value) → agrees (Some x) o ≡ true → o ≡ Some x
 agreed x None h = clash false h refl
 agreed x (Some y) h = ap Some (sym (eq_is value_ranked x y h))
 
--- what matches shows the address of what asks
-module _ (v : View) (a s : Session) (m : matches v a s ≡ true) where
-  -- their addresses agree
-  agree : agrees (value v a address) (value v s address) ≡ true
-  agree =
-      let front = not (is_gx a.kind) && is_gx s.kind && is_live v a && is_live v s in
-      second_so front _ (first_so (front && agrees (value v a address) (value v s address)) _ (first_so _ _ m))
+-- no prefix is covered by none
+uncovered : (x : Option Value) → is_covered x None ≡ true → x ≡ None
+uncovered None h = refl
+uncovered (Some (Prefix p)) h = clash false h refl
+uncovered (Some x) h = clash false h refl
 
-  -- the address of both
-  pub both_show : (x : Value) × (value v a address ≡ Some x) × (value v s address ≡ Some x)
-  both_show =
-      let w = live_shows v a (live_asking v a s m) in
-      (w.0, w.1, agreed w.0 (value v s address) (ap (λ o. agrees o (value v s address)) (sym w.1) ∙ agree))
+-- what matches shows the address that is asked for
+pub shows_the_address : (v : View) (a s : Session) → matches v a s ≡ true → (x : Value)
+    → value v a address ≡ Some x → value v s address ≡ Some x
+shows_the_address v a s m x h =
+    agreed x (value v s address)
+    (ap (λ o. agrees o (value v s address)) (sym h) ∙ (matched v a s m).at_address)
+
+-- and a prefix that covers the one that is asked for
+pub covers_the_prefix : (v : View) (a s : Session) → matches v a s ≡ true → (x : Value)
+    → value v a prefix ≡ Some x → is_covered (Some x) (value v s prefix) ≡ true
+covers_the_prefix v a s m x h =
+    ap (λ o. is_covered o (value v s prefix)) (sym h) ∙ (matched v a s m).at_prefix
+
+-- where it shows none, none is asked for
+pub no_prefix_asked : (v : View) (a s : Session) → matches v a s ≡ true
+    → value v s prefix ≡ None → value v a prefix ≡ None
+no_prefix_asked v a s m h =
+    uncovered (value v a prefix)
+    (ap (is_covered (value v a prefix)) (sym h) ∙ (matched v a s m).at_prefix)
+
+-- the place shows a value
+shown_value : (v : View) (s : Session) (p : Place) (e : Entry) → v.shows s p ≡ Some e
+    → value v s p ≡ Some e.1
+shown_value v s p e h = ap (option_map (λ (x : Entry). x.1)) h
+
+-- one of two places of a live session shows a value
+live_by_either : (v : View) (s : Session) → is_live v s ≡ true
+    → ((x : Value) × (value v s address ≡ Some x)) ⊎ ((x : Value) × (value v s prefix ≡ Some x))
+live_by_either v s h =
+    let r = live_reached v s h in
+    let shown = shown_value v s r.0 r.2 r.3 in
+    elim r.1 [
+      | inl e ↦ inl (r.2.1, subst (λ (p : Place). value v s p ≡ Some r.2.1) e shown)
+      | inr i ↦ elim i [
+        | inl e ↦ inr (r.2.1, subst (λ (p : Place). value v s p ≡ Some r.2.1) e shown)
+        | inr j ↦ absurd j
+      ]
+    ]
+
+-- a live session without a prefix shows an address
+pub live_by_address : (v : View) (s : Session) → is_live v s ≡ true
+    → value v s prefix ≡ None → (x : Value) × (value v s address ≡ Some x)
+live_by_address v s h n = elim (live_by_either v s h) [
+  | inl w ↦ w
+  | inr w ↦ none_some w.0 (sym n ∙ w.1)
+]
+
+-- and one without an address a prefix
+pub live_by_prefix : (v : View) (s : Session) → is_live v s ≡ true
+    → value v s address ≡ None → (x : Value) × (value v s prefix ≡ Some x)
+live_by_prefix v s h n = elim (live_by_either v s h) [
+  | inl w ↦ none_some w.0 (sym n ∙ w.1)
+  | inr w ↦ w
+]
+
+-- what covers a prefix is there
+covering : (x : Value) (o : Option Value) → is_covered (Some x) o ≡ true
+    → (y : Value) × (o ≡ Some y)
+covering (Prefix p) None h = clash false h refl
+covering (Prefix p) (Some y) h = (y, refl)
+covering x o h = clash false h refl
+
+-- where no address is asked for, what matches shows a prefix
+pub shows_a_prefix : (v : View) (a s : Session) → matches v a s ≡ true
+    → value v a address ≡ None → (y : Value) × (value v s prefix ≡ Some y)
+shows_a_prefix v a s m n =
+    let w = live_by_prefix v a (live_asking v a s m) n in
+    covering w.0 (value v s prefix) (covers_the_prefix v a s m w.0 w.1)
+
+-- both show one address, or only a prefix is asked for and both show one
+pub how_they_meet : (v : View) (a s : Session) → matches v a s ≡ true
+    → ((x : Value) × (value v a address ≡ Some x) × (value v s address ≡ Some x))
+    ⊎ ((value v a address ≡ None) × ((y : Value) × (value v s prefix ≡ Some y)))
+how_they_meet v a s m = by (value v a address) refl
+  where
+    by : (o : Option Value) → value v a address ≡ o
+        → ((x : Value) × (value v a address ≡ Some x) × (value v s address ≡ Some x))
+        ⊎ ((value v a address ≡ None) × ((y : Value) × (value v s prefix ≡ Some y)))
+    by None e = inr (e, shows_a_prefix v a s m e)
+    by (Some x) e = inl (x, e, shows_the_address v a s m x e)
+
+-- where no prefix is asked for, both show one address
+pub both_show : (v : View) (a s : Session) → matches v a s ≡ true → value v a prefix ≡ None
+    → (x : Value) × (value v a address ≡ Some x) × (value v s address ≡ Some x)
+both_show v a s m n =
+    let w = live_by_address v a (live_asking v a s m) n in
+    (w.0, w.1, shows_the_address v a s m w.0 w.1)
 
 -- ---- sessions of which both views say the same
 
@@ -72,7 +141,7 @@ same_said xs ys s h = let k = members_show_the_same (facts_on xs s) (facts_on ys
 
 -- a view in which every session shows this
 abbrev pub only : (Place → Option Entry) → Bool → View
-only shows ended = record { shows = λ s. shows; ended = λ s. ended; removals = λ s. []; all = []; sessions = [] }
+only shows ended = record { shows = λ s. shows; ended = λ s. ended; removals = λ s. []; aborted = λ s. false; all = []; sessions = [] }
 
 module _ (v w : View) (s : Session) (h : SaysTheSame v w s) where
   -- they show the same everywhere
@@ -86,6 +155,10 @@ module _ (v w : View) (s : Session) (h : SaysTheSame v w s) where
   -- the same value stands at each place
   same_value : (p : Place) → value v s p ≡ value w s p
   same_value p = ap (option_map (λ (e : Entry). e.1)) (h.shows p)
+
+  -- binding reads the same
+  same_party : party v s ≡ party w s
+  same_party = λ i. party (only (shown_there i) (h.ended i)) s
 
   -- they stand the same beside others
   same_standing : standing v s ≡ standing w s
@@ -106,29 +179,17 @@ same_flow t v w a p h = refl
 
 -- what binding reads of a session is the same in both views
 record MatchesAlike (v w : View) (s : Session) : Type 0 where
-  lives : is_live v s ≡ is_live w s
+  reads : party v s ≡ party w s
   stands : standing v s ≡ standing w s
-  at_address : value v s address ≡ value w s address
-  of_subscribers : value v s subscribers ≡ value w s subscribers
-  at_apn : value v s apn ≡ value w s apn
 
 -- so it is where they say the same
 alike_said : (v w : View) (s : Session) → SaysTheSame v w s → MatchesAlike v w s
-alike_said v w s h = record {
-  lives = same_life v w s h;
-  stands = same_standing v w s h;
-  at_address = same_value v w s h address;
-  of_subscribers = same_value v w s h subscribers;
-  at_apn = same_value v w s h apn;
-}
+alike_said v w s h = record { reads = same_party v w s h; stands = same_standing v w s h }
 
 -- and then they match alike
 same_match : (v w : View) (a s : Session) → MatchesAlike v w a → MatchesAlike v w s → matches v a s ≡ matches w a s
 same_match v w a s h k = λ i.
-    not (is_gx a.kind) && is_gx s.kind && h.lives i && k.lives i
-    && agrees (h.at_address i) (k.at_address i)
-    && meets (h.of_subscribers i) (k.of_subscribers i)
-    && agrees (h.at_apn i) (k.at_apn i)
+    not (is_gx a.kind) && is_gx s.kind && suits (h.reads i) (k.reads i)
 
 -- ---- a binding that stays
 
@@ -239,44 +300,74 @@ turned v w d x (inr h) = inl h
 never_back : (v w : View) (d s : Session) → NeverMeet v w d s → NeverMeet w v d s
 never_back v w d s k = record { apart = λ x h j. k.apart x (turned w v d x h) (turned w v s x j) }
 
+-- a prefix that shows in neither, the other way round
+no_prefix_back : (v w : View) (d : Session) → ShowsNoPrefix v w d → ShowsNoPrefix w v d
+no_prefix_back v w d n = record { before = n.after; after = n.before }
+
+-- what is so of a session is so of the same
+of_same : {A : Type 0} (read : Session → A) (r d : Session) (x : A) → r ≡ d → read r ≡ x → read d ≡ x
+of_same read r d x e h = ap read (sym e) ∙ h
+
 -- who is bound to a session that never meets the one that changes isn't that one, nor is the session itself, and stays bound
-apart_stays : (xs ys : List SessionFact) (d s : Session) → DifferInOne xs ys d → NeverMeet (view xs) (view ys) d s
+apart_stays : (xs ys : List SessionFact) (d s : Session) → DifferInOne xs ys d
+    → ShowsNoPrefix (view xs) (view ys) d → NeverMeet (view xs) (view ys) d s
     → (a : Session) → bind (view xs) a ≡ Some s → SaysTheSame (view xs) (view ys) a × (bind (view ys) a ≡ Some s)
-apart_stays xs ys d s h k a b =
+apart_stays xs ys d s h n k a b =
     let v = view xs in
     let w = view ys in
-    let x = both_show v a s ((bind-greatest xs a s).0 b).fits in
-    let other : a ≡ d → ⊥ = λ e. k.apart x.0 (inl (subst (λ (r : Session). value v r address ≡ Some x.0) e x.1)) (inl x.2) in
-    let own : s ≡ d → ⊥ = λ e. k.apart x.0 (inl (subst (λ (r : Session). value v r address ≡ Some x.0) e x.2)) (inl x.2) in
+    let at_v : Session → Option Value = λ r. value v r address in
+    let at_w : Session → Option Value = λ r. value w r address in
+    let fits = ((bind-greatest xs a s).0 b).fits in
+    let other : a ≡ d → ⊥ = λ e.
+    let none = of_same (λ r. value v r prefix) d a None (sym e) n.before in
+    let x = both_show v a s fits none in
+    k.apart x.0 (inl (of_same at_v a d (Some x.0) e x.1)) (inl x.2) in
+    let own : s ≡ d → ⊥ = λ e.
+    let none = of_same (λ r. value v r prefix) d s None (sym e) n.before in
+    let x = live_by_address v s (matched v a s fits).lives none in
+    k.apart x.0 (inl (of_same at_v s d (Some x.0) e x.1)) (inl x.1) in
     let its = said xs ys d a h other in
     let alike = alike_said v w a its in
     let above : NoneAbove v w a s = record {
       from = λ r m _.
-          let y = both_show w a r m in
-          let same : y.0 ≡ x.0 = some_same y.0 x.0 (sym y.1 ∙ sym (same_value v w a its address) ∙ x.1) in
-          let third : r ≡ d → ⊥ = λ e. k.apart x.0 (inr (subst (λ (q : Session). value w q address ≡ Some x.0) e (y.2 ∙ ap Some same))) (inl x.2) in
+          let third : r ≡ d → ⊥ = λ e.
+          let none = of_same (λ q. value w q prefix) d r None (sym e) n.after in
+          let y = both_show w a r m (no_prefix_asked w a r m none) in
+          let x = shows_the_address v a s fits y.0 (same_value v w a its address ∙ y.1) in
+          k.apart y.0 (inr (of_same at_w r d (Some y.0) e y.2)) (inl x) in
           alike_said v w r (said xs ys d r h third);
     } in
     (its, stays_bound xs ys a s alike (alike_said v w s (said xs ys d s h own)) above b)
 
 -- the one that changes has no rules where it shares no address with itself; every other that it never meets keeps its rules
-pub others_keep : (t : Tables) (xs ys : List SessionFact) (d s : Session) → DifferInOne xs ys d → NeverMeet (view xs) (view ys) d s → rules t (view xs) s ≡ rules t (view ys) s
-others_keep t xs ys d s h k = elim (which d s) [ inl e ↦ itself e | inr n ↦ another n ]
+pub others_keep : (t : Tables) (xs ys : List SessionFact) (d s : Session) → DifferInOne xs ys d
+    → ShowsNoPrefix (view xs) (view ys) d → NeverMeet (view xs) (view ys) d s
+    → rules t (view xs) s ≡ rules t (view ys) s
+others_keep t xs ys d s h n k = elim (which d s) [ inl e ↦ itself e | inr other ↦ another other ]
   where
+    -- live without a prefix it shares an address with itself
+    dead : (v : View) → value v d prefix ≡ None
+        → ((x : Value) → value v d address ≡ Some x → value v s address ≡ Some x → ⊥)
+        → s ≡ d → is_live v s ≡ false
+    dead v none apart e = is_false (is_live v s) (λ l.
+        let x = live_by_address v s l (of_same (λ r. value v r prefix) d s None (sym e) none) in
+        apart x.0 (of_same (λ r. value v r address) s d (Some x.0) e x.1) x.1)
+
     itself : s ≡ d → rules t (view xs) s ≡ rules t (view ys) s
     itself e = no_rules t (view xs) (view ys) s
-        (is_false (is_live (view xs) s) (λ l. let x = live_shows (view xs) s l in k.apart x.0 (inl (subst (λ (r : Session). value (view xs) r address ≡ Some x.0) e x.1)) (inl x.1)))
-        (is_false (is_live (view ys) s) (λ l. let x = live_shows (view ys) s l in k.apart x.0 (inr (subst (λ (r : Session). value (view ys) r address ≡ Some x.0) e x.1)) (inr x.1)))
+        (dead (view xs) n.before (λ x i j. k.apart x (inl i) (inl j)) e)
+        (dead (view ys) n.after (λ x i j. k.apart x (inr i) (inr j)) e)
 
     another : (s ≡ d → ⊥) → rules t (view xs) s ≡ rules t (view ys) s
-    another n =
-        let its = said xs ys d s h n in
+    another other =
+        let its = said xs ys d s h other in
         keeps_rules t (view xs) (view ys) s (record {
           lives = same_life (view xs) (view ys) s its;
           operators = same_operator_rules (view xs) (view ys) s its t;
           flows = λ z. (
-            flows_stay t xs ys s (apart_stays xs ys d s h k) z,
-            flows_stay t ys xs s (apart_stays ys xs d s (swapped xs ys d h) (never_back (view xs) (view ys) d s k)) z,
+            flows_stay t xs ys s (apart_stays xs ys d s h n k) z,
+            flows_stay t ys xs s (apart_stays ys xs d s (swapped xs ys d h)
+                (no_prefix_back (view xs) (view ys) d n) (never_back (view xs) (view ys) d s k)) z,
           );
         })
 
@@ -294,33 +385,14 @@ keeps_by t xs ys s lives operators forth back = keeps_rules t (view xs) (view ys
   flows = λ z. (flows_stay t xs ys s forth z, flows_stay t ys xs s back z);
 })
 
--- what asks is no Gx session
-asks_as_af : (v : View) (a s : Session) → matches v a s ≡ true → is_gx a.kind ≡ false
-asks_as_af v a s m =
-    let front = not (is_gx a.kind) && is_gx s.kind && is_live v a && is_live v s in
-    not_true _ (first_so _ _ (first_so _ _ (first_so _ _ (first_so front _ (first_so (front && agrees (value v a address) (value v s address)) _ (first_so _ _ m))))))
-
 -- what binding reads, the other way round
 alike_back : (v w : View) (d : Session) → BindsAlike v w d → BindsAlike w v d
-alike_back v w d h = record {
-  of_gateway = h.of_gateway;
-  lives = sym h.lives;
-  stands = sym h.stands;
-  at_address = sym h.at_address;
-  of_subscribers = sym h.of_subscribers;
-  at_apn = sym h.at_apn;
-}
+alike_back v w d h = record { of_gateway = h.of_gateway; reads = sym h.reads; stands = sym h.stands }
 
 -- where one Gx session changes and binds as before, all match alike
 all_alike : (xs ys : List SessionFact) (d r : Session) → DifferInOne xs ys d → BindsAlike (view xs) (view ys) d → MatchesAlike (view xs) (view ys) r
 all_alike xs ys d r h k = elim (which d r) [
-  | inl e ↦ subst (λ (q : Session). MatchesAlike (view xs) (view ys) q) (sym e) (record {
-    lives = k.lives;
-    stands = k.stands;
-    at_address = k.at_address;
-    of_subscribers = k.of_subscribers;
-    at_apn = k.at_apn;
-  })
+  | inl e ↦ subst (λ (q : Session). MatchesAlike (view xs) (view ys) q) (sym e) (record { reads = k.reads; stands = k.stands })
   | inr n ↦ alike_said (view xs) (view ys) r (said xs ys d r h n)
 ]
 
@@ -329,7 +401,7 @@ alike_stays : (xs ys : List SessionFact) (d s : Session) → DifferInOne xs ys d
     → (a : Session) → bind (view xs) a ≡ Some s → SaysTheSame (view xs) (view ys) a × (bind (view ys) a ≡ Some s)
 alike_stays xs ys d s h k a b =
     let fits = ((bind-greatest xs a s).0 b).fits in
-    let other : a ≡ d → ⊥ = λ e. clash (is_gx d.kind) k.of_gateway (ap (λ (q : Session). is_gx q.kind) (sym e) ∙ asks_as_af (view xs) a s fits) in (
+    let other : a ≡ d → ⊥ = λ e. clash (is_gx d.kind) k.of_gateway (ap (λ (q : Session). is_gx q.kind) (sym e) ∙ (matched (view xs) a s fits).asks) in (
       said xs ys d a h other,
       stays_bound xs ys a s (all_alike xs ys d a h k) (all_alike xs ys d s h k) (record { from = λ r m x. all_alike xs ys d r h k }) b,
     )
@@ -343,7 +415,8 @@ operators_by_apn t v w s e =
 pub all_keep : (t : Tables) (xs ys : List SessionFact) (d s : Session) → DifferInOne xs ys d → BindsAlike (view xs) (view ys) d → rules t (view xs) s ≡ rules t (view ys) s
 all_keep t xs ys d s h k =
     let its = all_alike xs ys d s h k in
-    keeps_by t xs ys s its.lives (operators_by_apn t (view xs) (view ys) s its.at_apn)
+    keeps_by t xs ys s (ap (λ (p : Party). p.live) its.reads)
+    (operators_by_apn t (view xs) (view ys) s (ap (λ (p : Party). p.apn) its.reads))
     (alike_stays xs ys d s h k)
     (alike_stays ys xs d s (swapped xs ys d h) (alike_back (view xs) (view ys) d k))
 

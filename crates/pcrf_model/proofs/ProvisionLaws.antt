@@ -1,5 +1,5 @@
 -- After an accepted initial request, an update or a push a gateway lacks just what the first entries of the difference left.
-use Rattle.std.proofs.Common.{◌≡◌, ℕ, ◌+◌, Bool, true, false, List, [], ◌∷◌, ◌++◌, map, Option, Some, None, inl, inr, refl, sym, ap, ◌∙◌, subst, option_map, unwrap_or, arith, append_assoc, Less, Equal}
+use Rattle.std.proofs.Common.{◌≡◌, ℕ, ◌+◌, Bool, true, false, List, ◌++◌, map, Option, Some, inl, inr, refl, sym, ap, ◌∙◌, subst, option_map, unwrap_or, arith, append_assoc, Less, Equal}
 use Rattle.std.specs.Ordering.{nat_cmp, ordering_then}
 use Rattle.std.specs.Cmp.{nat_cmp_is, first_so, second_so}
 use Rattle.std.proofs.lemmas.List.{map-append}
@@ -14,8 +14,8 @@ use Rattle.ranked.proofs.AscendingLaws.{ascending-In}
 use Rattle.ranked.proofs.DistinctLaws.{take-In, one_of_key}
 use Rattle.pcrf_values.specs.RuleValues.{RuleValue, DeltaValue}
 use Rattle.pcrf_values.specs.Numbers.{request_kind_number}
-use Rattle.pcrf_facts.specs.Places.{SessionField, FlowField, Place, OfSession, OfFlow, OfRuleName, Component, Flow, address, apn, subscribers, host, realm, last}
-use Rattle.pcrf_facts.specs.Values.{Value, Number, Text, Address, Subscribers}
+use Rattle.pcrf_facts.specs.Places.{SessionField, OriginHost, FlowField, Place, OfSession, OfFlow, OfRuleName, Component, Flow, host}
+use Rattle.pcrf_facts.specs.Values.{Value, Text}
 use Rattle.pcrf_facts.specs.Facts.{Fact, End, Removed, Field, fact_cmp}
 use Rattle.pcrf_facts.specs.Held.{ends, is_ended, blocks, is_gone}
 use Rattle.pcrf_facts.proofs.FactLaws.{fact_ranked}
@@ -28,7 +28,7 @@ use Rattle.pcrf_model.specs.Tables.{Tables}
 use Rattle.pcrf_model.specs.Rules.{rules}
 use Rattle.pcrf_model.specs.Differences.{told_cmp, told_rules_of, rule_name_of, difference, as_told, apply}
 use Rattle.pcrf_model.specs.Requests.{CcrValue}
-use Rattle.pcrf_model.specs.Making.{given_fact, ccr_fields, told_facts, next_tag, next_operation}
+use Rattle.pcrf_model.specs.Making.{request_says, ccr_fields, told_facts, next_tag, next_operation}
 use Rattle.pcrf_model.specs.Serving.{delta_of, provision_outcome, with_added}
 use Rattle.pcrf_model.specs.Pushing.{is_due, due_session, push_outcome, nothing_pushed, push}
 use Rattle.pcrf_model.specs.Forms.{are_tables, is_holding}
@@ -39,6 +39,7 @@ use Rattle.pcrf_model.proofs.DifferenceLaws.{no_name_twice, installed-In, apply-
 use Rattle.pcrf_model.proofs.DueLaws.{first_is_all}
 use Rattle.pcrf_model.proofs.FirstEntries.{difference-first}
 use Rattle.pcrf_model.specs.ToldTags.{ToldUpTo}
+use Rattle.pcrf_model.proofs.MadeForms.{said_each, said_there}
 use Rattle.pcrf_model.proofs.FormReading.{found, FlowsFit, flows_fit}
 use Rattle.pcrf_model.proofs.ToldTagLaws.{told_holding}
 use Rattle.pcrf_model.proofs.RuleNames.{rules-names_differ}
@@ -97,7 +98,7 @@ end_alone : (n : List ℕ) (f : Fact) → blocks (OfRuleName n) f ≡ true → e
 end_alone n End h = refl
 end_alone n (Removed (Component c)) h = clash false h refl
 end_alone n (Removed (Flow c m)) h = clash false h refl
-end_alone n (Field p t x) h = clash false h refl
+end_alone n f h = clash false h refl
 
 -- so no told name is gone
 told_not_gone : (facts : List Fact) (n : List ℕ) → is_ended facts ≡ false → is_gone facts (OfRuleName n) ≡ false
@@ -117,32 +118,13 @@ pub record IsField (f : Fact) : Type 0 where
   pub value : Value
   pub is : f ≡ Field (OfSession name) tag value
 
--- a field that may be given
-given_field : {A : Type 0} (n : SessionField) (t : Tag) (as_value : A → Value) (x : Option A) (f : Fact) → In f (given_fact (OfSession n) t as_value x) → IsField f
-given_field n t as_value None f i = absurd i
-given_field n t as_value (Some y) f (inl e) = record { name = n; tag = t; value = as_value y; is = e }
-given_field n t as_value (Some y) f (inr i) = absurd i
+-- what a request says in each field
+abbrev ccr_says : CcrValue → SessionField → Option Value
+ccr_says q = request_says q.user q.host q.realm (request_kind_number q.kind)
 
 -- every fact that a request's fields make is one
 pub of_request : (q : CcrValue) (t : Tag) (f : Fact) → In f (ccr_fields q t) → IsField f
-of_request q t f i =
-    let a : List Fact = given_fact address t Address q.address in
-    let b : List Fact = given_fact apn t Text q.apn in
-    let c : List Fact = given_fact subscribers t Subscribers q.subscribers in
-    let d : List Fact = Field host t (Text q.host) ∷ Field realm t (Text q.realm) ∷ Field last t (Number (request_kind_number q.kind)) ∷ [] in
-    elim (In-cases f (a ++ b ++ c) d i) [
-      | inl j ↦ elim (In-cases f (a ++ b) c j) [
-        | inl k ↦ elim (In-cases f a b k) [ inl l ↦ given_field _ t Address q.address f l | inr l ↦ given_field _ t Text q.apn f l ]
-        | inr k ↦ given_field _ t Subscribers q.subscribers f k
-      ]
-      | inr j ↦ always j
-    ]
-  where
-    always : In f (Field host t (Text q.host) ∷ Field realm t (Text q.realm) ∷ Field last t (Number (request_kind_number q.kind)) ∷ []) → IsField f
-    always (inl e) = record { name = _; tag = t; value = Text q.host; is = e }
-    always (inr (inl e)) = record { name = _; tag = t; value = Text q.realm; is = e }
-    always (inr (inr (inl e))) = record { name = _; tag = t; value = Number (request_kind_number q.kind); is = e }
-    always (inr (inr (inr j))) = absurd j
+of_request q t = (said_each (ccr_says q) t (λ g v e. record { name = g; tag = t; value = v; is = refl })).so
 
 -- ---- a holding, and one with the fields of a request
 
@@ -229,9 +211,8 @@ provisioning-tells_up_to most t i h q told_up_to names alive =
     let fields : (f : Fact) → In f fs → IsField f = of_request q (next_tag i h q.number) in
     let open_ : is_ended (facts_on xs s) ≡ false = ended_with h s fs fields (sym (sessions_alone h.facts s).ended ∙ alive) in
     let own : Fact = Field host (next_tag i h q.number) (Text q.host) in
-    let there : In (s, own) xs = In-right (s, own) h.facts (under s fs) (In-under s own fs (In-right own
-    (given_fact address (next_tag i h q.number) Address q.address ++ given_fact apn (next_tag i h q.number) Text q.apn ++ given_fact subscribers (next_tag i h q.number) Subscribers q.subscribers)
-    (own ∷ Field realm (next_tag i h q.number) (Text q.realm) ∷ Field last (next_tag i h q.number) (Number (request_kind_number q.kind)) ∷ []) (inl refl))) in
+    let said : In own fs = said_there (ccr_says q) (next_tag i h q.number) OriginHost (Text q.host) refl in
+    let there : In (s, own) xs = In-right (s, own) h.facts (under s fs) (In-under s own fs said) in
     let new : List Fact = told_facts g (delta_of most t (view xs) s) in
     let told_so : TellsTheFirst most t (view xs) (view (xs ++ under s new)) s =
     tells_the_first most t xs s names g (In-map its_session (s, own) xs there)

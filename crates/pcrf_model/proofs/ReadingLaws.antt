@@ -1,11 +1,13 @@
 -- What is read of a view, and what a site does, is the same on the kept facts.
-use Rattle.std.proofs.Common.{◌≡◌, ℕ, List, Option, refl, ap}
+use Rattle.std.proofs.Common.{◌≡◌, ℕ, Bool, false, List, [], Option, refl, ap}
 use Rattle.ranked.specs.Sets.{Same}
 use Rattle.pcrf_values.specs.declared.request_kind.RequestKind.{RequestKind}
 use Rattle.pcrf_values.specs.declared.request_kind.RequestKind.TheVariants.{Initial, Update, Termination}
+use Rattle.pcrf_facts.specs.Places.{Place}
+use Rattle.pcrf_facts.specs.Values.{Entry}
 use Rattle.pcrf_model.specs.Holdings.{SessionFact, kept_facts, under, Holding, kept_of}
-use Rattle.pcrf_model.specs.Sessions.{gx, af}
-use Rattle.pcrf_model.specs.Views.{View, view}
+use Rattle.pcrf_model.specs.Sessions.{Session, gx, af}
+use Rattle.pcrf_model.specs.Views.{View, Shown, view}
 use Rattle.pcrf_model.specs.Live.{is_live, is_partial, home}
 use Rattle.pcrf_model.specs.Bindings.{matches, bind}
 use Rattle.pcrf_model.specs.Tables.{Tables}
@@ -17,24 +19,52 @@ use Rattle.pcrf_model.specs.Making.{ccr_fields, aar_facts, next_tag}
 use Rattle.pcrf_model.specs.Refusals.{ccr_refusal, aar_refusal, str_refusal}
 use Rattle.pcrf_model.specs.Serving.{accepted_ccr, serve, serve_ccr, serve_aar, serve_str, provision_outcome}
 use Rattle.pcrf_model.specs.Pushing.{push, lacks_counter}
-use Rattle.pcrf_model.specs.Laws.{ReadsTheSame}
+use Rattle.pcrf_model.specs.Aborting.{abort, lacks_counter_to_abort}
+use Rattle.pcrf_model.specs.Laws.{ReadsAlike, ReadsTheSame}
 use Rattle.pcrf_model.proofs.ViewLaws.{view-Same, view-kept}
 use Rattle.pcrf_model.proofs.UnionLaws.{view_sorted, view_with}
+
+-- what is read of a view but what is removed and who was aborted
+abbrev seen_by : (Session → Place → Option Entry) → (Session → Bool) → List Shown → List Session → View
+seen_by shows ended all sessions = record {
+  shows = shows;
+  ended = ended;
+  removals = λ s. [];
+  aborted = λ s. false;
+  all = all;
+  sessions = sessions;
+}
+
+-- where these are the same, views read alike
+module _ (v w : View) (shows : v.shows ≡ w.shows) (ended : v.ended ≡ w.ended) (all : v.all ≡ w.all)
+    (sessions : v.sessions ≡ w.sessions) where
+  -- so does whatever is read of them
+  alike_in : {A : Type 0} (read : View → A)
+      → read (seen_by v.shows v.ended v.all v.sessions) ≡ read (seen_by w.shows w.ended w.all w.sessions)
+  alike_in read = λ i. read (seen_by (shows i) (ended i) (all i) (sessions i))
+
+  pub reads_alike : ReadsAlike v w
+  unfolding bind rules told_rules_of
+  reads_alike = record {
+    places = λ s p i. shows i s p;
+    ends = λ s i. ended i s;
+    lives = λ s. alike_in (λ (z : View). is_live z s);
+    partials = λ s. alike_in (λ (z : View). is_partial z s);
+    homes = λ s. alike_in (λ (z : View). home z s);
+    candidates = λ a s. alike_in (λ (z : View). matches z a s);
+    bindings = λ a. alike_in (λ (z : View). bind z a);
+    lists = λ t s. alike_in (λ (z : View). rules t z s);
+    entries = λ s. alike_in (λ (z : View). told_rules_of z s);
+    differences = λ t s. alike_in (λ (z : View). difference (told_rules_of z s) (rules t z s));
+  }
 
 -- equal views read the same
 reads : (v w : View) → v ≡ w → ReadsTheSame v w
 reads v w e = record {
-  places = λ s p. ap (λ (z : View). z.shows s p) e;
+  alike = reads_alike v w (ap (λ (z : View). z.shows) e) (ap (λ (z : View). z.ended) e)
+      (ap (λ (z : View). z.all) e) (ap (λ (z : View). z.sessions) e);
   removals = λ s. ap (λ (z : View). z.removals s) e;
-  ends = λ s. ap (λ (z : View). z.ended s) e;
-  lives = λ s. ap (λ (z : View). is_live z s) e;
-  partials = λ s. ap (λ (z : View). is_partial z s) e;
-  homes = λ s. ap (λ (z : View). home z s) e;
-  candidates = λ a s. ap (λ (z : View). matches z a s) e;
-  bindings = λ a. ap (λ (z : View). bind z a) e;
-  lists = λ t s. ap (λ (z : View). rules t z s) e;
-  entries = λ s. ap (λ (z : View). told_rules_of z s) e;
-  differences = λ t s. ap (λ (z : View). difference (told_rules_of z s) (rules t z s)) e;
+  aborts = λ s. ap (λ (z : View). z.aborted s) e;
 }
 
 -- the kept facts
@@ -109,3 +139,15 @@ push-kept_of most t i h name = rw (view_sorted h.facts) refl
 pub lacks_counter-kept_of : (t : Tables) (i : ℕ) (h : Holding) (name : Option (List ℕ)) → lacks_counter t i (kept_of h) name ≡ lacks_counter t i h name
 unfolding lacks_counter
 lacks_counter-kept_of t i h name = rw (view_sorted h.facts) refl
+
+-- the same is aborted
+pub abort-kept_of : (i : ℕ) (h : Holding) (name : Option (List ℕ))
+    → abort i (kept_of h) name ≡ abort i h name
+unfolding abort
+abort-kept_of i h name = rw (view_sorted h.facts) refl
+
+-- and a counter is lacking for it just then
+pub lacks_counter_to_abort-kept_of : (i : ℕ) (h : Holding) (name : Option (List ℕ))
+    → lacks_counter_to_abort i (kept_of h) name ≡ lacks_counter_to_abort i h name
+unfolding lacks_counter_to_abort
+lacks_counter_to_abort-kept_of i h name = rw (view_sorted h.facts) refl

@@ -10,7 +10,7 @@ use Rattle.ranked.proofs.Plain.{both}
 use Rattle.ranked.proofs.OrderLaws.{eq_is}
 use Rattle.ranked.proofs.SetLaws.{In-left, In-cases, filter-In, top_of}
 use Rattle.ranked.proofs.AscendingLaws.{ascending-ascending}
-use Rattle.pcrf_facts.specs.Facts.{Fact, End, Removed, Field, is_shaded_by}
+use Rattle.pcrf_facts.specs.Facts.{Fact, Field, is_shaded_by}
 use Rattle.pcrf_facts.specs.Held.{kept_set, kept_list, join_of}
 use Rattle.pcrf_facts.proofs.FactLaws.{tag_ranked, shaded_irr, shaded_trans}
 use Rattle.pcrf_facts.proofs.JoinedLaws.{kept-In, sorted-In}
@@ -72,8 +72,6 @@ joined_record k xs ys v w =
 
 -- what is counted is numbered
 counted_numbered : (k : Kind) (m : ℕ) (f : Fact) → is_counted k m f ≡ true → is_numbered k f ≡ true
-counted_numbered k m End h = refl
-counted_numbered k m (Removed r) h = refl
 counted_numbered k m (Field p t x) h =
     let three = first_so (is_stamp t.counter t.site && nat_le t.counter m && is_unsigned t.number) (t.number == number_at k p t.number) h in
     let two = first_so (is_stamp t.counter t.site && nat_le t.counter m) (is_unsigned t.number) three in
@@ -84,6 +82,7 @@ counted_numbered k m (Field p t x) h =
     both (nat_le 1 t.counter && nat_lt t.site site_limit && is_unsigned t.number) (t.number == number_at k p t.number)
     (both (nat_le 1 t.counter && nat_lt t.site site_limit) (is_unsigned t.number) (both (nat_le 1 t.counter) (nat_lt t.site site_limit) first site) (second_so (is_stamp t.counter t.site && nat_le t.counter m) (is_unsigned t.number) three))
     (second_so (is_stamp t.counter t.site && nat_le t.counter m && is_unsigned t.number) (t.number == number_at k p t.number) h)
+counted_numbered k m f h = refl
 
 -- the facts of an operation of the form are a record
 pub operation_record : (o : Operation) → is_operation o ≡ true → is_record o.session.kind o.facts ≡ true
@@ -101,8 +100,6 @@ operation_record o w =
 -- a fact with the tag of an operation is numbered
 tagged_numbered : (k : Kind) (counter site number : ℕ) → nat_le 1 counter ≡ true → nat_lt site site_limit ≡ true → is_request_number k number ≡ true → (f : Fact)
     → is_tagged k counter site number f ≡ true → is_numbered k f ≡ true
-tagged_numbered k counter site number first low right End h = refl
-tagged_numbered k counter site number first low right (Removed r) h = refl
 tagged_numbered k counter site number first low right (Field p t x) h =
     let own : Tag = record { number = number_at k p number; counter = counter; site = site } in
     let numbers = number_stays k p number right in
@@ -110,6 +107,7 @@ tagged_numbered k counter site number first low right (Field p t x) h =
     both (nat_le 1 counter && nat_lt site site_limit && is_unsigned (number_at k p number)) (number_at k p number == number_at k p (number_at k p number))
     (both (nat_le 1 counter && nat_lt site site_limit) (is_unsigned (number_at k p number)) (both (nat_le 1 counter) (nat_lt site site_limit) first low) (first_so _ _ numbers)) (second_so _ _ numbers) in
     subst (λ (g : Tag). is_numbered k (Field p g x) ≡ true) (sym (eq_is tag_ranked t own h)) numbered
+tagged_numbered k counter site number first low right f h = refl
 
 -- facts that may be one operation's are a record
 pub made_record : (k : Kind) (counter site number : ℕ) (facts : List Fact) → 1 ≤ counter → site < site_limit → is_request_number k number ≡ true → MayMake k counter site number facts → is_record k facts ≡ true
@@ -126,8 +124,6 @@ made_record k counter site number facts first low right m =
 
 -- what is numbered is counted up to a clock that its counter is not above
 numbered_counted : (k : Kind) (clock : ℕ) (f : Fact) → clock ≤ last_counter → is_numbered k f ≡ true → is_up_to clock f ≡ true → is_counted k clock f ≡ true
-numbered_counted k clock End low h l = refl
-numbered_counted k clock (Removed r) low h l = refl
 numbered_counted k clock (Field p t x) low h l =
     let three = first_so (nat_le 1 t.counter && nat_lt t.site site_limit && is_unsigned t.number) (t.number == number_at k p t.number) h in
     let two = first_so (nat_le 1 t.counter && nat_lt t.site site_limit) (is_unsigned t.number) three in
@@ -138,6 +134,7 @@ numbered_counted k clock (Field p t x) low h l =
     both (is_stamp t.counter t.site && nat_le t.counter clock && is_unsigned t.number) (t.number == number_at k p t.number)
     (both (is_stamp t.counter t.site && nat_le t.counter clock) (is_unsigned t.number) (both (is_stamp t.counter t.site) (nat_le t.counter clock) stamp l) (second_so (nat_le 1 t.counter && nat_lt t.site site_limit) (is_unsigned t.number) three))
     (second_so (nat_le 1 t.counter && nat_lt t.site site_limit && is_unsigned t.number) (t.number == number_at k p t.number) h)
+numbered_counted k clock f low h l = refl
 
 -- a fact that is held is so under any clock that its counter is not above
 held_up_to : (m clock : ℕ) (x : SessionFact) → clock ≤ last_counter → is_held m x ≡ true → is_up_to clock x.1 ≡ true → is_held clock x ≡ true
@@ -176,6 +173,5 @@ pub holding_up_to : (h : Holding) → is_holding h ≡ true → are_up_to h.cloc
 holding_up_to h form = all_pass (λ (x : SessionFact). is_up_to h.clock x.1) h.facts (λ x i. counted_up_to x.0.kind h.clock x.1 (second_so (is_session x.0 && fits x.0.kind x.1) (is_counted x.0.kind h.clock x.1) ((form_by_test h form).held x i)))
   where
     counted_up_to : (k : Kind) (m : ℕ) (f : Fact) → is_counted k m f ≡ true → is_up_to m f ≡ true
-    counted_up_to k m End c = refl
-    counted_up_to k m (Removed r) c = refl
     counted_up_to k m (Field p t x) c = second_so (is_stamp t.counter t.site) (nat_le t.counter m) (first_so (is_stamp t.counter t.site && nat_le t.counter m) (is_unsigned t.number) (first_so (is_stamp t.counter t.site && nat_le t.counter m && is_unsigned t.number) (t.number == number_at k p t.number) c))
+    counted_up_to k m f c = refl

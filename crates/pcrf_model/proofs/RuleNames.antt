@@ -99,7 +99,7 @@ module _ (facts : List SessionFact) (s : Session) where
   bound_kind a h =
       let z = bound_is_some a (bind (view facts) a) h in
       let m = ((bind-greatest facts a z.0).0 z.1).fits in
-      kind_af a.kind (first_so _ _ (first_so _ _ (first_so _ _ (first_so _ _ (first_so _ _ (first_so _ _ m))))))
+      kind_af a.kind (first_so _ _ (first_so _ _ m))
 
 -- what is known of a rule of a flow
 pub record IsOfFlow (t : Tables) (v : View) (x : RuleValue) : Type 0 where

@@ -6,15 +6,15 @@ use Rattle.ranked.proofs.SetLaws.{Same-turn}
 use Rattle.pcrf_model.specs.Holdings.{Holding, under, union, kept_of}
 use Rattle.pcrf_model.specs.Operations.{Operation, with_operation, holding_of}
 use Rattle.pcrf_model.specs.Replies.{Outcome}
-use Rattle.pcrf_model.specs.Requests.{RequestValue}
 use Rattle.pcrf_model.specs.Serving.{serve}
 use Rattle.pcrf_model.specs.Pushing.{push}
+use Rattle.pcrf_model.specs.Aborting.{abort}
 use Rattle.pcrf_model.specs.Letters.{LetterBody, Range, Snapshot, Acknowledgement, LetterValue, meaning}
-use Rattle.pcrf_model.specs.Worlds.{ServeAt, PushAt, Letter, Merge, Ack, Restart, Replied, PushedOut, Lettered, Merged, Restarted, NoMemory, Setting, Writing, SiteView, SiteTook, SentLetter, WorldTook, taken_holding, site_view, world_view, with_operation_made, with_letter_taken, with_first_taken, first_taken, restart_of, change, change_by, letter_to, ack_to, with_letter}
+use Rattle.pcrf_model.specs.Worlds.{ServeAt, PushAt, AbortAt, Letter, Merge, Ack, Restart, Replied, PushedOut, AbortedOut, Lettered, Merged, Restarted, NoMemory, Writing, SiteView, SiteTook, SentLetter, WorldTook, taken_holding, site_view, world_view, with_operation_made, with_letter_taken, with_first_taken, first_taken, restart_of, change, change_by, letter_to, ack_to, with_letter}
 use Rattle.pcrf_model.specs.CursorLaws.{HoldsBehind}
-use Rattle.pcrf_model.specs.Seen.{view_made, view_served, view_pushed, brought_holding, view_merged, view_in_part, view_again, view_letter, view_ack, see_change, see_change_by, see_letter, SeenIsWhatWasTaken, SnapshotsStay}
+use Rattle.pcrf_model.specs.Seen.{view_made, brought_holding, view_merged, view_in_part, view_again, view_letter, view_ack, see_change, see_change_by, see_letter, SeenIsWhatWasTaken, SnapshotsStay}
 use Rattle.pcrf_model.proofs.UnionLaws.{kept_of-union, union_comm, holding_of-append, holding_of-Same}
-use Rattle.pcrf_model.proofs.ReadingLaws.{serve-kept_of, push-kept_of}
+use Rattle.pcrf_model.proofs.ReadingLaws.{serve-kept_of, push-kept_of, abort-kept_of}
 use Rattle.pcrf_model.proofs.CursorSnapshots.{event_holds}
 
 -- ---- one site
@@ -33,13 +33,14 @@ site_made (Some o) s =
     let held = ap kept_of (holding_of-one s.taken o) ∙ sym (kept_of-union (taken_holding s) (record { facts = under o.session o.facts; clock = o.counter })) in
     sym (λ i. record (site_view s) { state = record { holding = held i; log = s.log ++ o ∷ [] } })
 
--- a request that it served
-site_serves : (g : Setting) (q : RequestValue) (s : SiteTook) → view_made (view_served g q (site_view s)).added (site_view s) ≡ site_view (with_operation_made (serve g.most g.tables s.number (taken_holding s) q).added s)
-site_serves g q s = ap (λ (o : Outcome). view_made o.added (site_view s)) (serve-kept_of g.most g.tables s.number (taken_holding s) q) ∙ site_made (serve g.most g.tables s.number (taken_holding s) q).added s
-
--- a push that it made
-site_pushes : (g : Setting) (name : Option (List ℕ)) (s : SiteTook) → view_made (view_pushed g name (site_view s)).added (site_view s) ≡ site_view (with_operation_made (push g.most g.tables s.number (taken_holding s) name).added s)
-site_pushes g name s = ap (λ (o : Outcome). view_made o.added (site_view s)) (push-kept_of g.most g.tables s.number (taken_holding s) name) ∙ site_made (push g.most g.tables s.number (taken_holding s) name).added s
+-- an operation that it makes by its number and by what it holds, if what is kept makes it too
+site_makes : (make : ℕ → Holding → Outcome)
+    → ((i : ℕ) (h : Holding) → make i (kept_of h) ≡ make i h) → (s : SiteTook)
+    → view_made (make s.number (kept_of (taken_holding s))).added (site_view s)
+    ≡ site_view (with_operation_made (make s.number (taken_holding s)).added s)
+site_makes make same s =
+    ap (λ (o : Outcome). view_made o.added (site_view s)) (same s.number (taken_holding s))
+    ∙ site_made (make s.number (taken_holding s)).added s
 
 -- operations
 site_takes : (s : SiteTook) (os : List Operation) → kept_of (union (kept_of (taken_holding s)) (holding_of os)) ≡ kept_of (holding_of (s.taken ++ os))
@@ -121,10 +122,24 @@ letter_seen w i k write same = of_option (slice_get w.sites i) refl
       letters = (ap (λ (l : LetterValue). map (λ (x : SentLetter). x.letter) w.letters ++ l ∷ []) (same s) ∙ sym (map-append (λ (x : SentLetter). x.letter) w.letters (write s ∷ []))) j;
     })
 
+-- an operation that a site makes is seen there
+makes_seen : (w : WorldTook) (i : ℕ) (make : ℕ → Holding → Outcome)
+    → ((n : ℕ) (h : Holding) → make n (kept_of h) ≡ make n h)
+    → see_change (world_view w) i (λ s. view_made (make s.number s.state.holding).added s)
+    ≡ world_view (change w i (λ s. with_operation_made (make s.number (taken_holding s)).added s))
+makes_seen w i make same =
+    change_seen w i (λ s. view_made (make s.number s.state.holding).added s)
+    (λ s. with_operation_made (make s.number (taken_holding s)).added s) (site_makes make same)
+
 -- each event
 pub seen_is_taken : SeenIsWhatWasTaken
-seen_is_taken g w (ServeAt i q) (Ok (Replied r)) all = change_seen w i (λ s. view_made (view_served g q s).added s) (λ s. with_operation_made (serve g.most g.tables s.number (taken_holding s) q).added s) (site_serves g q)
-seen_is_taken g w (PushAt i name) (Ok (PushedOut p)) all = change_seen w i (λ s. view_made (view_pushed g name s).added s) (λ s. with_operation_made (push g.most g.tables s.number (taken_holding s) name).added s) (site_pushes g name)
+seen_is_taken g w (ServeAt i q) (Ok (Replied r)) all =
+    makes_seen w i (λ n h. serve g.most g.tables n h q) (λ n h. serve-kept_of g.most g.tables n h q)
+seen_is_taken g w (PushAt i name) (Ok (PushedOut p)) all =
+    makes_seen w i (λ n h. push g.most g.tables n h name)
+    (λ n h. push-kept_of g.most g.tables n h name)
+seen_is_taken g w (AbortAt i name) (Ok (AbortedOut a)) all =
+    makes_seen w i (λ n h. abort n h name) (λ n h. abort-kept_of n h name)
 seen_is_taken g w (Letter i j) (Ok (Lettered k)) all = letter_seen w i (view_letter g j) (letter_to g j) (λ s. refl)
 seen_is_taken g w (Merge j k) (Ok Merged) all = change_by_seen w j k (view_merged g.writes) (with_letter_taken g.writes) (λ l at s. site_merges g.writes l s (all k l at))
 seen_is_taken g w (Merge j k) (Err (NoMemory n)) all = change_by_seen w j k (view_in_part n) (with_first_taken n) (λ l at s. site_merges_in_part n l s)

@@ -7,7 +7,7 @@ use Rattle.std.specs.List.{list_all}
 use Rattle.ranked.specs.Ascending.{ascending}
 use Rattle.ranked.specs.Sets.{In}
 use Rattle.ranked.specs.declared.tag.Tag.{Tag}
-use Rattle.ranked.proofs.Plain.{clash, some_same, some_is, not_true}
+use Rattle.ranked.proofs.Plain.{clash, some_same, not_true}
 use Rattle.ranked.proofs.SetLaws.{Same-itself, Same-through, Same-append, map-Same}
 use Rattle.pcrf_values.specs.Limits.{session_id_limit, last_counter, site_limit}
 use Rattle.pcrf_values.specs.RuleValues.{DeltaValue}
@@ -16,7 +16,7 @@ use Rattle.pcrf_values.specs.Results.{unknown_session_id, unable_to_comply}
 use Rattle.pcrf_values.specs.declared.refusal.Refusal.{Refusal}
 use Rattle.pcrf_values.specs.declared.request_kind.RequestKind.{RequestKind}
 use Rattle.pcrf_values.specs.declared.request_kind.RequestKind.TheVariants.{Initial, Update, Termination}
-use Rattle.pcrf_facts.specs.Places.{SessionField, RequestType, address}
+use Rattle.pcrf_facts.specs.Places.{SessionField, RequestType}
 use Rattle.pcrf_facts.specs.Values.{Value, Number}
 use Rattle.pcrf_facts.specs.Facts.{Fact, Field, fact_cmp}
 use Rattle.pcrf_facts.proofs.JoinedLaws as facts
@@ -29,7 +29,7 @@ use Rattle.pcrf_model.specs.Tables.{Tables}
 use Rattle.pcrf_model.specs.Rules.{rules}
 use Rattle.pcrf_model.specs.Differences.{told_rules_of, difference, is_empty}
 use Rattle.pcrf_model.specs.Requests.{CcrValue, AarValue, StrValue, RequestValue, Ccr, Aar, Str, Base}
-use Rattle.pcrf_model.specs.Making.{ccr_fields, told_facts, component_facts, aar_facts, next_tag, next_operation}
+use Rattle.pcrf_model.specs.Making.{request_says, ccr_fields, told_facts, component_facts, aar_facts, next_tag, next_operation}
 use Rattle.pcrf_model.specs.Refusals.{first_cause, is_clock_full, ccr_causes, ccr_refusal, aar_causes, aar_refusal, str_refusal}
 use Rattle.pcrf_model.specs.Replies.{ReplyValue, OnGx, Rejected, Refused, Outcome}
 use Rattle.pcrf_model.specs.Serving.{empty_delta, delta_of, provision_outcome, accepted_ccr, description_outcome, session_end_outcome, refusal_or, serve_ccr, serve_aar, serve_str, serve}
@@ -37,11 +37,11 @@ use Rattle.pcrf_model.specs.Pushing.{is_of_host, is_home, is_due, due_session, p
 use Rattle.pcrf_model.specs.Forms.{is_text, is_unsigned, is_identity, is_origin, is_user, is_session, fits_session_field, are_apart, is_component, is_request_number, is_operation, is_holding, is_request, is_stamp, is_record, are_tables}
 use Rattle.pcrf_model.proofs.HoldingLaws.{sorted-In}
 use Rattle.pcrf_model.proofs.ViewLaws.{view-Same}
-use Rattle.pcrf_model.proofs.BindLaws.{has_address}
+use Rattle.pcrf_model.proofs.BindLaws.{live_reached}
 use Rattle.pcrf_model.proofs.DueLaws.{first_due}
 use Rattle.pcrf_model.proofs.FormReading.{each_passes, held_fact}
 use Rattle.pcrf_model.proofs.FormLaws.{form_by_test, with_operation_form}
-use Rattle.pcrf_model.proofs.MadeForms.{CanAdd, MayMake, stamp_left, stamped_in_form, made_in_form, end_in_form, Each, ◌and◌, some_left, session_value, session_each, session_some, session_fits}
+use Rattle.pcrf_model.proofs.MadeForms.{CanAdd, MayMake, stamp_left, stamped_in_form, made_in_form, end_in_form, Each, ◌and◌, some_left, said_each, session_some, session_fits}
 use Rattle.pcrf_model.proofs.GatewayForms.{CanTell, IsOfGateway, at_field, told_each, gateway_makes}
 use Rattle.pcrf_model.proofs.FunctionForms.{at_session, components_each, component_number, numbers_differ, its_flows_differ, function_makes}
 use Rattle.pcrf_model.proofs.RecordForms.{made_record}
@@ -95,17 +95,17 @@ pub origin_parts : (id of_host of_realm : List ℕ) → is_origin id of_host of_
 origin_parts id of_host of_realm w = let two = first_so _ _ w in (first_so _ _ two, second_so _ _ two, second_so _ _ w)
 
 -- a credit control request
-pub ccr_parts : (q : CcrValue) → is_request (Ccr q) ≡ true → (is_origin q.session q.host q.realm ≡ true) × (is_user q.address q.apn q.subscribers ≡ true) × (is_unsigned q.number ≡ true)
+pub ccr_parts : (q : CcrValue) → is_request (Ccr q) ≡ true → (is_origin q.session q.host q.realm ≡ true) × (is_user Gx q.user ≡ true) × (is_unsigned q.number ≡ true)
 ccr_parts q w =
-    let all : (is_origin q.session q.host q.realm && is_user q.address q.apn q.subscribers && is_unsigned q.number) ≡ true = w in
+    let all : (is_origin q.session q.host q.realm && is_user Gx q.user && is_unsigned q.number) ≡ true = w in
     let two = first_so _ _ all in
     (first_so _ _ two, second_so _ _ two, second_so _ _ all)
 
 -- an AA request
 pub aar_parts : (q : AarValue) → is_request (Aar q) ≡ true
-    → (is_origin q.session q.host q.realm ≡ true) × (is_user q.address q.apn q.subscribers ≡ true) × (list_all is_component q.components ≡ true) × (are_apart (map component_number q.components) ≡ true)
+    → (is_origin q.session q.host q.realm ≡ true) × (is_user Af q.user ≡ true) × (list_all is_component q.components ≡ true) × (are_apart (map component_number q.components) ≡ true)
 aar_parts q w =
-    let all : (is_origin q.session q.host q.realm && is_user q.address q.apn q.subscribers && list_all is_component q.components && are_apart (map component_number q.components)) ≡ true = w in
+    let all : (is_origin q.session q.host q.realm && is_user Af q.user && list_all is_component q.components && are_apart (map component_number q.components)) ≡ true = w in
     let three = first_so _ _ all in
     let two = first_so _ _ three in
     (first_so _ _ two, second_so _ _ two, second_so _ _ three, second_so _ _ all)
@@ -134,10 +134,10 @@ module _ (counter i : ℕ) (stamp : is_stamp counter i ≡ true) (q : CcrValue) 
 
   -- what they say
   abbrev says : SessionField → Option Value
-  says = session_value q.address q.apn q.subscribers q.host q.realm (request_kind_number q.kind)
+  says = request_says q.user q.host q.realm (request_kind_number q.kind)
 
   -- the request by parts
-  parts : (is_origin q.session q.host q.realm ≡ true) × (is_user q.address q.apn q.subscribers ≡ true) × (is_unsigned q.number ≡ true)
+  parts : (is_origin q.session q.host q.realm ≡ true) × (is_user Gx q.user ≡ true) × (is_unsigned q.number ≡ true)
   parts = ccr_parts q w
 
   -- the session and its client
@@ -150,15 +150,15 @@ module _ (counter i : ℕ) (stamp : is_stamp counter i ≡ true) (q : CcrValue) 
 
   -- each field is so
   fields_each : (d : DeltaValue) → Each (IsOfGateway q.number counter i says d) fields
-  fields_each d = session_each q.address q.apn q.subscribers q.host q.realm (request_kind_number q.kind) (record { number = q.number; counter = counter; site = i }) at_field
+  fields_each d = said_each says (record { number = q.number; counter = counter; site = i }) at_field
 
   -- and fits
   fields_fit : (f : SessionField) (v : Value) → says f ≡ Some v → fits_session_field Gx f v ≡ true
-  fields_fit = session_fits q.address q.apn q.subscribers q.host q.realm (request_kind_number q.kind) Gx parts.1 known.1 known.2 last
+  fields_fit = session_fits q.user q.host q.realm (request_kind_number q.kind) Gx parts.1 known.1 known.2 last
 
   -- some field is there
   some_field : (f : Fact) × In f fields
-  some_field = session_some q.address q.apn q.subscribers q.host q.realm (request_kind_number q.kind) (record { number = q.number; counter = counter; site = i })
+  some_field = session_some q.user q.host q.realm (request_kind_number q.kind) (record { number = q.number; counter = counter; site = i })
 
   -- facts of the request make an operation of the form
   ccr_makes : (d : DeltaValue) (made : List Fact) → CanTell d → Each (IsOfGateway q.number counter i says d) made → ((f : Fact) × In f made)
@@ -220,15 +220,15 @@ pub call_makes : (counter i : ℕ) (q : AarValue) → is_request (Aar q) ≡ tru
 call_makes counter i q w =
     let parts = aar_parts q w in
     let origin = origin_parts q.session q.host q.realm parts.0 in
-    let says : SessionField → Option Value = session_value q.address q.apn q.subscribers q.host q.realm 0 in
+    let says : SessionField → Option Value = request_says q.user q.host q.realm 0 in
     let u : Tag = record { number = 0; counter = counter; site = i } in
     function_makes counter i says q.components (numbers_differ (map component_number q.components) parts.3)
     (λ c j. its_flows_differ c (each_passes is_component q.components parts.2 c j))
     (each_passes is_component q.components parts.2)
-    (session_fits q.address q.apn q.subscribers q.host q.realm 0 Af parts.1 origin.1 origin.2 refl)
+    (session_fits q.user q.host q.realm 0 Af parts.1 origin.1 origin.2 refl)
     (aar_facts q u)
-    (session_each q.address q.apn q.subscribers q.host q.realm 0 u at_session and components_each counter i says q.components)
-    (some_left _ (flat_map (component_facts u) q.components) (session_some q.address q.apn q.subscribers q.host q.realm 0 u))
+    (said_each says u at_session and components_each counter i says q.components)
+    (some_left _ (flat_map (component_facts u) q.components) (session_some q.user q.host q.realm 0 u))
 
 -- and is a record
 pub call_in_form : (counter i : ℕ) (q : AarValue) → 1 ≤ counter → i < site_limit → is_request (Aar q) ≡ true → is_record Af (aar_facts q (record { number = 0; counter = counter; site = i })) ≡ true
@@ -280,7 +280,7 @@ module _ (most : ℕ) (t : Tables) (i : ℕ) (h : Holding) (tables : are_tables 
       of_type : (k : RequestKind) → fits_session_field Gx RequestType (Number (request_kind_number k)) ≡ true → q.kind ≡ k → fits_session_field Gx RequestType (Number (request_kind_number q.kind)) ≡ true
       of_type k fit e = subst (λ (z : RequestKind). fits_session_field Gx RequestType (Number (request_kind_number z)) ≡ true) (sym e) fit
 
-      parts : (is_origin q.session q.host q.realm ≡ true) × (is_user q.address q.apn q.subscribers ≡ true) × (is_unsigned q.number ≡ true)
+      parts : (is_origin q.session q.host q.realm ≡ true) × (is_user Gx q.user ≡ true) × (is_unsigned q.number ≡ true)
       parts = ccr_parts q w
 
       by_kind : CanAdd i h → (k : RequestKind) → q.kind ≡ k → Good (accepted_ccr most t i h q k).added
@@ -325,8 +325,8 @@ module _ (most : ℕ) (t : Tables) (i : ℕ) (h : Holding) (tables : are_tables 
   due_in_form : (name : Option (List ℕ)) (s : Session) → is_due t i (view h.facts) name s ≡ true → is_session s ≡ true
   due_in_form name s w =
       let both = first_so _ _ (first_so _ _ (first_so _ _ w)) in
-      let shows = some_is ((view h.facts).shows s address) (has_address (view h.facts) s s.kind (first_so _ _ both) (second_so _ _ (second_so _ _ both))) in
-      first_so _ _ (first_so _ _ (held_fact h form (s, Field address shows.0.0 shows.0.1) (shown_fact t h tables form s address shows.0 shows.1)))
+      let r = live_reached (view h.facts) s (second_so (is_gx s.kind) _ both) in
+      first_so _ _ (first_so _ _ (held_fact h form (s, Field r.0 r.2.0 r.2.1) (shown_fact t h tables form s r.0 r.2 r.3)))
 
   -- what is told of a session that is due makes an operation of the form
   telling_good : (name : Option (List ℕ)) (s : Session) → 1 ≤ most → CanAdd i h → is_due t i (view h.facts) name s ≡ true → Good (push_outcome most t i h (view h.facts) s).added

@@ -41,7 +41,7 @@ is_field x = not (is_told x.place)
 
 -- the view without the told entries, and without what is removed
 abbrev fields_of : View → View
-fields_of v = record { shows = λ s p. cond (is_told p) None (v.shows s p); ended = v.ended; removals = λ s. []; all = filter is_field v.all; sessions = v.sessions }
+fields_of v = record { shows = λ s p. cond (is_told p) None (v.shows s p); ended = v.ended; removals = λ s. []; aborted = λ s. false; all = filter is_field v.all; sessions = v.sessions }
 
 -- what a filter leaves out may give nothing
 filter_map-filter : {A B : Type 0} (g : A → Option B) (p : A → Bool) → ((x : A) → p x ≡ false → g x ≡ None) → (xs : List A) → filter_map g (filter p xs) ≡ filter_map g xs
@@ -161,6 +161,7 @@ module _ (xs : List SessionFact) (s : Session) (ts : List Fact) (tells : (f : Fa
         shows = λ r p. as_field r p (is_told p) refl i;
         ended = λ r. same_ended r i;
         removals = λ r. [];
+        aborted = λ r. false;
         all = all i;
         sessions = sessions i;
       }

@@ -7,8 +7,8 @@ use Rattle.ranked.specs.declared.tag.Tag.{Tag}
 use Rattle.ranked.proofs.OrderLaws.{eq_is}
 use Rattle.ranked.proofs.SetLaws.{In-cases, filter-In}
 use Rattle.pcrf_values.specs.RuleValues.{DeltaValue}
-use Rattle.pcrf_facts.specs.Places.{OfSession, OfComponent, OfFlow, OfRuleName}
-use Rattle.pcrf_facts.specs.Facts.{Fact, End, Removed, Field}
+use Rattle.pcrf_facts.specs.Places.{OfRuleName}
+use Rattle.pcrf_facts.specs.Facts.{Fact, Field}
 use Rattle.pcrf_facts.proofs.FactLaws.{tag_ranked}
 use Rattle.pcrf_model.specs.Sessions.{Kind, Gx, Af, Session, session_cmp}
 use Rattle.pcrf_model.specs.Holdings.{SessionFact, under, Holding, kept_facts, union, kept_of, with_facts_of}
@@ -25,12 +25,8 @@ use Rattle.pcrf_model.proofs.FormLaws.{formed_by_test}
 
 -- what is up to a clock is up to a later one
 pub told_later : (m n : ℕ) → m ≤ n → (f : Fact) → IsToldUpTo m f → IsToldUpTo n f
-told_later m n l End w = tt
-told_later m n l (Removed r) w = tt
-told_later m n l (Field (OfSession p) t x) w = tt
-told_later m n l (Field (OfComponent c p) t x) w = tt
-told_later m n l (Field (OfFlow c k p) t x) w = tt
 told_later m n l (Field (OfRuleName a) t x) w = let low = w.1 in (w.0, omega (arith, l, low))
+told_later m n l f w = tt
 
 -- ---- lists of facts
 
@@ -84,12 +80,8 @@ told_replaced n h s facts v w =
 
 -- a fact of a holding of the form
 held_told : (h : Holding) → is_holding h ≡ true → (s : Session) (f : Fact) → In (s, f) h.facts → IsToldUpTo h.clock f
-held_told h form s End i = tt
-held_told h form s (Removed r) i = tt
-held_told h form s (Field (OfSession p) t x) i = tt
-held_told h form s (Field (OfComponent c p) t x) i = tt
-held_told h form s (Field (OfFlow c k p) t x) i = tt
 held_told h form s (Field (OfRuleName n) t x) i = (told_number h form s n t x i, told_counter h form s n t x i)
+held_told h form s f i = tt
 
 -- so a holding of the form
 pub told_holding : (h : Holding) → is_holding h ≡ true → ToldUpTo h.clock h.facts
@@ -101,13 +93,9 @@ by_tag counter site t e = let same = ap (λ (g : Tag). g.counter) e in (ap (λ (
 
 -- what has the tag of an operation
 tagged_told : (k : Kind) (counter site number : ℕ) (f : Fact) → is_tagged k counter site number f ≡ true → IsToldUpTo counter f
-tagged_told k counter site number End h = tt
-tagged_told k counter site number (Removed r) h = tt
-tagged_told k counter site number (Field (OfSession p) t x) h = tt
-tagged_told k counter site number (Field (OfComponent c p) t x) h = tt
-tagged_told k counter site number (Field (OfFlow c m p) t x) h = tt
 tagged_told Gx counter site number (Field (OfRuleName n) t x) h = by_tag counter site t (eq_is tag_ranked t (record { number = 0; counter = counter; site = site }) h)
 tagged_told Af counter site number (Field (OfRuleName n) t x) h = by_tag counter site t (eq_is tag_ranked t (record { number = 0; counter = counter; site = site }) h)
+tagged_told k counter site number f h = tt
 
 -- and an operation of the form
 pub told_operation : (o : Operation) → is_operation o ≡ true → ToldUpTo o.counter (under o.session o.facts)

@@ -9,7 +9,7 @@ use Rattle.ranked.proofs.SetLaws.{top_of, filter_map-Same, filter_map-In, In-fil
 use Rattle.ranked.proofs.AscendingLaws.{ascending-In, ascending-Same}
 use Rattle.pcrf_facts.specs.Places.{Place}
 use Rattle.pcrf_facts.specs.Values.{Entry}
-use Rattle.pcrf_facts.specs.Facts.{Fact, End, Removed, Field}
+use Rattle.pcrf_facts.specs.Facts.{Fact, End, Removed, Field, Aborted}
 use Rattle.pcrf_facts.specs.Held.{kept_set, kept_list}
 use Rattle.pcrf_facts.specs.Laws.{ShowTheSame}
 use Rattle.pcrf_facts.proofs.FactLaws.{place_ranked, entry_ranked}
@@ -28,7 +28,7 @@ shown_ranked = on_ranked (λ x. (x.session, (x.place, (x.tag, x.value)))) (λ k.
 -- of each session its own facts are read
 pub sessions_alone : (facts : List SessionFact) (s : Session) → ReadsEachSession facts s
 unfolding view
-sessions_alone facts s = record { shows = λ p. refl; ended = refl; removals = refl }
+sessions_alone facts s = record { shows = λ p. refl; ended = refl; removals = refl; aborts = refl }
 
 -- what the facts of a session show, of all that show
 abbrev all_shown : (Session → Place → Option Entry) → List SessionFact → List Shown
@@ -51,6 +51,7 @@ same_view xs ys each all sessions =
       shows = shows i;
       ended = λ s. (each s).ended i;
       removals = λ s. (each s).removals i;
+      aborted = λ s. (each s).aborts i;
       all = listed i;
       sessions = known i;
     }
@@ -63,7 +64,7 @@ view-Same xs ys s = same_view xs ys (λ a. members_show_the_same (facts_on xs a)
 
 -- facts that show what other facts show, which show what all facts show
 show_through : (xs ys zs : List Fact) → ShowTheSame xs ys → ShowTheSame ys zs → ShowTheSame xs zs
-show_through xs ys zs f g = record { shows = λ p. f.shows p ∙ g.shows p; ended = f.ended ∙ g.ended; removals = f.removals ∙ g.removals }
+show_through xs ys zs f g = record { shows = λ p. f.shows p ∙ g.shows p; ended = f.ended ∙ g.ended; removals = f.removals ∙ g.removals; aborts = f.aborts ∙ g.aborts }
 
 -- on each session the kept facts show the same
 kept_shows : (facts : List SessionFact) (s : Session) → ShowTheSame (facts_on (kept_facts facts) s) (facts_on facts s)
@@ -96,6 +97,7 @@ module _ (facts : List SessionFact) where
   shown_field : (s : Session) (f : Fact) (x : Shown) → shown_by_fact (entry_shown_on facts) s f ≡ Some x → (p : Place) × (e : Entry) × (entry_shown_on facts s p ≡ Some e) × (shown_of s p e ≡ x)
   shown_field s End x h = none_some x h
   shown_field s (Removed r) x h = none_some x h
+  shown_field s Aborted x h = none_some x h
   shown_field s (Field p t v) x h = of_entry (entry_shown_on facts s p) refl h
     where
       of_entry : (o : Option Entry) → entry_shown_on facts s p ≡ o → option_map (shown_of s p) o ≡ Some x → (p : Place) × (e : Entry) × (entry_shown_on facts s p ≡ Some e) × (shown_of s p e ≡ x)

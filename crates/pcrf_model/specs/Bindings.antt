@@ -1,5 +1,5 @@
 -- Session binding (TS 29.213, 5.2): which Gx session an AF session is bound to.
-use Rattle.std.specs.Prelude.{ℕ, Bool, true, false, if◌then◌else◌, not, ◌&&◌, List, Option, Some, None}
+use Rattle.std.specs.Prelude.{ℕ, Bool, true, false, if◌then◌else◌, not, ◌&&◌, List, map, Option, Some, None}
 use Rattle.std.proofs.Common.{Ordering, option_map, unwrap_or}
 use Rattle.std.specs.Ordering.{is_eq, nat_cmp}
 use Rattle.std.specs.List.{list_any, filter_map}
@@ -7,8 +7,10 @@ use Rattle.ranked.specs.Orders.{pair_cmp, text_cmp}
 use Rattle.pcrf_values.specs.Subscribers.{subscriber_cmp}
 use Rattle.ranked.specs.Sets.{greatest}
 use Rattle.pcrf_model.specs.Sessions.{Session, session_cmp, gx, is_gx}
-use Rattle.pcrf_facts.specs.Places.{address, apn, subscribers}
-use Rattle.pcrf_facts.specs.Values.{Subscriber, Value, Subscribers, value_cmp, Entry}
+use Rattle.pcrf_facts.specs.Live.{Shows, user_places}
+use Rattle.pcrf_facts.specs.Places.{address, prefix, apn, subscribers}
+use Rattle.pcrf_values.specs.Prefixes.{covers}
+use Rattle.pcrf_facts.specs.Values.{Subscriber, Value, Subscribers, Prefix, value_cmp, Entry}
 use Rattle.pcrf_model.specs.Views.{View, value}
 use Rattle.pcrf_model.specs.Live.{is_live}
 
@@ -28,16 +30,64 @@ meets None y = true
 meets (Some (Subscribers xs)) (Some (Subscribers ys)) = shares_one xs ys
 meets (Some x) y = false
 
--- The AF session a may be bound to the Gx session s: both are live, their addresses are equal, and s has one of the subscribers
--- and the APN that a shows, as far as a shows them.
-abbrev pub matches : View → Session → Session → Bool
-matches v a s =
-    not (is_gx a.kind) && is_gx s.kind && is_live v a && is_live v s
-    && agrees (value v a address) (value v s address)
-    && meets (value v a subscribers) (value v s subscribers)
-    && agrees (value v a apn) (value v s apn)
+-- nothing is asked for, or a prefix is there that covers the one that is asked for
+abbrev pub is_covered : Option Value → Option Value → Bool
+is_covered None y = true
+is_covered (Some (Prefix p)) (Some (Prefix q)) = covers q p
+is_covered (Some x) y = false
 
--- what decides among the sessions that match (this project's profile): counter and site of the address's tag, and then the Session-Id
+-- what binding reads of a session
+pub record Party : Type 0 where
+  pub live : Bool
+  pub address : Option Value
+  pub prefix : Option Value
+  pub subscribers : Option Value
+  pub apn : Option Value
+
+-- a session as binding reads it
+abbrev pub party : View → Session → Party
+party v s = record {
+  live = is_live v s;
+  address = value v s address;
+  prefix = value v s prefix;
+  subscribers = value v s subscribers;
+  apn = value v s apn;
+}
+
+-- What the first asks for the second has: both are live; of the address and the prefix that the
+-- first shows the second shows its own, the address equal, the prefix one that covers; and the
+-- second has one of the subscribers and the APN that the first shows, as far as it shows them.
+abbrev pub suits : Party → Party → Bool
+suits a s =
+    a.live && s.live
+    && agrees a.address s.address
+    && is_covered a.prefix s.prefix
+    && meets a.subscribers s.subscribers
+    && agrees a.apn s.apn
+
+-- the AF session a may be bound to the Gx session s
+abbrev pub matches : View → Session → Session → Bool
+matches v a s = not (is_gx a.kind) && is_gx s.kind && suits (party v a) (party v s)
+
+-- a counter and a site
+abbrev pub Stamp : Type 0
+Stamp = ℕ × ℕ
+
+-- by counter, and then by site
+abbrev pub stamp_cmp : Stamp → Stamp → Ordering
+stamp_cmp = pair_cmp nat_cmp nat_cmp
+
+-- the counter and the site of a tag
+abbrev pub stamp_of : Entry → Stamp
+stamp_of e = (e.0.counter, e.0.site)
+
+-- when a session last said where its user is reached: the greatest counter and site of the tags of
+-- its address and its prefix
+abbrev pub last_reached : Shows → Option Stamp
+last_reached shows = greatest stamp_cmp (map stamp_of (filter_map shows user_places))
+
+-- what decides among the sessions that match (this project's profile): that counter and site, and
+-- then the Session-Id
 abbrev pub Candidate : Type 0
 Candidate = ℕ × (ℕ × List ℕ)
 
@@ -45,9 +95,9 @@ Candidate = ℕ × (ℕ × List ℕ)
 abbrev pub candidate_cmp : Candidate → Candidate → Ordering
 candidate_cmp = pair_cmp nat_cmp (pair_cmp nat_cmp text_cmp)
 
--- how a session stands beside others: what its address's tag says, and its Session-Id
+-- how a session stands beside others
 abbrev pub standing : View → Session → Option Candidate
-standing v s = option_map (λ (e : Entry). (e.0.counter, (e.0.site, s.id))) (v.shows s address)
+standing v s = option_map (λ (t : Stamp). (t.0, (t.1, s.id))) (last_reached (v.shows s))
 
 -- how s stands as a match of a, if it is one
 abbrev pub candidate : View → Session → Session → Option Candidate

@@ -15,18 +15,31 @@ use Rattle.pcrf_model.specs.Letters.{LetterValue}
 use Rattle.pcrf_model.specs.Cursors.{start_cursors, letter_of}
 use Rattle.pcrf_model.specs.Worlds.{WorldEvent, ServeAt, Letter, Merge, Restart, Replied, Lettered, Merged, Restarted, NoMemory, WorldAnswer, WorldTook, start, WholeLogs, after_all}
 use Rattle.pcrf_model.specs.Letterbox.{writing}
-use Rattle.pcrf_model.specs.Samples.{operator, imsi, e164, first_session, second_session, host_address, initial, update, call, hang_up, audio, sip_rule}
+use Rattle.pcrf_model.specs.Samples.{user_with, request, operator, imsi, e164, first_session, second_session, host_address, initial, update, call, hang_up, audio, sip_rule}
 use Rattle.pcrf_model.specs.Scenes.{serves, one, with_call, call_pushed, last_operation}
 
 -- ---- two gateways, each with a call that it was not told of
 
 -- an initial request of the second session by another gateway
 abbrev pub from_other_gateway : RequestValue
-from_other_gateway = Ccr (record { session = second_session.id; host = codes "gw2"; realm = codes "r"; kind = Initial; number = 0; address = Some (host_address 2); apn = Some (codes "ims"); subscribers = Some (e164 ∷ imsi ∷ []) })
+from_other_gateway = Ccr (record {
+  session = second_session.id;
+  host = codes "gw2";
+  realm = codes "r";
+  kind = Initial;
+  number = 0;
+  user = user_with (Some (host_address 2)) (Some (codes "ims")) (Some (e164 ∷ imsi ∷ []));
+})
 
 -- a call of another application session from the address of that session
 abbrev pub other_call : RequestValue
-other_call = Aar (record { session = codes "af;2"; host = codes "af"; realm = codes "r"; address = Some (host_address 2); apn = None; subscribers = None; components = audio ∷ [] })
+other_call = Aar (record {
+  session = codes "af;2";
+  host = codes "af";
+  realm = codes "r";
+  user = user_with (Some (host_address 2)) None None;
+  components = audio ∷ [];
+})
 
 -- both sessions, and both calls
 abbrev pub two_due : SiteState
@@ -65,7 +78,7 @@ flow_described_again = serves 0 flow_removed (call None (audio ∷ []))
 
 -- an update of the first session under that number, to that access point
 abbrev pub update_to : ℕ → List ℕ → RequestValue
-update_to n name = Ccr (record { session = first_session.id; host = codes "gw"; realm = codes "r"; kind = Update; number = n; address = None; apn = Some name; subscribers = None })
+update_to n name = request first_session Update n (user_with None (Some name) None)
 
 -- the session moved to an access point without a default
 abbrev pub moved_access_point : SiteState

@@ -10,14 +10,16 @@ use Rattle.pcrf_values.specs.Limits.{session_id_limit, identity_limit, apn_limit
 use Rattle.pcrf_values.specs.RuleValues.{RuleValue}
 use Rattle.pcrf_values.specs.Subscribers.{subscriber_cmp}
 use Rattle.pcrf_values.specs.Texts.{small_letters}
-use Rattle.pcrf_facts.specs.Places.{SessionField, FramedIpAddress, CalledStationId, SubscriptionIds, OriginHost, OriginRealm, RequestType, ComponentField, ComponentStatus, FlowField, FlowDescriptions, FlowUsage, FlowStatus, FlowRateUp, FlowRateDown, Place, OfSession, OfComponent, OfFlow, OfRuleName, Removable, Component, Flow, position_cmp}
-use Rattle.pcrf_facts.specs.Values.{Subscriber, Value, Number, Text, Address, Subscribers, Filters, Untold, Told}
-use Rattle.pcrf_facts.specs.Facts.{Fact, End, Removed, Field, position, is_shaded_by}
+use Rattle.pcrf_facts.specs.Places.{SessionField, FramedIpAddress, CalledStationId, SubscriptionIds, OriginHost, OriginRealm, RequestType, FramedIpv6Prefix, session_fields, ComponentField, ComponentStatus, FlowField, FlowDescriptions, FlowUsage, FlowStatus, FlowRateUp, FlowRateDown, Place, OfSession, OfComponent, OfFlow, OfRuleName, Removable, Component, Flow, position_cmp}
+use Rattle.pcrf_values.specs.Prefixes.{Ipv6Prefix, address_bits, address_octets, first_bits}
+use Rattle.pcrf_facts.specs.Values.{Subscriber, Value, Number, Text, Address, Subscribers, Filters, Untold, Told, Prefix}
+use Rattle.pcrf_facts.specs.Facts.{Fact, End, Removed, Field, Aborted, position, is_shaded_by}
 use Rattle.pcrf_model.specs.Sessions.{Kind, Gx, Af, Session}
 use Rattle.pcrf_model.specs.Holdings.{SessionFact, session_fact_cmp, Holding}
 use Rattle.pcrf_model.specs.Operations.{Operation}
 use Rattle.pcrf_model.specs.Tables.{Class, OperatorRule, ApnRow, Apns, Tables}
-use Rattle.pcrf_model.specs.Requests.{FlowValue, ComponentValue, RequestValue, Ccr, Aar, Str, Base}
+use Rattle.pcrf_model.specs.Making.{user_says}
+use Rattle.pcrf_model.specs.Requests.{UserValue, FlowValue, ComponentValue, RequestValue, Ccr, Aar, Str, Base}
 
 -- ---- numbers, texts, and lists
 
@@ -51,6 +53,12 @@ is_none_or test x = unwrap_or (option_map test x) true
 -- the four octets of an IPv4 address
 abbrev pub is_address : List ℕ → Bool
 is_address a = length a == 4 && list_all is_byte a
+
+-- an IPv6 prefix: up to 128 bits in 16 bytes, and zeros past them
+abbrev pub is_prefix : Ipv6Prefix → Bool
+is_prefix p =
+    nat_le p.0 address_bits && length p.1 == address_octets && list_all is_byte p.1
+    && is_eq (text_cmp (first_bits p.0 p.1) p.1)
 
 -- the name of an access point, in small letters
 abbrev pub is_apn : List ℕ → Bool
@@ -96,6 +104,7 @@ is_rule r =
 -- what a field of a session of that kind may say
 abbrev pub fits_session_field : Kind → SessionField → Value → Bool
 fits_session_field k FramedIpAddress (Address a) = is_address a
+fits_session_field k FramedIpv6Prefix (Prefix p) = is_prefix p
 fits_session_field k CalledStationId (Text t) = is_apn t
 fits_session_field k SubscriptionIds (Subscribers xs) = are_subscribers xs
 fits_session_field k OriginHost (Text t) = is_identity t
@@ -144,6 +153,8 @@ abbrev pub fits : Kind → Fact → Bool
 fits k End = true
 fits k (Removed r) = fits_removal k r
 fits k (Field p t x) = fits_place k p x
+fits Gx Aborted = false
+fits Af Aborted = true
 
 -- ---- stamps and tags
 
@@ -241,15 +252,15 @@ is_component c =
 abbrev pub is_origin : List ℕ → List ℕ → List ℕ → Bool
 is_origin id host realm = is_text session_id_limit id && is_identity host && is_identity realm
 
--- the address, access point and subscribers, as far as they are given
-abbrev pub is_user : Option (List ℕ) → Option (List ℕ) → Option (List Subscriber) → Bool
-is_user a n xs = is_none_or is_address a && is_none_or is_apn n && is_none_or are_subscribers xs
+-- what is said of a user fits each field, as far as it is said
+abbrev pub is_user : Kind → UserValue → Bool
+is_user k u = list_all (λ f. is_none_or (fits_session_field k f) (user_says u f)) session_fields
 
 -- a request as it is read
 abbrev pub is_request : RequestValue → Bool
-is_request (Ccr q) = is_origin q.session q.host q.realm && is_user q.address q.apn q.subscribers && is_unsigned q.number
+is_request (Ccr q) = is_origin q.session q.host q.realm && is_user Gx q.user && is_unsigned q.number
 is_request (Aar q) =
-    is_origin q.session q.host q.realm && is_user q.address q.apn q.subscribers
+    is_origin q.session q.host q.realm && is_user Af q.user
     && list_all is_component q.components && are_apart (map (λ (c : ComponentValue). c.number) q.components)
 is_request (Str q) = is_origin q.session q.host q.realm
 is_request (Base q) = true

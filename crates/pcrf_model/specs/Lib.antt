@@ -1,3 +1,5 @@
+pub mod Abandoned
+pub mod Aborting
 pub mod Bindings
 pub mod CursorLaws
 pub mod Cursors
@@ -13,6 +15,7 @@ pub mod Live
 pub mod Making
 pub mod Malformed
 pub mod Neighbours
+pub mod Networks
 pub mod Operations
 pub mod OperatorValues
 pub mod Pushing

@@ -1,35 +1,46 @@
 -- The facts that accepted requests and pushes make.
-use Rattle.std.specs.Prelude.{ℕ, ◌+◌, ◌==◌, Bool, false, if◌then◌else◌, List, [], ◌∷◌, ◌++◌, map, Option}
+use Rattle.std.specs.Prelude.{ℕ, ◌+◌, ◌==◌, Bool, false, if◌then◌else◌, List, [], ◌∷◌, ◌++◌, map, Option, Some, None}
 use Rattle.std.proofs.Common.{option_map, option_to_list, unwrap_or, flat_map}
 use Rattle.ranked.specs.Ascending.{ascending}
 use Rattle.ranked.specs.declared.tag.Tag.{Tag}
 use Rattle.pcrf_values.specs.RuleValues.{RuleValue, DeltaValue}
 use Rattle.pcrf_values.specs.Numbers.{request_kind_number, flow_status_removed}
-use Rattle.pcrf_facts.specs.Places.{MediaType, ComponentStatus, ComponentRateUp, ComponentRateDown, FlowDescriptions, FlowUsage, FlowStatus, FlowRateUp, FlowRateDown, Place, OfComponent, OfFlow, OfRuleName, Component, Flow, address, apn, subscribers, host, realm, last}
-use Rattle.pcrf_facts.specs.Values.{Value, Number, Text, Address, Subscribers, Filters, Untold, Told, Subscriber}
+use Rattle.pcrf_facts.specs.Places.{SessionField, FramedIpAddress, CalledStationId, SubscriptionIds, OriginHost, OriginRealm, RequestType, FramedIpv6Prefix, session_fields, MediaType, ComponentStatus, ComponentRateUp, ComponentRateDown, FlowDescriptions, FlowUsage, FlowStatus, FlowRateUp, FlowRateDown, Place, OfSession, OfComponent, OfFlow, OfRuleName, Component, Flow}
+use Rattle.pcrf_facts.specs.Values.{Value, Number, Text, Address, Subscribers, Filters, Untold, Told, Prefix}
 use Rattle.pcrf_facts.specs.Facts.{Fact, End, Removed, Field, fact_cmp}
 use Rattle.pcrf_model.specs.Sessions.{Session}
 use Rattle.pcrf_model.specs.Holdings.{Holding}
 use Rattle.pcrf_model.specs.Operations.{Operation}
-use Rattle.pcrf_model.specs.Requests.{CcrValue, FlowValue, ComponentValue, AarValue}
+use Rattle.pcrf_model.specs.Requests.{UserValue, CcrValue, FlowValue, ComponentValue, AarValue}
 
 -- the fact that a request gives, if it gives it
 abbrev pub given_fact : {A : Type 0} → Place → Tag → (A → Value) → Option A → List Fact
 given_fact p t as_value x = option_to_list (option_map (λ y. Field p t (as_value y)) x)
 
--- the fields of a session that a request of either interface sets: host, realm and the type of the request, and what else it carries
-abbrev pub session_fields : Tag → Option (List ℕ) → Option (List ℕ) → Option (List Subscriber) → List ℕ → List ℕ → ℕ → List Fact
-session_fields t a n ids of_host of_realm kind =
-    given_fact address t Address a
-    ++ given_fact apn t Text n
-    ++ given_fact subscribers t Subscribers ids
-    ++ (Field host t (Text of_host) ∷ Field realm t (Text of_realm) ∷ Field last t (Number kind) ∷ [])
+-- what is said of a user in each field of a session
+abbrev pub user_says : UserValue → SessionField → Option Value
+user_says u FramedIpAddress = option_map Address u.address
+user_says u FramedIpv6Prefix = option_map Prefix u.prefix
+user_says u CalledStationId = option_map Text u.apn
+user_says u SubscriptionIds = option_map Subscribers u.subscribers
+user_says u f = None
+
+-- what a request of either interface says in each: its host, its realm, its type, and of its user
+abbrev pub request_says : UserValue → List ℕ → List ℕ → ℕ → SessionField → Option Value
+request_says u of_host of_realm kind OriginHost = Some (Text of_host)
+request_says u of_host of_realm kind OriginRealm = Some (Text of_realm)
+request_says u of_host of_realm kind RequestType = Some (Number kind)
+request_says u of_host of_realm kind f = user_says u f
+
+-- what is said in each field of a session, as facts under one tag
+abbrev pub said_facts : Tag → (SessionField → Option Value) → List Fact
+said_facts t says = flat_map (λ f. given_fact (OfSession f) t (λ x. x) (says f)) session_fields
 
 -- ---- Gx (TS 29.212, 4.5.1)
 
 -- the fields of an initial request or an update
 abbrev pub ccr_fields : CcrValue → Tag → List Fact
-ccr_fields q t = session_fields t q.address q.apn q.subscribers q.host q.realm (request_kind_number q.kind)
+ccr_fields q t = said_facts t (request_says q.user q.host q.realm (request_kind_number q.kind))
 
 -- what the gateway is told by a difference: each removed name, and each installed rule
 abbrev pub told_facts : Tag → DeltaValue → List Fact
@@ -65,7 +76,9 @@ component_facts t c =
 
 -- the facts of an AA request, component by component; what stands for the type of its request is 0
 abbrev pub aar_facts : AarValue → Tag → List Fact
-aar_facts q t = session_fields t q.address q.apn q.subscribers q.host q.realm 0 ++ flat_map (component_facts t) q.components
+aar_facts q t =
+    said_facts t (request_says q.user q.host q.realm 0)
+    ++ flat_map (component_facts t) q.components
 
 -- ---- stamps
 

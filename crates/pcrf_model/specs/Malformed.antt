@@ -9,14 +9,14 @@ use Rattle.pcrf_model.specs.Sessions.{Session}
 use Rattle.pcrf_model.specs.Holdings.{Holding}
 use Rattle.pcrf_model.specs.Operations.{Operation}
 use Rattle.pcrf_model.specs.Tables.{Tables}
-use Rattle.pcrf_model.specs.Requests.{RequestValue, Ccr}
-use Rattle.pcrf_model.specs.Samples.{signalling_class, operator, imsi, e164, first_session, call_session, host_address, call, status_only, sip_rule}
+use Rattle.pcrf_model.specs.Requests.{RequestValue}
+use Rattle.pcrf_model.specs.Samples.{user_with, request, signalling_class, operator, imsi, e164, first_session, call_session, host_address, call, status_only, sip_rule}
 
 -- ---- requests and tables
 
 -- an update that names that access point and those subscribers
 abbrev pub update_naming : List ℕ → List Subscriber → RequestValue
-update_naming n ids = Ccr (record { session = first_session.id; host = codes "gw"; realm = codes "r"; kind = Update; number = 1; address = None; apn = Some n; subscribers = Some ids })
+update_naming n ids = request first_session Update 1 (user_with None (Some n) (Some ids))
 
 -- an access point in capitals
 abbrev pub in_capitals : RequestValue

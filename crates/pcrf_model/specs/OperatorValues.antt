@@ -1,5 +1,5 @@
 -- What an operator sees of a holding: every session, with its bindings, rules and told entries, and the clock (this project's profile).
-use Rattle.std.specs.Prelude.{ℕ, if◌then◌else◌, List, Option, Some, None}
+use Rattle.std.specs.Prelude.{ℕ, Bool, if◌then◌else◌, List, Option, Some, None}
 use Rattle.std.proofs.Common.{option_map}
 use Rattle.std.specs.Ordering.{is_eq}
 use Rattle.std.specs.List.{filter_map}
@@ -36,10 +36,12 @@ pub record GxShown : Type 0 where
   pub rules : List RuleValue
   pub told : List ToldRule
 
--- of a live AF session: its fields, and the Session-Id of the Gx session to which it is bound
+-- of a live AF session: its fields, the Session-Id of the Gx session to which it is bound, and
+-- whether it was asked to abort
 pub record AfShown : Type 0 where
   pub fields : List FieldShown
   pub binding : Option (List ℕ)
+  pub aborted : Bool
 
 -- the Session-Id of the Gx session to which the AF session is bound (TS 29.213, 5.2)
 abbrev pub binding_id : View → Session → Option (List ℕ)
@@ -61,7 +63,7 @@ gx_shown t v s = record { fields = fields_shown v s; home = home v s; rules = ru
 
 -- what a live AF session shows
 abbrev pub af_shown : View → Session → AfShown
-af_shown v s = record { fields = fields_shown v s; binding = binding_id v s }
+af_shown v s = record { fields = fields_shown v s; binding = binding_id v s; aborted = v.aborted s }
 
 -- a Gx session by its Session-Id, with what is seen of it
 abbrev pub gx_value : Tables → View → Session → Kind → Option (List ℕ × SessionValue GxShown)

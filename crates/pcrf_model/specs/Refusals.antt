@@ -14,7 +14,7 @@ use Rattle.pcrf_model.specs.Views.{View, view}
 use Rattle.pcrf_model.specs.Live.{is_live}
 use Rattle.pcrf_model.specs.Bindings.{bind}
 use Rattle.pcrf_model.specs.Tables.{Tables, media_class, apn_row}
-use Rattle.pcrf_model.specs.Requests.{CcrValue, ComponentValue, AarValue, StrValue, BaseKind, CapabilitiesExchange, DeviceWatchdog, DisconnectPeer}
+use Rattle.pcrf_model.specs.Requests.{gives_no_address, CcrValue, ComponentValue, AarValue, StrValue, BaseKind, CapabilitiesExchange, DeviceWatchdog, DisconnectPeer}
 use Rattle.pcrf_model.specs.Making.{is_removed, aar_facts, next_tag}
 
 -- the first refusal whose cause stands
@@ -34,20 +34,21 @@ has_no_row t name = is_none (apn_row t name)
 abbrev pub names_no_row : Tables → Option (List ℕ) → Bool
 names_no_row t apn = unwrap_or (option_map (has_no_row t) apn) false
 
--- an initial request has to give all three (TS 29.212, 4.5.1)
+-- an initial request has to say where its user is reached, the access point and the subscribers
+-- (TS 29.212, 4.5.1)
 abbrev pub lacks_parameters : CcrValue → Bool
-lacks_parameters q = is_none q.address || is_none q.apn || is_none q.subscribers
+lacks_parameters q = gives_no_address q.user || is_none q.user.apn || is_none q.user.subscribers
 
 -- of a credit control request, by its type
 abbrev pub ccr_causes : Tables → Holding → View → CcrValue → RequestKind → List (Bool × Refusal)
 ccr_causes t h v q Initial =
     (v.ended (gx q.session), unknown_session_id)
     ∷ (lacks_parameters q, initial_parameters)
-    ∷ (names_no_row t q.apn, authorization_rejected)
+    ∷ (names_no_row t q.user.apn, authorization_rejected)
     ∷ (is_clock_full h, unable_to_comply) ∷ []
 ccr_causes t h v q Update =
     (not (is_live v (gx q.session)), unknown_session_id)
-    ∷ (names_no_row t q.apn, authorization_rejected)
+    ∷ (names_no_row t q.user.apn, authorization_rejected)
     ∷ (is_clock_full h, unable_to_comply) ∷ []
 ccr_causes t h v q Termination =
     (not (is_live v (gx q.session)), unknown_session_id)
@@ -69,7 +70,7 @@ binds_to_none i h q = is_none (bind (view (h.facts ++ under (af q.session) (aar_
 abbrev pub aar_causes : Tables → ℕ → Holding → View → AarValue → List (Bool × Refusal)
 aar_causes t i h v q =
     (v.ended (af q.session), unknown_session_id)
-    ∷ (not (is_live v (af q.session)) && is_none q.address, missing_avp)
+    ∷ (not (is_live v (af q.session)) && gives_no_address q.user, missing_avp)
     ∷ (list_any (has_no_class t) q.components, service_not_authorized)
     ∷ (binds_to_none i h q, session_not_available)
     ∷ (is_clock_full h, unable_to_comply) ∷ []

@@ -18,8 +18,16 @@ pub record PushValue : Type 0 where
   pub realm : List ℕ
   pub delta : DeltaValue
 
--- To a request: on Gx; on Rx done or refused; of the base protocol a Result-Code. What was pushed, if anything. That so many operations stand taken;
--- a state that was taken is done. Own operations, or a copy of all that is kept, each with the length of the log.
+-- What an abort session request asks of an application function (TS 29.214, 5.6.7): the Session-Id,
+-- the host and the realm of the session.
+pub record AbortValue : Type 0 where
+  pub session : List ℕ
+  pub host : List ℕ
+  pub realm : List ℕ
+
+-- To a request: on Gx; on Rx done or refused; of the base protocol a Result-Code. What was pushed, if
+-- anything. That so many operations stand taken; a state that was taken is done. Own operations, or a
+-- copy of all that is kept, each with the length of the log. Which session was aborted, if one was.
 pub data ReplyValue : Type 0 where
   OnGx : GxReplyValue → ReplyValue
   Done : ReplyValue
@@ -29,6 +37,7 @@ pub data ReplyValue : Type 0 where
   Taken : ℕ → ReplyValue
   Own : List Operation → ℕ → ReplyValue
   Copy : Holding → ℕ → ReplyValue
+  Aborted : Option AbortValue → ReplyValue
 
 -- a reply, and the operation that is added, if one is
 pub record Outcome : Type 0 where

@@ -1,19 +1,31 @@
 -- The requests that a site serves, as read: plain values without memory.
-use Rattle.std.specs.Prelude.{ℕ, List, Option}
+use Rattle.std.specs.Prelude.{ℕ, Bool, ◌&&◌, is_none, List, Option}
 use Rattle.pcrf_values.specs.declared.request_kind.RequestKind.{RequestKind}
+use Rattle.pcrf_values.specs.Prefixes.{Ipv6Prefix}
 use Rattle.pcrf_facts.specs.Values.{Subscriber}
 
--- A credit control request (TS 29.212, 5.6.2): Session-Id, Origin-Host, Origin-Realm, CC-Request-Type, CC-Request-Number, Framed-IP-Address
--- as four octets, Called-Station-Id in small letters, and the Subscription-Ids, ascending, without repeats.
+-- What a request of either interface says of its user, each as far as it says it: Framed-IP-Address
+-- as four octets, Framed-IPv6-Prefix, Called-Station-Id in small letters, and the Subscription-Ids,
+-- ascending, without repeats.
+pub record UserValue : Type 0 where
+  pub address : Option (List ℕ)
+  pub prefix : Option Ipv6Prefix
+  pub apn : Option (List ℕ)
+  pub subscribers : Option (List Subscriber)
+
+-- it says nowhere the user is reached: it gives neither an address nor a prefix
+abbrev pub gives_no_address : UserValue → Bool
+gives_no_address u = is_none u.address && is_none u.prefix
+
+-- A credit control request (TS 29.212, 5.6.2): Session-Id, Origin-Host, Origin-Realm,
+-- CC-Request-Type, CC-Request-Number, and what it says of its user.
 pub record CcrValue : Type 0 where
   pub session : List ℕ
   pub host : List ℕ
   pub realm : List ℕ
   pub kind : RequestKind
   pub number : ℕ
-  pub address : Option (List ℕ)
-  pub apn : Option (List ℕ)
-  pub subscribers : Option (List Subscriber)
+  pub user : UserValue
 
 -- A flow (Media-Sub-Component, TS 29.214, 5.3.18): Flow-Number, Flow-Descriptions as bytes (one or two, in the order of the request), Flow-Usage and Flow-Status
 -- as AVP values, Max-Requested-Bandwidth-UL and -DL in bit/s.
@@ -40,9 +52,7 @@ pub record AarValue : Type 0 where
   pub session : List ℕ
   pub host : List ℕ
   pub realm : List ℕ
-  pub address : Option (List ℕ)
-  pub apn : Option (List ℕ)
-  pub subscribers : Option (List Subscriber)
+  pub user : UserValue
   pub components : List ComponentValue
 
 -- A session termination request of Rx (TS 29.214, 5.6.5).

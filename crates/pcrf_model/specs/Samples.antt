@@ -3,11 +3,12 @@ use Rattle.std.specs.Prelude.{ℕ, zero, suc, List, [], ◌∷◌, Option, Some,
 use Rattle.pcrf_values.specs.RuleValues.{RuleValue, DeltaValue}
 use Rattle.pcrf_values.specs.declared.default_quality.DefaultQuality.{DefaultQuality}
 use Rattle.pcrf_values.specs.declared.rule.Preemption.TheVariants.{Enabled, Disabled}
+use Rattle.pcrf_values.specs.declared.request_kind.RequestKind.{RequestKind}
 use Rattle.pcrf_values.specs.declared.request_kind.RequestKind.TheVariants.{Initial, Update, Termination}
 use Rattle.pcrf_model.specs.Sessions.{Session, gx, af}
 use Rattle.pcrf_facts.specs.Values.{Subscriber}
 use Rattle.pcrf_model.specs.Tables.{Class, Tables}
-use Rattle.pcrf_model.specs.Requests.{FlowValue, ComponentValue, CapabilitiesExchange, RequestValue, Ccr, Aar, Str, Base}
+use Rattle.pcrf_model.specs.Requests.{UserValue, FlowValue, ComponentValue, CapabilitiesExchange, RequestValue, Ccr, Aar, Str, Base}
 
 -- ---- an operator with telephony
 
@@ -82,15 +83,33 @@ second_session = gx (codes "gw;1;2")
 abbrev pub call_session : Session
 call_session = af (codes "af;1")
 
+-- ---- what requests say of users
+
+-- an address, an access point and subscribers, each if it is given, and no prefix
+abbrev pub user_with : Option (List ℕ) → Option (List ℕ) → Option (List Subscriber) → UserValue
+user_with a n ids = record { address = a; prefix = None; apn = n; subscribers = ids }
+
 -- ---- requests of the gateway
+
+-- a request on a session, by its type and number, and what it says of the user
+abbrev pub request : Session → RequestKind → ℕ → UserValue → RequestValue
+request s k n u = Ccr (record {
+  session = s.id;
+  host = codes "gw";
+  realm = codes "r";
+  kind = k;
+  number = n;
+  user = u;
+})
 
 -- an initial request with all that it needs, under number 0
 abbrev pub initial : Session → List ℕ → RequestValue
-initial s a = Ccr (record { session = s.id; host = codes "gw"; realm = codes "r"; kind = Initial; number = 0; address = Some a; apn = Some (codes "ims"); subscribers = Some (e164 ∷ imsi ∷ []) })
+initial s a =
+    request s Initial 0 (user_with (Some a) (Some (codes "ims")) (Some (e164 ∷ imsi ∷ [])))
 
 -- an initial request by its address, access point and subscribers, each if it gives them
 abbrev pub initial_with : Option (List ℕ) → Option (List ℕ) → Option (List Subscriber) → RequestValue
-initial_with a n ids = Ccr (record { session = first_session.id; host = codes "gw"; realm = codes "r"; kind = Initial; number = 0; address = a; apn = n; subscribers = ids })
+initial_with a n ids = request first_session Initial 0 (user_with a n ids)
 
 -- an initial request of one subscriber for that access point
 abbrev pub initial_to : List ℕ → RequestValue
@@ -108,17 +127,27 @@ without_subscriber = initial_with (Some (host_address 1)) (Some (codes "ims")) N
 
 -- an update of the first session, with an address or without
 abbrev pub update : ℕ → Option (List ℕ) → RequestValue
-update n a = Ccr (record { session = first_session.id; host = codes "gw"; realm = codes "r"; kind = Update; number = n; address = a; apn = None; subscribers = None })
+update n a = request first_session Update n (user_with a None None)
 
 -- the end of a session
 abbrev pub termination : Session → ℕ → RequestValue
-termination s n = Ccr (record { session = s.id; host = codes "gw"; realm = codes "r"; kind = Termination; number = n; address = None; apn = None; subscribers = None })
+termination s n = request s Termination n (user_with None None None)
 
 -- ---- requests of the application function
 
--- an AA request with an address or without, and components
+-- an AA request, by what it says of the user, with components
+abbrev pub call_of : UserValue → List ComponentValue → RequestValue
+call_of u cs = Aar (record {
+  session = call_session.id;
+  host = codes "af";
+  realm = codes "r";
+  user = u;
+  components = cs;
+})
+
+-- with an address or without
 abbrev pub call : Option (List ℕ) → List ComponentValue → RequestValue
-call a cs = Aar (record { session = call_session.id; host = codes "af"; realm = codes "r"; address = a; apn = None; subscribers = None; components = cs })
+call a cs = call_of (user_with a None None) cs
 
 -- a component of another media type, with that Flow-Status
 abbrev pub other_media : ℕ → ComponentValue
@@ -130,7 +159,7 @@ capabilities applications = Base (record { kind = CapabilitiesExchange applicati
 
 -- a call from 10.0.0.1 that asks for an access point and subscribers
 abbrev pub call_asking : Option (List ℕ) → Option (List Subscriber) → RequestValue
-call_asking n ids = Aar (record { session = call_session.id; host = codes "af"; realm = codes "r"; address = Some (host_address 1); apn = n; subscribers = ids; components = [] })
+call_asking n ids = call_of (user_with (Some (host_address 1)) n ids) []
 
 -- the end of the call
 abbrev pub hang_up : RequestValue

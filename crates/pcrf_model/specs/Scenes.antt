@@ -1,5 +1,5 @@
 -- What the sites of the worked examples went through.
-use Rattle.std.specs.Prelude.{ℕ, List, [], ◌∷◌, Option, Some, None, codes, length, slice_get}
+use Rattle.std.specs.Prelude.{ℕ, false, List, [], ◌∷◌, Option, Some, None, codes, length, slice_get}
 use Rattle.std.proofs.Common.{option_map}
 use Rattle.ranked.specs.declared.tag.Tag.{Tag}
 use Rattle.pcrf_values.specs.declared.refusal.Refusal.{Refusal}
@@ -257,4 +257,5 @@ live_call = record {
       ∷ (OfFlow 1 1 FlowDescriptions, Filters (uplink ∷ any_to_any ∷ [])) ∷ (OfFlow 1 2 FlowDescriptions, Filters (uplink ∷ [])) ∷ (OfFlow 1 2 FlowUsage, Number 1)
       ∷ (OfFlow 1 2 FlowStatus, Number 2) ∷ [];
   binding = None;
+  aborted = false;
 }

@@ -8,9 +8,10 @@ use Rattle.pcrf_model.specs.Requests.{RequestValue}
 use Rattle.pcrf_model.specs.Replies.{Outcome}
 use Rattle.pcrf_model.specs.Serving.{serve}
 use Rattle.pcrf_model.specs.Pushing.{push}
+use Rattle.pcrf_model.specs.Aborting.{abort}
 use Rattle.pcrf_model.specs.Letters.{LetterBody, Range, Snapshot, Acknowledgement, LetterValue}
 use Rattle.pcrf_model.specs.Cursors.{start_cursors, ack_of, ack_letter}
-use Rattle.pcrf_model.specs.Worlds.{WorldEvent, ServeAt, PushAt, Letter, Merge, Ack, Restart, Replied, PushedOut, Lettered, Merged, Restarted, NoMemory, WorldAnswer, SiteView, WorldView, Writing, Setting, letter_body, first_taken, cursors_after, WorldTook, world_view, after}
+use Rattle.pcrf_model.specs.Worlds.{WorldEvent, ServeAt, PushAt, AbortAt, Letter, Merge, Ack, Restart, Replied, PushedOut, AbortedOut, Lettered, Merged, Restarted, NoMemory, WorldAnswer, SiteView, WorldView, Writing, Setting, letter_body, first_taken, cursors_after, WorldTook, world_view, after}
 use Rattle.pcrf_model.specs.CursorLaws.{AllHoldBehind}
 
 -- ---- one site
@@ -31,6 +32,10 @@ view_served g q s = serve g.most g.tables s.number s.state.holding q
 -- and what they push of it
 abbrev pub view_pushed : Setting → Option (List ℕ) → SiteView → Outcome
 view_pushed g name s = push g.most g.tables s.number s.state.holding name
+
+-- and which session they abort
+abbrev pub view_aborted : Option (List ℕ) → SiteView → Outcome
+view_aborted name s = abort s.number s.state.holding name
 
 -- what a letter brings: the operations of a range, the state of a snapshot
 abbrev pub brought_holding : LetterBody → Holding
@@ -84,6 +89,8 @@ see_letter v i write = record v { letters = v.letters ++ option_to_list (option_
 abbrev pub world_view_after : Setting → WorldView → WorldEvent → WorldAnswer → WorldView
 world_view_after g v (ServeAt i q) (Ok (Replied r)) = see_change v i (λ s. view_made (view_served g q s).added s)
 world_view_after g v (PushAt i name) (Ok (PushedOut p)) = see_change v i (λ s. view_made (view_pushed g name s).added s)
+world_view_after g v (AbortAt i name) (Ok (AbortedOut a)) =
+    see_change v i (λ s. view_made (view_aborted name s).added s)
 world_view_after g v (Letter i j) (Ok (Lettered k)) = see_letter v i (view_letter g j)
 world_view_after g v (Merge j k) (Ok Merged) = see_change_by v j k (view_merged g.writes)
 world_view_after g v (Merge j k) (Err (NoMemory n)) = see_change_by v j k (view_in_part n)

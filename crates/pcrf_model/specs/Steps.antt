@@ -8,9 +8,11 @@ use Rattle.pcrf_model.specs.Requests.{RequestValue}
 use Rattle.pcrf_model.specs.Replies.{ReplyValue, Done, Taken, Own, Copy}
 use Rattle.pcrf_model.specs.Serving.{serve, with_added}
 use Rattle.pcrf_model.specs.Pushing.{push, lacks_counter}
+use Rattle.pcrf_model.specs.Aborting.{abort, lacks_counter_to_abort}
 
--- A request to serve; something to push to a host, any where none is named; operations, or the whole state of another site, to take in;
--- the site's own operations from a position on, or its whole state, asked for.
+-- A request to serve; something to push to a host, any where none is named; operations, or the whole
+-- state of another site, to take in; the site's own operations from a position on, or its whole state,
+-- asked for; a session to abort at a host, any where none is named.
 pub data SiteEvent : Type 0 where
   Serve : RequestValue → SiteEvent
   Push : Option (List ℕ) → SiteEvent
@@ -18,6 +20,7 @@ pub data SiteEvent : Type 0 where
   Whole : Holding → SiteEvent
   AskOwn : ℕ → SiteEvent
   AskWhole : SiteEvent
+  Abort : Option (List ℕ) → SiteEvent
 
 -- what a site holds, and the operations that it made itself, in order
 pub record SiteState : Type 0 where
@@ -46,6 +49,8 @@ MayReply most t i s (Ops os) r = (n : ℕ) × (n ≤ length os) × (r ≡ Taken 
 MayReply most t i s (Whole k) r = r ≡ Done
 MayReply most t i s (AskOwn p) r = r ≡ Own (own_from s.log p) (length s.log)
 MayReply most t i s AskWhole r = r ≡ Copy (kept_of s.holding) (length s.log)
+MayReply most t i s (Abort name) r =
+    (lacks_counter_to_abort i s.holding name ≡ false) × (r ≡ (abort i s.holding name).reply)
 
 -- the site after the event to which it gave that reply
 abbrev pub state_after : ℕ → Tables → ℕ → SiteState → SiteEvent → ReplyValue → SiteState
@@ -53,6 +58,7 @@ state_after most t i s (Serve q) r = with_own s (serve most t i s.holding q).add
 state_after most t i s (Push name) r = with_own s (push most t i s.holding name).added
 state_after most t i s (Ops os) (Taken n) = record s { holding = union s.holding (holding_of (take n os)) }
 state_after most t i s (Whole k) r = record s { holding = union s.holding k }
+state_after most t i s (Abort name) r = with_own s (abort i s.holding name).added
 state_after most t i s e r = s
 
 -- the site after the event, with what is kept of what it then holds

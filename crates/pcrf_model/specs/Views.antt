@@ -8,8 +8,8 @@ use Rattle.ranked.specs.Ascending.{ascending}
 use Rattle.ranked.specs.declared.tag.Tag.{Tag}
 use Rattle.pcrf_facts.specs.Places.{Place, Removable, place_cmp}
 use Rattle.pcrf_facts.specs.Values.{Value, Text, Address, Filters, Entry, entry_cmp}
-use Rattle.pcrf_facts.specs.Facts.{Fact, End, Removed, Field}
-use Rattle.pcrf_facts.specs.Held.{entry_shown, removed_parts, is_ended}
+use Rattle.pcrf_facts.specs.Facts.{Fact, Field}
+use Rattle.pcrf_facts.specs.Held.{entry_shown, removed_parts, is_ended, is_aborted}
 use Rattle.pcrf_facts.specs.FlowWords.{value_at, number_at}
 use Rattle.pcrf_model.specs.Sessions.{Session, session_cmp}
 use Rattle.pcrf_model.specs.Holdings.{SessionFact, facts_on}
@@ -31,16 +31,16 @@ shown_of s p e = record { session = s; place = p; tag = e.0; value = e.1 }
 
 -- what the place of a field shows
 abbrev pub shown_by_fact : (Session → Place → Option Entry) → Session → Fact → Option Shown
-shown_by_fact shows s End = None
-shown_by_fact shows s (Removed r) = None
 shown_by_fact shows s (Field p t v) = option_map (shown_of s p) (shows s p)
+shown_by_fact shows s f = None
 
--- What each place of a session shows; which session is ended; what of a session is removed; all that shows, ascending; the sessions that
--- have a fact, ascending.
+-- What each place of a session shows; which session is ended; what of a session is removed; which
+-- one was asked to abort; all that shows, ascending; the sessions that have a fact, ascending.
 pub record View : Type 0 where
   pub shows : Session → Place → Option Entry
   pub ended : Session → Bool
   pub removals : Session → List Removable
+  pub aborted : Session → Bool
   pub all : List Shown
   pub sessions : List Session
 
@@ -54,6 +54,7 @@ view facts = record {
   shows = entry_shown_on facts;
   ended = λ s. is_ended (facts_on facts s);
   removals = λ s. removed_parts (facts_on facts s);
+  aborted = λ s. is_aborted (facts_on facts s);
   all = ascending shown_cmp (filter_map (λ (x : SessionFact). shown_by_fact (entry_shown_on facts) x.0 x.1) facts);
   sessions = ascending session_cmp (map (λ (x : SessionFact). x.0) facts);
 }

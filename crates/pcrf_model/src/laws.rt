@@ -1,6 +1,6 @@
 //! The laws of the definitions, each the contract of a function without a body.
 
-ghost use Rattle.pcrf_model.specs.Laws.{KeepsUnions, KeepsUnionsOfHoldings, KeepsEachSession, KeepsOnce, ReplacingChangesOne, UnionIsCommutative, UnionIsAssociative, UnionIsIdempotent, OnlyOperationsCount, HoldsTheUnion, HoldsJustTheFacts, SameOperationsHoldTheSame, SessionsAreReadAlone, KeptShowsTheSame, OnlyMembersCount, KeptReadsTheSame, MembersReadTheSame, KeptHasTheSameValue, KeptServesTheSame, KeptPushesTheSame, KeptStepsTheSame, DifferenceLeadsThere, NoNameTwice, FirstLeavesTheRest, FirstIsAll, ToldIsTold, BindsToTheGreatest, BindsToNoneWhereNoneMatches, PushesTheFirstDue, PushesNoneWhereNoneIsDue, RuleNamesDiffer, SessionIsTold, ProvisioningTells, PushingTells, TakingChangesOne, UnionShowsWhatOneShows, ShowsAFact, OthersKeepTheirRules, AllKeepTheirRules, UnboundKeepTheirRules, HistoriesCompose, HistoriesKeep, UnionKeepsTheForm, KeepingKeepsTheForm, OperationsMakeTheForm, ServingAddsTheForm, PushingAddsTheForm};
+ghost use Rattle.pcrf_model.specs.Laws.{KeepsUnions, KeepsUnionsOfHoldings, KeepsEachSession, KeepsOnce, ReplacingChangesOne, UnionIsCommutative, UnionIsAssociative, UnionIsIdempotent, OnlyOperationsCount, HoldsTheUnion, HoldsJustTheFacts, SameOperationsHoldTheSame, SessionsAreReadAlone, KeptShowsTheSame, OnlyMembersCount, KeptReadsTheSame, MembersReadTheSame, KeptHasTheSameValue, KeptServesTheSame, KeptPushesTheSame, KeptAbortsTheSame, KeptStepsTheSame, DifferenceLeadsThere, NoNameTwice, FirstLeavesTheRest, FirstIsAll, ToldIsTold, BindsToTheGreatest, BindsToNoneWhereNoneMatches, PushesTheFirstDue, PushesNoneWhereNoneIsDue, AbortsTheFirstAbandoned, AbortsNoneWhereNoneIsAbandoned, AbortsOnce, AbortChangesNothingElse, RuleNamesDiffer, SessionIsTold, ProvisioningTells, PushingTells, TakingChangesOne, UnionShowsWhatOneShows, ShowsAFact, OthersKeepTheirRules, AllKeepTheirRules, UnboundKeepTheirRules, HistoriesCompose, HistoriesKeep, UnionKeepsTheForm, KeepingKeepsTheForm, OperationsMakeTheForm, ServingAddsTheForm, PushingAddsTheForm, AbortingAddsTheForm};
 ghost use Rattle.pcrf_model.specs.CursorLaws.{EntriesAreTaken, PeersSaidWhatTheyTook, RangesLeaveNoGap, SnapshotsHoldWhatWasTaken, TakingHoldsTheUnion};
 ghost use Rattle.pcrf_model.specs.Seen.{SeenIsWhatWasTaken, SnapshotsStay};
 ghost use Rattle.pcrf_model.specs.Waiting.{PushesTheFirstWaiting, OnlyTheDueNeedWait, NeighboursAreEnough, OneIsEnough, BoundAreEnough, AllAtHomeAreEnough};
@@ -47,10 +47,11 @@ pub fn kept_facts_read_the_same()
     ensures value { KeptHasTheSameValue }
 {}
 
-/// A site answers, adds and pushes the same on what is kept of what it took.
+/// A site answers, adds, pushes and aborts the same on what is kept of what it took.
 pub fn kept_facts_serve_the_same()
     ensures requests { KeptServesTheSame }
     ensures pushes { KeptPushesTheSame }
+    ensures aborts { KeptAbortsTheSame }
     ensures steps { KeptStepsTheSame }
 {}
 
@@ -72,6 +73,16 @@ pub fn binding_is_the_greatest_match()
 pub fn first_due_session_is_pushed()
     ensures first { PushesTheFirstDue }
     ensures none { PushesNoneWhereNoneIsDue }
+{}
+
+/// The session that is aborted is abandoned and none that is abandoned is before it; none is aborted
+/// just where none is abandoned; none is aborted twice, whatever is taken later; and an abort changes
+/// nothing else that is read: no rule, no binding, nothing told.
+pub fn first_abandoned_session_is_aborted_once()
+    ensures first { AbortsTheFirstAbandoned }
+    ensures none { AbortsNoneWhereNoneIsAbandoned }
+    ensures once { AbortsOnce }
+    ensures alone { AbortChangesNothingElse }
 {}
 
 /// An operation changes its session alone, and what a place shows after it the place showed before, or the operation gives it.
@@ -114,10 +125,11 @@ pub fn holdings_keep_their_form()
     ensures operations { OperationsMakeTheForm }
 {}
 
-/// Served requests and pushes add operations of the form.
+/// Served requests, pushes and aborts add operations of the form.
 pub fn sites_add_operations_of_the_form()
     ensures serving { ServingAddsTheForm }
     ensures pushing { PushingAddsTheForm }
+    ensures aborting { AbortingAddsTheForm }
 {}
 
 /// The session that is pushed to a host is the first that is due of those that wait under it, where all that are due wait; and they do after one

@@ -4,9 +4,9 @@
 ghost use Rattle.std.specs.Prelude.{◌≡◌, true};
 ghost use Rattle.std.specs.List.{list_all};
 ghost use Rattle.std.specs.Net.Addr.{ipv4_octets};
-ghost use Rattle.pcrf_model.specs.Forms.{is_address, is_apn, is_byte, is_rule, is_subscriber, is_text, are_filters, are_subscribers};
+ghost use Rattle.pcrf_model.specs.Forms.{is_address, is_apn, is_byte, is_prefix, is_rule, is_subscriber, is_text, are_filters, are_subscribers};
 
-use pcrf_values::{Apn, BoundedText, Filters, Rule, Subscriber, Subscribers};
+use pcrf_values::{Apn, BoundedText, Filters, Ipv6Prefix, Rule, Subscriber, Subscribers};
 use std::net::Ipv4Addr;
 
 /// Bytes are bytes.
@@ -33,6 +33,14 @@ pub fn note_address(address: &Ipv4Addr)
     ensures { is_address (ipv4_octets address.now) ≡ true }
 {
     note_bytes(&address.octets());
+}
+
+/// A prefix has up to 128 bits in 16 bytes, and zeros past them.
+pub fn note_prefix(prefix: &Ipv6Prefix)
+    ensures { is_prefix prefix.now ≡ true }
+{
+    let _bits = prefix.bits();
+    note_bytes(prefix.octets());
 }
 
 /// Filters are one or two, each a text.

@@ -2,6 +2,7 @@ pub mod Applications
 pub mod Filters
 pub mod Limits
 pub mod Numbers
+pub mod Prefixes
 pub mod Results
 pub mod RuleValues
 pub mod RuleViews

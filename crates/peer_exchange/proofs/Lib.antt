@@ -4,3 +4,4 @@ pub mod FirstFour
 pub mod Frames
 pub mod Lengths
 pub mod LettersAgain
+pub mod LettersHad

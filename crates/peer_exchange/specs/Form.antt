@@ -1,12 +1,14 @@
 -- Which letters have a spelling (this project's profile).
-use Rattle.std.specs.Prelude.{◌≡◌, ℕ, ◌+◌, ◌^◌, Bool, true, false, ◌&&◌, nat_lt, nat_le, length, Option, Some, None, if◌then◌else◌}
+use Rattle.std.specs.Prelude.{◌≡◌, ℕ, ◌+◌, ◌^◌, Bool, true, false, ◌&&◌, nat_lt, nat_le, List, length, Option, Some, None, if◌then◌else◌}
 use Rattle.std.specs.List.{list_all}
 use Rattle.pcrf_values.specs.Limits.{last_counter, last_epoch, range_limit, site_limit}
 use Rattle.pcrf_model.specs.Forms.{is_within, is_unsigned, is_operation}
 use Rattle.pcrf_model.specs.Letters.{LetterBody, Range, Snapshot, Acknowledgement, LetterValue}
-use Rattle.site_join.specs.Groups.{are_groups, groups_of_facts}
-use Rattle.peer_exchange.specs.Limits.{longest_letter}
-use Rattle.peer_exchange.specs.Spelling.{letter_bytes}
+use Rattle.pcrf_model.specs.Operations.{Operation}
+use Rattle.fact_codec.specs.Said.{has_fact}
+use Rattle.site_join.specs.Groups.{Group, are_groups, groups_of_facts}
+use Rattle.peer_exchange.specs.Limits.{letter_version, longest_letter}
+use Rattle.peer_exchange.specs.Spelling.{letter_bytes, spelling_in}
 
 -- a site by its number
 abbrev pub is_site : ℕ → Bool
@@ -42,6 +44,25 @@ pub record IsKept (l : LetterValue) : Type 0 where
   pub addressed : is_addressed l ≡ true
   pub formed : is_formed l.body ≡ true
 
+-- letters of version v have all that is said
+abbrev pub has_body : ℕ → LetterBody → Bool
+has_body v (Range from os) = list_all (λ (o : Operation). list_all (has_fact v) o.facts) os
+has_body v (Snapshot h n) = list_all (λ (g : Group). list_all (has_fact v) g.1) (groups_of_facts h.facts)
+has_body v (Acknowledgement m e c) = true
+
+-- The bytes are the letter's spelling of a version that is read and has what it says.
+pub record IsSpelled (bytes : List ℕ) (l : LetterValue) : Type 0 where
+  pub version : ℕ
+  pub known : is_within 1 letter_version version ≡ true
+  pub had : has_body version l.body ≡ true
+  pub spelled : bytes ≡ spelling_in version l
+
 -- a letter
 abbrev pub is_letter : LetterValue → Bool
 is_letter l = is_addressed l && is_formed l.body && nat_le (length (letter_bytes l)) longest_letter
+
+-- A letter, in a version that is read and has what it says.
+pub record IsReadIn (v : ℕ) (l : LetterValue) : Type 0 where
+  pub known : is_within 1 letter_version v ≡ true
+  pub letter : is_letter l ≡ true
+  pub had : has_body v l.body ≡ true

@@ -10,6 +10,6 @@ length_bytes = limit.LENGTH_BYTES
 abbrev pub longest_letter : ℕ
 longest_letter = limit.MOST_BYTES
 
--- the version of the format
+-- the version of letters that is written, and the last of those that are read
 abbrev pub letter_version : ℕ
 letter_version = limit.VERSION

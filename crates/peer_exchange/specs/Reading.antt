@@ -4,6 +4,7 @@ use Rattle.std.specs.Prelude.{Option, Some, None, Result, Ok, Err}
 use Rattle.pcrf_values.specs.Limits.{session_id_limit}
 use Rattle.pcrf_facts.specs.Facts.{Fact}
 use Rattle.pcrf_model.specs.Sessions.{Session, gx, af}
+use Rattle.pcrf_model.specs.Forms.{is_within}
 use Rattle.pcrf_model.specs.Operations.{Operation}
 use Rattle.pcrf_model.specs.Letters.{LetterBody, Range, Snapshot, Acknowledgement, LetterValue}
 use Rattle.fact_codec.specs.Reading.{Reader, ◌>>=◌, give, refuse, given, many, byte, short, word, long}
@@ -15,72 +16,72 @@ use Rattle.peer_exchange.specs.declared.fault.LetterFault.TheVariants.{BadVersio
 use Rattle.peer_exchange.specs.Limits.{longest_letter, letter_version}
 use Rattle.peer_exchange.specs.Form.{if_addressed}
 
--- the facts of an operation on a session of each kind, with its session
-abbrev pub gx_group : ℕ → ℕ → ℕ → Reader (Session × List Fact)
-gx_group counter site number = do
+-- the facts of an operation on a session of each kind, with its session, in a letter of version v
+abbrev pub gx_group : ℕ → ℕ → ℕ → ℕ → Reader (Session × List Fact)
+gx_group v counter site number = do
   id ← text session_id_limit
-  fs ← facts (gx_fact (stamped number counter site) (stamped 0 counter site))
+  fs ← facts (gx_fact v (stamped number counter site) (stamped 0 counter site))
   give (gx id, fs)
 
-abbrev pub af_group : ℕ → ℕ → Reader (Session × List Fact)
-af_group counter site = do
+abbrev pub af_group : ℕ → ℕ → ℕ → Reader (Session × List Fact)
+af_group v counter site = do
   id ← text session_id_limit
-  fs ← facts (af_fact (stamped 0 counter site))
+  fs ← facts (af_fact v (stamped 0 counter site))
   give (af id, fs)
 
 -- of the kind that stands before them
-unfoldable pub group : ℕ → ℕ → ℕ → Reader (Session × List Fact)
-group counter site number = do
+unfoldable pub group : ℕ → ℕ → ℕ → ℕ → Reader (Session × List Fact)
+group v counter site number = do
   kind ← byte
-  if kind == 1 then gx_group counter site number else if kind == 2 then af_group counter site else refuse
+  if kind == 1 then gx_group v counter site number else if kind == 2 then af_group v counter site else refuse
 
 -- an operation of the form
-unfoldable pub operation : Reader Operation
-operation = do
+unfoldable pub operation : ℕ → Reader Operation
+operation v = do
   counter ← long
   site ← byte
   number ← word
-  on ← group counter site number
+  on ← group v counter site number
   given (if_formed (record { counter = counter; site = site; number = number; session = on.0; facts = on.1 }))
 
 -- a range
-unfoldable pub range : Reader LetterBody
-range = do
+unfoldable pub range : ℕ → Reader LetterBody
+range v = do
   from ← long
   n ← word
-  os ← many operation n
+  os ← many (operation v) n
   give (Range from os)
 
 -- what a state holds of a session of each kind
-abbrev pub held_gx_group : Reader Group
-held_gx_group = do
+abbrev pub held_gx_group : ℕ → Reader Group
+held_gx_group v = do
   id ← text session_id_limit
-  fs ← facts held_gx_fact
+  fs ← facts (held_gx_fact v)
   give (gx id, fs)
 
-abbrev pub held_af_group : Reader Group
-held_af_group = do
+abbrev pub held_af_group : ℕ → Reader Group
+held_af_group v = do
   id ← text session_id_limit
-  fs ← facts held_af_fact
+  fs ← facts (held_af_fact v)
   give (af id, fs)
 
 -- of the kind that stands before it
-unfoldable pub held_group : Reader Group
-held_group = do
+unfoldable pub held_group : ℕ → Reader Group
+held_group v = do
   kind ← byte
-  if kind == 1 then held_gx_group else if kind == 2 then held_af_group else refuse
+  if kind == 1 then held_gx_group v else if kind == 2 then held_af_group v else refuse
 
 -- the state of these groups, where one may hold them under that clock
 abbrev pub if_held : ℕ → ℕ → List Group → Option LetterBody
 if_held clock n gs = if are_groups clock gs then Some (Snapshot (held_in clock gs) n) else None
 
 -- a whole state
-unfoldable pub snapshot : Reader LetterBody
-snapshot = do
+unfoldable pub snapshot : ℕ → Reader LetterBody
+snapshot v = do
   clock ← long
   n ← long
   count ← word
-  gs ← many held_group count
+  gs ← many (held_group v) count
   given (if_held clock n gs)
 
 -- an acknowledgement
@@ -92,17 +93,17 @@ acknowledgement = do
   give (Acknowledgement maker epoch cursor)
 
 -- what a letter says
-unfoldable pub body : Reader LetterBody
-body = do
+unfoldable pub body : ℕ → Reader LetterBody
+body v = do
   kind ← byte
-  if kind == 1 then range else if kind == 2 then snapshot else if kind == 3 then acknowledgement else refuse
+  if kind == 1 then range v else if kind == 2 then snapshot v else if kind == 3 then acknowledgement else refuse
 
 -- what follows the edition, as far as it is within its ranges
-unfoldable pub content : ℕ → Reader LetterValue
-content edition = do
+unfoldable pub content : ℕ → ℕ → Reader LetterValue
+content v edition = do
   site ← byte
   epoch ← short
-  said ← body
+  said ← body v
   given (if_addressed (record { edition = edition; site = site; epoch = epoch; body = said }))
 
 -- a letter that has all of the bytes
@@ -112,19 +113,19 @@ whole (Some (l, [])) = Ok l
 whole (Some (l, b ∷ bytes)) = Err BadShape
 
 -- a letter of that edition, whose version and edition were judged, of so many bytes, with the rest of them
-abbrev pub shaped : ℕ → ℕ × List ℕ → List ℕ → Result LetterValue LetterFault
-shaped edition counted rest =
-    if (length counted.1 == counted.0) && nat_le counted.0 longest_letter then whole (content edition rest) else Err BadShape
+abbrev pub shaped : ℕ → ℕ → ℕ × List ℕ → List ℕ → Result LetterValue LetterFault
+shaped v edition counted rest =
+    if (length counted.1 == counted.0) && nat_le counted.0 longest_letter then whole (content v edition rest) else Err BadShape
 
 -- the edition is that, and the rest a letter's
-abbrev pub of_edition : ℕ → ℕ × List ℕ → Option (ℕ × List ℕ) → Result LetterValue LetterFault
-of_edition edition counted None = Err BadShape
-of_edition edition counted (Some x) = if x.0 == edition then shaped edition counted x.1 else Err BadEdition
+abbrev pub of_edition : ℕ → ℕ → ℕ × List ℕ → Option (ℕ × List ℕ) → Result LetterValue LetterFault
+of_edition v edition counted None = Err BadShape
+of_edition v edition counted (Some x) = if x.0 == edition then shaped v edition counted x.1 else Err BadEdition
 
--- the version is the format's
+-- the version is one of those that are read
 abbrev pub of_version : ℕ → ℕ × List ℕ → Option (ℕ × List ℕ) → Result LetterValue LetterFault
 of_version edition counted None = Err BadShape
-of_version edition counted (Some x) = if x.0 == letter_version then of_edition edition counted (word x.1) else Err BadVersion
+of_version edition counted (Some x) = if is_within 1 letter_version x.0 then of_edition x.0 edition counted (word x.1) else Err BadVersion
 
 -- behind the number of bytes
 abbrev pub of_length : ℕ → Option (ℕ × List ℕ) → Result LetterValue LetterFault

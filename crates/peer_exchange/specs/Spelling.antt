@@ -1,4 +1,4 @@
--- The one spelling of a letter in bytes (this project's profile): four bytes with the number of those that follow; then the version, the
+-- The spellings of a letter in bytes, one for each version that has what it says (this project's profile): four bytes with the number of those that follow; then the version, the
 -- edition of the sender's operator tables, the sender, its epoch, and what the letter says.
 use Rattle.std.specs.Prelude.{ℕ, List, [], ◌∷◌, ◌++◌, length}
 use Rattle.std.specs.List.{flat_map}
@@ -44,14 +44,21 @@ body_bytes (Range from os) = 1 ∷ [] ++ long_bytes from ++ operations_bytes os
 body_bytes (Snapshot h n) = held_bytes h.clock n (groups_of_facts h.facts)
 body_bytes (Acknowledgement m e c) = 3 ∷ m ∷ [] ++ short_bytes e ++ long_bytes c
 
--- what stands before it
-abbrev pub head_bytes : LetterValue → List ℕ
-head_bytes l = letter_version ∷ [] ++ word_bytes l.edition ++ l.site ∷ [] ++ short_bytes l.epoch
+-- what stands before it in a letter of version v
+abbrev pub head_bytes : ℕ → LetterValue → List ℕ
+head_bytes v l = v ∷ [] ++ word_bytes l.edition ++ l.site ∷ [] ++ short_bytes l.epoch
 
 -- a letter without its length
-unfoldable pub letter_bytes : LetterValue → List ℕ
-letter_bytes l = head_bytes l ++ body_bytes l.body
+unfoldable pub letter_bytes_in : ℕ → LetterValue → List ℕ
+letter_bytes_in v l = head_bytes v l ++ body_bytes l.body
 
 -- a letter
-unfoldable pub spelling : LetterValue → List ℕ
-spelling l = word_bytes (length (letter_bytes l)) ++ letter_bytes l
+unfoldable pub spelling_in : ℕ → LetterValue → List ℕ
+spelling_in v l = word_bytes (length (letter_bytes_in v l)) ++ letter_bytes_in v l
+
+-- both as they are written
+abbrev pub letter_bytes : LetterValue → List ℕ
+letter_bytes = letter_bytes_in letter_version
+
+abbrev pub spelling : LetterValue → List ℕ
+spelling = spelling_in letter_version

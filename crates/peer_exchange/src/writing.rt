@@ -188,7 +188,7 @@ fn put_body(out: &mut Vec<u8>, body: &Body) -> Result<(), Unwritten>
 }
 
 /// Adds a letter without its length.
-#[tactic(auto, using(crate::proofs::Added::added), unfolding(crate::specs::Spelling::letter_bytes))]
+#[tactic(auto, using(crate::proofs::Added::added), unfolding(crate::specs::Spelling::letter_bytes_in))]
 fn put_letter(out: &mut Vec<u8>, letter: &Letter) -> Result<(), Unwritten>
     ensures written { OnOk result (out.new.items ≡ out.old.items ++ letter_bytes letter.now) }
     ensures too_long { IsErrOf result Unwritten.TooLong
@@ -213,7 +213,7 @@ fn set_length(frame: &mut Vec<u8>, count: u32)
     frame[3] = fourth;
 }
 
-/// The one spelling of a letter, of at most 2^30 bytes behind its length.
+/// The spelling of a letter in the last version, of at most 2^30 bytes behind its length.
 pub fn write_letter(alloc: Global, letter: &Letter) -> Result<Vec<u8>, LetterFault>
     ensures written { IfOk result (λ v. v.items ≡ spelling letter.now) }
     ensures again { IfOk result (λ v. letter_of letter.now.edition v.items ≡ Ok letter.now) }

@@ -5,7 +5,6 @@ use Rattle.std.specs.List.{filter}
 use Rattle.ranked.specs.Ascending.{Rises}
 use Rattle.ranked.specs.Orders.{text_cmp}
 use Rattle.ranked.specs.Sets.{In, Same}
-use Rattle.ranked.proofs.Plain.{some_is}
 use Rattle.ranked.proofs.OrderLaws.{IsRanked, text_ranked}
 use Rattle.ranked.proofs.SetLaws.{In-filter, filter-In, In-map, map-In}
 use Rattle.ranked.proofs.AscendingLaws.{filter-ascending, ascending-ascending, same_ascending}
@@ -13,7 +12,7 @@ use Rattle.lattice_core.specs.Entries.{IsAscending}
 use Rattle.lattice_core.proofs.MapParts.{below_member}
 use Rattle.pcrf_facts.specs.Facts.{Fact}
 use Rattle.pcrf_facts.specs.FlowWords.{or_else}
-use Rattle.pcrf_facts.specs.Places.{address}
+use Rattle.pcrf_facts.specs.Places.{Place}
 use Rattle.pcrf_facts.specs.Values.{Entry}
 use Rattle.pcrf_model.specs.Holdings.{SessionFact, facts_on}
 use Rattle.pcrf_model.specs.Live.{is_live}
@@ -23,7 +22,7 @@ use Rattle.pcrf_model.specs.Tables.{Tables}
 use Rattle.pcrf_model.specs.Differences.{is_empty}
 use Rattle.pcrf_model.specs.Replies.{PushValue}
 use Rattle.pcrf_model.specs.Pushing.{is_of_host, is_home, is_due, due_session}
-use Rattle.pcrf_model.proofs.BindLaws.{has_address, gx_is}
+use Rattle.pcrf_model.proofs.BindLaws.{live_reached, gx_is}
 use Rattle.pcrf_model.proofs.HoldingLaws.{session_ranked}
 use Rattle.pcrf_model.proofs.ViewLaws.{its_session, shows-known}
 use Rattle.site_join.specs.States.{Records}
@@ -83,7 +82,7 @@ module _ (t : Tables) (i : ℕ) (name : Option (List ℕ)) (facts : List Session
   -- what is known of a session that is due
   record IsDue (s : Session) : Type 0 where
     named : gx s.id ≡ s
-    address_shows : (x : Entry) × (v.shows s address ≡ Some x)
+    shows : (p : Place) × (x : Entry) × (v.shows s p ≡ Some x)
 
   -- so it is
   is_due_so : (s : Session) → is_next s ≡ true → IsDue s
@@ -91,9 +90,10 @@ module _ (t : Tables) (i : ℕ) (name : Option (List ℕ)) (facts : List Session
       let both : (is_gx s.kind && is_live v s) ≡ true = first_so _ _ (first_so _ _ (first_so _ _ h)) in
       let of_gateway : is_gx s.kind ≡ true = first_so _ _ both in
       let live : is_live v s ≡ true = second_so (is_gx s.kind) _ both in
+      let r = live_reached v s live in
       record {
         named = gx_is s s.kind refl of_gateway;
-        address_shows = some_is (v.shows s address) (has_address v s s.kind of_gateway (second_so (not (v.ended s)) _ live));
+        shows = (r.0, r.2, r.3);
       }
 
   -- its host is read alone
@@ -130,17 +130,17 @@ module _ (t : Tables) (i : ℕ) (name : Option (List ℕ)) (facts : List Session
   forth : (s : Session) → In s (filter is_next (map session_of es)) → In s (filter is_next v.sessions)
   forth s j =
       let k = filter-In is_next s (map session_of es) j in
-      let x = (is_due_so s k.1).address_shows in
-      In-filter is_next s v.sessions (shows-known facts s address x.0 x.1) k.1
+      let x = (is_due_so s k.1).shows in
+      In-filter is_next s v.sessions (shows-known facts s x.0 x.1 x.2) k.1
 
   -- and each session that is due has a record
   back : (s : Session) → In s (filter is_next v.sessions) → In s (filter is_next (map session_of es))
   back s j =
       let k = filter-In is_next s v.sessions j in
       let d = is_due_so s k.1 in
-      let x = d.address_shows in
-      let shows : v.shows (gx s.id) address ≡ Some x.0 = ap (λ (z : Session). v.shows z address) d.named ∙ x.1 in
-      let there = In-map session_of (s.id, facts_on facts (gx s.id)) es (has_record facts es r s.id address x.0 shows) in
+      let x = d.shows in
+      let shows : v.shows (gx s.id) x.0 ≡ Some x.1 = ap (λ (z : Session). v.shows z x.0) d.named ∙ x.2 in
+      let there = In-map session_of (s.id, facts_on facts (gx s.id)) es (has_record facts es r s.id x.0 x.1 shows) in
       In-filter is_next s (map session_of es) (subst (λ (z : Session). In z (map session_of es)) d.named there) k.1
 
   -- the sessions rise

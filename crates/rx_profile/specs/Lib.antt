@@ -1,8 +1,10 @@
+pub mod Aborts
 pub mod Answers
 pub mod Avps
 pub mod Media
 pub mod Numbers
 pub mod Requests
+pub mod Samples
 pub mod Services
 pub mod Terminations
 pub mod Values

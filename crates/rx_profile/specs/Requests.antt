@@ -6,9 +6,9 @@ use Rattle.pcrf_values.specs.Texts.{small_letters}
 use Rattle.pcrf_values.specs.declared.refusal.Refusal.{Refusal}
 use Rattle.dia_codec.specs.Fields.{AvpValue}
 use Rattle.pcrf_model.specs.Requests.{ComponentValue, AarValue}
-use Rattle.dia_base.specs.Avps.{session_id, origin_host, origin_realm, framed_ip_address, called_station_id}
+use Rattle.dia_base.specs.Avps.{session_id, origin_host, origin_realm, framed_ip_address, framed_ipv6_prefix, called_station_id}
 use Rattle.dia_base.specs.Origins.{origin_rows}
-use Rattle.dia_base.specs.Rows.{Row, optional, repeated, text_to, ipv4_address, values_of, value_of, text_at, or_else, rows_refusal}
+use Rattle.dia_base.specs.Rows.{Row, optional, repeated, text_to, ipv4_address, ipv6_prefix, values_of, value_of, prefix_at, text_at, or_else, rows_refusal}
 use Rattle.dia_base.specs.Sessions.{session_row}
 use Rattle.dia_base.specs.Subscriptions.{subscription_row, subscribers_of}
 use Rattle.rx_profile.specs.Avps.{media_component_description}
@@ -24,9 +24,12 @@ aar_view q = record {
   session = q.session;
   host = q.origin.host;
   realm = q.origin.realm;
-  address = option_map ipv4_octets q.address;
-  apn = q.apn;
-  subscribers = q.subscribers;
+  user = record {
+    address = option_map ipv4_octets q.address;
+    prefix = q.prefix;
+    apn = q.apn;
+    subscribers = q.subscribers;
+  };
   components = q.components;
 }
 
@@ -36,18 +39,22 @@ raw_view q = record {
   session = q.session;
   host = q.origin.host;
   realm = q.origin.realm;
-  address = option_map ipv4_octets q.access.address;
-  apn = q.access.apn;
-  subscribers = q.access.subscribers;
+  user = record {
+    address = option_map ipv4_octets q.access.address;
+    prefix = q.access.prefix;
+    apn = q.access.apn;
+    subscribers = q.access.subscribers;
+  };
   components = q.components.items;
 }
 
 -- ---- the table
 
--- Framed-IP-Address, Subscription-Id and Called-Station-Id
+-- Framed-IP-Address, Framed-IPv6-Prefix, Subscription-Id and Called-Station-Id
 abbrev pub access_rows : List Row
 access_rows =
     optional framed_ip_address ipv4_address
+    ∷ optional framed_ipv6_prefix ipv6_prefix
     ∷ subscription_row
     ∷ optional called_station_id (text_to apn_limit)
     ∷ []
@@ -72,9 +79,12 @@ aar_of avps = record {
   session = text_at session_id avps;
   host = text_at origin_host avps;
   realm = text_at origin_realm avps;
-  address = value_of framed_ip_address avps;
-  apn = option_map small_letters (value_of called_station_id avps);
-  subscribers = subscribers_of avps;
+  user = record {
+    address = value_of framed_ip_address avps;
+    prefix = prefix_at framed_ipv6_prefix avps;
+    apn = option_map small_letters (value_of called_station_id avps);
+    subscribers = subscribers_of avps;
+  };
   components = components_of avps;
 }
 

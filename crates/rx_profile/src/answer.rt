@@ -14,8 +14,8 @@ use dia_codec::{Header, Message};
 use pcrf_values::AfSid;
 use std::alloc::{AllocError, Global};
 
-/// An answer's AVPs, begun with the Session-Id (RFC 6733, 8.8).
-fn begun(alloc: Global, session: &AfSid) -> Result<AvpWriter, AllocError>
+/// A message's AVPs, begun with the Session-Id (RFC 6733, 8.8).
+pub(crate) fn begun(alloc: Global, session: &AfSid) -> Result<AvpWriter, AllocError>
     ensures begun { IfOk result (λ out. out ≡ text_avp session_id session.now ∷ []) }
     ensures short { length session.now ≤ session_id_limit }
 {

@@ -1,7 +1,13 @@
 //! Numbers that TS 29.214 gives out.
 
+/// The Abort-Cause BEARER_RELEASED (TS 29.214, 5.3.1).
+pub const BEARER_RELEASED: u32 = 0;
+
 /// AVP codes of 3GPP (TS 29.214, 5.3).
 pub mod avps {
+    /// 5.3.1.
+    pub const ABORT_CAUSE: u32 = 500;
+
     /// 5.3.8.
     pub const FLOW_DESCRIPTION: u32 = 507;
 

@@ -1,10 +1,13 @@
-//! The Rx profile: what is read of AA requests and session termination requests, and the bytes of their answers
-//! (TS 29.214).
+//! The Rx profile: what is read of AA requests, session termination requests and abort session answers, the AVPs of the answers to
+//! such requests, and those of an abort session request (TS 29.214).
 #![tactic(auto)]
 
+mod abort;
 mod answer;
+mod asa;
 mod codes;
 mod component;
+pub mod examples;
 mod filter;
 mod judging;
 mod media;
@@ -13,7 +16,9 @@ mod raw;
 mod request;
 mod termination;
 
+pub use abort::{AbortOut, write_asr};
 pub use answer::{write_aaa, write_sta};
+pub use asa::{Asa, read_asa};
 pub use component::{Component, Components, Flow};
 pub use media::{ComponentParts, FlowParts, MediaStatus, Rates, is_removed};
 pub use pcrf_values::FlowUsage;

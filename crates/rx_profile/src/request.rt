@@ -3,8 +3,8 @@ ghost use Rattle.std.specs.Prelude.{◌≡◌, ◌↔◌, ◌≤◌, length, Non
 ghost use Rattle.std.specs.Net.Addr.{ipv4_octets};
 ghost use Rattle.pcrf_values.specs.Texts.{small_letters};
 ghost use Rattle.dia_codec.specs.Spelling.{avp_views};
-ghost use Rattle.dia_base.specs.Avps.{called_station_id, framed_ip_address};
-ghost use Rattle.dia_base.specs.Rows.{AcceptsAll, IsFaultOf, rows_refusal, value_of};
+ghost use Rattle.dia_base.specs.Avps.{called_station_id, framed_ip_address, framed_ipv6_prefix};
+ghost use Rattle.dia_base.specs.Rows.{AcceptsAll, IsFaultOf, rows_refusal, value_of, prefix_at};
 ghost use Rattle.dia_base.specs.Subscriptions.{subscribers_of};
 ghost use Rattle.pcrf_values.specs.Limits.{components_limit};
 ghost use Rattle.rx_profile.specs.Requests.{aar_of, aar_refusal, aar_rows, aar_view, access_rows, raw_view};
@@ -12,15 +12,15 @@ ghost use Rattle.rx_profile.specs.Requests.{aar_of, aar_refusal, aar_rows, aar_v
 use crate::codes::avps::MEDIA_COMPONENT_DESCRIPTION;
 use crate::component::Components;
 use crate::raw::RawComponent;
-use dia_base::codes::avps::{CALLED_STATION_ID, FRAMED_IP_ADDRESS, SESSION_ID};
+use dia_base::codes::avps::{CALLED_STATION_ID, FRAMED_IP_ADDRESS, FRAMED_IPV6_PREFIX, SESSION_ID};
 use dia_base::{
-    Origin, ReadFault, base_key, optional_address, optional_apn, read_each, read_origin,
-    read_subscribers, required_text, tgpp_key,
+    Origin, ReadFault, base_key, optional_address, optional_apn, optional_prefix, read_each,
+    read_origin, read_subscribers, required_text, tgpp_key,
 };
 use dia_codec::{Avp, Message};
 use exact_values::{Exact, same, same_address};
 use pcrf_values::limits::COMPONENTS_LIMIT;
-use pcrf_values::{AfSid, Apn, Subscribers};
+use pcrf_values::{AfSid, Apn, Ipv6Prefix, Subscribers};
 use ranked::Ranked;
 use std::alloc::{AllocError, Global};
 use std::net::Ipv4Addr;
@@ -34,6 +34,8 @@ pub struct Aar {
     pub origin: Origin,
     /// Framed-IP-Address: the address of the subscriber's side of the media.
     pub address: Option<Ipv4Addr>,
+    /// Framed-IPv6-Prefix: the prefix of the subscriber's side of the media.
+    pub prefix: Option<Ipv6Prefix>,
     /// Called-Station-Id: the access point name, in small letters.
     pub apn: Option<Apn>,
     /// The Subscription-Ids, each once; None where none was given.
@@ -56,6 +58,7 @@ impl Aar {
             session,
             origin,
             address: self.address,
+            prefix: self.prefix,
             apn,
             subscribers,
             components,
@@ -69,6 +72,7 @@ impl Aar {
         same(&self.session, &other.session)
             && self.origin.equal(&other.origin)
             && same_address(self.address, other.address)
+            && same(&self.prefix, &other.prefix)
             && same(&self.apn, &other.apn)
             && same(&self.subscribers, &other.subscribers)
             && self.components.equal(&other.components)
@@ -79,6 +83,7 @@ impl Aar {
 #[derive(Drop)]
 struct Access {
     address: Option<Ipv4Addr>,
+    prefix: Option<Ipv6Prefix>,
     subscribers: Option<Subscribers>,
     apn: Option<Apn>,
 }
@@ -92,11 +97,13 @@ struct RawAar {
     components: Vec<RawComponent>,
 }
 
-/// Reads the Framed-IP-Address, the Subscription-Ids and the Called-Station-Id.
+/// Reads the Framed-IP-Address, the Framed-IPv6-Prefix, the Subscription-Ids and the Called-Station-Id.
 fn read_access(alloc: Global, avps: &[Avp]) -> Result<Access, ReadFault>
     ensures accepted { OnOk result (AcceptsAll access_rows (avp_views avps.now)) }
     ensures address { IfOk result (λ access.
         option_map ipv4_octets access.address ≡ value_of framed_ip_address (avp_views avps.now)) }
+    ensures prefix { IfOk result (λ access.
+        access.prefix ≡ prefix_at framed_ipv6_prefix (avp_views avps.now)) }
     ensures subscribers { IfOk result (λ access.
         access.subscribers ≡ subscribers_of (avp_views avps.now)) }
     ensures apn { IfOk result (λ access.
@@ -104,10 +111,12 @@ fn read_access(alloc: Global, avps: &[Avp]) -> Result<Access, ReadFault>
     ensures refused { IfErr result (IsFaultOf (rows_refusal access_rows (avp_views avps.now))) }
 {
     let address = optional_address(avps, base_key(FRAMED_IP_ADDRESS))?;
+    let prefix = optional_prefix(avps, base_key(FRAMED_IPV6_PREFIX))?;
     let subscribers = read_subscribers(alloc, avps)?;
     let apn = optional_apn(alloc, avps, base_key(CALLED_STATION_ID))?;
     Ok(Access {
         address,
+        prefix,
         subscribers,
         apn,
     })
@@ -152,6 +161,7 @@ pub fn read_aar(alloc: Global, message: &Message) -> Result<Aar, ReadFault>
     let components = Components::judged(alloc, components)?;
     let Access {
         address,
+        prefix,
         subscribers,
         apn,
     } = access;
@@ -159,6 +169,7 @@ pub fn read_aar(alloc: Global, message: &Message) -> Result<Aar, ReadFault>
         session,
         origin,
         address,
+        prefix,
         apn,
         subscribers,
         components,

@@ -21,6 +21,7 @@ pub fn ccr(
         kind,
         number,
         address: None,
+        prefix: None,
         apn: None,
         subscribers: None,
     })

@@ -1,5 +1,5 @@
 -- The live sessions that have a subscriber, among those that an index lists, and what it still covers once those are forgotten that don't show one.
-use Rattle.std.proofs.Common.{◌≡◌, ℕ, Bool, true, false, not, ◌&&◌, List, [], ◌∷◌, ◌++◌, Option, Some, None, ◌⊎◌, ◌||◌, inl, inr, refl, sym, ap, ◌∙◌, subst, map, if◌then◌else◌}
+use Rattle.std.proofs.Common.{◌≡◌, ℕ, Bool, true, false, ◌&&◌, List, [], ◌∷◌, ◌++◌, Option, Some, None, ◌⊎◌, ◌||◌, inl, inr, refl, sym, ap, ◌∙◌, subst, map, if◌then◌else◌}
 use Rattle.std.specs.Cmp.{first_so, second_so}
 use Rattle.std.specs.List.{list_any}
 use Rattle.std.specs.Ordering.{is_eq}
@@ -9,11 +9,11 @@ use Rattle.ranked.specs.Orders.{text_cmp}
 use Rattle.ranked.specs.Sets.{In}
 use Rattle.ranked.proofs.AscendingLaws.{ascending-ascending, same_ascending, filter_map-ascending}
 use Rattle.ranked.proofs.OrderLaws.{text_ranked, eq_is, eq_itself}
-use Rattle.ranked.proofs.Plain.{clash, came_from, some_same, some_is}
+use Rattle.ranked.proofs.Plain.{clash, came_from, some_same}
 use Rattle.ranked.proofs.SetLaws.{In-left, In-right, In-cases, In-any, any-In, In-filter_map, filter_map-In}
 use Rattle.pcrf_values.specs.Subscribers.{subscriber_cmp}
 use Rattle.pcrf_facts.specs.Facts.{Fact}
-use Rattle.pcrf_facts.specs.Places.{address, subscribers}
+use Rattle.pcrf_facts.specs.Places.{Place, subscribers}
 use Rattle.pcrf_facts.specs.Values.{Value, Entry, Number, Text, Address, Subscriber, Subscribers, Filters, Untold, Told}
 use Rattle.pcrf_facts.proofs.FactLaws.{subscriber_ranked}
 use Rattle.pcrf_model.specs.Bindings.{meets}
@@ -21,7 +21,7 @@ use Rattle.pcrf_model.specs.Holdings.{SessionFact, facts_on}
 use Rattle.pcrf_model.specs.Live.{is_live}
 use Rattle.pcrf_model.specs.Sessions.{Kind, Gx, Af, Session, session_cmp, gx, af, is_gx}
 use Rattle.pcrf_model.specs.Views.{View, view, value}
-use Rattle.pcrf_model.proofs.BindLaws.{has_address, gx_is}
+use Rattle.pcrf_model.proofs.BindLaws.{live_reached, gx_is}
 use Rattle.pcrf_model.proofs.HoldingLaws.{session_ranked}
 use Rattle.pcrf_model.proofs.ViewLaws.{its_session, shows-known}
 use Rattle.bind_index.specs.Beside.{beside}
@@ -60,7 +60,7 @@ it_shows x us m = ap (λ b. b || false) (In-any (λ y. is_eq (subscriber_cmp x y
 record IsAsked (v : View) (q : Question) (s : Session) (id : List ℕ) : Type 0 where
   named : gx id ≡ s
   shows_what : shows_asked q (v.shows s) ≡ true
-  address_shows : (x : Entry) × (v.shows s address ≡ Some x)
+  shows : (p : Place) × (x : Entry) × (v.shows s p ≡ Some x)
 
 -- so it is
 is_asked : (v : View) (q : Question) (s : Session) (id : List ℕ) → listed v q s ≡ Some id → IsAsked v q s id
@@ -69,10 +69,11 @@ is_asked v q s id h =
     let lives : (is_gx s.kind && is_live v s) ≡ true = first_so _ _ c.0 in
     let of_gateway : is_gx s.kind ≡ true = first_so _ _ lives in
     let live : is_live v s ≡ true = second_so (is_gx s.kind) _ lives in
+    let r = live_reached v s live in
     record {
       named = ap gx (sym (some_same _ _ c.1)) ∙ gx_is s s.kind refl of_gateway;
       shows_what = second_so (is_gx s.kind && is_live v s) _ c.0;
-      address_shows = some_is (v.shows s address) (has_address v s s.kind of_gateway (second_so (not (v.ended s)) _ live));
+      shows = (r.0, r.2, r.3);
     }
 
 module _ (facts : List SessionFact) (x : Subscriber) (i : IndexValue) (all : Covers (view facts) i) where
@@ -112,8 +113,8 @@ module _ (facts : List SessionFact) (x : Subscriber) (i : IndexValue) (all : Cov
   back id m =
       let w = filter_map-In of_id id ids m in
       let here : listed v q (gx w.0) ≡ Some id = sym (alone w.0) ∙ w.2 in
-      let e = (is_asked v q (gx w.0) id here).address_shows in
-      In-filter_map (listed v q) (gx w.0) id v.sessions (shows-known facts (gx w.0) address e.0 e.1) here
+      let e = (is_asked v q (gx w.0) id here).shows in
+      In-filter_map (listed v q) (gx w.0) id v.sessions (shows-known facts (gx w.0) e.0 e.1 e.2) here
 
   -- the sessions rise
   sessions_rise : Rises text_cmp (live_sessions v q)

@@ -19,41 +19,20 @@ use Rattle.pcrf_model.specs.Forms.{is_session, is_rising, stand_together, fits, 
 use Rattle.pcrf_model.proofs.HoldingLaws.{session_ranked, shades_there, kept_facts-In, sorted-In, In-under}
 use Rattle.pcrf_model.proofs.FormReading.{each_passes}
 use Rattle.pcrf_model.proofs.FormLaws.{all_pass, le_passes, test_by_rises, form_by_test}
+use Rattle.fact_records.proofs.KeepLaws.{same_position}
 use Rattle.site_join.specs.Groups.{Group, facts_of_groups, is_group, are_groups, with_first, groups_of_facts}
 use Rattle.site_join.proofs.GroupLaws.{AreGroups, of_groups}
 use Rattle.site_join.proofs.HeldGroups.{groups_by_test}
 
 -- ---- positions of facts of which none overshadows another
 
--- what has a greater entry at the same position overshadows
-at_one : (f g : Fact) → position_cmp (position f) (position g) ≡ Equal → option_cmp entry_cmp (entry f) (entry g) ≡ Less → is_shaded_by f g ≡ true
-at_one (Field p t v) (Field q u w) e l = both _ _ (ap is_eq e) (ap is_lt l)
-at_one (Field p t v) End e l = absurd (cc)
-at_one (Field p t v) (Removed r) e l = absurd (cc)
-at_one End End e l = absurd (cc)
-at_one End (Removed r) e l = absurd (cc)
-at_one (Removed r) End e l = absurd (cc)
-at_one (Removed r) (Removed s) e l = absurd (cc)
-at_one End (Field (OfSession x) u w) e l = absurd (cc)
-at_one End (Field (OfComponent c x) u w) e l = absurd (cc)
-at_one End (Field (OfFlow c n x) u w) e l = absurd (cc)
-at_one End (Field (OfRuleName x) u w) e l = absurd (cc)
-at_one (Removed (Component d)) (Field (OfSession x) u w) e l = absurd (cc)
-at_one (Removed (Component d)) (Field (OfComponent c x) u w) e l = absurd (cc)
-at_one (Removed (Component d)) (Field (OfFlow c n x) u w) e l = absurd (cc)
-at_one (Removed (Component d)) (Field (OfRuleName x) u w) e l = absurd (cc)
-at_one (Removed (Flow d m)) (Field (OfSession x) u w) e l = absurd (cc)
-at_one (Removed (Flow d m)) (Field (OfComponent c x) u w) e l = absurd (cc)
-at_one (Removed (Flow d m)) (Field (OfFlow c n x) u w) e l = absurd (cc)
-at_one (Removed (Flow d m)) (Field (OfRuleName x) u w) e l = absurd (cc)
-
--- so the lesser of two facts stands before the other, if that does not overshadow it
+-- the lesser of two facts stands before the other, if that does not overshadow it
 position_less : (f g : Fact) → fact_cmp f g ≡ Less → is_shaded_by f g ≡ false → position_cmp (position f) (position g) ≡ Less
 position_less f g l h = by_order (position_cmp (position f) (position g)) refl
   where
     by_order : (o : Ordering) → position_cmp (position f) (position g) ≡ o → position_cmp (position f) (position g) ≡ Less
     by_order Less e = e
-    by_order Equal e = clash (is_shaded_by f g) (at_one f g e (sym (ap (λ o. ordering_then o (option_cmp entry_cmp (entry f) (entry g))) e) ∙ l)) h
+    by_order Equal e = clash (is_shaded_by f g) (same_position f g e l) h
     by_order Greater e =
         let past : Greater ≡ Less = sym (ap (λ o. ordering_then o (option_cmp entry_cmp (entry f) (entry g))) e) ∙ l in
         absurd (cc)

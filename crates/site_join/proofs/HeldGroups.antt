@@ -11,7 +11,7 @@ use Rattle.ranked.proofs.SetLaws.{In-map, none-any, Same-itself, Same-back, Same
 use Rattle.ranked.proofs.AscendingLaws.{ascending-itself}
 use Rattle.pcrf_facts.specs.Places.{position_cmp}
 use Rattle.pcrf_facts.specs.Values.{entry_cmp}
-use Rattle.pcrf_facts.specs.Facts.{Fact, End, Removed, Field, position, entry, fact_cmp, is_shaded_by}
+use Rattle.pcrf_facts.specs.Facts.{Fact, End, Removed, Field, Aborted, position, entry, fact_cmp, is_shaded_by}
 use Rattle.pcrf_values.specs.Limits.{last_counter, site_limit}
 use Rattle.pcrf_model.specs.Sessions.{Kind, Session, session_cmp}
 use Rattle.pcrf_model.specs.Holdings.{SessionFact, session_fact_cmp, is_shaded_there_by, kept_facts, under, Holding, kept_of}
@@ -141,6 +141,7 @@ module _ (clock : ℕ) (gs : List Group) (form : HaveForm clock gs) where
 -- what is counted is numbered
 counted_numbered : (k : Kind) (m : ℕ) (f : Fact) → is_counted k m f ≡ true → is_numbered k f ≡ true
 counted_numbered k m End h = refl
+counted_numbered k m Aborted h = refl
 counted_numbered k m (Removed r) h = refl
 counted_numbered k m (Field p t x) h =
     let three = first_so (is_stamp t.counter t.site && nat_le t.counter m && is_unsigned t.number) (t.number == number_at k p t.number) h in

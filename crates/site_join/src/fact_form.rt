@@ -117,7 +117,7 @@ impl FormFact for AfFact {
 
     fn is_made(&self, counter: u64, site: u8, number: u32) -> bool {
         match self {
-            AfFact::End => true,
+            AfFact::End | AfFact::Aborted => true,
             AfFact::ComponentRemoved(component) => {
                 let _component = *component;
                 true
@@ -143,7 +143,7 @@ impl FormFact for AfFact {
 
     fn is_recorded(&self) -> bool {
         match self {
-            AfFact::End => true,
+            AfFact::End | AfFact::Aborted => true,
             AfFact::ComponentRemoved(component) => {
                 let _component = *component;
                 true
@@ -169,7 +169,7 @@ impl FormFact for AfFact {
 
     fn is_counted(&self, clock: u64) -> bool {
         match self {
-            AfFact::End => true,
+            AfFact::End | AfFact::Aborted => true,
             AfFact::ComponentRemoved(component) => {
                 let _component = *component;
                 true

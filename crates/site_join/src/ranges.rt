@@ -11,7 +11,9 @@ ghost use Rattle.pcrf_model.specs.Forms.{fits, is_unsigned};
 
 use af_records::{AfRequestType, ComponentValue, FlowValue, SessionValue};
 use gx_records::OpenRequestType;
-use pcrf_model::ranges::{note_address, note_apn, note_filters, note_subscribers, note_text};
+use pcrf_model::ranges::{
+    note_address, note_apn, note_filters, note_prefix, note_subscribers, note_text,
+};
 use pcrf_values::Enumerated;
 
 /// A number has 32 bits.
@@ -34,6 +36,7 @@ pub(crate) fn note_gx_value(value: &SessionValue<Enumerated<OpenRequestType>>)
         SessionValue::Last(last) => {
             let _number = last.number();
         }
+        SessionValue::Prefix(prefix) => note_prefix(prefix),
     }
 }
 
@@ -50,6 +53,7 @@ pub(crate) fn note_af_value(value: &SessionValue<Enumerated<AfRequestType>>)
         SessionValue::Last(last) => {
             let _number = last.number();
         }
+        SessionValue::Prefix(prefix) => note_prefix(prefix),
     }
 }
 

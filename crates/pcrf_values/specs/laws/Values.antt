@@ -4,6 +4,7 @@ use Rattle.std.specs.Cmp.{IsTotalOrder}
 use Rattle.std.proofs.lemmas.Cmp.{then_total, on_total, nat_cmp_total, nat_list_cmp_total, lists_total}
 use Rattle.ranked.specs.Exact.{IsExact}
 use Rattle.ranked.specs.laws.Exact.{nat_same, text_same, list_same, pair_same, then_parts}
+use Rattle.pcrf_values.specs.Prefixes.{prefix_cmp}
 use Rattle.pcrf_values.specs.Subscribers.{subscriber_cmp}
 use Rattle.pcrf_values.specs.RuleValues.{rule_cmp, delta_cmp}
 
@@ -14,6 +15,14 @@ subscriber_total = then_total (on_total (λ s. s.0) nat_cmp_total) (on_total (λ
 -- subscribers that compare as equal are the same
 pub subscriber_same : IsExact subscriber_cmp
 subscriber_same = pair_same nat_same text_same
+
+-- the order of prefixes is total
+pub prefix_total : IsTotalOrder prefix_cmp
+prefix_total = then_total (on_total (λ p. p.0) nat_cmp_total) (on_total (λ p. p.1) nat_list_cmp_total)
+
+-- prefixes that compare as equal are the same
+pub prefix_same : IsExact prefix_cmp
+prefix_same = pair_same nat_same text_same
 
 -- the order of rules is total
 pub rule_total : IsTotalOrder rule_cmp

@@ -9,7 +9,7 @@ use Rattle.fact_codec.proofs.facts.list_of_af_facts.Given as goal
 
 abbrev pub invariant-loop : goal.invariant-loop
 invariant-loop l = record {
-  read : with_front (map af_facts.fact_of l.items.items) (many (af_fact l.tag) (l.count - l.counter) l.rest) ≡ many (af_fact l.tag) l.count l.bytes;
+  read : with_front (map af_facts.fact_of l.items.items) (many (af_fact l.version l.tag) (l.count - l.counter) l.rest) ≡ many (af_fact l.version l.tag) l.count l.bytes;
   spelled : l.bytes ≡ flat_map fact_bytes (map af_facts.fact_of l.items.items) ++ l.rest;
   counted : length (map af_facts.fact_of l.items.items) ≡ l.counter;
   within : l.counter ≤ l.count;

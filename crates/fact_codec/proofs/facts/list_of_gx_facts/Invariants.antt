@@ -9,7 +9,7 @@ use Rattle.fact_codec.proofs.facts.list_of_gx_facts.Given as goal
 
 abbrev pub invariant-loop : goal.invariant-loop
 invariant-loop l = record {
-  read : with_front (map gx_facts.fact_of l.items.items) (many (gx_fact l.field_tag l.told_tag) (l.count - l.counter) l.rest) ≡ many (gx_fact l.field_tag l.told_tag) l.count l.bytes;
+  read : with_front (map gx_facts.fact_of l.items.items) (many (gx_fact l.version l.field_tag l.told_tag) (l.count - l.counter) l.rest) ≡ many (gx_fact l.version l.field_tag l.told_tag) l.count l.bytes;
   spelled : l.bytes ≡ flat_map fact_bytes (map gx_facts.fact_of l.items.items) ++ l.rest;
   counted : length (map gx_facts.fact_of l.items.items) ≡ l.counter;
   within : l.counter ≤ l.count;

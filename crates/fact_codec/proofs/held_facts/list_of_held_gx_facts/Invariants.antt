@@ -9,7 +9,7 @@ use Rattle.fact_codec.proofs.held_facts.list_of_held_gx_facts.Given as goal
 
 abbrev pub invariant-loop : goal.invariant-loop
 invariant-loop l = record {
-  read : with_front (map gx_facts.fact_of l.items.items) (many held_gx_fact (l.count - l.counter) l.rest) ≡ many held_gx_fact l.count l.bytes;
+  read : with_front (map gx_facts.fact_of l.items.items) (many (held_gx_fact l.version) (l.count - l.counter) l.rest) ≡ many (held_gx_fact l.version) l.count l.bytes;
   spelled : l.bytes ≡ flat_map held_fact_bytes (map gx_facts.fact_of l.items.items) ++ l.rest;
   counted : length (map gx_facts.fact_of l.items.items) ≡ l.counter;
   within : l.counter ≤ l.count;

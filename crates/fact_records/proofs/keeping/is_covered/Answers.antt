@@ -1,4 +1,4 @@
-use Rattle.std.proofs.Common.{◌≡◌, ◌∙◌, sym, true, false, map}
+use Rattle.std.proofs.Common.{◌≡◌, ◌∙◌, ap, sym, true, false, map}
 use Rattle.std.specs.Ordering.{is_lt}
 use Rattle.std.specs.List.{list_any}
 use Rattle.std.specs.Option.{option_cmp}
@@ -12,7 +12,8 @@ use Rattle.fact_records.proofs.keeping.is_covered.Goals as goal
 pub returns-in_default : goal.returns-in_default
 returns-in_default g c h =
     let fact = g.F.TypedFact.fact in
-    let gone : list_any (removes (beneath_of (fact c.args.fact.now))) (map fact c.args.facts.now) ≡ true = cc in
+    let gone : list_any (removes (beneath_of (fact c.args.fact.now))) (map fact c.args.facts.now) ≡ true =
+    ap (λ b. list_any (removes b) (map fact c.args.facts.now)) (sym c.beneath.ensures) ∙ sym c.is_removed.ensures ∙ h in
     covered_gone (map fact c.args.facts.now) (fact c.args.fact.now) (λ x i e. c.in_default.ensures x i (e ∙ sym c.position.ensures)) gone
 
 pub returns : goal.returns

@@ -1,4 +1,4 @@
-use Rattle.std.proofs.Common.{◌≡◌, ◌≤◌, ℕ, ◌+◌, zero, suc, Some, List, inl, refl, sym, ◌∙◌, subst, slice_get, arith}
+use Rattle.std.proofs.Common.{◌≡◌, ◌≤◌, ℕ, ◌+◌, zero, suc, Some, inl, refl, sym, ◌∙◌, subst, slice_get, arith}
 use Rattle.std.specs.Fmt.{digits}
 use Rattle.ranked.proofs.Plain.{none_some, some_same}
 use Rattle.ranked.specs.Sets.{In}

@@ -5,7 +5,7 @@ use Rattle.ranked.specs.Orders.{text_cmp}
 use Rattle.ranked.proofs.Plain.{clash, some_same}
 use Rattle.pcrf_facts.specs.Values.{Value, Address}
 use Rattle.pcrf_model.specs.Views.{view}
-use Rattle.pcrf_model.specs.Bindings.{bind}
+use Rattle.pcrf_model.specs.Bindings.{Party, bind}
 use Rattle.pcrf_model.specs.Rules.{rules}
 use Rattle.pcrf_model.specs.Differences.{told_rules_of}
 use Rattle.pcrf_model.specs.Refusals.{ccr_refusal, aar_refusal, str_refusal}
@@ -27,7 +27,7 @@ other e = clash (is_first (Address (host_address 1))) refl (ap is_first (some_sa
 
 pub returns : goal.returns
 unfolding digits view bind rules told_rules_of ccr_refusal aar_refusal str_refusal provision_outcome serve_ccr serve_aar serve_str
-returns c = record { again = again; moved = λ alike. other alike.at_address }
+returns c = record { again = again; moved = λ alike. other (ap (λ (p : Party). p.address) alike.reads) }
   where
     again : BindsAlike (seen one) (seen refreshed) first_session
-    again = record { of_gateway = refl; lives = refl; stands = refl; at_address = refl; of_subscribers = refl; at_apn = refl }
+    again = record { of_gateway = refl; reads = refl; stands = refl }

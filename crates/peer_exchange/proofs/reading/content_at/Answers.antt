@@ -3,12 +3,12 @@ use Rattle.ranked.proofs.Plain.{came_from, some_same}
 use Rattle.pcrf_model.specs.Letters.{LetterValue}
 use Rattle.fact_codec.specs.Spelling.{short_bytes, word_bytes}
 use Rattle.peer_exchange.specs.Form.{is_addressed, if_addressed}
-use Rattle.peer_exchange.specs.Spelling.{body_bytes, letter_bytes}
+use Rattle.peer_exchange.specs.Spelling.{body_bytes, letter_bytes_in}
 use Rattle.peer_exchange.specs.Values.{body_value, letter_value}
 use Rattle.peer_exchange.proofs.reading.content_at.Goals as goal
 
 pub returns-clause-spelled : goal.returns-clause-spelled
-unfolding letter_bytes
+unfolding letter_bytes_in
 returns-clause-spelled c =
     let site = c.in_ok-site.site in
     let epoch = short_bytes c.in_ok-epoch.epoch in
@@ -21,5 +21,6 @@ returns-clause-spelled c =
     let parts : front ++ c.args.bytes.now ≡ (((front ++ site ∷ []) ++ epoch) ++ said) ++ rest =
     ap (λ (x : List ℕ). front ++ x) (c.in_ok-site.ensures.spelled ∙ ap (λ (x : List ℕ). site ∷ x) (c.in_ok-epoch.ensures.spelled ∙ ap (λ (x : List ℕ). epoch ++ x) c.in_ok-said.ensures.spelled))
     ∙ sym (append_assoc ((front ++ site ∷ []) ++ epoch) said rest ∙ append_assoc (front ++ site ∷ []) epoch (said ++ rest) ∙ append_assoc front (site ∷ []) (epoch ++ (said ++ rest))) in
-    let spelled : 1 ∷ (front ++ c.args.bytes.now) ≡ letter_bytes o ++ rest = ap (λ (x : List ℕ). 1 ∷ x) parts in
-    subst (λ (x : LetterValue). 1 ∷ (front ++ c.args.bytes.now) ≡ letter_bytes x ++ rest) (some_same o c.in-Some.letter k.1) spelled
+    let v = c.args.version in
+    let spelled : v ∷ (front ++ c.args.bytes.now) ≡ letter_bytes_in v o ++ rest = ap (λ (x : List ℕ). v ∷ x) parts in
+    subst (λ (x : LetterValue). v ∷ (front ++ c.args.bytes.now) ≡ letter_bytes_in v x ++ rest) (some_same o c.in-Some.letter k.1) spelled

@@ -11,7 +11,7 @@ use Rattle.peer_exchange.proofs.reading.list_of_groups.Goals as goal
 pub returns-in_err-item-clause-read : goal.returns-in_err-item-clause-read
 returns-in_err-item-clause-read c =
     let p = err_from_is_err_and c.from_residual.result c.from_residual.ensures.1 in
-    rw (p.1, p.2) (ends held_group c.in_err-item.field-0.0 (map group_of c.loop.items.items) c.args.count c.loop.counter c.loop.rest.now (many held_group c.args.count c.args.bytes.now) c.loop-test.true c.in_err-item.ensures.read c.loop.invariant.read)
+    rw (p.1, p.2) (ends (held_group c.args.version) c.in_err-item.field-0.0 (map group_of c.loop.items.items) c.args.count c.loop.counter c.loop.rest.now (many (held_group c.args.version) c.args.count c.args.bytes.now) c.loop-test.true c.in_err-item.ensures.read c.loop.invariant.read)
 
 pub loop-preserved : goal.loop-preserved
 loop-preserved c =
@@ -19,7 +19,7 @@ loop-preserved c =
     let front = map group_of c.loop.items.items in
     let e : map group_of c.push.new.self.items ≡ front ++ x ∷ [] = rw c.in_ok-push.ensures.items (map_push _ c.loop.items.items c.in_ok-item.item) in
     record {
-      read = rw e (goes_on held_group front c.args.count c.loop.counter c.loop.rest.now x c.in_ok-item.after.now (many held_group c.args.count c.args.bytes.now) c.loop-test.true c.in_ok-item.ensures.read c.loop.invariant.read);
+      read = rw e (goes_on (held_group c.args.version) front c.args.count c.loop.counter c.loop.rest.now x c.in_ok-item.after.now (many (held_group c.args.version) c.args.count c.args.bytes.now) c.loop-test.true c.in_ok-item.ensures.read c.loop.invariant.read);
       spelled = rw e (spelled_on held_group_bytes front x c.args.bytes.now c.loop.rest.now c.in_ok-item.after.now c.loop.invariant.spelled c.in_ok-item.ensures.spelled);
       counted = rw (e, length-append, c.loop.invariant.counted) (omega arith);
       within = omega (arith, c.loop-test.true);
@@ -27,7 +27,7 @@ loop-preserved c =
 
 pub returns : goal.returns
 returns c = record {
-  read = is_done held_group (map group_of c.loop.items.items) c.args.count c.loop.counter c.loop.rest.now (many held_group c.args.count c.args.bytes.now) c.loop-test.false c.loop.invariant.read;
+  read = is_done (held_group c.args.version) (map group_of c.loop.items.items) c.args.count c.loop.counter c.loop.rest.now (many (held_group c.args.version) c.args.count c.args.bytes.now) c.loop-test.false c.loop.invariant.read;
   spelled = c.loop.invariant.spelled;
   counted = omega (arith, c.loop.invariant.counted, c.loop.invariant.within, c.loop-test.false);
 }

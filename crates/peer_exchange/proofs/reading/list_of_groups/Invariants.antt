@@ -9,7 +9,7 @@ use Rattle.peer_exchange.proofs.reading.list_of_groups.Given as goal
 
 abbrev pub invariant-loop : goal.invariant-loop
 invariant-loop l = record {
-  read : with_front (map group_of l.items.items) (many held_group (l.count - l.counter) l.rest) ≡ many held_group l.count l.bytes;
+  read : with_front (map group_of l.items.items) (many (held_group l.version) (l.count - l.counter) l.rest) ≡ many (held_group l.version) l.count l.bytes;
   spelled : l.bytes ≡ flat_map held_group_bytes (map group_of l.items.items) ++ l.rest;
   counted : length (map group_of l.items.items) ≡ l.counter;
   within : l.counter ≤ l.count;

@@ -8,7 +8,7 @@ use Rattle.peer_exchange.proofs.reading.list_of_operations.Given as goal
 
 abbrev pub invariant-loop : goal.invariant-loop
 invariant-loop l = record {
-  read : with_front l.items.items (many operation (l.count - l.counter) l.rest) ≡ many operation l.count l.bytes;
+  read : with_front l.items.items (many (operation l.version) (l.count - l.counter) l.rest) ≡ many (operation l.version) l.count l.bytes;
   spelled : l.bytes ≡ flat_map operation_bytes l.items.items ++ l.rest;
   counted : length l.items.items ≡ l.counter;
   within : l.counter ≤ l.count;

@@ -1,12 +1,12 @@
 use Rattle.std.proofs.Common.{◌≡◌, ℕ, ◌-◌, ◌≤◌, true, ◌&&◌, List, ◌++◌, length, drop, ap, ◌∙◌, rules, arith}
 use Rattle.fact_codec.specs.Spelling.{word_bytes}
-use Rattle.peer_exchange.specs.Spelling.{letter_bytes, spelling}
+use Rattle.peer_exchange.specs.Spelling.{letter_bytes, spelling, spelling_in}
 use Rattle.ranked.proofs.Plain.{both}
 use Rattle.pcrf_model.proofs.FormLaws.{le_passes}
 use Rattle.peer_exchange.specs.Limits.{longest_letter}
 use Rattle.peer_exchange.specs.Form.{is_addressed, is_formed, is_letter}
 use Rattle.peer_exchange.specs.Reading.{letter_of}
-use Rattle.peer_exchange.proofs.LettersAgain.{letter_again}
+use Rattle.peer_exchange.proofs.LettersAgain.{written_again}
 use Rattle.peer_exchange.proofs.FirstFour.{word_and, after_word}
 use Rattle.peer_exchange.proofs.writing.write_letter.Goals as goal
 
@@ -29,7 +29,7 @@ set_length-requires c =
     omega (arith, counted)
 
 pub returns-clause-written : goal.returns-clause-written
-unfolding spelling
+unfolding spelling_in
 returns-clause-written c =
     let said = letter_bytes c.args.letter.now in
     let all : c.put_letter.new.out.items ≡ word_bytes 0 ++ said = search rules in
@@ -46,7 +46,7 @@ returns-clause-fits c =
     omega (arith, counted, c.len-length.ensures, c.if-length.false)
 
 pub returns-clause-again : goal.returns-clause-again
-unfolding spelling
+unfolding spelling_in
 returns-clause-again c =
     let l = c.args.letter.now in
     let said = letter_bytes l in
@@ -59,4 +59,4 @@ returns-clause-again c =
     ∙ ap (λ (n : ℕ). word_bytes n ++ drop 4 c.put_letter.new.out.items) count
     ∙ ap (λ (x : List ℕ). word_bytes (length said) ++ x) (ap (drop 4) all ∙ after_word 0 said) in
     let is : is_letter l ≡ true = both (is_addressed l && is_formed l.body) _ (both (is_addressed l) (is_formed l.body) c.note_kept.ensures.addressed c.note_kept.ensures.formed) (le_passes (length said) longest_letter fits) in
-    ap (letter_of l.edition) written ∙ letter_again l is
+    ap (letter_of l.edition) written ∙ written_again l is

@@ -1,6 +1,6 @@
 use Rattle.std.proofs.lemmas.Result.{err_from_is_err_and}
-use Rattle.gx_profile.specs.PushAnswers.{experimental_rows}
-use Rattle.gx_profile.proofs.raa.ExperimentalResultFromValue.from_value.Goals as goal
+use Rattle.dia_base.specs.SessionAnswers.{experimental_rows}
+use Rattle.dia_base.proofs.session_answer.ExperimentalResultFromValue.from_value.Goals as goal
 
 pub returns-in_err-avps-clause-refused : goal.returns-in_err-avps-clause-refused
 returns-in_err-avps-clause-refused c =

@@ -1,0 +1,13 @@
+use Rattle.std.proofs.Common.{refl}
+use Rattle.std.specs.Fmt.{digits}
+use Rattle.pcrf_model.specs.Views.{view}
+use Rattle.pcrf_model.specs.Bindings.{bind}
+use Rattle.pcrf_model.specs.Rules.{rules}
+use Rattle.pcrf_model.specs.Differences.{told_rules_of}
+use Rattle.pcrf_model.specs.Refusals.{ccr_refusal, aar_refusal, str_refusal}
+use Rattle.pcrf_model.specs.Serving.{provision_outcome, serve_ccr, serve_aar, serve_str}
+use Rattle.pcrf_model.proofs.prefix_examples.calls_bind_to_prefixes_that_cover_theirs.Goals as goal
+
+pub returns : goal.returns
+unfolding digits view bind rules told_rules_of ccr_refusal aar_refusal str_refusal provision_outcome serve_ccr serve_aar serve_str
+returns c = record { other = refl; shorter = refl; with_address = refl; covered = refl; bound = refl; neither = refl }
