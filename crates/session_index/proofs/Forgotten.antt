@@ -12,7 +12,7 @@ use Rattle.ranked.proofs.Plain.{clash, is_false, none_some, some_same}
 use Rattle.ranked.proofs.SetLaws.{In-filter, In-left, In-right, In-cases, In-any, any-In}
 use Rattle.pcrf_values.specs.Prefixes.{Ipv6Prefix}
 use Rattle.pcrf_values.specs.Subscribers.{subscriber_cmp}
-use Rattle.pcrf_facts.specs.Facts.{Fact, End, Removed, Field}
+use Rattle.pcrf_facts.specs.Facts.{Fact, End, Removed, Field, Aborted}
 use Rattle.pcrf_facts.specs.FlowWords.{value_at}
 use Rattle.pcrf_facts.specs.Held.{entry_shown, is_ended, is_gone, blocks}
 use Rattle.pcrf_facts.specs.Places.{Place, address, prefix, subscribers}
@@ -174,6 +174,7 @@ end_blocks p (Removed r ∷ fs) e = either (blocks p (Removed r)) (end_blocks p 
     either true h = refl
     either false h = h
 end_blocks p (Field q t v ∷ fs) e = end_blocks p fs e
+end_blocks p (Aborted ∷ fs) e = end_blocks p fs e
 
 pub ended_show_nothing : EndedShowNothing
 unfolding view

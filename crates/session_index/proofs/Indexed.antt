@@ -1,6 +1,6 @@
 -- The binding is the greatest match among the sessions that an index lists.
-use Rattle.std.proofs.Common.{◌≡◌, ℕ, true, false, List, Option, Some, None, inl, inr, refl, sym, ap, ◌∙◌, subst, option_map}
-use Rattle.std.specs.List.{filter_map}
+use Rattle.std.proofs.Common.{◌≡◌, ℕ, true, false, List, ◌∷◌, Option, Some, None, inl, inr, refl, sym, ap, ◌∙◌, subst, option_map}
+use Rattle.std.specs.List.{cons_option, filter_map}
 use Rattle.ranked.specs.Sets.{In, greatest}
 use Rattle.ranked.proofs.Plain.{clash, none_some, came_from}
 use Rattle.ranked.proofs.SetLaws.{In-filter_map, filter_map-In, greatest-Same}
@@ -22,6 +22,11 @@ use Rattle.bind_index.proofs.Alike.{HasRecord, of_gateway, candidate_known, matc
 -- the value of an entry
 abbrev value_of : Option Entry → Option Value
 value_of = option_map (λ (e : Entry). e.1)
+
+-- one that matches is the first of the matches from it on
+pub more_listed : (asking : List Fact) (facts : List SessionFact) (id : List ℕ) (rest : List (List ℕ)) (m : Candidate) → Some m ≡ match_of asking id (facts_on facts (gx id))
+    → m ∷ matches_listed asking facts rest ≡ matches_listed asking facts (id ∷ rest)
+more_listed asking facts id rest m h = ap (λ (o : Option Candidate). cons_option o (matches_listed asking facts rest)) h
 
 -- ---- prefixes that meet
 
