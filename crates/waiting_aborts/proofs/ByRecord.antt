@@ -1,13 +1,12 @@
 -- Whether a session is abandoned, and what is asked of it, is read of its own record and of its binding.
-use Rattle.std.proofs.Common.{◌≡◌, ℕ, Bool, true, false, cond, not, ◌&&◌, is_none, List, Option, Some, None, refl, sym, ap, ◌∙◌}
+use Rattle.std.proofs.Common.{◌≡◌, ℕ, Bool, true, false, cond, not, ◌&&◌, is_none, List, Option, Some, None, refl, ap, ◌∙◌}
 use Rattle.std.specs.List.{list_all}
 use Rattle.pcrf_facts.specs.Live.{shows_at}
-use Rattle.pcrf_model.specs.Aborting.{client_places, abort_of, is_abandoned}
+use Rattle.pcrf_model.specs.Aborting.{client_places, abort_of}
 use Rattle.pcrf_model.specs.Bindings.{bind}
 use Rattle.pcrf_model.specs.Holdings.{SessionFact, facts_on}
 use Rattle.pcrf_model.specs.Live.{is_live}
 use Rattle.pcrf_model.specs.Pushing.{is_home, is_of_host}
-use Rattle.pcrf_model.specs.Replies.{AbortValue}
 use Rattle.pcrf_model.specs.Sessions.{af}
 use Rattle.pcrf_model.specs.Views.{View, view}
 use Rattle.waiting_aborts.specs.Abandoned.{abort_if_left}
@@ -43,4 +42,4 @@ module _ (i : ℕ) (facts : List SessionFact) (id : List ℕ) where
   abort_alone name =
       ap (λ (b : Bool). cond (is_live v (af id) && list_all (shows_at (v.shows (af id))) client_places && not (v.aborted (af id)) && is_home i v (af id) && b && is_none (bind v (af id))) (Some (abort_of v (af id))) None) (host_alone name)
       ∙ ap (λ (b : Bool). cond b (Some (abort_of v (af id))) None)
-        (moved (is_live v (af id)) (list_all (shows_at (v.shows (af id))) client_places) (not (v.aborted (af id))) (is_home i v (af id)) (is_of_host v name (af id)) (is_none (bind v (af id))))
+      (moved (is_live v (af id)) (list_all (shows_at (v.shows (af id))) client_places) (not (v.aborted (af id))) (is_home i v (af id)) (is_of_host v name (af id)) (is_none (bind v (af id))))

@@ -1,15 +1,14 @@
 -- Who has to wait after one session changed, so that all that are abandoned do.
-use Rattle.std.proofs.Common.{◌≡◌, ℕ, Bool, true, false, not, ◌&&◌, List, ◌⊎◌, Option, Some, None, is_none, inl, inr, refl, sym, ap, ◌∙◌, subst}
+use Rattle.std.proofs.Common.{◌≡◌, ℕ, true, false, not, ◌&&◌, List, ◌⊎◌, Option, Some, None, is_none, inl, inr, refl, sym, ap, ◌∙◌, subst}
 use Rattle.std.specs.List.{list_all}
-use Rattle.ranked.specs.Sets.{In, Same}
+use Rattle.ranked.specs.Sets.{In}
 use Rattle.ranked.proofs.Plain.{clash}
 use Rattle.pcrf_facts.specs.Live.{shows_at}
 use Rattle.pcrf_facts.proofs.ShownLaws.{members_show_the_same}
 use Rattle.pcrf_model.specs.Aborting.{client_places, is_abandoned}
-use Rattle.pcrf_model.specs.Bindings.{Party, bind, matches, party, suits}
+use Rattle.pcrf_model.specs.Bindings.{bind, matches, party, suits}
 use Rattle.pcrf_model.specs.Holdings.{SessionFact, facts_on}
 use Rattle.pcrf_model.specs.Laws.{BindsAlike, DifferInOne}
-use Rattle.pcrf_model.specs.Live.{is_live}
 use Rattle.pcrf_model.specs.Pushing.{is_home, is_of_host}
 use Rattle.pcrf_model.specs.Sessions.{Session, is_gx}
 use Rattle.pcrf_model.specs.Views.{View, view}
@@ -43,8 +42,8 @@ module _ (v w : View) (s : Session) (h : SaysTheSame v w s) where
       let hosts = same_host name in
       let lives = same_life v w s h in
       λ j.
-          not (is_gx s.kind) && lives j && list_all (shows_at (shown_there v w s h j)) client_places
-          && free j && not (asked j) && is_home i (only (shown_there v w s h j) (h.ended j)) s && hosts j
+      not (is_gx s.kind) && lives j && list_all (shows_at (shown_there v w s h j)) client_places
+      && free j && not (asked j) && is_home i (only (shown_there v w s h j) (h.ended j)) s && hosts j
 
 -- where binding reads the same of both, they match in both or in neither
 pub same_match : (v w : View) (a s : Session) → party v a ≡ party w a → party v s ≡ party w s → matches v a s ≡ matches w a s

@@ -39,7 +39,7 @@ is_none (Some x) e = clash true refl e
 -- where nobody waits under the host none is abandoned
 pub nobody_left : (i : ℕ) (facts : List SessionFact) (name : List ℕ) (w : WaitingValue) → AbandonedWait i (view facts) w → is_waiting w name ≡ false
     → abandoned_session i (view facts) (Some name) ≡ None
-nobody_left t i facts name w h e =
+nobody_left i facts name w h e =
     let parts = neither w.all (is_some (first_of (waiting_of w name))) e in
     let none : waiting_of w name ≡ [] = empty (waiting_of w name) (is_none (first_of (waiting_of w name)) parts.1) in
     first_waits i facts (waiting_of w) name (h.listed parts.0) (subst (λ (ids : List (List ℕ)). Rises text_cmp ids) (sym none) tt)

@@ -1,5 +1,5 @@
 -- Who is asked to abort of those that wait, and who may wait no longer.
-use Rattle.std.proofs.Common.{◌≡◌, ℕ, true, false, Bool, List, map, ◌⊎◌, Option, Some, None, find, inl, inr, refl, sym, ap, ◌∙◌, subst}
+use Rattle.std.proofs.Common.{◌≡◌, ℕ, true, false, Bool, List, map, Option, Some, None, find, inl, inr, refl, sym, ap, ◌∙◌, subst}
 use Rattle.std.specs.Ordering.{is_lt}
 use Rattle.ranked.specs.Ascending.{Rises}
 use Rattle.ranked.specs.Orders.{text_cmp}

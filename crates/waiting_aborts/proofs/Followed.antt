@@ -1,9 +1,9 @@
 -- When all that are abandoned wait after a change was followed.
-use Rattle.std.proofs.Common.{◌≡◌, ℕ, true, false, Bool, List, ◌⊎◌, Option, Some, None, inl, inr, refl, sym, ap, ◌∙◌, subst, option_map}
+use Rattle.std.proofs.Common.{◌≡◌, ℕ, true, false, List, Option, Some, None, inl, inr, refl, sym, ap, ◌∙◌, subst, option_map}
 use Rattle.std.specs.Net.Addr.{ipv4_octets}
 use Rattle.std.specs.declared.net.ipv4_addr.Ipv4Addr.{Ipv4Addr}
 use Rattle.ranked.specs.Sets.{In}
-use Rattle.ranked.proofs.Plain.{clash, none_some, some_same, split}
+use Rattle.ranked.proofs.Plain.{clash, none_some, some_same}
 use Rattle.pcrf_facts.specs.Places.{address, prefix}
 use Rattle.pcrf_facts.specs.Values.{Value, Address}
 use Rattle.pcrf_model.specs.Aborting.{is_abandoned}
@@ -16,7 +16,7 @@ use Rattle.pcrf_model.proofs.BindLaws.{matched}
 use Rattle.pcrf_model.proofs.NeighbourLaws.{how_they_meet}
 use Rattle.session_index.specs.Index.{IndexValue, Covers, listed_at}
 use Rattle.waiting_sessions.specs.Waits.{WaitingValue, waiting_of, Keeps, WaitsIfDue}
-use Rattle.waiting_aborts.specs.Abandoned.{AbandonedWait, AllAbandonedWait, ListedCallsWait, EachCallWaits}
+use Rattle.waiting_aborts.specs.Abandoned.{AbandonedWait, ListedCallsWait, EachCallWaits}
 use Rattle.waiting_aborts.proofs.Parts.{of_call, at_host}
 use Rattle.waiting_aborts.proofs.Firsts.{af_is}
 use Rattle.waiting_aborts.proofs.Changes.{suited_enough, alike_enough}
@@ -97,7 +97,7 @@ module _ (i : ℕ) (xs ys : List SessionFact) (d : Session) (u w : WaitingValue)
     suited_waits a name s m q =
         let there = met s m in
         let named : af s.id ≡ s = af_is s s.kind refl (of_call i z (Some name) s q) in
-        let here = subst (λ (r : Session). In r.id (listed_at index r.kind there.0)) (sym named) there.2.1 in
+        let here = subst (λ (r : Session). In r.id (listed_at index r.kind there.0)) (sym named) there.2 in
         waits_there i z w s a (subst (λ (r : Session). WaitsIfDue z w r) named (listed.each there.0 s.id there.1 here)) name q
 
     -- so those that are listed there are enough

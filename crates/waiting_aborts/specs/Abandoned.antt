@@ -1,5 +1,5 @@
 -- Application functions' sessions that wait to be looked at for an abort, under the host of their application function.
-use Rattle.std.specs.Prelude.{◌≡◌, ℕ, false, List, map, Option, Some, None, find, if◌then◌else◌}
+use Rattle.std.specs.Prelude.{◌≡◌, ℕ, true, false, List, map, Option, Some, None, find, if◌then◌else◌}
 use Rattle.std.specs.declared.net.ipv4_addr.Ipv4Addr.{Ipv4Addr}
 use Rattle.ranked.specs.Sets.{In}
 use Rattle.pcrf_model.specs.Aborting.{abort_of, is_abandoned}

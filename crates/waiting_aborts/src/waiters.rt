@@ -28,12 +28,7 @@ pub fn wait_one(state: &State, waiting: &mut WaitingCalls, id: &AfSid)
 
 /// Has the application functions' sessions wait that are listed under an address: those that may lose the gateway's session to
 /// which they were bound, where that showed the address.
-pub fn wait_at(
-    state: &State,
-    index: &Index,
-    waiting: &mut WaitingCalls,
-    address: Option<Ipv4Addr>,
-)
+pub fn wait_at(state: &State, index: &Index, waiting: &mut WaitingCalls, address: Option<Ipv4Addr>)
     ensures keeps { Keeps waiting.old waiting.new }
     ensures waits { ListedCallsWait (view state.now.facts) index.now waiting.new address }
 {

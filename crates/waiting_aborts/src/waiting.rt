@@ -5,7 +5,7 @@ ghost use Rattle.ranked.specs.Ascending.{Rises};
 ghost use Rattle.session_lists.specs.Lists.{first_of, ids_at, without_first};
 ghost use Rattle.waiting_sessions.specs.Waits.{Keeps, WaitsUnder, is_waiting, waiting_of};
 
-use pcrf_values::{DiameterIdentity, AfSid};
+use pcrf_values::{AfSid, DiameterIdentity};
 use session_lists::SessionLists;
 use std::alloc::Global;
 use std::marker::Model;
