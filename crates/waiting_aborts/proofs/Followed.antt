@@ -1,0 +1,109 @@
+-- When all that are abandoned wait after a change was followed.
+use Rattle.std.proofs.Common.{◌≡◌, ℕ, true, false, List, Option, Some, None, inl, inr, refl, sym, ap, ◌∙◌, subst, option_map}
+use Rattle.std.specs.Net.Addr.{ipv4_octets}
+use Rattle.std.specs.declared.net.ipv4_addr.Ipv4Addr.{Ipv4Addr}
+use Rattle.ranked.specs.Sets.{In}
+use Rattle.ranked.proofs.Plain.{clash, none_some, some_same}
+use Rattle.pcrf_facts.specs.Places.{address, prefix}
+use Rattle.pcrf_facts.specs.Values.{Value, Address}
+use Rattle.pcrf_model.specs.Aborting.{is_abandoned}
+use Rattle.pcrf_model.specs.Bindings.{matches}
+use Rattle.pcrf_model.specs.Holdings.{SessionFact}
+use Rattle.pcrf_model.specs.Laws.{BindsAlike, DifferInOne}
+use Rattle.pcrf_model.specs.Sessions.{Session, af, is_gx}
+use Rattle.pcrf_model.specs.Views.{View, view, value}
+use Rattle.pcrf_model.proofs.BindLaws.{matched}
+use Rattle.pcrf_model.proofs.NeighbourLaws.{how_they_meet}
+use Rattle.session_index.specs.Index.{IndexValue, Covers, listed_at}
+use Rattle.waiting_sessions.specs.Waits.{WaitingValue, waiting_of, Keeps, WaitsIfDue}
+use Rattle.waiting_aborts.specs.Abandoned.{AbandonedWait, ListedCallsWait, EachCallWaits}
+use Rattle.waiting_aborts.proofs.Parts.{of_call, at_host}
+use Rattle.waiting_aborts.proofs.Firsts.{af_is}
+use Rattle.waiting_aborts.proofs.Changes.{suited_enough, alike_enough}
+
+-- an address of the code, as what a place shows
+abbrev address_value : Ipv4Addr → Value
+address_value a = Address (ipv4_octets a)
+
+-- a session that waits under its host waits where it is abandoned
+waits_there : (i : ℕ) (v : View) (w : WaitingValue) (s : Session) → w.all ≡ false → WaitsIfDue v w s → (name : List ℕ) → is_abandoned i v (Some name) s ≡ true
+    → In s.id (waiting_of w name)
+waits_there i v w s a h name u = h.there a name (at_host i v name s u)
+
+-- where each waits all that are abandoned do
+pub each_enough : (i : ℕ) (v : View) (w : WaitingValue) → EachCallWaits v w → AbandonedWait i v w
+each_enough i v w h = record {
+  listed = λ a. record {
+    each = λ name s u.
+        let named : af s.id ≡ s = af_is s s.kind refl (of_call i v (Some name) s u) in
+        waits_there i v w s a (subst (λ (r : Session). WaitsIfDue v w r) named (h.each s.id)) name u;
+  };
+}
+
+-- what waits goes on
+pub goes_on : (i : ℕ) (v : View) (u w : WaitingValue) → Keeps u w → AbandonedWait i v u → AbandonedWait i v w
+goes_on i v u w k h = record {
+  listed = λ a. record { each = λ name s d. (k.stay a).each name s.id ((h.listed (k.some a)).each name s d) };
+}
+
+module _ (i : ℕ) (xs ys : List SessionFact) (d : Session) (u w : WaitingValue) (h : DifferInOne xs ys d) (k : Keeps u w) (all : AbandonedWait i (view xs) u) where
+  -- what is read before and after
+  abbrev v : View
+  v = view xs
+
+  abbrev z : View
+  z = view ys
+
+  -- nobody is bound to an AF session
+  suits_none : is_gx d.kind ≡ false → (s : Session) → matches v s d ≡ true → ⊥
+  suits_none f s m = clash (is_gx d.kind) (matched v s d m).of_gateway f
+
+  -- where an AF session changed it is enough that it waits
+  pub call_followed : is_gx d.kind ≡ false → WaitsIfDue z w d → AbandonedWait i z w
+  call_followed f own = record {
+    listed = λ a. suited_enough i xs ys d (waiting_of u) (waiting_of w) h (all.listed (k.some a)) (k.stay a)
+        (λ name q. waits_there i z w d a own name q)
+        (λ name s m q. absurd (suits_none f s m));
+  }
+
+  -- where a Gx session changed and binding reads the same of it, nobody else has to wait
+  pub told_followed : BindsAlike v z d → AbandonedWait i z w
+  told_followed alike = record {
+    listed = λ a. alike_enough i xs ys d (waiting_of u) (waiting_of w) h (all.listed (k.some a)) (k.stay a) alike;
+  }
+
+  module _ (g : is_gx d.kind ≡ true) (no_prefix : value v d prefix ≡ None) (index : IndexValue) (covers : Covers v index)
+      (at : Option Ipv4Addr) (shows : option_map address_value at ≡ value v d address) (listed : ListedCallsWait z index w at) where
+    -- the one that changed isn't abandoned
+    not_own : (name : List ℕ) → is_abandoned i z (Some name) d ≡ true → ⊥
+    not_own name q = clash (is_gx d.kind) g (of_call i z (Some name) d q)
+
+    -- what the address is of
+    its_address : (o : Option Ipv4Addr) (x : Value) → option_map address_value o ≡ Some x → (a : Ipv4Addr) × (o ≡ Some a) × (address_value a ≡ x)
+    its_address None x e = none_some x e
+    its_address (Some a) x e = (a, refl, some_same (address_value a) x e)
+
+    -- whoever it suited is listed under the address that it showed
+    met : (s : Session) → matches v s d ≡ true → (a : Ipv4Addr) × (at ≡ Some a) × In s.id (listed_at index s.kind a)
+    met s m = elim (how_they_meet v s d m) [
+      | inl b ↦
+          let own = its_address at b.0 (shows ∙ b.2) in
+          (own.0, own.1, covers.addresses s own.0 (b.1 ∙ ap Some (sym own.2)))
+      | inr b ↦ none_some b.1.0 (sym no_prefix ∙ b.1.1)
+    ]
+
+    -- and waits
+    suited_waits : w.all ≡ false → (name : List ℕ) (s : Session) → matches v s d ≡ true → is_abandoned i z (Some name) s ≡ true → In s.id (waiting_of w name)
+    suited_waits a name s m q =
+        let there = met s m in
+        let named : af s.id ≡ s = af_is s s.kind refl (of_call i z (Some name) s q) in
+        let here = subst (λ (r : Session). In r.id (listed_at index r.kind there.0)) (sym named) there.2 in
+        waits_there i z w s a (subst (λ (r : Session). WaitsIfDue z w r) named (listed.each there.0 s.id there.1 here)) name q
+
+    -- so those that are listed there are enough
+    pub gateway_followed : AbandonedWait i z w
+    gateway_followed = record {
+      listed = λ a. suited_enough i xs ys d (waiting_of u) (waiting_of w) h (all.listed (k.some a)) (k.stay a)
+          (λ name q. absurd (not_own name q))
+          (suited_waits a);
+    }

@@ -1,0 +1,10 @@
+pub mod Parts
+pub mod Changes
+pub mod Firsts
+pub mod FirstLeft
+pub mod Reading
+pub mod Listed
+pub mod Followed
+pub mod ByRecord
+pub mod Records
+pub mod Passing

@@ -1,0 +1,2 @@
+pub mod Abandoned
+pub mod ByRecord
