@@ -1,13 +1,13 @@
 -- What the code reads of addresses, and what is stale and unlisted at them.
-use Rattle.std.proofs.Common.{◌≡◌, ℕ, List, [], Option, Some, None, refl, sym, ap, ◌∙◌, subst, option_map}
+use Rattle.std.proofs.Common.{◌≡◌, ℕ, false, List, [], Option, Some, None, is_some, refl, sym, ap, ◌∙◌, subst, option_map}
 use Rattle.std.specs.Net.Addr.{ipv4_octets}
 use Rattle.std.specs.declared.net.ipv4_addr.Ipv4Addr.{Ipv4Addr}
 use Rattle.ranked.specs.Sets.{In}
-use Rattle.ranked.proofs.Plain.{none_some, some_same}
+use Rattle.ranked.proofs.Plain.{clash, none_some, some_same}
 use Rattle.pcrf_values.specs.RuleValues.{RuleValue}
 use Rattle.pcrf_facts.specs.Facts.{Fact}
 use Rattle.pcrf_facts.specs.Held.{entry_shown}
-use Rattle.pcrf_facts.specs.Places.{address}
+use Rattle.pcrf_facts.specs.Places.{address, prefix}
 use Rattle.pcrf_facts.specs.Values.{Value, Address, Entry}
 use Rattle.pcrf_model.specs.Holdings.{SessionFact, facts_on}
 use Rattle.pcrf_model.specs.Sessions.{Session, Gx}
@@ -15,13 +15,28 @@ use Rattle.pcrf_model.specs.Views.{View, view, value}
 use Rattle.session_index.specs.Forgetting.{ShowsAddress}
 use Rattle.session_index.specs.Index.{IndexValue, listed_at}
 use Rattle.kept_rules.specs.Kept.{RulesValue, kept_at, AreStale}
+use Rattle.waiting_sessions.proofs.Reading.{value_shown}
 use Rattle.indexed_state.specs.Indexed.{address_value, IsAddressOf, TouchesAt}
 
 -- what a record shows as its address is what the view has
 pub address_shown : (facts : List SessionFact) (s : Session) (known : List Fact) (o : Option Entry) → known ≡ facts_on facts s → o ≡ entry_shown known address
     → option_map (λ (e : Entry). e.1) o ≡ value (view facts) s address
-unfolding view
-address_shown facts s known o k e = ap (option_map (λ (d : Entry). d.1)) (e ∙ ap (λ (fs : List Fact). entry_shown fs address) k)
+address_shown facts s known o k e = value_shown facts s known address o k e
+
+-- what is mapped is there where it was
+still_there : {A B : Type 0} (f : A → B) (o : Option A) → is_some o ≡ is_some (option_map f o)
+still_there f None = refl
+still_there f (Some x) = refl
+
+-- a record shows a prefix where the view has one
+pub prefix_shown : (facts : List SessionFact) (s : Session) (known : List Fact) (o : Option Entry) → known ≡ facts_on facts s → o ≡ entry_shown known prefix
+    → is_some o ≡ is_some (value (view facts) s prefix)
+prefix_shown facts s known o k e = still_there (λ (d : Entry). d.1) o ∙ ap is_some (value_shown facts s known prefix o k e)
+
+-- what isn't there is none
+pub none_there : {A : Type 0} (o : Option A) → false ≡ is_some o → o ≡ None
+none_there None h = refl
+none_there (Some x) h = clash false (h) refl
 
 -- what is mapped from something was there
 pub mapped : {A B : Type 0} (f : A → B) (o : Option A) (y : B) → option_map f o ≡ Some y → (x : A) × (o ≡ Some x) × (f x ≡ y)

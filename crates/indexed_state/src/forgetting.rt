@@ -1,14 +1,16 @@
-//! What an index no longer lists: gateways' sessions under subscribers that they don't show, and the session of an operation
-//! under what the operation gives it and it doesn't show, being ended, or showing what another operation gave it.
-ghost use Rattle.std.specs.Prelude.{◌≡◌, List};
+//! What an index no longer lists: sessions under addresses and prefixes that they show no longer, gateways' sessions under
+//! subscribers that they don't show, and the session of an operation under what the operation gives it and it doesn't show, being
+//! ended, or showing what another operation gave it.
+ghost use Rattle.std.specs.Prelude.{◌≡◌, List, Some, true};
 ghost use Rattle.std.specs.Option.{option_copied};
 ghost use Rattle.pcrf_model.specs.Holdings.{SessionFact, facts_on};
 ghost use Rattle.pcrf_model.specs.Sessions.{gx, af};
-ghost use Rattle.pcrf_model.specs.Views.{view};
+ghost use Rattle.pcrf_model.specs.Views.{View, view};
 ghost use Rattle.session_index.specs.Index.{Covers};
-ghost use Rattle.site_join.specs.States.{record_facts};
+ghost use Rattle.site_join.specs.States.{record_facts, session_of};
+ghost use Rattle.indexed_state.specs.Indexed.{IsAddressOf, IsReached};
 
-use crate::addresses::{address_in, call_address_in, forget_call, forget_gateway};
+use crate::reached::{Reached, call_reached_in, gateway_reached_in};
 use af_records::{AfFact, AfRec};
 use fact_records::SessionValue;
 use gx_records::{GxFact, GxRec};
@@ -17,6 +19,94 @@ use ranked::Ranked;
 use session_index::Index;
 use site_join::{SessionFacts, State};
 use std::alloc::{AllocError, Global};
+use std::net::Ipv4Addr;
+
+/// Takes the session of these facts out from under what it showed of where its user is reached, where it shows that no longer:
+/// the session is ended, or moved to another address or prefix.
+pub(crate) fn forget_moved(
+    index: &mut Index,
+    facts: &SessionFacts,
+    before: Reached,
+    after: Reached,
+)
+    ensures { (v : View) → IsReached v (session_of facts.now) after
+        → Covers v index.old → Covers v index.new }
+{
+    match facts {
+        SessionFacts::Gx(id, _) => forget_gateway(index, id, before, after),
+        SessionFacts::Af(id, _) => forget_call(index, id, before, after),
+    }
+}
+
+/// So with a gateway's session.
+pub(crate) fn forget_gateway(index: &mut Index, id: &GxSid, before: Reached, after: Reached)
+    ensures { (v : View) → IsReached v (gx id.now) after
+        → Covers v index.old → Covers v index.new }
+{
+    forget_gateway_at(index, id, before.address, after.address);
+    if before.by_prefix && !after.by_prefix {
+        index.forget_gateway_by_prefix(id);
+    }
+}
+
+/// Under the address alone.
+fn forget_gateway_at(
+    index: &mut Index,
+    id: &GxSid,
+    before: Option<Ipv4Addr>,
+    after: Option<Ipv4Addr>,
+)
+    ensures { (v : View) → IsAddressOf v (gx id.now) after
+        → Covers v index.old → Covers v index.new }
+{
+    let Some(address) = before else {
+        return;
+    };
+    if shows(after, address) {
+        return;
+    }
+    index.forget_gateway_at(address, id);
+}
+
+/// And with an application function's.
+pub(crate) fn forget_call(index: &mut Index, id: &AfSid, before: Reached, after: Reached)
+    ensures { (v : View) → IsReached v (af id.now) after
+        → Covers v index.old → Covers v index.new }
+{
+    forget_call_at(index, id, before.address, after.address);
+    if before.by_prefix && !after.by_prefix {
+        index.forget_call_by_prefix(id);
+    }
+}
+
+/// Under the address alone.
+fn forget_call_at(
+    index: &mut Index,
+    id: &AfSid,
+    before: Option<Ipv4Addr>,
+    after: Option<Ipv4Addr>,
+)
+    ensures { (v : View) → IsAddressOf v (af id.now) after
+        → Covers v index.old → Covers v index.new }
+{
+    let Some(address) = before else {
+        return;
+    };
+    if shows(after, address) {
+        return;
+    }
+    index.forget_call_at(address, id);
+}
+
+/// The address that is shown is this one.
+fn shows(shown: Option<Ipv4Addr>, address: Ipv4Addr) -> bool
+    ensures { (shown ≡ Some address) → result ≡ true }
+{
+    match shown {
+        Some(other) => other.cmp(&address).is_eq(),
+        None => false,
+    }
+}
 
 /// The subscribers that the session of these facts shows, where it is of a gateway and may show others or none with the
 /// facts; none else.
@@ -116,7 +206,10 @@ fn forget_gateway_fact(index: &mut Index, id: &GxSid, fact: &GxFact, known: Opti
 {
     match fact {
         GxFact::Field(_, SessionValue::Address(address)) => {
-            forget_gateway(index, id, Some(*address), address_in(known));
+            forget_gateway(index, id, Reached::at(*address), gateway_reached_in(known));
+        }
+        GxFact::Field(_, SessionValue::Prefix(_)) => {
+            forget_gateway(index, id, Reached::by_prefix(), gateway_reached_in(known));
         }
         GxFact::Field(_, SessionValue::Subscribers(subscribers)) => {
             index.forget_unshown(id, subscribers.as_slice(), known);
@@ -144,7 +237,10 @@ fn forget_call_fact(index: &mut Index, id: &AfSid, fact: &AfFact, known: Option<
 {
     match fact {
         AfFact::Session(_, SessionValue::Address(address)) => {
-            forget_call(index, id, Some(*address), call_address_in(known));
+            forget_call(index, id, Reached::at(*address), call_reached_in(known));
+        }
+        AfFact::Session(_, SessionValue::Prefix(_)) => {
+            forget_call(index, id, Reached::by_prefix(), call_reached_in(known));
         }
         _ => {}
     }
