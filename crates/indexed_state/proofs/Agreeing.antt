@@ -9,7 +9,8 @@ use Rattle.ranked.proofs.SetLaws.{Same-back}
 use Rattle.pcrf_values.specs.RuleValues.{RuleValue}
 use Rattle.pcrf_facts.specs.Facts.{Fact}
 use Rattle.pcrf_facts.specs.Places.{Place, address, prefix, subscribers}
-use Rattle.pcrf_facts.specs.Values.{Value, Entry, Subscriber, Subscribers}
+use Rattle.pcrf_values.specs.Prefixes.{Ipv6Prefix}
+use Rattle.pcrf_facts.specs.Values.{Value, Entry, Subscriber, Subscribers, Prefix}
 use Rattle.pcrf_facts.proofs.ShownLaws.{members_show_the_same}
 use Rattle.pcrf_model.specs.Holdings.{Holding, SessionFact, facts_on, kept_of, with_facts_of}
 use Rattle.pcrf_model.specs.Laws.{DifferInOne, HasAddress, ShowsNoPrefix, NeverMeet}
@@ -22,7 +23,7 @@ use Rattle.pcrf_model.proofs.HoldingLaws.{session_ranked, replaces_one}
 use Rattle.pcrf_model.proofs.NeighbourLaws.{others_keep}
 use Rattle.pcrf_model.proofs.TakingLaws.{taking_changes_one}
 use Rattle.pcrf_model.proofs.WaitingLaws.{neighbours_enough}
-use Rattle.session_index.specs.Index.{IndexValue, listed_at, listed_of, Covers, Grows, ListsFacts, ListsAddress, ListsSubscribers, ListedUnder}
+use Rattle.session_index.specs.Index.{IndexValue, listed_at, listed_of, with_prefix, Covers, Grows, ListsFacts, ListsAddress, ListsPrefix, ListsSubscribers, ListsGateway, ListedUnder}
 use Rattle.session_index.proofs.Covered.{covers_grow, covers_taken}
 use Rattle.kept_rules.specs.Kept.{RulesValue, kept_at, AreKept}
 use Rattle.kept_rules.proofs.Keeping.{none_kept}
@@ -70,6 +71,7 @@ nothing_shown s p = refl
 pub covers_nothing : (index : IndexValue) → Covers (view []) index
 covers_nothing index = record {
   addresses = λ s a e. none_some _ (sym (nothing_shown s _) ∙ e);
+  prefixes = λ s p e. none_some _ (sym (nothing_shown s _) ∙ e);
   subscribed = λ id xs x e m. none_some _ (sym (nothing_shown (gx id) _) ∙ e);
 }
 
@@ -205,15 +207,21 @@ module _ (xs ys : List SessionFact) (id : List ℕ) (index : IndexValue) (differ
   unfolding view
   own_address a l e = l.listed a e
 
+  -- with those that were given a prefix, if it shows one
+  own_prefix : (p : Ipv6Prefix) → ListsPrefix index (gx id) (facts_on ys (gx id)) → value (view ys) (gx id) prefix ≡ Some (Prefix p) → In id (with_prefix index Gx)
+  unfolding view
+  own_prefix p l e = l.listed p e
+
   -- and under the subscribers
   own_subscribers : (us : List Subscriber) → ListsSubscribers index id (facts_on ys (gx id)) → value (view ys) (gx id) subscribers ≡ Some (Subscribers us) → ListedUnder index.subscribed id us
   unfolding view
   own_subscribers us l e = l.listed us e
 
   -- so an index that lists the session by its record still covers
-  pub placed_covered : Covers (view xs) index → ListsAddress index (gx id) (facts_on ys (gx id)) → ListsSubscribers index id (facts_on ys (gx id)) → Covers (view ys) index
-  placed_covered covers address_listed subscribers_listed = record {
+  pub placed_covered : Covers (view xs) index → ListsGateway index id (facts_on ys (gx id)) → Covers (view ys) index
+  placed_covered covers lists = record {
     addresses = λ s a e. by s a e (is_eq (session_cmp s (gx id))) refl;
+    prefixes = λ s p e. at_prefix s p e (is_eq (session_cmp s (gx id))) refl;
     subscribed = λ other us x e m. of other us x e m (is_eq (session_cmp (gx other) (gx id))) refl;
   }
     where
@@ -221,19 +229,27 @@ module _ (xs ys : List SessionFact) (id : List ℕ) (index : IndexValue) (differ
       by s a e true q =
           let same = eq_is session_ranked s (gx id) q in
           subst (λ (r : Session). In r.id (listed_at index r.kind a)) (sym same)
-          (own_address a address_listed (subst (λ (r : Session). value (view ys) r address ≡ Some (address_value a)) same e))
+          (own_address a lists.address (subst (λ (r : Session). value (view ys) r address ≡ Some (address_value a)) same e))
       by s a e false q = covers.addresses s a (as_before s address (λ n. clash _ (ap (λ (r : Session). is_eq (session_cmp r (gx id))) n ∙ eq_itself session_ranked (gx id)) q) ∙ e)
+
+      at_prefix : (s : Session) (p : Ipv6Prefix) → value (view ys) s prefix ≡ Some (Prefix p) → (b : Bool) → is_eq (session_cmp s (gx id)) ≡ b → In s.id (with_prefix index s.kind)
+      at_prefix s p e true q =
+          let same = eq_is session_ranked s (gx id) q in
+          subst (λ (r : Session). In r.id (with_prefix index r.kind)) (sym same)
+          (own_prefix p lists.prefix (subst (λ (r : Session). value (view ys) r prefix ≡ Some (Prefix p)) same e))
+      at_prefix s p e false q = covers.prefixes s p (as_before s prefix (λ n. clash _ (ap (λ (r : Session). is_eq (session_cmp r (gx id))) n ∙ eq_itself session_ranked (gx id)) q) ∙ e)
 
       of : (other : List ℕ) (us : List Subscriber) (x : Subscriber) → value (view ys) (gx other) subscribers ≡ Some (Subscribers us) → In x us → (b : Bool) → is_eq (session_cmp (gx other) (gx id)) ≡ b → In other (listed_of index x)
       of other us x e m true q =
           let same = eq_is session_ranked (gx other) (gx id) q in
           subst (λ (r : Session). In r.id (listed_of index x)) (sym same)
-          ((own_subscribers us subscribers_listed (subst (λ (r : Session). value (view ys) r subscribers ≡ Some (Subscribers us)) same e)).each x m)
+          ((own_subscribers us lists.subscribers (subst (λ (r : Session). value (view ys) r subscribers ≡ Some (Subscribers us)) same e)).each x m)
       of other us x e m false q = covers.subscribed other us x (as_before (gx other) subscribers (λ n. clash _ (ap (λ (r : Session). is_eq (session_cmp r (gx id))) n ∙ eq_itself session_ranked (gx id)) q) ∙ e) m
 
 -- no facts show nothing
-pub none_address : (index : IndexValue) (s : Session) → ListsAddress index s []
-none_address index s = record { listed = λ a e. none_some _ e }
-
-pub none_subscribers : (index : IndexValue) (id : List ℕ) → ListsSubscribers index id []
-none_subscribers index id = record { listed = λ us e. none_some _ e }
+pub none_listed : (index : IndexValue) (id : List ℕ) → ListsGateway index id []
+none_listed index id = record {
+  address = record { listed = λ a e. none_some _ e };
+  prefix = record { listed = λ p e. none_some _ e };
+  subscribers = record { listed = λ us e. none_some _ e };
+}

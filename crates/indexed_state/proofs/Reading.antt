@@ -1,4 +1,4 @@
--- What the code reads of addresses, and what is stale and unlisted at them.
+-- What the code reads of where users are reached, and what is stale, unlisted and waits at addresses.
 use Rattle.std.proofs.Common.{◌≡◌, ℕ, false, List, [], Option, Some, None, is_some, refl, sym, ap, ◌∙◌, subst, option_map}
 use Rattle.std.specs.Net.Addr.{ipv4_octets}
 use Rattle.std.specs.declared.net.ipv4_addr.Ipv4Addr.{Ipv4Addr}
@@ -16,7 +16,8 @@ use Rattle.session_index.specs.Forgetting.{ShowsAddress}
 use Rattle.session_index.specs.Index.{IndexValue, listed_at}
 use Rattle.kept_rules.specs.Kept.{RulesValue, kept_at, AreStale}
 use Rattle.waiting_sessions.proofs.Reading.{value_shown}
-use Rattle.indexed_state.specs.Indexed.{address_value, IsAddressOf, TouchesAt}
+use Rattle.waiting_sessions.specs.Waits.{WaitingValue, Keeps, ListedWait}
+use Rattle.indexed_state.specs.Indexed.{address_value, IsAddressOf, TouchesAt, Unsettled}
 
 -- what a record shows as its address is what the view has
 pub address_shown : (facts : List SessionFact) (s : Session) (known : List Fact) (o : Option Entry) → known ≡ facts_on facts s → o ≡ entry_shown known address
@@ -87,3 +88,18 @@ octets_same None None e = refl
 octets_same None (Some b) e = none_some _ e
 octets_same (Some a) None e = none_some _ (sym e)
 octets_same (Some a) (Some b) e = let octets : ipv4_octets a ≡ ipv4_octets b = some_same _ _ e in ap Some (λ j. record { octets = octets j })
+
+-- ---- where no list is kept and all wait
+
+module _ (old new : RulesValue) (u w : WaitingValue) (all : Unsettled new w) where
+  -- the lists at an address are stale
+  pub stale_at : (index : IndexValue) (at : Option Ipv4Addr) → TouchesAt old new index at
+  stale_at index at = record { gone = λ a e id m. all.stale id; same = λ id rs e. none_some rs (sym (all.stale id) ∙ e) }
+
+  -- who waited waits
+  pub all_keeps : Keeps u w
+  all_keeps = record { some = λ a. clash w.all all.waits a; stay = λ a. clash w.all all.waits a }
+
+  -- and so do those that are listed under an address
+  pub all_listed : (v : View) (index : IndexValue) (at : Option Ipv4Addr) → ListedWait v index w at
+  all_listed v index at = record { each = λ a s e k m. record { there = λ some name h. clash w.all all.waits some } }

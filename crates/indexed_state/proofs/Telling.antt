@@ -100,6 +100,7 @@ module _ (h k : Holding) (id : List ℕ) (known : List Fact) (told : IsTold h (g
   agree_told t i b index r u w keeps waits a = record {
     covers = λ e. record {
       addresses = λ s x f. (a.covers e).addresses s x (same_value s address (ap (λ (p : Party). p.address) alike.reads) ∙ f);
+      prefixes = λ s p f. (a.covers e).prefixes s p (same_value s prefix (ap (λ (q : Party). q.prefix) alike.reads) ∙ f);
       subscribed = λ other xs x f m. (a.covers e).subscribed other xs x (same_value (gx other) subscribers (ap (λ (p : Party). p.subscribers) alike.reads) ∙ f) m;
     };
     kept = record {

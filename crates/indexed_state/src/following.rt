@@ -10,7 +10,7 @@ ghost use Rattle.session_index.specs.Index.{Covers, Grows};
 ghost use Rattle.site_join.specs.States.{record_facts};
 ghost use Rattle.indexed_state.specs.Indexed.{Agree, Unsettled};
 
-use crate::forgetting::{forget_gateway, forget_subscribers};
+use crate::forgetting::{forget_gateway, forget_stood};
 use crate::reached::gateway_reached_in;
 use crate::unsettling::{unsettle, unsettle_all, wait_gateway};
 use gx_records::GxRec;
@@ -51,8 +51,8 @@ pub(crate) fn follow(
     let after = gateway_reached_in(known);
     wait_gateway(state, waiting, id, after.address);
     unsettle(alloc, state, index, rules, waiting, before, after);
-    forget_gateway(index, id, before, after);
-    forget_subscribers(index, id, stood.as_ref(), known);
+    forget_gateway(index, id, before.address, after.address);
+    forget_stood(index, id, stood.as_ref(), known);
 }
 
 /// The index isn't whole, no list of rules is kept, and all sessions wait.

@@ -8,9 +8,9 @@ ghost use Rattle.pcrf_model.specs.Sessions.{gx, af};
 ghost use Rattle.pcrf_model.specs.Views.{View, view};
 ghost use Rattle.session_index.specs.Index.{Covers};
 ghost use Rattle.site_join.specs.States.{record_facts, session_of};
-ghost use Rattle.indexed_state.specs.Indexed.{IsAddressOf, IsReached};
+ghost use Rattle.indexed_state.specs.Indexed.{IsAddressOf};
 
-use crate::reached::{Reached, call_reached_in, gateway_reached_in};
+use crate::reached::{address_in, call_address_in};
 use af_records::{AfFact, AfRec};
 use fact_records::SessionValue;
 use gx_records::{GxFact, GxRec};
@@ -21,15 +21,15 @@ use site_join::{SessionFacts, State};
 use std::alloc::{AllocError, Global};
 use std::net::Ipv4Addr;
 
-/// Takes the session of these facts out from under what it showed of where its user is reached, where it shows that no longer:
-/// the session is ended, or moved to another address or prefix.
+/// Takes the session of these facts out from under the address that it showed, where it shows it no longer: the session is
+/// ended, or moved to another address.
 pub(crate) fn forget_moved(
     index: &mut Index,
     facts: &SessionFacts,
-    before: Reached,
-    after: Reached,
+    before: Option<Ipv4Addr>,
+    after: Option<Ipv4Addr>,
 )
-    ensures { (v : View) → IsReached v (session_of facts.now) after
+    ensures { (v : View) → IsAddressOf v (session_of facts.now) after
         → Covers v index.old → Covers v index.new }
 {
     match facts {
@@ -39,18 +39,7 @@ pub(crate) fn forget_moved(
 }
 
 /// So with a gateway's session.
-pub(crate) fn forget_gateway(index: &mut Index, id: &GxSid, before: Reached, after: Reached)
-    ensures { (v : View) → IsReached v (gx id.now) after
-        → Covers v index.old → Covers v index.new }
-{
-    forget_gateway_at(index, id, before.address, after.address);
-    if before.by_prefix && !after.by_prefix {
-        index.forget_gateway_by_prefix(id);
-    }
-}
-
-/// Under the address alone.
-fn forget_gateway_at(
+pub(crate) fn forget_gateway(
     index: &mut Index,
     id: &GxSid,
     before: Option<Ipv4Addr>,
@@ -69,18 +58,7 @@ fn forget_gateway_at(
 }
 
 /// And with an application function's.
-pub(crate) fn forget_call(index: &mut Index, id: &AfSid, before: Reached, after: Reached)
-    ensures { (v : View) → IsReached v (af id.now) after
-        → Covers v index.old → Covers v index.new }
-{
-    forget_call_at(index, id, before.address, after.address);
-    if before.by_prefix && !after.by_prefix {
-        index.forget_call_by_prefix(id);
-    }
-}
-
-/// Under the address alone.
-fn forget_call_at(
+pub(crate) fn forget_call(
     index: &mut Index,
     id: &AfSid,
     before: Option<Ipv4Addr>,
@@ -144,9 +122,24 @@ fn subscribers_in(alloc: Global, known: Option<&GxRec>) -> Result<Vec<Subscriber
     Subscriber::try_copy_slice(alloc, subscribers.as_slice())
 }
 
-/// Takes a gateway's session out from under the subscribers that the record that stood shows and the one that is known now
-/// doesn't.
-pub(crate) fn forget_subscribers(
+/// Takes a gateway's session out of those that were given a prefix, if the record that is known now shows none, and out from
+/// under the subscribers that the one that stood shows and this one doesn't.
+pub(crate) fn forget_stood(
+    index: &mut Index,
+    id: &GxSid,
+    stood: Option<&GxRec>,
+    known: Option<&GxRec>,
+)
+    ensures { (facts : List SessionFact)
+        → record_facts (option_copied known.entry) ≡ facts_on facts (gx id.now)
+        → Covers (view facts) index.old → Covers (view facts) index.new }
+{
+    index.forget_gateway_prefix(id, known);
+    forget_subscribers(index, id, stood, known);
+}
+
+/// Takes it out from under these subscribers.
+fn forget_subscribers(
     index: &mut Index,
     id: &GxSid,
     stood: Option<&GxRec>,
@@ -165,8 +158,8 @@ pub(crate) fn forget_subscribers(
     index.forget_unshown(id, subscribers.as_slice(), known);
 }
 
-/// Takes the session of these facts out from under what they give it, and from under these subscribers, where the state doesn't
-/// show that of it.
+/// Takes the session of these facts out from under what they give it, from under these subscribers, and out of those that were
+/// given a prefix, where the state doesn't show that of it.
 pub(crate) fn forget_given(
     index: &mut Index,
     state: &State,
@@ -179,10 +172,13 @@ pub(crate) fn forget_given(
         SessionFacts::Gx(id, facts) => {
             let known = state.gx(id);
             index.forget_unshown(id, subscribers, known);
+            index.forget_gateway_prefix(id, known);
             forget_given_gateway(index, id, facts.as_slice(), known);
         }
         SessionFacts::Af(id, facts) => {
-            forget_given_call(index, id, facts.as_slice(), state.af(id));
+            let known = state.af(id);
+            index.forget_call_prefix(id, known);
+            forget_given_call(index, id, facts.as_slice(), known);
         }
     }
 }
@@ -206,10 +202,7 @@ fn forget_gateway_fact(index: &mut Index, id: &GxSid, fact: &GxFact, known: Opti
 {
     match fact {
         GxFact::Field(_, SessionValue::Address(address)) => {
-            forget_gateway(index, id, Reached::at(*address), gateway_reached_in(known));
-        }
-        GxFact::Field(_, SessionValue::Prefix(_)) => {
-            forget_gateway(index, id, Reached::by_prefix(), gateway_reached_in(known));
+            forget_gateway(index, id, Some(*address), address_in(known));
         }
         GxFact::Field(_, SessionValue::Subscribers(subscribers)) => {
             index.forget_unshown(id, subscribers.as_slice(), known);
@@ -237,10 +230,7 @@ fn forget_call_fact(index: &mut Index, id: &AfSid, fact: &AfFact, known: Option<
 {
     match fact {
         AfFact::Session(_, SessionValue::Address(address)) => {
-            forget_call(index, id, Reached::at(*address), call_reached_in(known));
-        }
-        AfFact::Session(_, SessionValue::Prefix(_)) => {
-            forget_call(index, id, Reached::by_prefix(), call_reached_in(known));
+            forget_call(index, id, Some(*address), call_address_in(known));
         }
         _ => {}
     }

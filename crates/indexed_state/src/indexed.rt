@@ -146,7 +146,7 @@ impl IndexedState {
             before,
             after,
         );
-        forget_moved(&mut self.index, facts, before, after);
+        forget_moved(&mut self.index, facts, before.address, after.address);
         forget_given(&mut self.index, &self.state, facts, shown.as_slice());
         Ok(())
     }

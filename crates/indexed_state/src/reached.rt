@@ -1,5 +1,5 @@
 //! Where sessions show that their users are reached: at an address, by a prefix, or by both.
-ghost use Rattle.std.specs.Prelude.{◌≡◌, ℕ, List, Some, None, true, false, is_some};
+ghost use Rattle.std.specs.Prelude.{◌≡◌, ℕ, List, is_some};
 ghost use Rattle.std.specs.Option.{option_copied};
 ghost use Rattle.pcrf_facts.specs.Places as places;
 ghost use Rattle.pcrf_model.specs.Holdings.{SessionFact, facts_on};
@@ -21,30 +21,6 @@ pub(crate) struct Reached {
     pub(crate) address: Option<Ipv4Addr>,
     /// It shows a prefix.
     pub(crate) by_prefix: bool,
-}
-
-impl Reached {
-    /// At an address alone.
-    pub(crate) fn at(address: Ipv4Addr) -> Reached
-        ensures address { result.address ≡ Some address }
-        ensures by_prefix { result.by_prefix ≡ false }
-    {
-        Reached {
-            address: Some(address),
-            by_prefix: false,
-        }
-    }
-
-    /// By a prefix alone.
-    pub(crate) fn by_prefix() -> Reached
-        ensures address { result.address ≡ None }
-        ensures by_prefix { result.by_prefix ≡ true }
-    {
-        Reached {
-            address: None,
-            by_prefix: true,
-        }
-    }
 }
 
 /// Where the user of the session of these facts is reached.
@@ -76,8 +52,8 @@ pub(crate) fn gateway_reached_in(known: Option<&GxRec>) -> Reached
     }
 }
 
-/// The address that a gateway's session of this record shows.
-fn address_in(known: Option<&GxRec>) -> Option<Ipv4Addr>
+/// The address that a gateway's session of this record shows, none where there is no record.
+pub(crate) fn address_in(known: Option<&GxRec>) -> Option<Ipv4Addr>
     ensures { (facts : List SessionFact) (id : List ℕ)
         → record_facts (option_copied known.entry) ≡ facts_on facts (gx id)
         → IsAddressOf (view facts) (gx id) result }
@@ -122,8 +98,8 @@ pub(crate) fn call_reached_in(known: Option<&AfRec>) -> Reached
     }
 }
 
-/// The address that an application function's session of this record shows.
-fn call_address_in(known: Option<&AfRec>) -> Option<Ipv4Addr>
+/// The address that an application function's session of this record shows, none where there is no record.
+pub(crate) fn call_address_in(known: Option<&AfRec>) -> Option<Ipv4Addr>
     ensures { (facts : List SessionFact) (id : List ℕ)
         → record_facts (option_copied known.entry) ≡ facts_on facts (af id)
         → IsAddressOf (view facts) (af id) result }

@@ -6,7 +6,7 @@ ghost use Rattle.pcrf_model.specs.Operations.{with_operation};
 ghost use Rattle.pcrf_model.specs.Sessions.{gx, af};
 ghost use Rattle.indexed_state.specs.Indexed.{IsTold};
 
-use crate::forgetting::{forget_call, forget_gateway, forget_subscribers};
+use crate::forgetting::{forget_call, forget_gateway, forget_stood};
 use crate::indexed::IndexedState;
 use crate::reached::{call_reached_in, gateway_reached_in};
 use crate::unsettling::{unsettle, wait_gateway};
@@ -55,8 +55,8 @@ impl IndexedState {
             before,
             after,
         );
-        forget_gateway(&mut self.index, id, before, after);
-        forget_subscribers(&mut self.index, id, stood.as_ref(), self.state.gx(id));
+        forget_gateway(&mut self.index, id, before.address, after.address);
+        forget_stood(&mut self.index, id, stood.as_ref(), self.state.gx(id));
         Ok(())
     }
 
@@ -117,7 +117,8 @@ impl IndexedState {
             before,
             after,
         );
-        forget_call(&mut self.index, id, before, after);
+        forget_call(&mut self.index, id, before.address, after.address);
+        self.index.forget_call_prefix(id, self.state.af(id));
         Ok(())
     }
 }

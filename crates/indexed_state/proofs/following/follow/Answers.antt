@@ -45,5 +45,5 @@ returns c = λ t i h differs was a.
       all = c.unsettle.ensures.all;
     } in
     agree_followed t i h k d c.args.index.now new c.args.rules.now c.unsettle.new.rules c.args.waiting.now w c.gateway_reached_in-before.result c.gateway_reached_in-after.result
-    z c.args.is_whole.now c.forget_subscribers.new.index
-    (λ all. c.forget_subscribers.ensures k.facts c.gx-known.ensures (c.forget_gateway.ensures (view k.facts) (c.gateway_reached_in-after.ensures k.facts id c.gx-known.ensures) all))
+    z c.args.is_whole.now c.forget_stood.new.index
+    (λ all. c.forget_stood.ensures k.facts c.gx-known.ensures (c.forget_gateway.ensures (view k.facts) (c.gateway_reached_in-after.ensures k.facts id c.gx-known.ensures).at_address all))

@@ -4,7 +4,7 @@ use Rattle.pcrf_model.specs.Sessions.{Session, is_gx}
 use Rattle.pcrf_model.specs.Views.{view}
 use Rattle.waiting_sessions.specs.Waits.{WaitsIfDue}
 use Rattle.waiting_sessions.proofs.Waited.{keeps_through, waits_on}
-use Rattle.indexed_state.specs.Indexed.{Agree, IsReached}
+use Rattle.indexed_state.specs.Indexed.{Agree, IsAddressOf, IsReached}
 use Rattle.indexed_state.proofs.Agreeing.{Followed, agree_index, agree_grown, agree_followed, operation_differs, operation_covered}
 use Rattle.indexed_state.proofs.indexed.IndexedState.take.Goals as goal
 
@@ -66,4 +66,4 @@ invariant_of-self-2 c =
     } in
     agree_followed c.self.inside.tables c.self.inside.site h k o.session c.make_whole.new.index c.cover.new.self c.self.inside.rules c.unsettle.new.rules c.self.inside.waiting w
     before after z c.make_whole.new.is_whole c.forget_given.new.index
-    (λ all. c.forget_given.ensures (c.forget_moved.ensures (view k.facts) (subst (λ (s : Session). IsReached (view k.facts) s after) (sym session) is_at) all))
+    (λ all. c.forget_given.ensures (c.forget_moved.ensures (view k.facts) (subst (λ (s : Session). IsAddressOf (view k.facts) s after.address) (sym session) is_at.at_address) all))

@@ -68,7 +68,7 @@ invariant_of-self-2 c =
       all = c.unsettle.ensures.all;
     } in
     agree_followed c.self.inside.tables c.self.inside.site h k s c.make_whole.new.index c.cover.new.self c.self.inside.rules c.unsettle.new.rules c.self.inside.waiting w
-    before after z c.make_whole.new.is_whole c.forget_subscribers.new.index (λ all. c.forget_subscribers.ensures k.facts c.gx.ensures (c.forget_gateway.ensures (view k.facts) is_at all))
+    before after z c.make_whole.new.is_whole c.forget_stood.new.index (λ all. c.forget_stood.ensures k.facts c.gx.ensures (c.forget_gateway.ensures (view k.facts) is_at.at_address all))
 
 pub returns-clause-ok : goal.returns-clause-ok
 returns-clause-ok c =
