@@ -139,12 +139,7 @@ pub(crate) fn forget_stood(
 }
 
 /// Takes it out from under these subscribers.
-fn forget_subscribers(
-    index: &mut Index,
-    id: &GxSid,
-    stood: Option<&GxRec>,
-    known: Option<&GxRec>,
-)
+fn forget_subscribers(index: &mut Index, id: &GxSid, stood: Option<&GxRec>, known: Option<&GxRec>)
     ensures { (facts : List SessionFact)
         → record_facts (option_copied known.entry) ≡ facts_on facts (gx id.now)
         → Covers (view facts) index.old → Covers (view facts) index.new }

@@ -54,12 +54,7 @@ pub(crate) fn unsettle_all(alloc: Global, rules: &mut Rules, waiting: &mut Waiti
 }
 
 /// The lists of rules of the gateways' sessions that are listed under either address are stale.
-fn touch_both(
-    rules: &mut Rules,
-    index: &Index,
-    before: Option<Ipv4Addr>,
-    after: Option<Ipv4Addr>,
-)
+fn touch_both(rules: &mut Rules, index: &Index, before: Option<Ipv4Addr>, after: Option<Ipv4Addr>)
     ensures before { TouchesAt rules.old rules.new index.now before }
     ensures after { TouchesAt rules.old rules.new index.now after }
 {
