@@ -1,6 +1,6 @@
 use Rattle.pcrf_model.specs.Sessions.{af}
 use Rattle.session_index.proofs.Forgotten.{address_forgotten}
-use Rattle.session_index.proofs.index.Index.forget_call.Goals as goal
+use Rattle.session_index.proofs.index.Index.forget_call_address.Goals as goal
 
 pub returns-clause-address : goal.returns-clause-address
 returns-clause-address c =
