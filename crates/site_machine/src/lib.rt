@@ -2,6 +2,7 @@
 //! above (`site_core`).
 #![tactic(auto)]
 
+mod aborting;
 mod adding;
 mod calls;
 mod event;
