@@ -2,6 +2,7 @@
 //! above (`site_core`).
 #![tactic(auto)]
 
+mod abandoned;
 mod aborting;
 mod adding;
 mod calls;
@@ -9,6 +10,7 @@ mod event;
 mod fault;
 mod lookup;
 mod operations;
+mod refusals;
 mod renewing;
 mod request;
 mod site;
