@@ -97,8 +97,8 @@ def owners(parts):
 class Draw:
     """Draws from a seed."""
 
-    def __init__(self, seed, apns=APNS, hosts=HOSTS):
-        self.random, self.apns, self.hosts = random.Random(seed), apns, hosts
+    def __init__(self, seed, apns=APNS, hosts=HOSTS, functions=HOSTS):
+        self.random, self.apns, self.hosts, self.functions = random.Random(seed), apns, hosts, functions
 
     def chance(self, percent):
         """Whether something of so many percent happens."""
@@ -114,9 +114,9 @@ class Draw:
 
     # ---- good messages
 
-    def origin(self):
-        """Origin-Host and Origin-Realm."""
-        return [Part(264, self.one(self.hosts)), Part(296, self.one(REALMS))]
+    def origin(self, hosts=None):
+        """Origin-Host, of these or of those of gateways, and Origin-Realm."""
+        return [Part(264, self.one(hosts or self.hosts)), Part(296, self.one(REALMS))]
 
     def user(self, address, prefix, subscribers, apn, prefixes=PREFIXES):
         """Who is meant: address, prefix, subscribers and access point, each by its chance."""
@@ -163,14 +163,14 @@ class Draw:
 
     def aar(self, session=None):
         """An AA request (TS 29.214, 5.6.1)."""
-        parts = [Part(263, session or self.one(AF_SESSIONS))] + self.some(70, Part(258, RX)) + self.origin()
+        parts = [Part(263, session or self.one(AF_SESSIONS))] + self.some(70, Part(258, RX)) + self.origin(self.functions)
         numbers = self.random.sample([0, 1, 2, 10], self.one([0, 1, 1, 1, 2]))
         return Drawn(AAR, RX, parts + self.user(68, 18, 25, 20, CALLERS) + [self.component(one) for one in numbers])
 
     def many_flows(self, session, address, component, count):
         """An AA request of a component of many flows."""
         flows = [tgpp(519, [tgpp(509, number), tgpp(507, FILTERS[2])]) for number in range(1, count + 1)]
-        parts = [Part(263, session)] + self.origin() + [Part(8, address)]
+        parts = [Part(263, session)] + self.origin(self.functions) + [Part(8, address)]
         return Drawn(AAR, RX, parts + [tgpp(517, [tgpp(518, component), tgpp(520, 0)] + flows)])
 
     def within(self, bits, octets):
@@ -194,17 +194,17 @@ class Draw:
         flow = tgpp(519, parts + self.bandwidth())
         own = self.some(50, tgpp(511, self.one([0, 1, 3]))) + self.bandwidth()
         gone = [tgpp(517, [tgpp(518, number), tgpp(520, 9), tgpp(511, 4)]) for number in removed]
-        parts = [Part(263, session)] + self.origin() + ([Part(8, where)] if isinstance(where, bytes) else where)
+        parts = [Part(263, session)] + self.origin(self.functions) + ([Part(8, where)] if isinstance(where, bytes) else where)
         return Drawn(AAR, RX, parts + gone + [tgpp(517, [tgpp(518, component), tgpp(520, 0), flow] + own)])
 
     def flow_removed(self, session, component):
         """An AA request by which a flow is removed, and its component described."""
         parts = [tgpp(518, component), tgpp(519, [tgpp(509, 1), tgpp(511, 4)])]
-        return Drawn(AAR, RX, [Part(263, session)] + self.origin() + [tgpp(517, parts)])
+        return Drawn(AAR, RX, [Part(263, session)] + self.origin(self.functions) + [tgpp(517, parts)])
 
     def str_(self, session=None):
         """A session termination request (TS 29.214, 5.6.4)."""
-        return Drawn(STR, RX, [Part(263, session or self.one(AF_SESSIONS))] + self.origin())
+        return Drawn(STR, RX, [Part(263, session or self.one(AF_SESSIONS))] + self.origin(self.functions))
 
     def cer(self):
         """A capabilities exchange (RFC 6733, 5.3.1)."""
@@ -358,7 +358,7 @@ class Draw:
             parts = [tgpp(509, 1), tgpp(507, FILTERS[2]), tgpp(511, 2), tgpp(512, 0), tgpp(516, 1), tgpp(515, 2)]
             flow = tgpp(519, parts)
             parts = [tgpp(518, 1), tgpp(520, 0), tgpp(511, 2), tgpp(516, 1), tgpp(515, 2), flow]
-            return Drawn(AAR, RX, [Part(263, b"af")] + self.origin() + self.user(90, 70, 60, 60, CALLERS) + [tgpp(517, parts)])
+            return Drawn(AAR, RX, [Part(263, b"af")] + self.origin(self.functions) + self.user(90, 70, 60, 60, CALLERS) + [tgpp(517, parts)])
         if self.chance(60):
             kind = self.one([1, 2, 3])
             parts = [Part(263, b"gw")] + self.origin() + [Part(416, kind), Part(415, 0)]

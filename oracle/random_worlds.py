@@ -3,20 +3,21 @@
 
 `random_worlds.py DATA` writes the scripts for two of the operator tables in the folder DATA there: of one site to five, a few
 of sixteen, and one that is long. It prints how often each thing was reached, and fails where it was reached too seldom, or
-where sites that took all letters differ. All gateways have one host, `gw`: so a push to it pushes what a push to any does.
+where sites that took all letters differ. All gateways have one host, `gw`, and all application functions `af`: so a push to it pushes
+what a push to any does, and so with aborts.
 """
 import os
 import sys
 
 from plain_facts import binding, matches, read_tables
 from plain_letters import Acknowledged, taken_of
-from plain_requests import CCR, GX, Refused, cut_stream, first, read_header, read_request
+from plain_requests import AAR, CCR, GX, RX, Refused, cut_stream, first, read_header, read_request
 from plain_site import World
 from random_calls import RandomScript
 from random_messages import ADDRESSES, AF_SESSIONS, GX_SESSIONS, Draw
 from tally import Tally
 
-HOST = b"gw"
+HOST, FUNCTION = b"gw", b"af"
 FILES = {"telephony": (range(5000, 5044), [b"IMS", b"ims", b"net", b"NET"]),
          "four-access-points": (range(5050, 5082), [b"IMS", b"ims", b"iNternet", b"internet", b"Z\\\xc3\x80",
                                                     b"z\\\xc3\x80", b"im"])}
@@ -48,7 +49,7 @@ class RandomWorld(RandomScript):
     def __init__(self, tables, seed, tally, apns):
         super().__init__(tables, seed, tally)
         has_many = apns[-1] == b"im" and seed == 5051
-        self.draw, self.refusals = Draw(seed, MANY if has_many else apns, [HOST]), False
+        self.draw, self.refusals = Draw(seed, MANY if has_many else apns, [HOST], [FUNCTION]), False
         self.many, self.ends = seed % 15 == 7, seed % 5 == 3 or seed == 5032
         self.steady = seed % 10 == 3 or self.many and self.ends
         self.count = 16 if self.many else (2, 3, 5)[seed % 3] if self.ends else (1, 2, 3, 4)[seed % 4]
@@ -59,7 +60,7 @@ class RandomWorld(RandomScript):
     # ---- lines
 
     def msg(self, octets, site=None):
-        """A site is given bytes, if no gateway is of another host."""
+        """A site is given bytes, if no gateway and no application function is of another host."""
         site = site or self.site()
         if not all(is_of_host(frame) for frame in cut_stream(octets)[0]):
             return
@@ -241,12 +242,13 @@ class RandomWorld(RandomScript):
 
 
 def is_of_host(frame):
-    """Whether a frame is no request of a gateway with another host."""
+    """Whether a frame is no request of a gateway or an application function with another host."""
     header = read_header(frame)
-    if (header.command, header.application) != (CCR, GX):
+    host = {(CCR, GX): HOST, (AAR, RX): FUNCTION}.get((header.command, header.application))
+    if host is None:
         return True
     try:
-        return first(read_request(frame).values, "host") == HOST
+        return first(read_request(frame).values, "host") == host
     except Refused:
         return True
 

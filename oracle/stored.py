@@ -105,13 +105,22 @@ def read(*path):
         return file.read()
 
 
+def judge_calls(tables):
+    """The model prints of scripts of calls what is written out by hand."""
+    for name, script in (("calls", messages.calls()), ("voice_call", messages.voice_call())):
+        if run_script(tables, script.lines) != script.prints:
+            sys.exit(f"the model prints something else of {name}.script than what is written out by hand")
+
+
 def drawn(data):
     """Makes the files of data in another folder, which has the tables, and gives their texts by name."""
+    judge_calls(read_tables(os.path.join(data, TABLES)))
     with tempfile.TemporaryDirectory() as folder, contextlib.redirect_stdout(io.StringIO()):
         tables = [name for name in os.listdir(data) if name.endswith(".toml")]
         for name in tables:
             os.symlink(os.path.abspath(os.path.join(data, name)), os.path.join(folder, name))
         messages.calls().write(folder, "calls")
+        messages.voice_call().write(folder, "voice_call")
         random_calls.main(os.path.join(data, TABLES), folder, os.devnull)
         random_streams.main(os.path.join(data, TABLES), os.path.join(folder, "random.streams"), os.devnull)
         random_worlds.main(folder)
