@@ -8,7 +8,7 @@ import pathlib
 import sys
 
 import letters
-from messages import GX, TGPP, VOICE, X, aar, attach, avp, base, ccr, component, str_
+from messages import GX, NETWORK, TGPP, VOICE, WITHIN, X, aar, attach, avp, base, ccr, component, str_
 from plain_answers import rar
 from plain_facts import read_tables
 from plain_letters import Range, Whole
@@ -59,7 +59,15 @@ RESTART = ["sites 3",
 STORED = ["sites 2", "# an initial request", msg(0, ccr(1, 0, SESSION, "10.0.0.1", "IMS", (X,))), "show 0",
           "# making a letter of a whole state", "letter 0 1", "# taking a letter of a whole state", "merge 1 0", "show 1"]
 
-SCRIPTS = [CALL, STORED, RESTART]
+LOST = ["sites 2",
+        "# an initial request that gives a prefix", msg(0, ccr(1, 0, SESSION, None, "IMS", (X,), NETWORK)),
+        "# an AA request by a prefix within", msg(0, aar(None, [VOICE], prefix=WITHIN)),
+        "# an update that gives a prefix", msg(0, ccr(2, 1, prefix=NETWORK)),
+        "# a termination request", msg(0, ccr(3, 2)),
+        "# an abort", "abort 0", "# an abort of nothing", "abort 0",
+        "# making a letter of a whole state", "letter 0 1", "# taking a letter of a whole state", "merge 1 0", "show 1"]
+
+SCRIPTS = [CALL, STORED, RESTART, LOST]
 
 
 def world_of(tables, script):
