@@ -3,8 +3,8 @@
 
 `stored.py CRATE` reads what the crate's folder has: the files of `data`, and `stdin`, which has the answers to its lines behind
 them. It fails where a file that is drawn or put together by a program of this folder is another one, where a script, the
-scripts of a file of worlds or a stream print something else than the plain model says, where the lines on scripts, on letters or
-on drawn bindings are others or say something else, or where the answer that refuses a request of Rx has other bytes. With
+scripts of a file of worlds or a stream print something else than the plain model says, where the lines on scripts, on letters, on
+prefixes or on drawn bindings are others or say something else, or where the answer that refuses a request of Rx has other bytes. With
 `--write` it writes the files in place of comparing them, and all that `stdin` and `stdout` have of these.
 """
 import contextlib
@@ -21,6 +21,7 @@ import fixed_worlds
 import letters
 import messages
 import plain_answers
+import prefixes
 import random_calls
 import random_streams
 import random_worlds
@@ -161,7 +162,7 @@ class Stored:
         on_scripts = list(script_lines.all_lines(read_tables(os.path.join(self.data, LINES_WITH))))
         headings = [at for at, (line, _) in enumerate(on_scripts) if line.startswith("#")]
         each = [on_scripts[first:behind] for first, behind in zip(headings, headings[1:] + [None])]
-        for lines in each + [list(letters.lines())]:
+        for lines in each + [list(letters.lines()), list(prefixes.lines())]:
             yield [(line, [] if line.startswith("#") else [made]) for line, made in lines]
         yield [(line, []) for line in bindings.lines()]
 
