@@ -30,14 +30,15 @@ struct Read {
 impl Read {
     /// Adds what a request's prefix was read as.
     fn put(&mut self, read: Result<Option<Ipv6Prefix>, ReadFault>) -> Result<(), AllocError> {
+        let text = &mut self.text;
         match read {
             Ok(Some(prefix)) => {
                 self.count = self.count.saturating_add(1);
-                writeln!(self.text, "{prefix}")
+                writeln!(text, "{prefix}")
             }
-            Ok(None) => self.text.push_str("none\n"),
+            Ok(None) => text.push_str("none\n"),
             Err(fault) if is_invalid(fault) => Ok(()),
-            Err(fault) => put_fault(&mut self.text, fault),
+            Err(fault) => put_fault(text, fault),
         }
     }
 }
@@ -85,8 +86,9 @@ fn prefix_of(alloc: Global, request: &Message) -> Result<Option<Ipv6Prefix>, Rea
 
 /// Reads the requests with values of so many bytes.
 fn read_all(alloc: Global, count: u32, read: &mut Read) -> Result<(), AllocError> {
-    let last = if count > 1 { u8::MAX } else { 0 };
-    for length in 0..=last {
+    let lengths = if count > 1 { 256u32 } else { 1 };
+    for length in 0..lengths {
+        let [_, _, _, length] = length.to_be_bytes();
         let request = request(alloc, count, length)?;
         let prefix = prefix_of(alloc, &request);
         drop(request);
