@@ -4,20 +4,23 @@ together, with what stood behind it or a few bytes of that. The plain readers sa
 from typing import NamedTuple
 
 import letters
-from messages import GX, RX, TGPP, VOICE, aar, attach, avp, base, ccr, message, str_
+from messages import GX, NETWORK, RX, TGPP, VOICE, WITHIN, X, aar, asa, attach, avp, base, ccr, message, str_
 from plain_requests import MOST_BYTES, number
 
 FEW = 4  # bytes that stand behind a claim where all else is cut off
 CLAIMS = (2**30, 2**32 - 1, 2**20, 2**16)
 GROUPS = (260, 297, 443, 517, 519)  # the codes of AVPs whose values are AVPs
 
-# A range and a whole state, with every form of fact.
+# Ranges and whole states, with every form of fact.
+MADE, HELD = letters.reached()[:2], letters.reached()[2:]
 LETTERS = [letters.letter(letters.log_range([letters.attach(), letters.call(), letters.operation([letters.END], session=b"af;2")], first=4)),
-           letters.state([letters.attached(), letters.called(), letters.group([(letters.END, b"")], session=b"af;2")], log=2)]
-REQUESTS = [attach(), ccr(2, 1), aar("10.0.0.1", [VOICE]), str_(), ccr(3, 2),
+           letters.state([letters.attached(), letters.called(), letters.group([(letters.END, b"")], session=b"af;2")], log=2),
+           letters.letter(letters.log_range(list(MADE), first=9)), letters.state(list(HELD), log=2)]
+REQUESTS = [attach(), ccr(2, 1), aar("10.0.0.1", [VOICE]), str_(), ccr(3, 2), ccr(1, 0, "gw;1;1", None, "IMS", (X,), NETWORK),
+            aar(None, [VOICE], prefix=WITHIN),
             base(257, [avp(258, GX), avp(260, avp(266, TGPP) + avp(258, RX))]), base(280), base(282)]
 ANSWERS = [message(0x40, 258, GX, [avp(263, "gw;1;1"), avp(268, 2001)]),
-           message(0x40, 258, GX, [avp(263, "gw;1;1"), avp(297, avp(266, TGPP) + avp(298, 5065))])]
+           message(0x40, 258, GX, [avp(263, "gw;1;1"), avp(297, avp(266, TGPP) + avp(298, 5065))]), asa()]
 
 
 class Field(NamedTuple):

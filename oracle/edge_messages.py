@@ -2,19 +2,20 @@
 import copy
 
 from plain_requests import AAR, BASE, CCR, CER, DPR, DWR, GX, MOST_BYTES, RX, STR, TGPP
-from random_messages import BAD_FILTERS, Drawn, Part, tgpp
+from random_messages import BAD_FILTERS, BAD_PREFIXES, Drawn, Part, tgpp
 
 ORIGIN = [Part(264, b"h"), Part(296, b"r")]
 SUBSCRIBER = Part(443, [Part(450, 1), Part(444, b"1")])
-USER = [Part(8, b"\x0a\0\0\x01"), SUBSCRIBER, Part(30, b"net")]
+REACHED = [Part(8, b"\x0a\0\0\x01"), Part(97, b"\0\x40" + b"\x20\x01\x0d\xb8\0\0\0\1")]
+POINT = Part(30, b"net")
 FLOW = [tgpp(509, 1), tgpp(507, b"permit in "), tgpp(511, 2), tgpp(512, 0), tgpp(516, 1), tgpp(515, 1)]
 COMPONENT = [tgpp(518, 1), tgpp(520, 0), tgpp(511, 2), tgpp(516, 1), tgpp(515, 1), tgpp(519, FLOW)]
 APPLICATIONS = [Part(258, GX), Part(260, [Part(258, RX)])]
-CCR_PARTS = [Part(263, b"g")] + ORIGIN + [Part(416, 1), Part(415, 0), SUBSCRIBER, USER[0], USER[2]]
-AAR_PARTS = [Part(263, b"a")] + ORIGIN + USER + [tgpp(517, COMPONENT)]
+CCR_PARTS = [Part(263, b"g")] + ORIGIN + [Part(416, 1), Part(415, 0), SUBSCRIBER] + REACHED + [POINT]
+AAR_PARTS = [Part(263, b"a")] + ORIGIN + REACHED + [SUBSCRIBER, POINT, tgpp(517, COMPONENT)]
 REQUESTS = [Drawn(CCR, GX, CCR_PARTS), Drawn(AAR, RX, AAR_PARTS), Drawn(STR, RX, [Part(263, b"a")] + ORIGIN),
             Drawn(CER, BASE, ORIGIN + APPLICATIONS, 0x80)]
-GROUPS = {CCR: [(), (5,)], AAR: [(), (6,), (6, 5)], STR: [()], CER: [()]}
+GROUPS = {CCR: [(), (5,)], AAR: [(), (7,), (7, 5)], STR: [()], CER: [()]}
 
 
 def inner(parts, path):
@@ -69,6 +70,12 @@ def past_a_range():
         for part in drawn.parts + drawn.parts[5].value:
             part.value = value if part.code == code else part.value
         yield drawn
+    for octets in BAD_PREFIXES:
+        for request in REQUESTS[:2]:
+            drawn = copy.deepcopy(request)
+            for part in drawn.parts:
+                part.value = octets if part.code == 97 else part.value
+            yield drawn
     for octets in BAD_FILTERS:
         flow = tgpp(519, [tgpp(509, 1), tgpp(507, octets)])
         yield Drawn(AAR, RX, [Part(263, b"a")] + ORIGIN + [tgpp(517, [tgpp(518, 1), flow])])

@@ -29,6 +29,9 @@ TOLD = f"01000030 40000102 01000016 00000003 00000004 00000107 4000000e 67773b31
 REFUSED_TELLING = ("01000044 40000102 01000016 00000003 00000004 00000107 4000000e 67773b31 3b310000 "
                    "00000129 40000020 0000010a 4000000c 000028af 0000012a 4000000c 000013c9")
 
+# An Abort-Session-Answer of Rx: Session-Id `af;1`, and success.
+ABORTED = f"0100002c 40000112 01000014 00000007 00000008 00000107 4000000c 61663b31 {DONE}"
+
 ENDS = [
     ("closed", [WATCHDOG], [WATCHED]),
     ("closed", [PROXIED], [ANSWERED]),
@@ -41,6 +44,7 @@ ENDS = [
     # An answer of the peer's gets none.
     ("closed", [TOLD, WATCHDOG], [WATCHED]),
     ("closed", [REFUSED_TELLING, WATCHDOG], [WATCHED]),
+    ("closed", [ABORTED, WATCHDOG], [WATCHED]),
 ]
 
 # How many bytes come of two watchdogs, where the end comes within the second.
@@ -101,6 +105,13 @@ CALL = f"01000050 c0000109 {CALLER} 00000102 4000000c 01000014 00000108 4000000a
        "00000008 4000000c 0a000001"
 SET_UP = f"01000050 40000109 {CALLER} 00000102 4000000c 01000014 {TO} {DONE}"
 AWAY = CALL[:-8] + "0a090909"
+# The same with a Framed-IPv6-Prefix of 64 bits in place of the address; and the call with one of 128 bits that it has, and with a
+# shorter one.
+REACHED = ATTACH.replace("010000c8", "010000d0").replace("00000008 4000000c 0a000001",
+                                                         "00000061 40000012 00402001 0db80000 00010000")
+CALL_WITHIN = CALL.replace("01000050", "01000060").replace("00000008 4000000c 0a000001",
+                                                           "00000061 4000001a 00802001 0db80000 00010000 00000000 00050000")
+CALL_ABOVE = CALL.replace("01000050", "01000058").replace("00000008 4000000c 0a000001", "00000061 40000011 00382001 0db80000 00000000")
 NOT_BOUND = (f"01000064 40000109 {CALLER} 00000102 4000000c 01000014 {TO} "
              "00000129 40000020 0000010a 4000000c 000028af 0000012a 4000000c 000013c9")
 # A session termination request of `af;2`, which isn't known.
@@ -127,6 +138,7 @@ def streams():
         told = f"01000038 00{head[-6:]} {IDS} {TO} 0000010c 4000000c {code:08x}"
         yield octets(f"{head} {IDS} {avps}"), "closed", octets(told)
     yield (octets(ATTACH, CALL, AWAY, UNKNOWN), "closed", octets(ATTACHED, SET_UP, NOT_BOUND, NOT_KNOWN))
+    yield (octets(REACHED, CALL, CALL_ABOVE, CALL_WITHIN), "closed", octets(ATTACHED, NOT_BOUND, NOT_BOUND, SET_UP))
 
 
 def main(folder):

@@ -1,15 +1,16 @@
 #!/usr/bin/env python3
 """Writes the scripts of worlds that show one thing each; `fixed_worlds.py DATA` writes them into the folder DATA.
 
-What they print is what the plain model gives. The answer with rules and a default quality is also written out here by hand,
-AVP by AVP, and compared with what the model gives.
+What they print is what the plain model gives. The answer with rules and a default quality, the request of an abort and letters are
+also written out here by hand, and compared with what the model gives.
 """
 import os
 import sys
 
-from messages import GX, OUT, RX, VOICE, X, Y, aar, avp, ccr, component, flow, ip, message, str_
+import letters
+from messages import GX, NETWORK, OUT, RX, VOICE, WITHIN, X, Y, aar, asa, avp, ccr, component, flow, ip, message, str_
 from plain_facts import read_tables
-from plain_site import run_script
+from plain_site import World, run_script
 
 # ---- one request and its answer, by hand
 
@@ -136,6 +137,37 @@ ANSWER = """
 00000417 80000010 000028af 00000001
 00000418 80000010 000028af 00000000
 """
+
+
+ABORT = """
+# The header: 108 bytes, R and P, Abort-Session, Rx, and the two identifiers.
+0100006c c0000112 01000014 00000007 00000008
+# Session-Id `af;1` and Auth-Application-Id: Rx.
+00000107 4000000c 61663b31
+00000102 4000000c 01000014
+# Origin-Host `s0` and Origin-Realm `r`.
+00000108 4000000a 73300000
+00000128 40000009 72000000
+# Destination-Realm `r` and Destination-Host `af`.
+0000011b 40000009 72000000
+00000125 4000000a 61660000
+# Abort-Cause BEARER_RELEASED, of the vendor 10415.
+000001f4 c0000010 000028af 00000000
+"""
+
+# A range of the abort of `af;1` at counter 1, a range of the end of `gw;1;1` by the request of number 5 at counter 2, and an
+# acknowledgement: version, edition, site, epoch and kind, then the body.
+LETTERS = ["""
+0000002e 03 00000007 00 0001 01
+0000000000000000 00000001
+0000000000000001 00 00000000 02 0004 61663b31 00000001 08
+""", """
+00000030 03 00000007 00 0001 01
+0000000000000001 00000001
+0000000000000002 00 00000005 01 0006 67773b313b31 00000001 01
+""", """
+00000014 03 00000007 01 0001 03 00 0001 0000000000000001
+"""]
 
 
 def digits(text):
@@ -292,6 +324,84 @@ def pushing(lines):
     lines.say("push 0", "push 0", "push 0")
 
 
+def exchanged(lines, site, peer, letter):
+    """A site's letter for a peer is taken, and acknowledged; it gives the number of the next letter."""
+    lines.say(f"letter {site} {peer}", f"merge {peer} {letter}", f"ack {peer} {site}", f"merge {site} {letter + 1}")
+    return letter + 2
+
+
+def abandoned(lines):
+    """Calls that lost their gateway's session, and who aborts them."""
+    lines.begin(3, "a call that lost its gateway's session is aborted once, by its home alone; other sites learn of it by a whole state")
+    lines.ask(0, first(), aar("10.0.0.1", [VOICE]))
+    lines.say("push 0", "abort 0")
+    lines.ask(0, ccr(3, 1))
+    lines.say("letter 0 1", "merge 1 0", "abort 1", "show 1", *ABORTING, "show 0", "letter 0 1", "merge 1 1", "abort 1", "show 1",
+              "letter 1 2", "merge 2 2", "show 2")
+    lines.ask(0, asa())
+    lines.say("# what was aborted may be bound again, and ends by its application function's request")
+    lines.ask(0, first("gw;1;2"))
+    lines.say("abort 0", "show 0")
+    lines.ask(0, str_())
+    lines.say("abort 0", "show 0", "letter 0 2", "merge 2 3", "show 2")
+    lines.begin(2, "and by a range of that operation alone")
+    lines.ask(0, first(), aar("10.0.0.1"), ccr(3, 1))
+    letter = exchanged(lines, 0, 1, 0)
+    lines.say(*ABORTING)
+    exchanged(lines, 0, 1, letter)
+    lines.say("show 1", "letter 1 0")
+    lines.begin(3, "two sites that are the home of a call one after the other abort it both, before they learn of each other")
+    lines.ask(0, first(), aar("10.0.0.1"))
+    letter = exchanged(lines, 0, 1, 0)
+    lines.ask(1, aar(None))
+    lines.ask(0, ccr(3, 1))
+    letter = exchanged(lines, 0, 1, letter)
+    lines.say("abort 0", "abort 1")
+    letter = exchanged(lines, 0, 1, letter)
+    lines.say("abort 1", "letter 1 0", f"merge 0 {letter}", "show 0", "show 1", "letter 0 2", "letter 1 2")
+    lines.begin(2, "the first of several by their Session-Ids; none of them is aborted by a site that isn't its home")
+    lines.ask(0, first(), *[aar("10.0.0.1", [], session) for session in ("af;3", "a \\", "af;2")], ccr(3, 1))
+    lines.say("abort 0", "abort 1", "abort 0", "show 0", "abort 2", "abort 18446744073709551616", "letter 0 1", "merge 1 0", "abort 1")
+    lines.ask(1, first("gw;1;2"), aar(None, session="af;3"), ccr(3, 1, "gw;1;2"))
+    lines.say("abort 1", "abort 1", "show 1")
+
+
+def reached(lines):
+    """Sessions that have prefixes, at several sites."""
+    lines.begin(3, "a call binds to a prefix that covers its own wherever both are known, and to the one that is the newest")
+    lines.ask(0, ccr(1, 0, "gw;1;1", None, "IMS", (X,), NETWORK))
+    lines.say("letter 0 1", "merge 1 0")
+    lines.ask(1, aar(None, [VOICE], prefix=WITHIN))
+    lines.say("letter 1 2", "merge 2 1", "show 2", "merge 2 0", "show 2")
+    lines.ask(2, ccr(1, 0, "gw;1;2", "10.0.0.2", "IMS", (X,), (56, "20010db8000000")), ccr(1, 0, "gw;1;3", None, "IMS", (X,), (0, "")))
+    lines.say("letter 2 0", "merge 0 2", "show 0", "push 2", "push 2", "letter 1 0", "merge 0 3", "show 0", "push 0", "abort 0")
+    lines.begin(2, "of two lives of a site under equal stamps the greater prefix shows: the longer, then the one of greater bytes")
+    for prefix in ((64, "20010db800000001"), (56, "ffff"), (64, "20010db800000002"), (128, "")):
+        octets = (prefix[1] or "00").ljust(2 * -(-prefix[0] // 8), "0")
+        lines.ask(0, ccr(1, 0, "gw;1;1", None, "IMS", (X,), (prefix[0], octets)))
+        lines.say("letter 0 1", "restart 0")
+    for order in ((0, 1, 2, 3), (3, 2, 1, 0)):
+        for letter in order:
+            lines.say(f"merge 1 {letter}", "show 1")
+        lines.say("restart 1")
+
+
+# A site aborts a call, and then none.
+ABORTING = ["abort 0", "abort 0"]
+
+
+def judge_abort(folder):
+    """The model gives the request of an abort, and letters, that are written out by hand."""
+    world = World(read_tables(os.path.join(folder, "telephony.toml")), 1)
+    for request in (first(), aar("10.0.0.1"), ccr(3, 1)):
+        world.obey(f"msg 0 {request.hex()}")
+    world.obey("abort 0")
+    assert [one.hex() for one in world.aborts] == [digits(ABORT)], "the model aborts by another message than the one by hand"
+    known = [letters.one(letters.operation([letters.ABORTED])), letters.letter(letters.acknowledgement(), site=1),
+             letters.letter(letters.log_range([letters.gx([letters.END], number=5, counter=2)], first=1))]
+    assert {one.hex() for one in known} == {digits(one) for one in LETTERS}, "the model has other letters than those by hand"
+
+
 def judge(folder):
     """The model gives the answer that is written out by hand."""
     tables = read_tables(os.path.join(folder, "four-access-points.toml"))
@@ -303,13 +413,15 @@ def main(folder):
     """Writes all files."""
     files = {"letters": ("What sites take of each other.", [taken, called, many_operations]),
              "rules": ("What answers and pushes tell.", [left_over, by_hand]),
-             "shown": ("What a site shows and pushes.", [each_kind, pushing])}
+             "shown": ("What a site shows and pushes.", [each_kind, pushing]),
+             "reached": ("Sessions that have IPv6 prefixes, and calls that lost their gateway's session.", [reached, abandoned])}
     for name, (heading, scripts) in files.items():
         lines = Lines(heading)
         for script in scripts:
             script(lines)
         lines.write(folder, f"{name}.scripts")
     judge(folder)
+    judge_abort(folder)
 
 
 if __name__ == "__main__":

@@ -3,11 +3,13 @@ that `cases` runs on it: `letters.py` prints the lines, each with what is said o
 """
 
 EDITION = 7
+VERSIONS = (1, 2, 3)  # the last is written
+PREFIXES, ABORTS = 2, 3  # the versions from which on letters have these
 LAST = 2 ** 63 - 1
 MOST = 2 ** 30
 
 # what a field says, by its number
-SESSION = {1: "address", 2: "apn", 3: "subscribers", 4: "identity", 5: "identity", 6: "last"}
+SESSION = {1: "address", 2: "apn", 3: "subscribers", 4: "identity", 5: "identity", 6: "last", 7: "prefix"}
 COMPONENT = {1: (0, 2 ** 32 - 1), 2: (0, 3), 3: (0, 2 ** 32 - 1), 4: (0, 2 ** 32 - 1)}
 FLOW = {1: "filters", 2: (0, 2), 3: (0, 3), 4: (0, 2 ** 32 - 1), 5: (0, 2 ** 32 - 1)}
 
@@ -17,8 +19,10 @@ class Bad(Exception):
 
 
 class Reader:
+    """A reader of a letter, whose version it knows once it read that."""
+
     def __init__(self, data):
-        self.data, self.at = data, 0
+        self.data, self.at, self.version = data, 0, VERSIONS[-1]
 
     def take(self, count):
         if self.at + count > len(self.data):
@@ -56,10 +60,19 @@ class Reader:
         for _ in range(3):
             self.number(4)
 
+    def prefix(self):
+        """The length in bits, and the bytes that these need, with zeros past them."""
+        bits = self.count("bits of a prefix", 1, 0, 128)
+        octets = self.take(-(-bits // 8))
+        if int.from_bytes(octets, "big") % 2 ** (8 * len(octets) - bits):
+            raise Bad()
+
     def session_value(self, kind, field):
         if field == "address":
             self.count("bytes of an address", 1, 4, 4)
             self.take(4)
+        elif field == "prefix":
+            self.prefix()
         elif field == "apn":
             name = self.text(255)
             if any(0x41 <= byte <= 0x5A for byte in name):
@@ -93,6 +106,8 @@ class Reader:
             return (1, 0, 0, 0, b"")
         if code == 2:
             field = self.row(SESSION)
+            if SESSION[field] == "prefix" and self.version < PREFIXES:
+                raise Bad()
             self.session_value(kind, SESSION[field])
             return (2, 0, 0, field, b"")
         if kind == 1:
@@ -102,6 +117,8 @@ class Reader:
             if self.number(1, 0, 1):
                 self.rule()
             return (7, 0, 0, 0, name)
+        if code == 8 and self.version >= ABORTS:
+            return (8, 0, 0, 0, b"")
         if code not in (3, 4, 5, 6):
             raise Bad()
         component = self.number(4)
@@ -183,8 +200,11 @@ class Reader:
             raise Bad()
 
 
+OLDER = "read, and written in version 3"
+
+
 def verdict(frame):
-    """What a site of edition 7 says of a frame."""
+    """What a site of edition 7 says of a frame, and whether it writes it again with another version alone."""
     return judged(Reader(frame))
 
 
@@ -193,8 +213,9 @@ def judged(reader):
     frame = reader.data
     try:
         length = reader.count("bytes of a letter", 4)
-        if reader.number(1) != 1:
-            return "the letter's version is not 1"
+        reader.version = reader.number(1)
+        if reader.version not in VERSIONS:
+            return "the letter's version is not 1, 2 or 3"
         if reader.number(4) != EDITION:
             return "the letter is of another edition of the operator tables"
         if length != len(frame) - 4 or length > MOST:
@@ -206,7 +227,7 @@ def judged(reader):
             raise Bad()
     except Bad:
         return "the bytes are no letter"
-    return "read"
+    return "read" if reader.version == VERSIONS[-1] else OLDER
 
 
 # ---- the same, written
@@ -223,7 +244,7 @@ def framed(content):
     return u(4, len(content)) + content
 
 
-def letter(body, version=1, edition=EDITION, site=0, epoch=1):
+def letter(body, version=VERSIONS[-1], edition=EDITION, site=0, epoch=1):
     return framed(u(1, version) + u(4, edition) + u(1, site) + u(2, epoch) + body)
 
 
@@ -292,6 +313,13 @@ def last(number):
     return field(6, u(4, number))
 
 
+def prefix(bits, octets):
+    return field(7, u(1, bits) + octets)
+
+
+ABORTED = u(1, 8)
+
+
 def component_removed(component):
     return u(1, 3) + u(4, component)
 
@@ -330,8 +358,8 @@ def gx(facts, number=0, session=b"gw;1;1", **more):
     return operation(facts, kind=1, number=number, session=session, **more)
 
 
-def one(op):
-    return letter(log_range([op]))
+def one(op, **more):
+    return letter(log_range([op]), **more)
 
 
 def attach(number=3):
@@ -439,24 +467,95 @@ def whole():
     yield "sixteen subscribers", one(operation([subscribers([(0, u(1, 65 + i)) for i in range(16)])]))
     yield "a rule's name of 600 bytes", one(gx([told(b"n" * 600)]))
     yield "an update", one(gx([last(2)], number=1))
+    yield from prefixes_and_aborts()
     yield "the greatest of each of a rule", one(gx([told(b"a", rule(3, filters([b"f" * 255] * 2), 9, 15, 1, 1))]))
     yield "the least of each of a rule", one(gx([told(b"a", rule(0, None, 1, 1, 0, 0))]))
     yield from whole_states()
 
 
+USER = b"\x20\x01\x0d\xb8\0\0\0\1"
+
+
+def reached():
+    """What a gateway's session and a call give that have a prefix, and that the call was aborted."""
+    held = tag(4, 2, 3)
+    return (gx([host(b"gw"), realm(), last(1), prefix(64, USER)], number=3),
+            operation([last(0), prefix(128, USER + bytes(7) + b"\5"), component_removed(9), flow(1, 1, 2, 0), ABORTED]),
+            gateway([(address(), held), (prefix(64, USER), tag(3))]),
+            group([(prefix(61, USER[:7] + b"\x08"), tag(2)), (component(1, 1, 0), tag(5)), (ABORTED, b"")]))
+
+
+def prefixes_and_aborts():
+    """Letters that are read, of prefixes of each kind of length, and of aborts."""
+    own, called_by, held, held_call = reached()
+    yield "a gateway's session that has a prefix", one(own)
+    yield "a call that has a prefix and was aborted", one(called_by)
+    yield "a state of both", state([held, held_call])
+    yield "an abort", one(operation([ABORTED], session=b"af;1"))
+    yield "a state of an aborted call", state([group([(ABORTED, b"")])], clock=0)
+    for bits in (0, 1, 7, 8, 9, 32, 56, 61, 63, 120, 121, 127, 128):
+        octets = (2 ** bits - 1 << -bits % 8).to_bytes(-(-bits // 8), "big")
+        yield f"a prefix of {bits} bits", one(gx([prefix(bits, octets)]))
+
+
+def older():
+    """Letters of the versions before, which are read as the letters that they are, and written in the last."""
+    own, called_by, held, held_call = reached()
+    for version in VERSIONS[:-1]:
+        for name, body in (("a range", log_range([attach(), call(), gx([END], number=5, counter=2)], first=1)),
+                           ("a whole state", snapshot([attached(), called()])), ("an acknowledgement", acknowledgement())):
+            yield f"{name} of version {version}", letter(body, version=version)
+    yield "a prefix in version 2", one(own, version=2)
+    yield "a held prefix in version 2", letter(snapshot([held]), version=2)
+
+
+def broken_versions():
+    """Letters of versions that don't have what they say, or that aren't."""
+    own, called_by, held, held_call = reached()
+    for version in (0, 4, 9, 255):
+        yield f"version {version}", letter(acknowledgement(), version=version)
+    yield "version 0 of another edition", letter(acknowledgement(), version=0, edition=8)
+    yield "version 2 of another edition", letter(acknowledgement(), version=2, edition=8)
+    yield "a prefix in version 1", one(own, version=1)
+    yield "a held prefix in version 1", letter(snapshot([held]), version=1)
+    for version in VERSIONS[:-1]:
+        yield f"an abort in version {version}", one(operation([ABORTED]), version=version)
+        yield f"a held abort in version {version}", letter(snapshot([group([(ABORTED, b"")])], clock=0), version=version)
+
+
+def broken_prefixes_and_aborts():
+    """Letters that are not read for a prefix or an abort."""
+    for bits in (129, 136, 255):
+        yield f"a prefix of {bits} bits", one(gx([prefix(bits, bytes(-(-bits // 8)))]))
+    yield "a prefix of a byte too few", one(gx([prefix(65, USER)]))
+    yield "a prefix of a byte too many", one(gx([prefix(64, USER + b"\0")]))
+    for bits in (1, 7, 9, 61, 63, 127):
+        octets = (2 ** bits - 1 << -bits % 8 | 1).to_bytes(-(-bits // 8), "big")
+        yield f"a prefix of {bits} bits with one behind them", one(gx([prefix(bits, octets)]))
+    yield "a prefix without a length", one(gx([field(7, b"")]))
+    yield "a prefix before another field", one(gx([prefix(64, USER), last(1)]))
+    yield "a prefix twice", one(gx([prefix(56, USER[:7]), prefix(64, USER)]))
+    yield "a held prefix without its tag", state([gateway([(prefix(64, USER), b"")])])
+    yield "an abort of a gateway's session", one(gx([ABORTED]))
+    yield "an abort held of a gateway's session", state([gateway([(ABORTED, b"")])])
+    yield "an abort twice", one(operation([ABORTED, ABORTED]))
+    yield "an abort before a flow", one(operation([ABORTED, flow(1, 1, 2, 0)]))
+    yield "an end beside an abort", one(operation([END, ABORTED]))
+    yield "an abort with a tag", state([group([(ABORTED, tag())])])
+
+
 def broken():
     """Letters that are not: each bound one past its end, each count larger than its body, each order broken."""
-    yield "version 9", letter(acknowledgement(), version=9)
-    yield "version 0 of another edition", letter(acknowledgement(), version=0, edition=8)
-    yield "version 2", letter(acknowledgement(), version=2)
+    yield from broken_versions()
     yield "edition 8", letter(acknowledgement(), edition=8)
-    yield "edition 8 of no form", framed(u(1, 1) + u(4, 8))
+    yield "edition 8 of no form", framed(u(1, 3) + u(4, 8))
     yield "no byte", b""
     yield "a cut length", b"\0\0\0"
     yield "a length alone", framed(b"")
-    yield "a version alone", framed(b"\1")
-    yield "another version alone", framed(b"\2")
-    yield "an edition cut off", framed(b"\1\0\0\0")
+    yield "a version alone", framed(b"\3")
+    yield "an older version alone", framed(b"\1")
+    yield "another version alone", framed(b"\4")
+    yield "an edition cut off", framed(b"\3\0\0\0")
     yield "a byte behind", letter(acknowledgement() + b"\0")
     yield "a length one more", u(4, 21) + letter(acknowledgement())[4:]
     yield "a length one less", u(4, 19) + letter(acknowledgement())[4:]
@@ -498,12 +597,12 @@ def broken():
     yield "told names out of order", one(gx([told(b"b"), told(b"a")]))
     yield "a told name behind its beginning", one(gx([told(b"ab"), told(b"a")]))
     yield "fact 0", one(operation([u(1, 0)]))
-    yield "fact 8", one(operation([u(1, 8)]))
+    yield "fact 9", one(operation([u(1, 9)]))
     yield "what was told of a call", one(operation([told(b"a")]))
     for code in (component_removed(1), flow_removed(1, 1), component(1, 1, 0), flow(1, 1, 2, 0)):
         yield "a fact of a call on a gateway's session", one(gx([code]))
     yield "session field 0", one(operation([field(0, b"")]))
-    yield "session field 7", one(operation([field(7, b"")]))
+    yield "session field 8", one(operation([field(8, b"")]))
     yield "an address of three octets", one(operation([address(b"\x0a\0\0", 3)]))
     yield "an address of sixteen", one(operation([address(b"\0" * 16, 16)]))
     yield "an empty access point", one(operation([apn(b"")]))
@@ -540,6 +639,7 @@ def broken():
     for made in (rule(status=4), rule(qci=0), rule(qci=10), rule(priority=0), rule(priority=16), rule(capability=2),
                  rule(vulnerability=2), rule(found=filters([])), rule(found=filters([b"a"] * 3))):
         yield "a rule out of its ranges", one(gx([told(b"a", made)]))
+    yield from broken_prefixes_and_aborts()
     yield from broken_states()
 
 
@@ -564,7 +664,7 @@ def strings(draws, count):
         if kind == 0:
             yield draws.bytes(size, 256)
         else:
-            yield framed(u(1, 1) + u(4, EDITION) + draws.bytes(size, 256 if kind == 1 else 4))
+            yield framed(u(1, 3) + u(4, EDITION) + draws.bytes(size, 256 if kind == 1 else 4))
 
 
 def changes(draws, count, frame):
@@ -575,8 +675,8 @@ def changes(draws, count, frame):
         yield bytes(other)
 
 
-VERDICTS = ["read", "the letter's version is not 1", "the letter is of another edition of the operator tables",
-            "the bytes are no letter"]
+VERDICTS = ["read", "the letter's version is not 1, 2 or 3", "the letter is of another edition of the operator tables",
+            "the bytes are no letter", OLDER]
 
 
 def tallied(frames):
@@ -584,7 +684,7 @@ def tallied(frames):
     read, mixed = 0, 0
     for frame in frames:
         found = VERDICTS.index(verdict(frame))
-        read += found == 0
+        read += VERDICTS[found] in ("read", OLDER)
         mixed = (mixed * 31 + found) % 2 ** 32
     return "%d read, verdicts %d" % (read, mixed)
 
@@ -658,8 +758,12 @@ def lines():
         assert verdict(frame) == "read", name
         yield "# " + name, "# " + name
         yield "cut " + frame.hex(), "read, and cut at %d places" % len(frame)
+    for name, frame in older():
+        assert verdict(frame) == OLDER, name
+        yield "# " + name, "# " + name
+        yield "cut " + frame.hex(), "%s, and cut at %d places" % (OLDER, len(frame))
     for name, frame in broken():
-        assert verdict(frame) != "read", name
+        assert verdict(frame) not in ("read", OLDER), name
         yield "# " + name, "# " + name
         yield "letter " + frame.hex(), verdict(frame)
     yield "# what is held", "# what is held"

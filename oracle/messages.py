@@ -41,6 +41,11 @@ def ip(text):
     return bytes(int(part) for part in text.split("."))
 
 
+def framed_prefix(bits, digits, first=0):
+    """A Framed-IPv6-Prefix (RFC 3162, 2.3): a byte that doesn't count, the length in bits, and bytes."""
+    return avp(97, bytes([first, bits]) + bytes.fromhex(digits))
+
+
 def subscriber(kind, data):
     return avp(443, avp(450, kind) + avp(444, data))
 
@@ -48,11 +53,12 @@ def subscriber(kind, data):
 X, Y = subscriber(1, "001010000000001"), subscriber(0, "15550001")
 
 
-def ccr(kind, number, session="gw;1;1", address=None, apn=None, subscribers=()):
+def ccr(kind, number, session="gw;1;1", address=None, apn=None, subscribers=(), prefix=()):
     """A credit control request of the host gw (TS 29.212, 5.6.2)."""
     avps = [avp(263, session), avp(264, "gw"), avp(296, "r"), avp(258, GX), avp(416, kind), avp(415, number)]
     avps += list(subscribers)
     avps += [avp(8, ip(address))] if address else []
+    avps += [framed_prefix(*prefix)] if prefix else []
     avps += [avp(30, apn)] if apn else []
     return message(0xC0, 272, GX, avps)
 
@@ -82,16 +88,22 @@ def component(number, flows=(), media=None, status=None, up=None, down=None):
     return tgpp(517, out + b"".join(flows))
 
 
-def aar(address=None, components=(), session="af;1"):
+def aar(address=None, components=(), session="af;1", prefix=()):
     """An AA request of the host af (TS 29.214, 5.6.1)."""
     avps = [avp(263, session), avp(258, RX), avp(264, "af"), avp(296, "r")]
     avps += [avp(8, ip(address))] if address else []
+    avps += [framed_prefix(*prefix)] if prefix else []
     return message(0xC0, 265, RX, avps + list(components), 5, 6)
 
 
 def str_(session="af;1"):
     """A session termination request of the host af (TS 29.214, 5.6.4)."""
     return message(0xC0, 275, RX, [avp(263, session), avp(264, "af"), avp(296, "r")], 5, 6)
+
+
+def asa(code=2001, session="af;1"):
+    """An abort session answer of the host af (TS 29.214, 5.6.8)."""
+    return message(0x40, 274, RX, [avp(263, session), avp(268, code), avp(264, "af"), avp(296, "r")], 7, 8)
 
 
 def base(command, avps=()):
@@ -122,13 +134,16 @@ def arp(priority, capability, vulnerability):
 
 
 def rule(name, filters, status, qci, up, down, priority, precedence):
-    """A Charging-Rule-Definition (TS 29.212, 5.3.4)."""
-    qos = tgpp(1028, qci) + tgpp(516, up) + tgpp(515, down) + arp(*priority)
+    """A Charging-Rule-Definition (TS 29.212, 5.3.4). Classes 1 to 4 are guaranteed their greatest rates."""
+    guaranteed = tgpp(1026, up) + tgpp(1025, down) if qci <= 4 else b""
+    qos = tgpp(1028, qci) + tgpp(516, up) + tgpp(515, down) + guaranteed + arp(*priority)
     out = tgpp(1005, name) + b"".join(tgpp(1058, tgpp(507, text), 0) for text in filters)
     return tgpp(1003, out + tgpp(511, status) + tgpp(1016, qos) + tgpp(1010, precedence))
 
 
 SIP = rule("op/sip", [OUT], 2, 5, 32000, 32000, (9, 1, 0), 40)
+VOICE_RULES = [rule("af/af;1/1/1", [IN, OUT], 2, 1, 41000, 64000, (2, 0, 1), 100),
+               rule("af/af;1/1/2", [OUT], 2, 1, 5000, 5000, (2, 0, 1), 100)]
 QUALITY = [tgpp(1016, tgpp(1041, 1000000, 0) + tgpp(1040, 2000000, 0)), tgpp(1049, tgpp(1028, 5) + arp(9, 1, 0), 0)]
 
 
@@ -195,6 +210,9 @@ class Script:
     def push(self, site, printed="none"):
         self.say(f"push {site}", printed)
 
+    def abort(self, site, printed="none"):
+        self.say(f"abort {site}", printed)
+
     def letter(self, maker, peer):
         self.say(f"letter {maker} {peer}", f"letter {self.letters}")
         self.letters += 1
@@ -226,6 +244,11 @@ class Script:
 
     def attached(self, site=0, session="gw;1;1", address="10.0.0.1"):
         self.ask(site, attach(session, address), cca(site, 1, 0, session=session, rules=[SIP]))
+
+    def reached(self, prefix, session="gw;1;1", address=None, rules=(SIP,)):
+        """A session of a subscriber who has a prefix is set up at site 0."""
+        request = ccr(1, 0, session, address, "IMS", (X,), prefix)
+        self.ask(0, request, cca(0, 1, 0, session=session, rules=rules))
 
     def write(self, folder, name):
         for ending, lines in (("script", self.lines), ("out", self.prints)):
@@ -366,6 +389,122 @@ def many(s):
     s.push(0)
 
 
+NETWORK = (64, "20010db800000001")
+WITHIN = (128, "20010db8000000010000000000000005")
+
+
+def shown(bits, digits):
+    """A prefix as a script prints it."""
+    return f"{digits.ljust(32, '0')}/{bits}"
+
+
+def prefixes(s):
+    """Subscribers who have an IPv6 prefix, alone or beside an address."""
+    s.begin("a session may have a prefix alone; a call binds to it by a prefix within, and by each of what it gives")
+    s.reached(NETWORK)
+    s.show(0, "clock 1", live(address=shown(*NETWORK)), SIP_LINE, "told op/sip")
+    for prefix in ((128, "20010db8000000020000000000000005"), (56, "20010db8000000")):
+        s.ask(0, aar(None, [VOICE], prefix=prefix), aaa(0, 5065))
+    s.ask(0, aar("10.0.0.1", [VOICE], prefix=WITHIN), aaa(0, 5065))
+    s.ask(0, aar(None, [VOICE], prefix=WITHIN), aaa(0))
+    s.push(0, VOICE_PUSH)
+    s.show(0, "clock 3", live(address=shown(*NETWORK)), SIP_LINE, *VOICE_LINES, *VOICE_TOLD, "told op/sip", "af af;1 bound gw;1;1")
+    s.begin("prefixes that are none: too long, too short for their length, longer than an address; and one whose first byte and last "
+            "bits don't count")
+    for prefix in ((0x81, "20010db8000000010000000000000005"), (0x40, "20010db8000000"), (0x40, "20010db8000000010000000000000005ff"),
+                   (1, ""), (255, "")):
+        for request, session in ((ccr(1, 0, apn="IMS", subscribers=(X,), prefix=prefix), "gw;1;1"),
+                                 (aar("10.0.0.1", [VOICE], prefix=prefix), "af;1")):
+            s.ask(0, request, refused(request, 0, 5004, session))
+    s.reached((61, "20010db80000000fffff", 0xFF))
+    s.show(0, "clock 1", live(address=shown(61, "20010db800000008")), SIP_LINE, "told op/sip")
+    s.begin("an initial request lacks parameters that gives neither an address nor a prefix")
+    s.ask(0, ccr(1, 0, apn="IMS", subscribers=(X,)), cca(0, 1, 0, 5140))
+    s.ask(0, ccr(1, 0, apn="IMS", prefix=NETWORK), cca(0, 1, 0, 5140))
+    s.ask(0, aar(None, [VOICE]), aaa(0, 5005))
+    s.show(0, "clock 0")
+    s.begin("of two prefixes that have a call's the later binds it, though it is the shorter")
+    s.reached(NETWORK)
+    s.reached((60, "20010db800000000"), "gw;1;2")
+    s.ask(0, aar(None, [VOICE], prefix=WITHIN), aaa(0))
+    other = [live("gw;1;2", shown(60, "20010db800000000")), SIP_LINE]
+    s.show(0, "clock 3", live(address=shown(*NETWORK)), SIP_LINE, "told op/sip", *other, *VOICE_LINES, "told op/sip",
+           "af af;1 bound gw;1;2")
+    s.note("once it says its prefix anew the first one is the later, and its address stays as old as it was")
+    s.ask(0, ccr(2, 1, prefix=NETWORK), cca(0, 2, 1, rules=VOICE_RULES))
+    s.push(0)
+    s.show(0, "clock 4", live(address=shown(*NETWORK)), SIP_LINE, *VOICE_LINES, *VOICE_TOLD, "told op/sip", *other, "told op/sip",
+           "af af;1 bound gw;1;1")
+    s.begin("a session has both, and calls by the one, the other, and both; an update gives another prefix and leaves the address")
+    s.reached(NETWORK, address="10.0.0.1")
+    both = live(address=f"10.0.0.1,{shown(*NETWORK)}")
+    s.ask(0, aar("10.0.0.1"), aaa(0))
+    s.ask(0, aar(None, session="af;2", prefix=NETWORK), aaa(0, session="af;2"))
+    s.ask(0, aar("10.0.0.1", session="af;3", prefix=WITHIN), aaa(0, session="af;3"))
+    s.ask(0, aar("10.0.0.2", session="af;4", prefix=WITHIN), aaa(0, 5065, "af;4"))
+    calls = [f"af af;{number} bound gw;1;1" for number in (1, 2, 3)]
+    s.show(0, "clock 4", both, SIP_LINE, "told op/sip", *calls)
+    s.ask(0, ccr(2, 1, prefix=(0, "")), cca(0, 2, 1))
+    s.ask(0, ccr(2, 2, prefix=(32, "20010db9")), cca(0, 2, 2))
+    s.show(0, "clock 6", live(address=f"10.0.0.1,{shown(32, '20010db9')}"), SIP_LINE, "told op/sip", calls[0], "af af;2 unbound",
+           "af af;3 unbound")
+    k = s.letter(0, 1)
+    s.merge(1, k)
+    s.show(1, "clock 6", live(address=f"10.0.0.1,{shown(32, '20010db9')}"), SIP_LINE, "told op/sip", calls[0], "af af;2 unbound",
+           "af af;3 unbound")
+
+
+def aborts(s):
+    """Calls that lost their gateway's session."""
+    s.begin("a call is aborted once, by its home, when its gateway's session ended")
+    call(s)
+    s.abort(0)
+    s.ask(0, ccr(3, 1), cca(0, 3, 1))
+    k = s.letter(0, 1)
+    s.merge(1, k)
+    s.abort(1)
+    s.show(1, "clock 4", "gx gw;1;1 ended", "af af;1 unbound")
+    s.abort(0, "abort af;1")
+    s.abort(0)
+    s.push(0)
+    s.show(0, "clock 5", "gx gw;1;1 ended", "af af;1 unbound aborted")
+    k = s.letter(0, 1)
+    s.merge(1, k)
+    s.abort(1)
+    s.show(1, "clock 5", "gx gw;1;1 ended", "af af;1 unbound aborted")
+    s.note("the application function's answer gets none; what it aborted may be bound again")
+    s.ask(0, asa(), "no answer")
+    s.ask(0, ccr(1, 0, "gw;1;2", "10.0.0.1", "IMS", (X,)), cca(0, 1, 0, session="gw;1;2", rules=[SIP, *VOICE_RULES]))
+    s.abort(0)
+    s.show(0, "clock 6", "gx gw;1;1 ended", live("gw;1;2"), SIP_LINE, *VOICE_LINES, *VOICE_TOLD, "told op/sip",
+           "af af;1 bound gw;1;2 aborted")
+    s.note("and ends by its application function's request; then nothing shows of the abort")
+    s.ask(0, str_(), sta(0))
+    s.abort(0)
+    s.show(0, "clock 7", "gx gw;1;1 ended", live("gw;1;2"), SIP_LINE, *VOICE_TOLD, "told op/sip", "af af;1 ended")
+    s.begin("of two calls the one with the lesser Session-Id is aborted first; one that a further request bound again is not, nor "
+            "one that another site served last")
+    s.attached()
+    for session in ("af;3", "af;1", "af;2"):
+        s.ask(0, aar("10.0.0.1", session=session), aaa(0, session=session))
+    s.tell(0, 1)
+    s.ask(1, aar(None, session="af;2"), aaa(1, session="af;2"))
+    k = s.letter(1, 0)
+    s.merge(0, k)
+    s.ask(0, ccr(3, 1), cca(0, 3, 1))
+    s.abort(0, "abort af;1")
+    s.abort(1)
+    s.attached(session="gw;1;2")
+    s.abort(0)
+    s.ask(0, ccr(3, 1, "gw;1;2"), cca(0, 3, 1, session="gw;1;2"))
+    s.abort(0, "abort af;3")
+    s.abort(0)
+    k = s.letter(0, 1)
+    s.merge(1, k)
+    s.abort(1, "abort af;2")
+    s.abort(1)
+
+
 def connections(s):
     s.begin("a gateway's session that ends leaves its call unbound")
     call(s)
@@ -390,7 +529,7 @@ def connections(s):
 
 def calls():
     s = Script(3)
-    for case in (set_up_and_changed, refusals, bindings, sites, many, connections):
+    for case in (set_up_and_changed, refusals, bindings, prefixes, sites, many, aborts, connections):
         case(s)
     return s
 
@@ -430,7 +569,29 @@ def voice_call():
     s.note("The subscriber detaches.")
     s.ask(0, ccr(3, 2), cca(0, 3, 2))
     s.show(0, "clock 7", "gx gw;1;1 ended", "af af;1 ended")
+    lost_in_a_call(s)
     return s
+
+
+def lost_in_a_call(s):
+    """The subscriber comes back with a prefix alone, and the gateway's session ends during a call."""
+    s.note("")
+    s.note("The subscriber attaches again, and has an IPv6 prefix of 64 bits and no IPv4 address.")
+    s.reached(NETWORK, "gw;1;2")
+    s.note("A call is set up for one address of that prefix, and the gateway is told of its flows.")
+    s.ask(0, aar(None, [VOICE], "af;2", WITHIN), aaa(0, session="af;2"))
+    s.push(0, "push gw;1;2 +af/af;2/1/1 +af/af;2/1/2")
+    s.note("During the call the gateway loses the subscriber, and its session ends.")
+    s.ask(0, ccr(3, 1, "gw;1;2"), cca(0, 3, 1, session="gw;1;2"))
+    s.note("The call is bound to no session any more. Site 0 served its last request, and asks the application function")
+    s.note("to abort it, once; the answer gets none.")
+    s.abort(0, "abort af;2")
+    s.ask(0, asa(session="af;2"), "no answer")
+    s.abort(0)
+    s.show(0, "clock 12", "gx gw;1;1 ended", "gx gw;1;2 ended", "af af;1 ended", "af af;2 unbound aborted")
+    s.note("The application function ends the call.")
+    s.ask(0, str_("af;2"), sta(0, session="af;2"))
+    s.show(0, "clock 13", "gx gw;1;1 ended", "gx gw;1;2 ended", "af af;1 ended", "af af;2 ended")
 
 
 if __name__ == "__main__":

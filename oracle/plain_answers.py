@@ -6,7 +6,7 @@ from messages import avp, message, result, tgpp
 from plain_requests import AAR, CCR, CER, GX, RX, STR, TGPP, first
 
 SUCCESS = 2001
-RAR = 258
+RAR, ASR = 258, 274
 NAMED_APPLICATION = {(CCR, GX), (AAR, RX)}
 
 
@@ -72,6 +72,12 @@ def rar(site, session, host, realm, entries):
     """The re-authorisation request of a push, with the identifiers 1 and 2 (TS 29.212, 5.6.4)."""
     avps = [avp(263, session), avp(258, GX)] + names(site) + [avp(283, realm), avp(293, host), avp(285, 0)]
     return message(0xC0, RAR, GX, avps + entries_avps(entries))
+
+
+def asr(site, session, host, realm):
+    """The abort session request of an abort, with the identifiers 7 and 8 (TS 29.214, 5.6.7)."""
+    avps = [avp(263, session), avp(258, RX)] + names(site) + [avp(283, realm), avp(293, host), tgpp(500, 0)]
+    return message(0xC0, ASR, RX, avps, 7, 8)
 
 
 def rx_answer(site, header, values, code):

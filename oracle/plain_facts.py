@@ -9,7 +9,8 @@ from typing import NamedTuple
 ENABLED, REMOVED = 2, 4
 RTCP, SIGNALLING = 1, 2
 OTHER_MEDIA = 0xFFFFFFFF
-GX_FIELDS = ("address", "apn", "subscribers", "host", "realm", "last")
+USER_PLACES = ("address", "prefix")  # where the user of a session is reached
+GX_FIELDS = ("apn", "subscribers", "host", "realm", "last")
 
 
 class Tag(NamedTuple):
@@ -29,7 +30,8 @@ class Fact(NamedTuple):
     """A value at a place of a session, or, without a tag, that the place is gone.
 
     A place is (field), (component, field), (component, flow, field) or ("told", name of a rule). A session that
-    ended is gone at (), a component at (component), a flow at (component, flow).
+    ended is gone at (), a component at (component), a flow at (component, flow). That a session was aborted is a fact at
+    ("aborted") that has neither a tag nor a value.
     """
     session: Session
     place: tuple
@@ -51,12 +53,16 @@ class Rule(NamedTuple):
     precedence: int
 
 
+ABORTED = ("aborted",)
+
+
 class View:
     """What facts show: the greatest value of each place that isn't gone."""
 
     def __init__(self, facts):
         self.sessions = sorted({fact.session for fact in facts})
-        self.gone = {(fact.session, fact.place) for fact in facts if fact.tag is None}
+        self.gone = {(fact.session, fact.place) for fact in facts if fact.tag is None and fact.place != ABORTED}
+        self.abort_facts = {fact.session for fact in facts if fact.place == ABORTED}
         self.shown = {}
         for fact in facts:
             key = (fact.session, fact.place)
@@ -80,17 +86,25 @@ class View:
         """Whether a session ended."""
         return (session, ()) in self.gone
 
+    def aborted(self, session):
+        """Whether the application function of a session that hasn't ended was asked to abort it."""
+        return session in self.abort_facts and not self.ended(session)
+
+    def shows(self, session, field):
+        """Whether a session shows a field."""
+        return (session, (field,)) in self.shown
+
     def live(self, session):
-        """Whether enough is known of a session that hasn't ended."""
-        wanted = GX_FIELDS if session.kind == "gx" else ("address",)
-        return all((session, (field,)) in self.shown for field in wanted)
+        """Whether enough is known of a session that hasn't ended: where its user is reached, and of a gateway's all else."""
+        wanted = GX_FIELDS if session.kind == "gx" else ()
+        return any(self.shows(session, place) for place in USER_PLACES) and all(self.shows(session, field) for field in wanted)
 
     def all_live(self, kind):
         """The live sessions of a kind, by Session-Id."""
         return [session for session in self.sessions if session.kind == kind and self.live(session)]
 
     def home(self, session):
-        """The site that served the last request of a live session of a gateway."""
+        """The site that served the last request of a session that shows one."""
         return self.tag(session, "last").site
 
     def places(self, session):
@@ -125,19 +139,42 @@ def media_row(tables, media_type):
 
 # ---- binding (TS 29.213, 5)
 
+def bits(prefix):
+    """The bits of an IPv6 prefix, which is its length and 16 bytes."""
+    length, octets = prefix
+    return f"{int.from_bytes(octets, 'big'):0128b}"[:length]
+
+
+def covers(one, other):
+    """Whether a prefix begins another, or is the same."""
+    return bits(other).startswith(bits(one))
+
+
+def reaches(view, af, gx):
+    """Whether a session of a gateway has each of the address and the prefix that one of an application function gives."""
+    address, prefix = view.value(af, "address"), view.value(af, "prefix")
+    own = view.value(gx, "prefix")
+    return ((address is None or address == view.value(gx, "address"))
+            and (prefix is None or own is not None and covers(own, prefix)))
+
+
 def matches(view, af, gx):
     """Whether a live session of an application function may be bound to one of a gateway."""
     apn, subscribers = view.value(af, "apn"), view.value(af, "subscribers")
-    return (view.live(af) and view.live(gx) and view.value(af, "address") == view.value(gx, "address")
+    return (view.live(af) and view.live(gx) and reaches(view, af, gx)
             and (subscribers is None or bool(set(subscribers) & set(view.value(gx, "subscribers"))))
             and (apn is None or apn == view.value(gx, "apn")))
 
 
+def reached_last(view, gx):
+    """By which operation a live session of a gateway last said where its user is reached: its counter and site."""
+    return max(view.tag(gx, place)[1:] for place in USER_PLACES if view.shows(gx, place))
+
+
 def binding(view, af):
-    """The matching session with the newest address, then the greatest Session-Id; None if none matches."""
+    """The matching session that last said where its user is reached, then the greatest Session-Id; None if none matches."""
     def newness(gx):
-        tag = view.tag(gx, "address")
-        return (tag.counter, tag.site, gx.id)
+        return (reached_last(view, gx), gx.id)
     return max((gx for gx in view.all_live("gx") if matches(view, af, gx)), key=newness, default=None)
 
 

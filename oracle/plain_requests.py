@@ -150,6 +150,16 @@ def address(octets):
     return octets
 
 
+def prefix(octets):
+    """An IPv6 prefix (RFC 3162, 2.3): a byte that doesn't count, the length in bits, and bytes, of which the bits past the length
+    don't count. It is the length and 16 bytes."""
+    if not 2 <= len(octets) <= 18 or octets[1] > 128 or 8 * (len(octets) - 2) < octets[1]:
+        raise Refused(5004)
+    length = octets[1]
+    mask = (1 << 128) - (1 << 128 - length)
+    return length, (number(octets[2:].ljust(16, b"\0")) & mask).to_bytes(16, "big")
+
+
 def access_point(octets):
     """The name of an access point, with capitals as small letters."""
     return text(255)(octets).lower()
@@ -171,6 +181,7 @@ SUBSCRIBER_TYPE = Row("type", 450, 0, 1, 1, one_of(0, 1, 2, 3, 4))
 SUBSCRIBER_DATA = Row("data", 444, 0, 1, 1, text(255))
 SUBSCRIBERS = Row("subscribers", 443, 0, 0, 16, group([SUBSCRIBER_TYPE, SUBSCRIBER_DATA]))
 ADDRESS = Row("address", 8, 0, 0, 1, address)
+PREFIX = Row("prefix", 97, 0, 0, 1, prefix)
 APN = Row("apn", 30, 0, 0, 1, access_point)
 STATUS = Row("status", 511, TGPP, 0, 1, one_of(0, 1, 2, 3, 4))
 UP = Row("up", 516, TGPP, 0, 1, unsigned)
@@ -183,8 +194,8 @@ TABLES = {
     CER: [HOST, REALM, AUTH_APPLICATION, VENDOR_APPLICATION],
     DWR: [HOST, REALM],
     DPR: [HOST, REALM],
-    CCR: [SESSION_ID, HOST, REALM, KIND, NUMBER, SUBSCRIBERS, ADDRESS, APN],
-    AAR: [SESSION_ID, HOST, REALM, ADDRESS, SUBSCRIBERS, APN, Row("components", 517, TGPP, 0, 64, group(COMPONENT))],
+    CCR: [SESSION_ID, HOST, REALM, KIND, NUMBER, SUBSCRIBERS, ADDRESS, PREFIX, APN],
+    AAR: [SESSION_ID, HOST, REALM, ADDRESS, PREFIX, SUBSCRIBERS, APN, Row("components", 517, TGPP, 0, 64, group(COMPONENT))],
     STR: [SESSION_ID, HOST, REALM],
 }
 

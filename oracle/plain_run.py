@@ -1,14 +1,14 @@
-"""What no script prints of a world: how far its sites took each other, and its pushes and letters as bytes: a plain model,
-apart from the product. docs/LETTERS.md has the bytes of letters, docs/MESSAGES.md those of pushes.
+"""What no script prints of a world: how far its sites took each other, and its pushes, aborts and letters as bytes: a plain
+model, apart from the product. docs/LETTERS.md has the bytes of letters, docs/MESSAGES.md those of pushes and aborts.
 """
-from letters import (END, component, component_removed, field, filters, flow, flow_removed, group, letter, log_range,
-                     operation, snapshot, subscribers, tag, text, told, u)
+from letters import (ABORTED, END, component, component_removed, field, filters, flow, flow_removed, group, letter, log_range,
+                     operation, prefix, snapshot, subscribers, tag, text, told, u)
 from plain_facts import View
 from plain_letters import Range, Whole, said_by, taken_of
 from plain_site import Site
 
 KINDS = {"gx": 1, "af": 2}
-FIELDS = {"address": 1, "apn": 2, "subscribers": 3, "host": 4, "realm": 5, "last": 6}
+FIELDS = {"address": 1, "apn": 2, "subscribers": 3, "host": 4, "realm": 5, "last": 6, "prefix": 7}
 COMPONENT_FIELDS = {"media": 1, "status": 2, "up": 3, "down": 4}
 FLOW_FIELDS = {"filters": 1, "usage": 2, "status": 3, "up": 4, "down": 5}
 
@@ -30,6 +30,8 @@ def place_order(place):
             return (1, 0, 0, 0, b"")
         case ("told", name):
             return (7, 0, 0, 0, name)
+        case ("aborted",):
+            return (8, 0, 0, 0, b"")
         case (str() as name,):
             return (2, 0, 0, FIELDS[name], b"")
         case (number,):
@@ -46,6 +48,9 @@ def session_value(name, value):
     """The value of a field of a session."""
     if name == "subscribers":
         return subscribers(value)
+    if name == "prefix":
+        bits, octets = value
+        return prefix(bits, octets[:-(-bits // 8)])
     values = {"address": lambda: u(1, 4) + value, "last": lambda: u(4, value)}
     return field(FIELDS[name], values.get(name, lambda: text(value))())
 
@@ -74,6 +79,8 @@ def fact_octets(fact):
             return component(number, row, fact.value)
         case 6:
             return flow(number, index, row, filters(fact.value) if row == 1 else fact.value)
+        case 8:
+            return ABORTED
     return told(name, rule_octets(fact.value))
 
 
@@ -96,13 +103,13 @@ def held(view, session, removed):
 
 
 def removals(view, facts, session):
-    """The facts by which a session ended, or places of it are gone, each once."""
+    """The facts by which a session ended, places of it are gone, or it was aborted, each once."""
     gone = {fact.place: fact for fact in facts if fact.session == session and fact.tag is None}
     return [fact for place, fact in gone.items() if not view.is_gone(session, place[:-1]) or place == ()]
 
 
 def tag_octets(fact):
-    """The tag behind a held fact, nothing behind a removal."""
+    """The tag behind a held fact, nothing behind a removal or an abort."""
     return b"" if fact.tag is None else tag(fact.tag.counter, fact.tag.site, fact.tag.number)
 
 
@@ -158,6 +165,6 @@ def together(world):
 def run_lines(world):
     """What is printed behind a script whose world this is then."""
     lines = ["run the same"] + [cursors(site, len(world.sites)) for site in world.sites]
-    lines.append(" ".join(["pushes"] + [mixed(one) for one in world.pushes]))
+    lines += [" ".join([name] + [mixed(one) for one in told]) for name, told in (("pushes", world.pushes), ("aborts", world.aborts))]
     lines.append(" ".join(["letters"] + [mixed(letter_octets(world.tables, one)) for one in world.letters]))
     return lines + [f"together {together(world)}"]

@@ -7,9 +7,9 @@ their facts. `plain_site.py TABLES SCRIPT` prints what a script without bad line
 import sys
 from typing import NamedTuple
 
-from plain_answers import SUCCESS, base_answer, cca, rar, refusal, rx_answer
-from plain_facts import (REMOVED, Fact, Session, Tag, View, apn_row, binding, difference, media_row, read_tables, rules,
-                         told)
+from plain_answers import SUCCESS, asr, base_answer, cca, rar, refusal, rx_answer
+from plain_facts import (ABORTED, REMOVED, Fact, Session, Tag, View, apn_row, binding, difference, media_row, read_tables,
+                         rules, told)
 from plain_letters import acknowledged, written
 from plain_requests import (AAR, CCR, CER, DPR, GX, RELAY, RX, STR, Refused, cut_stream, first, first_session_id,
                             read_header, read_request, subscribers)
@@ -19,7 +19,7 @@ MOST_ENTRIES = 40
 
 
 class Operation(NamedTuple):
-    """What one accepted request or push added: its stamp, facts on one session, and a gateway's CC-Request-Number."""
+    """What one accepted request, push or abort added: its stamp, facts on one session, and a gateway's CC-Request-Number."""
     counter: int
     site: int
     facts: tuple
@@ -33,11 +33,21 @@ def ending(session):
     return [Fact(session, ())]
 
 
+def session_facts(session, values, last, tag):
+    """The facts of the fields of a session that a request gives, whose kind is `last`."""
+    named = [(field, first(values, field)) for field in ("host", "realm", "address", "prefix", "apn")]
+    named += [("last", last), ("subscribers", subscribers(values))]
+    return [Fact(session, (field,), tag, value) for field, value in named if value is not None]
+
+
+def is_reached(values):
+    """Whether a request says where its user is reached."""
+    return first(values, "address") is not None or first(values, "prefix") is not None
+
+
 def ccr_fields(session, values, tag):
     """The facts of an initial credit control request or an update (TS 29.212, 4.5.1)."""
-    named = [("host", first(values, "host")), ("realm", first(values, "realm")), ("last", first(values, "kind")),
-             ("address", first(values, "address")), ("apn", first(values, "apn")), ("subscribers", subscribers(values))]
-    return [Fact(session, (field,), tag, value) for field, value in named if value is not None]
+    return session_facts(session, values, first(values, "kind"), tag)
 
 
 def flow_facts(session, component, flow, tag):
@@ -62,9 +72,7 @@ def component_facts(session, component, tag):
 
 def aar_facts(session, values, tag):
     """The facts of an AA request (TS 29.214, 4.4.1 and 4.4.2)."""
-    named = [("host", first(values, "host")), ("realm", first(values, "realm")), ("last", 0),
-             ("address", first(values, "address")), ("apn", first(values, "apn")), ("subscribers", subscribers(values))]
-    facts = [Fact(session, (field,), tag, value) for field, value in named if value is not None]
+    facts = session_facts(session, values, 0, tag)
     return facts + [fact for one in values["components"] for fact in component_facts(session, one, tag)]
 
 
@@ -130,7 +138,7 @@ class Site:
         view, kind, apn = self.view(), first(values, "kind"), first(values, "apn")
         if view.ended(session) if kind == INITIAL else not view.live(session):
             raise Refused(5002)
-        if kind == INITIAL and None in (first(values, "address"), apn, subscribers(values)):
+        if kind == INITIAL and (not is_reached(values) or None in (apn, subscribers(values))):
             raise Refused(5140)
         if kind != TERMINATION and apn is not None and apn_row(self.tables, apn) is None:
             raise Refused(5003)
@@ -157,7 +165,7 @@ class Site:
         view = self.view()
         if view.ended(session):
             raise Refused(5002)
-        if not view.live(session) and first(values, "address") is None:
+        if not view.live(session) and not is_reached(values):
             raise Refused(5005)
         kept = [one for one in values["components"] if first(one, "status") != REMOVED]
         media = [first(one, "media") for one in kept if first(one, "media") is not None]
@@ -189,6 +197,22 @@ class Site:
             if view.home(session) == self.number and entries:
                 self.add(told_facts(session, entries, self.tag()))
                 return session, entries
+        return None
+
+    def is_abandoned(self, view, session):
+        """Whether a live session of an application function that this site served last is bound to none and not aborted yet."""
+        known = all(view.shows(session, field) for field in ("host", "realm", "last"))
+        return (known and view.home(session) == self.number and not view.aborted(session)
+                and binding(view, session) is None)
+
+    def abort(self, host=None):
+        """Asks the application function, of a host or of any, to end the first session that lost its gateway's (TS 29.214,
+        4.4.6.1): the session, None if there is none."""
+        view = self.view()
+        for session in view.all_live("af"):
+            if self.is_abandoned(view, session) and host in (None, view.value(session, "host")):
+                self.add([Fact(session, ABORTED)])
+                return session
         return None
 
     def show(self):
@@ -238,13 +262,20 @@ def state(view, session):
     return "ended" if view.ended(session) else "live" if view.live(session) else "partial"
 
 
+def reached(view, session):
+    """Where the user of a live session is reached, as a script prints it."""
+    address, prefix = view.value(session, "address"), view.value(session, "prefix")
+    words = [] if address is None else [".".join(str(octet) for octet in address)]
+    words += [] if prefix is None else [f"{prefix[1].hex()}/{prefix[0]}"]
+    return ",".join(words)
+
+
 def show_gx(tables, view, session):
     """The lines of a session of a gateway."""
     line = f"gx {printed(session.id)} {state(view, session)}"
     if not view.live(session):
         return [line]
-    address = ".".join(str(octet) for octet in view.value(session, "address"))
-    lines = [f"{line} {address} {printed(view.value(session, 'apn'))} home {view.home(session)}"]
+    lines = [f"{line} {reached(view, session)} {printed(view.value(session, 'apn'))} home {view.home(session)}"]
     lines += [f"rule {rule.precedence} {printed(rule.name)} {rule.status} {rule.qci} {rule.max_ul} {rule.max_dl}"
               for rule in rules(tables, view, session)]
     return lines + [f"told {printed(name)}" for name in sorted(told(view, session))]
@@ -256,7 +287,8 @@ def show_af(view, session):
     if not view.live(session):
         return f"{line} {state(view, session)}"
     gx = binding(view, session)
-    return f"{line} unbound" if gx is None else f"{line} bound {printed(gx.id)}"
+    bound = "unbound" if gx is None else f"bound {printed(gx.id)}"
+    return f"{line} {bound}" + (" aborted" if view.aborted(session) else "")
 
 
 class World:
@@ -265,7 +297,7 @@ class World:
     def __init__(self, tables, count):
         self.tables = tables
         self.sites = [Site(tables, number) for number in range(count)]
-        self.letters, self.pushes = [], []
+        self.letters, self.pushes, self.aborts = [], [], []
 
     def obey(self, line):
         """Does what a line behind `sites` says, and gives the lines that it prints."""
@@ -292,6 +324,15 @@ class World:
         self.pushes.append(rar(site, session.id, view.value(session, "host"), view.value(session, "realm"), entries))
         names = [("-" if rule is None else "+") + printed(name) for name, rule in entries]
         return [" ".join(["push", printed(session.id)] + names)]
+
+    def abort(self, site):
+        """A site aborts."""
+        session = self.sites[site].abort()
+        if session is None:
+            return ["none"]
+        view = self.sites[site].view()
+        self.aborts.append(asr(site, session.id, view.value(session, "host"), view.value(session, "realm")))
+        return [f"abort {printed(session.id)}"]
 
     def post(self, letter):
         """A letter that was made."""

@@ -13,7 +13,7 @@ from plain_facts import read_tables
 from plain_letters import Acknowledged, Range, taken_of
 from plain_requests import cut_stream
 from plain_site import World
-from random_messages import ADDRESSES, AF_SESSIONS, GX_SESSIONS, Draw
+from random_messages import ADDRESSES, AF_SESSIONS, GX_SESSIONS, USER, Draw, Part
 from tally import Tally, aimed
 
 SCRIPTS = 12
@@ -34,6 +34,7 @@ LEAST = {
     "push installs": 5, "push removes": 5, "push does both": 3, "push none": 10, "push leaves more": 3,
     "answer leaves more": 1, "CCA installs": 5, "CCA removes": 2, "CCA without quality": 2,
     "gx live": 20, "gx ended": 5, "gx partial": 3, "af bound": 10, "af unbound": 5, "af partial": 3, "af ended": 5,
+    "gx by address": 20, "gx by prefix": 5, "gx by both": 10, "aborts": 8, "abort none": 8, "af unbound aborted": 8, "af bound aborted": 1,
     "rule": 30, "told": 30, "escaped": 5, "merge changes": 20, "merge changes nothing": 10, "own letter": 1,
     "restart": 8, "old letter after a restart": 4, "equal stamps": 3,
     "ack": 20, "range": 10, "range of nothing": 2, "range past the cursor": 3, "late ack": 3,
@@ -104,6 +105,38 @@ class RandomScript:
             self.tally["push leaves more"] += removed + installed == 40
         self.tally["push none"] += words[0] == "none"
 
+    def abort(self, site=None):
+        """A site aborts."""
+        word = self.say(f"abort {site or self.site()}")[0].split(" ")[0]
+        self.tally["abort none" if word == "none" else "aborts"] += word != "refused"
+
+    def aborts(self, site=None):
+        """A site aborts until nothing is left, three times at most, and is shown."""
+        site = site or self.site()
+        for _ in range(3):
+            self.abort(site)
+            if self.prints[-1] == "none":
+                break
+        self.show(site)
+
+    def abandoned(self):
+        """A call at one site, whose gateway's session ends at another; one of them aborts it, and it is perhaps bound again."""
+        one = str(self.draw.random.randrange(self.count))
+        two, call = self.site(), self.draw.one(AF_SESSIONS)
+        for session in self.live(one, "gx")[:1]:
+            where = self.draw.where(self.world.sites[int(one)].view(), session)
+            self.msg(self.draw.one_flow(call, where, 1, ()).octets(), one)
+            self.letter(one, two)
+            self.merge(two, self.newest() if self.world.letters else None)
+            self.msg(self.draw.ccr(3, session.id).octets(), two)
+            self.letter(two, one)
+            self.merge(one, self.newest() if self.world.letters else None)
+            self.aborts(self.draw.one([one, one, two]))
+            again = self.live(one, "gx")[:1] or [session]
+            where = self.draw.where(self.world.sites[int(one)].view(), again[0]) if again != [session] else []
+            self.msg(self.draw.one_flow(call, where, 1, ()).octets(), one)
+            self.show(one)
+
     def letter(self, site=None, peer=None):
         """A site makes a letter for another."""
         if self.say(f"letter {site or self.site()} {peer or self.site()}") != ["refused NoSuchSite"]:
@@ -164,6 +197,10 @@ class RandomScript:
         for line in self.say(f"show {site or self.site()}"):
             words = line.split(" ")
             self.tally[f"{words[0]} {words[2]}" if words[0] in ("gx", "af") else words[0]] += 1
+            if words[0] == "gx" and words[2] == "live":
+                self.tally[f"gx by {'both' if ',' in words[3] else 'prefix' if '/' in words[3] else 'address'}"] += 1
+            if words[0] == "af" and words[-1] == "aborted":
+                self.tally[f"af {words[2]} aborted"] += 1
 
     # ---- several lines
 
@@ -268,6 +305,20 @@ class RandomScript:
         self.msg(self.draw.one_flow(self.draw.one(AF_SESSIONS), ADDRESSES[0], 1, ()).octets(), str(one))
         self.show(str(one))
 
+    def rivals(self):
+        """Two sessions of gateways whose prefixes cover one another, and a call that both cover; the first may say its prefix anew."""
+        site, call = str(self.draw.random.randrange(self.count)), self.draw.one(AF_SESSIONS)
+        gateways, bits = self.draw.random.sample(GX_SESSIONS, 2), self.draw.one([(64, 56), (61, 64), (64, 64), (0, 56), (61, 32), (32, 64)])
+        has_address = self.draw.one([(), ADDRESSES[:1]])
+        for gateway, one in zip(gateways, bits):
+            self.msg(self.draw.at_prefix(1, gateway, 0, one, has_address).octets(), site)
+        if self.draw.chance(60):
+            self.msg(self.draw.at_prefix(2, gateways[0], 1, bits[0]).octets(), site)
+        where = [self.draw.within(64, USER + bytes(8))] + self.draw.some(50 if has_address else 0, Part(8, ADDRESSES[0]))
+        self.msg(self.draw.one_flow(call, where, 1, ()).octets(), site)
+        self.show(site)
+        self.push(site)
+
     def late_update(self):
         """A session's update at another site than its home, with a CC-Request-Number below, as or above the last."""
         one = str(self.draw.random.randrange(self.count))
@@ -312,7 +363,7 @@ class RandomScript:
         self.tell(two, str(one))
         self.restart(str(one))
         self.msg(self.draw.ccr(2, gateway).octets(), two)
-        self.msg(self.draw.one_flow(session, None, 2, ()).octets(), two)
+        self.msg(self.draw.one_flow(session, [], 2, ()).octets(), two)
         self.letter(two, str(one))
         self.merge(str(one), self.newest())
         self.show(str(one))
@@ -323,12 +374,13 @@ class RandomScript:
         """A gateway's session ends whose calls may then be bound to none; then a call ends, and is described again."""
         site, call = str(self.draw.random.randrange(self.count)), self.draw.one(AF_SESSIONS)
         for session in self.live(site, "gx")[:1]:
-            address = self.world.sites[int(site)].view().value(session, "address")
-            self.msg(self.draw.one_flow(call, address, 1, ()).octets(), site)
+            where = self.draw.where(self.world.sites[int(site)].view(), session)
+            self.msg(self.draw.one_flow(call, where, 1, ()).octets(), site)
             self.msg(self.draw.ccr(3, session.id).octets(), site)
             self.msg(self.draw.ccr(self.draw.one([1, 1, 2, 3]), session.id).octets(), site)
         self.push(site)
         self.show(site)
+        self.aborts(site)
         self.msg(self.draw.str_(call).octets(), site)
         if self.draw.chance(40):
             self.msg(self.draw.aar(call).octets(), site)
@@ -342,8 +394,8 @@ class RandomScript:
         """The next line, or lines."""
         steps = {self.any_message: 370, self.aimed_message: 100, self.push: 70, self.pushes: 45, self.letter: 30,
                  self.ack: 10, self.merge: 60, self.exchange: 60, self.restart: 4, self.show: 50, self.second_life: 16,
-                 self.many_flows: 4, self.changed_call: 20, self.half_known: 12, self.detach: 12, self.late_update: 6, self.late_ack: 12,
-                 self.meeting: 8}
+                 self.many_flows: 4, self.changed_call: 30, self.half_known: 12, self.detach: 14, self.late_update: 6, self.late_ack: 12,
+                 self.meeting: 8, self.aborts: 12, self.abandoned: 30, self.rivals: 16}
         if self.refusals:
             steps = {self.refused_message: 85, self.aimed_message: 10, self.push: 2, self.show: 3}
         self.draw.random.choices(list(steps), list(steps.values()))[0]()

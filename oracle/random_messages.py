@@ -5,20 +5,28 @@ from dataclasses import dataclass, field
 
 from plain_requests import AAR, BASE, CCR, CER, DPR, DWR, GX, RELAY, RX, STR, TGPP
 
-RAR = 258
+RAR, ASR = 258, 274
 MOST_NUMBER = 0xFFFFFFFF
 GX_SESSIONS = [b"gw;1;1", b"gw;1;2", b"gw;1", b"g w\\\xff"]
 AF_SESSIONS = [b"af;1", b"af;2", b"af;1/1", b"gw;1;1", b"a\x7ff\\"]
 HOSTS, REALMS = [b"gw", b"af", b"g"], [b"r", b"q"]
 ADDRESSES = [b"\x0a\0\0\x01", b"\x0a\0\0\x01", b"\x0a\0\0\x02", b"\x0a\0\x01\0"]
+USER = b"\x20\x01\x0d\xb8\0\0\0\1"
+# prefixes of gateways' sessions and of calls, of which many cover one another; some have bits past their length
+PREFIXES = [b"\0\x40" + USER, b"\0\x40" + USER, b"\xff\x40" + USER[:7] + b"\2", b"\0\x38" + USER[:7], b"\0\x3d" + USER,
+            b"\1\x20" + USER[:4], b"\0\0", b"\0\x80" + USER + bytes(7) + b"\5", b"\0\x20" + USER[:3] + b"\xb9"]
+CALLERS = [b"\0\x80" + USER + bytes(7) + b"\5", b"\0\x80" + USER[:7] + b"\2" + bytes(7) + b"\5", b"\0\x40" + USER,
+           b"\0\x3d" + USER, b"\0\x80" + USER + bytes(7) + b"\6", b"\0\x38" + USER]
 APNS = [b"IMS", b"ims", b"net", b"NET", b"Net", b"net"]
 SUBSCRIBERS = [(1, b"001"), (0, b"155"), (2, b"a@r"), (1, b"155")]
 NUMBERS = [0, 1, 2, 3, 4, MOST_NUMBER]
 FILTERS = [b"permit in ip", b"permit out ip", b"permit in ", b"permit out 17 from any", b"permit in ~"]
 BAD_FILTERS = [b"", b"deny in ip", b"permit in", b"permit  in ip", b"Permit in ip", b"permit out \x7f",
                b"permit in \x1f", b"permit out \xc3\xbc", b"permit in " + b"x" * 246]
+BAD_PREFIXES = [b"", b"\0", b"\0\x01", b"\0\x40" + bytes(7), b"\0\x41" + bytes(8), b"\0\x81" + bytes(16), b"\0\xff" + bytes(16),
+                b"\0\x80" + bytes(15), b"\0\x80" + bytes(17), b"\0\0" + bytes(17)]
 SIZES = (0, 3, 5, 8)
-STRAINS = {416: [0, 4], 450: [5, 4], 511: [5], 512: [3], 8: [b"", b"\x0a\0\0", b"\x0a\0\0\x01\0"], 507: BAD_FILTERS * 2,
+STRAINS = {416: [0, 4], 450: [5, 4], 511: [5], 512: [3], 8: [b"", b"\x0a\0\0", b"\x0a\0\0\x01\0"], 97: BAD_PREFIXES * 2, 507: BAD_FILTERS * 2,
            263: [b"", b"x" * 256, b"x" * 512, b"x" * 513], 264: [b"", b"x" * 255, b"x" * 256], 296: [b"", b"x" * 256],
            30: [b"", b"x" * 256], 444: [b"", b"x" * 256]}
 RATES = [0, 1, 5000, 41000, 64000, 64001, MOST_NUMBER]
@@ -89,8 +97,8 @@ def owners(parts):
 class Draw:
     """Draws from a seed."""
 
-    def __init__(self, seed, apns=APNS, hosts=HOSTS):
-        self.random, self.apns, self.hosts = random.Random(seed), apns, hosts
+    def __init__(self, seed, apns=APNS, hosts=HOSTS, functions=HOSTS):
+        self.random, self.apns, self.hosts, self.functions = random.Random(seed), apns, hosts, functions
 
     def chance(self, percent):
         """Whether something of so many percent happens."""
@@ -106,14 +114,14 @@ class Draw:
 
     # ---- good messages
 
-    def origin(self):
-        """Origin-Host and Origin-Realm."""
-        return [Part(264, self.one(self.hosts)), Part(296, self.one(REALMS))]
+    def origin(self, hosts=None):
+        """Origin-Host, of these or of those of gateways, and Origin-Realm."""
+        return [Part(264, self.one(hosts or self.hosts)), Part(296, self.one(REALMS))]
 
-    def user(self, address, subscribers, apn):
-        """Who is meant: address, subscribers and access point, each by its chance."""
+    def user(self, address, prefix, subscribers, apn, prefixes=PREFIXES):
+        """Who is meant: address, prefix, subscribers and access point, each by its chance."""
         parts = [part for _ in range(self.one([1, 1, 2, 3])) for part in self.some(subscribers, self.subscriber())]
-        parts += self.some(address, Part(8, self.one(ADDRESSES)))
+        parts += self.some(address, Part(8, self.one(ADDRESSES))) + self.some(prefix, Part(97, self.one(prefixes)))
         return parts + self.some(apn, Part(30, b"none" if self.chance(10) else self.one(self.apns)))
 
     def subscriber(self):
@@ -124,11 +132,17 @@ class Draw:
     def ccr(self, kind=None, session=None, number=None):
         """A credit control request (TS 29.212, 5.6.2)."""
         kind = kind or self.random.choices((1, 2, 3), (10, 9, 2))[0]
-        chances = {1: (95, 95, 96), 2: (30, 35, 30), 3: (20, 20, 40)}[kind]
+        chances = {1: (84, 38, 95, 96), 2: (30, 15, 35, 30), 3: (20, 10, 20, 40)}[kind]
         if number is None:
             number = 0 if kind == 1 and self.chance(70) else self.one(NUMBERS)
         parts = [Part(263, session or self.one(GX_SESSIONS))] + self.some(70, Part(258, GX)) + self.origin()
         return Drawn(CCR, GX, parts + [Part(416, kind), Part(415, number)] + self.user(*chances))
+
+    def at_prefix(self, kind, session, number, bits, address=()):
+        """A credit control request that gives a prefix of so many bits, and an address or none."""
+        prefix = Part(97, bytes([0, bits]) + USER[:-(-bits // 8)])
+        user = [Part(8, one) for one in address] + [prefix] + ([self.subscriber(), Part(30, self.apns[0])] if kind == 1 else [])
+        return Drawn(CCR, GX, [Part(263, session)] + self.origin() + [Part(416, kind), Part(415, number)] + user)
 
     def bandwidth(self):
         """Max-Requested-Bandwidth-UL and -DL, each or none."""
@@ -149,34 +163,48 @@ class Draw:
 
     def aar(self, session=None):
         """An AA request (TS 29.214, 5.6.1)."""
-        parts = [Part(263, session or self.one(AF_SESSIONS))] + self.some(70, Part(258, RX)) + self.origin()
+        parts = [Part(263, session or self.one(AF_SESSIONS))] + self.some(70, Part(258, RX)) + self.origin(self.functions)
         numbers = self.random.sample([0, 1, 2, 10], self.one([0, 1, 1, 1, 2]))
-        return Drawn(AAR, RX, parts + self.user(75, 25, 20) + [self.component(one) for one in numbers])
+        return Drawn(AAR, RX, parts + self.user(68, 18, 25, 20, CALLERS) + [self.component(one) for one in numbers])
 
     def many_flows(self, session, address, component, count):
         """An AA request of a component of many flows."""
         flows = [tgpp(519, [tgpp(509, number), tgpp(507, FILTERS[2])]) for number in range(1, count + 1)]
-        parts = [Part(263, session)] + self.origin() + [Part(8, address)]
+        parts = [Part(263, session)] + self.origin(self.functions) + [Part(8, address)]
         return Drawn(AAR, RX, parts + [tgpp(517, [tgpp(518, component), tgpp(520, 0)] + flows)])
 
-    def one_flow(self, session, address, component, removed):
-        """An AA request of a component of one flow, and of components that are removed."""
+    def within(self, bits, octets):
+        """A prefix that one covers: itself, or a longer one that begins with it."""
+        if self.chance(30):
+            return Part(97, bytes([0, bits]) + octets[:-(-bits // 8)])
+        longer = self.one([one for one in (32, 56, 61, 64, 128, 128) if one >= bits])
+        return Part(97, bytes([0, longer]) + (octets[:15] + (b"\5" if bits < 126 else octets[15:]))[:-(-longer // 8)])
+
+    def where(self, view, session):
+        """What an AA request gives to be bound to a gateway's session: its address, a prefix that it has, or both."""
+        address, prefix = view.value(session, "address"), view.value(session, "prefix")
+        parts = [] if address is None else [Part(8, address)]
+        parts += [] if prefix is None else [self.within(*prefix)]
+        return parts if self.chance(50) else [self.one(parts)]
+
+    def one_flow(self, session, where, component, removed):
+        """An AA request of a component of one flow, and of components that are removed; `where` has the address or what it gives."""
         parts = [tgpp(509, 1)] + [tgpp(507, text) for text in self.random.sample(FILTERS, self.one([1, 2]))]
         parts += self.some(20, tgpp(511, self.one([0, 1, 3]))) + self.some(50, tgpp(512, self.one([0, 1, 2, 2])))
         flow = tgpp(519, parts + self.bandwidth())
         own = self.some(50, tgpp(511, self.one([0, 1, 3]))) + self.bandwidth()
         gone = [tgpp(517, [tgpp(518, number), tgpp(520, 9), tgpp(511, 4)]) for number in removed]
-        parts = [Part(263, session)] + self.origin() + ([] if address is None else [Part(8, address)])
+        parts = [Part(263, session)] + self.origin(self.functions) + ([Part(8, where)] if isinstance(where, bytes) else where)
         return Drawn(AAR, RX, parts + gone + [tgpp(517, [tgpp(518, component), tgpp(520, 0), flow] + own)])
 
     def flow_removed(self, session, component):
         """An AA request by which a flow is removed, and its component described."""
         parts = [tgpp(518, component), tgpp(519, [tgpp(509, 1), tgpp(511, 4)])]
-        return Drawn(AAR, RX, [Part(263, session)] + self.origin() + [tgpp(517, parts)])
+        return Drawn(AAR, RX, [Part(263, session)] + self.origin(self.functions) + [tgpp(517, parts)])
 
     def str_(self, session=None):
         """A session termination request (TS 29.214, 5.6.4)."""
-        return Drawn(STR, RX, [Part(263, session or self.one(AF_SESSIONS))] + self.origin())
+        return Drawn(STR, RX, [Part(263, session or self.one(AF_SESSIONS))] + self.origin(self.functions))
 
     def cer(self):
         """A capabilities exchange (RFC 6733, 5.3.1)."""
@@ -196,10 +224,11 @@ class Draw:
         return Drawn(DPR, BASE, self.origin() + [Part(273, self.one([0, 1, 2]))], 0x80)
 
     def peers_answer(self):
-        """An answer of a peer, mostly to a re-authorisation; some are broken."""
-        if self.chance(60):
-            parts = [Part(263, self.one(GX_SESSIONS))] + self.some(80, Part(268, 2001)) + self.origin()
-            return Drawn(RAR, GX, parts, 0x40)
+        """An answer of a peer, mostly to a re-authorisation or an abort; some are broken."""
+        if self.chance(65):
+            sessions, command, application = self.one([(GX_SESSIONS, RAR, GX), (AF_SESSIONS, ASR, RX)])
+            parts = [Part(263, self.one(sessions))] + self.some(80, Part(268, 2001)) + self.origin()
+            return Drawn(command, application, parts, 0x40)
         if self.chance(40):
             return Drawn(DPR, BASE, self.origin(), 0)
         drawn = self.broken(self.request())
@@ -275,7 +304,7 @@ class Draw:
 
     def break_command(self, drawn):
         """Another command."""
-        drawn.command = self.one([0, RAR, 271, 274, 2**24 - 1, CER, AAR, CCR, STR, DWR, DPR])
+        drawn.command = self.one([0, RAR, 271, ASR, 2**24 - 1, CER, AAR, CCR, STR, DWR, DPR])
 
     def drop(self, drawn):
         """An AVP less."""
@@ -329,11 +358,11 @@ class Draw:
             parts = [tgpp(509, 1), tgpp(507, FILTERS[2]), tgpp(511, 2), tgpp(512, 0), tgpp(516, 1), tgpp(515, 2)]
             flow = tgpp(519, parts)
             parts = [tgpp(518, 1), tgpp(520, 0), tgpp(511, 2), tgpp(516, 1), tgpp(515, 2), flow]
-            return Drawn(AAR, RX, [Part(263, b"af")] + self.origin() + self.user(90, 60, 60) + [tgpp(517, parts)])
+            return Drawn(AAR, RX, [Part(263, b"af")] + self.origin(self.functions) + self.user(90, 70, 60, 60, CALLERS) + [tgpp(517, parts)])
         if self.chance(60):
             kind = self.one([1, 2, 3])
             parts = [Part(263, b"gw")] + self.origin() + [Part(416, kind), Part(415, 0)]
-            return Drawn(CCR, GX, parts + self.user(90, 90, 90))
+            return Drawn(CCR, GX, parts + self.user(90, 75, 90, 90))
         return self.one((self.str_, self.cer, self.dwr, self.dpr))()
 
     def strained(self):

@@ -31,7 +31,7 @@ def call(draw):
     attach = draw.ccr(1, gateway)
     for part in attach.parts:
         part.value = address if part.code == 8 else part.value
-    late = [attach, draw.one_flow(session, None, 2, draw.one([(), (1,)])), draw.ccr(2, gateway), draw.aar(session)]
+    late = [attach, draw.one_flow(session, [], 2, draw.one([(), (1,)])), draw.ccr(2, gateway), draw.aar(session)]
     later = [draw.one(late), draw.str_(session), draw.ccr(3, gateway), draw.str_(session), draw.one(late + [attach])]
     kept = [message for message in later if draw.chance(45)]
     return [message.octets() for message in [attach, draw.one_flow(session, address, 1, ())] + kept]

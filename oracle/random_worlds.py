@@ -3,22 +3,23 @@
 
 `random_worlds.py DATA` writes the scripts for two of the operator tables in the folder DATA there: of one site to five, a few
 of sixteen, and one that is long. It prints how often each thing was reached, and fails where it was reached too seldom, or
-where sites that took all letters differ. All gateways have one host, `gw`: so a push to it pushes what a push to any does.
+where sites that took all letters differ. All gateways have one host, `gw`, and all application functions `af`: so a push to it pushes
+what a push to any does, and so with aborts.
 """
 import os
 import sys
 
-from plain_facts import read_tables
+from plain_facts import binding, matches, read_tables
 from plain_letters import Acknowledged, taken_of
-from plain_requests import CCR, GX, Refused, cut_stream, first, read_header, read_request
+from plain_requests import AAR, CCR, GX, RX, Refused, cut_stream, first, read_header, read_request
 from plain_site import World
 from random_calls import RandomScript
 from random_messages import ADDRESSES, AF_SESSIONS, GX_SESSIONS, Draw
 from tally import Tally
 
-HOST = b"gw"
-FILES = {"telephony": (range(5000, 5040), [b"IMS", b"ims", b"net", b"NET"]),
-         "four-access-points": (range(5040, 5060), [b"IMS", b"ims", b"iNternet", b"internet", b"Z\\\xc3\x80",
+HOST, FUNCTION = b"gw", b"af"
+FILES = {"telephony": (range(5000, 5044), [b"IMS", b"ims", b"net", b"NET"]),
+         "four-access-points": (range(5050, 5082), [b"IMS", b"ims", b"iNternet", b"internet", b"Z\\\xc3\x80",
                                                     b"z\\\xc3\x80", b"im"])}
 LONG = 5039
 MANY = [b"Many", b"internet", b"many"]
@@ -32,8 +33,10 @@ LEAST = {
     "late": 3, "push installs": 20, "push removes": 5, "push does both": 1, "push none": 40,
     "letter": 150, "range": 15, "range of nothing": 1, "range past the cursor": 2, "ack": 40, "late ack": 1,
     "lost": 25, "repeated": 15, "reordered": 6, "merge changes": 100, "merge changes nothing": 50, "own letter": 5,
-    "restart": 30, "old letter after a restart": 2, "refused NoSuchSite": 5, "refused NoSuchLetter": 5,
+    "restart": 30, "old letter after a restart": 2, "refused NoSuchSite": 3, "refused NoSuchLetter": 5,
     "gx live": 200, "gx ended": 5, "gx partial": 3, "af bound": 30, "af unbound": 6, "af ended": 5, "af partial": 2,
+    "gx by address": 100, "gx by prefix": 15, "gx by both": 30, "aborts": 12, "abort none": 20, "af unbound aborted": 10, "af bound aborted": 3,
+    "bound by a prefix": 10, "bound by a shorter prefix": 5, "prefix decides": 2,
     "rule": 200, "told": 200, "escaped": 20, "by number": 10, "by site": 2, "all letters": 8,
 }
 
@@ -46,7 +49,7 @@ class RandomWorld(RandomScript):
     def __init__(self, tables, seed, tally, apns):
         super().__init__(tables, seed, tally)
         has_many = apns[-1] == b"im" and seed == 5051
-        self.draw, self.refusals = Draw(seed, MANY if has_many else apns, [HOST]), False
+        self.draw, self.refusals = Draw(seed, MANY if has_many else apns, [HOST], [FUNCTION]), False
         self.many, self.ends = seed % 15 == 7, seed % 5 == 3 or seed == 5032
         self.steady = seed % 10 == 3 or self.many and self.ends
         self.count = 16 if self.many else (2, 3, 5)[seed % 3] if self.ends else (1, 2, 3, 4)[seed % 4]
@@ -57,7 +60,7 @@ class RandomWorld(RandomScript):
     # ---- lines
 
     def msg(self, octets, site=None):
-        """A site is given bytes, if no gateway is of another host."""
+        """A site is given bytes, if no gateway and no application function is of another host."""
         site = site or self.site()
         if not all(is_of_host(frame) for frame in cut_stream(octets)[0]):
             return
@@ -95,12 +98,27 @@ class RandomWorld(RandomScript):
 
     def tally_deciders(self, site):
         """Counts what decides which of a session's operations show."""
-        for session in site.view().all_live("gx"):
+        view = site.view()
+        for session in view.all_live("af"):
+            self.tally_binding(view, session)
+        for session in view.all_live("gx"):
             tags = [fact.tag for one in site.operations for fact in one.facts
                     if fact.session == session and fact.place == ("last",)]
             shown = max(tags)
             self.tally["by number"] += any(tag.counter > shown.counter for tag in tags)
             self.tally["by site"] += any(tag[:2] == shown[:2] and tag.site < shown.site for tag in tags)
+
+    def tally_binding(self, view, session):
+        """Counts what decides the binding of a call."""
+        bound = binding(view, session)
+        if bound is not None and view.shows(session, "prefix"):
+            own, asked = view.value(bound, "prefix"), view.value(session, "prefix")
+            self.tally["bound by a prefix"] += 1
+            self.tally["bound by a shorter prefix"] += own[0] < asked[0]
+        if bound is not None:
+            older = [gx for gx in view.all_live("gx") if matches(view, session, gx) and view.shows(gx, "address")
+                     and view.shows(bound, "address") and view.tag(gx, "address")[1:] > view.tag(bound, "address")[1:]]
+            self.tally["prefix decides"] += bool(older)
 
     def restart(self, site=None):
         """A site begins anew, but in some scripts none does."""
@@ -117,8 +135,8 @@ class RandomWorld(RandomScript):
         """A call, mostly at an address of a live session of the site, and its push."""
         site = self.draw.random.randrange(self.count)
         live = self.live(site, "gx")
-        address = self.world.sites[site].view().value(live[0], "address") if live else ADDRESSES[0]
-        self.msg(self.draw.one_flow(self.draw.one(AF_SESSIONS), address, 1, ()).octets(), str(site))
+        where = self.draw.where(self.world.sites[site].view(), live[0]) if live else ADDRESSES[0]
+        self.msg(self.draw.one_flow(self.draw.one(AF_SESSIONS), where, 1, ()).octets(), str(site))
         self.push(str(site))
 
     def hang_up(self):
@@ -190,10 +208,10 @@ class RandomWorld(RandomScript):
         """The next line, or lines."""
         steps = {self.request: 24, self.any_message: 16, self.aimed_message: 12, self.call: 16, self.hang_up: 10,
                  self.change: 12, self.push: 8, self.letter: 14, self.merge: 12, self.ack: 5, self.exchange: 14,
-                 self.repeat: 6, self.restart: 2, self.show: 3, self.twins: 6, self.reorder: 3, self.half_known: 3,
-                 self.late_ack: 4, self.detach: 6, self.changed_call: 3, self.late_change: 9, self.old_letter: 4}
+                 self.repeat: 8, self.restart: 2, self.show: 3, self.twins: 6, self.reorder: 3, self.half_known: 3,
+                 self.late_ack: 4, self.detach: 6, self.abandoned: 9, self.abort: 4, self.rivals: 8, self.changed_call: 3, self.late_change: 9, self.old_letter: 4}
         if self.count == 1:
-            for several in (self.twins, self.half_known, self.late_ack):
+            for several in (self.twins, self.half_known, self.late_ack, self.abandoned):
                 del steps[several]
         self.draw.random.choices(list(steps), list(steps.values()))[0]()
 
@@ -214,6 +232,7 @@ class RandomWorld(RandomScript):
             self.all_letters()
             for site in range(self.count):
                 self.push(str(site))
+                self.abort(str(site))
             self.all_letters()
             self.judge_end()
         for site in range(self.count):
@@ -223,12 +242,13 @@ class RandomWorld(RandomScript):
 
 
 def is_of_host(frame):
-    """Whether a frame is no request of a gateway with another host."""
+    """Whether a frame is no request of a gateway or an application function with another host."""
     header = read_header(frame)
-    if (header.command, header.application) != (CCR, GX):
+    host = {(CCR, GX): HOST, (AAR, RX): FUNCTION}.get((header.command, header.application))
+    if host is None:
         return True
     try:
-        return first(read_request(frame).values, "host") == HOST
+        return first(read_request(frame).values, "host") == host
     except Refused:
         return True
 

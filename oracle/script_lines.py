@@ -6,14 +6,15 @@ import re
 from plain_site import World
 
 LAST_EPOCH, LONGEST_LINE = 65535, 200000
-FORMS = {"sites": "n", "msg": "nb", "push": "n", "letter": "nn", "merge": "nn", "ack": "nn", "restart": "n", "show": "n"}
+FORMS = {"sites": "n", "msg": "nb", "push": "n", "abort": "n", "letter": "nn", "merge": "nn", "ack": "nn", "restart": "n", "show": "n"}
 SCRIPTS = {
     "what a script may not have: words, numbers, bytes, a world or a second one": [
         "show 0\n", "bogus\nsites 1\n", "sites 0\n", "sites 17\n", "sites 01\n", "sites 1 \n", " sites 1\n", "sites  1\n",
         "sites 1\r\n", " \n", "sites\n", "sites 1\nsites 1\n", "sites 1\n\n# comment\nshow\n", "sites 1\nshow 00\n",
         "sites 1\nshow -1\n", "sites 1\nshow 0 0\n", "sites 1\nshow 0\nletter 0\nshow 0\n", "sites 1\nmerge 0\n",
         "sites 1\nmsg 0\n", "sites 1\nmsg 0 \n", "sites 1\nmsg 0 0\n", "sites 1\nmsg 0 0g\n", "sites 1\npush\n",
-        "sites 1\npush 00\n", "sites 1\npush 0 0\n", "push 0\n", "sites 1\nrestart\n", "sites 1\nrestart 0 0\n",
+        "sites 1\npush 00\n", "sites 1\npush 0 0\n", "push 0\n", "sites 1\nabort\n", "sites 1\nabort 00\n",
+        "sites 1\nabort 0 0\n", "abort 0\n", "sites 1\nabort 0\nabort 1\nAbort 0\n", "sites 1\nrestart\n", "sites 1\nrestart 0 0\n",
         "restart 0\n", "ack 0 0\n", "sites 1\nack 0", "sites 1\nack 0 00", "sites 1\nack 0 0 0", "bogus 0 0 0 0\n",
         "Sites 1\n", "sites 4294967296\n", "sites 1 1 1\n", "sites x y\n", "letter 0 x\n", "letter x\n", "msg 0 00\n",
         "msg 00 0\n", "msg 0 00 00\n", "letter 0 0\n", "merge 0 0\n", "sites 1\nmsg 0 00 \n"],

@@ -3,9 +3,9 @@
 
 `stored.py CRATE` reads what the crate's folder has: the files of `data`, and `stdin`, which has the answers to its lines behind
 them. It fails where a file that is drawn or put together by a program of this folder is another one, where a script, the
-scripts of a file of worlds or a stream print something else than the plain model says, where a line on scripts does, or where the
-answer that refuses a request of Rx has other bytes. With `--write` it writes the files in place of comparing them, and all that
-`stdin` and `stdout` have of these.
+scripts of a file of worlds or a stream print something else than the plain model says, where the lines on scripts, on letters, on
+prefixes or on drawn bindings are others or say something else, or where the answer that refuses a request of Rx has other bytes. With
+`--write` it writes the files in place of comparing them, and all that `stdin` and `stdout` have of these.
 """
 import contextlib
 import io
@@ -14,11 +14,14 @@ import re
 import sys
 import tempfile
 
+import bindings
 import fixed_sites
 import fixed_streams
 import fixed_worlds
+import letters
 import messages
 import plain_answers
+import prefixes
 import random_calls
 import random_streams
 import random_worlds
@@ -68,6 +71,8 @@ def value_of(sign, said):
     """The value that a word says behind its sign."""
     if sign == "=":
         return said.replace("_", " ").encode()
+    if sign == "#":
+        return bytes.fromhex(said)
     return b"permit in ".ljust(int(said), b"x") if sign == "*" else int(said or 0).to_bytes(4, "big")
 
 
@@ -76,7 +81,7 @@ def session_of(words):
     depth = 0
     for word in words:
         depth += word.endswith("(") - (word == ")")
-        said = re.fullmatch(r"(?:0/)?263([=*:])(.*)", word)
+        said = re.fullmatch(r"(?:0/)?263([=*:#])(.*)", word)
         if said and not depth:
             value = value_of(*said.groups())
             return value if 1 <= len(value) <= 512 else None
@@ -101,13 +106,22 @@ def read(*path):
         return file.read()
 
 
+def judge_calls(tables):
+    """The model prints of scripts of calls what is written out by hand."""
+    for name, script in (("calls", messages.calls()), ("voice_call", messages.voice_call())):
+        if run_script(tables, script.lines) != script.prints:
+            sys.exit(f"the model prints something else of {name}.script than what is written out by hand")
+
+
 def drawn(data):
     """Makes the files of data in another folder, which has the tables, and gives their texts by name."""
+    judge_calls(read_tables(os.path.join(data, TABLES)))
     with tempfile.TemporaryDirectory() as folder, contextlib.redirect_stdout(io.StringIO()):
         tables = [name for name in os.listdir(data) if name.endswith(".toml")]
         for name in tables:
             os.symlink(os.path.abspath(os.path.join(data, name)), os.path.join(folder, name))
         messages.calls().write(folder, "calls")
+        messages.voice_call().write(folder, "voice_call")
         random_calls.main(os.path.join(data, TABLES), folder, os.devnull)
         random_streams.main(os.path.join(data, TABLES), os.path.join(folder, "random.streams"), os.devnull)
         random_worlds.main(folder)
@@ -143,10 +157,20 @@ class Stored:
             return None
         return KINDS[kind](read_tables(os.path.join(self.data, files[0])), read(self.data, files[1]))
 
-    def on_scripts(self):
-        """The lines on scripts, with what comes of each."""
-        lines = script_lines.all_lines(read_tables(os.path.join(self.data, LINES_WITH)))
-        return [(line, [] if line.startswith("#") else [made]) for line, made in lines]
+    def blocks(self):
+        """The lines that a program of this folder makes, with what comes of each, block by block: a blank line ends each."""
+        on_scripts = list(script_lines.all_lines(read_tables(os.path.join(self.data, LINES_WITH))))
+        headings = [at for at, (line, _) in enumerate(on_scripts) if line.startswith("#")]
+        each = [on_scripts[first:behind] for first, behind in zip(headings, headings[1:] + [None])]
+        for lines in each + [list(letters.lines()), list(prefixes.lines())]:
+            yield [(line, [] if line.startswith("#") else [made]) for line, made in lines]
+        yield [(line, []) for line in bindings.lines()]
+
+    def ends_of(self, block):
+        """Where the stored lines of a block begin, and where they end."""
+        words = [line for line, _ in self.lines]
+        first = words.index(block[0][0])
+        return first, words.index("", first) if "" in words[first:] else len(words)
 
     def compare_all(self):
         """Compares all."""
@@ -159,23 +183,25 @@ class Stored:
             refusal = refusal_bytes(line, answers)
             if refusal is not None:
                 self.compare(line, answers[1:], [refusal])
-        wanted = self.on_scripts()
-        words = {line for line, _ in wanted}
-        self.compare("the lines on scripts", [pair for pair in self.lines if pair[0] in words], wanted)
+        for block in self.blocks():
+            first, behind = self.ends_of(block)
+            self.compare(f"the lines behind {block[0][0]}", self.lines[first:behind], block)
 
     def write(self):
         """Writes all."""
         for name, text in drawn(self.data).items():
             with open(os.path.join(self.data, name), "w", encoding="utf-8") as file:
                 file.write(text)
-        made = dict(self.on_scripts())
+        for block in self.blocks():
+            first, behind = self.ends_of(block)
+            self.lines[first:behind] = block
         lines = []
         for line, answers in self.lines:
             known = self.answers(line)
             refusal = refusal_bytes(line, answers)
             if refusal is not None:
                 answers = [answers[0], refusal]
-            lines += [line] + [f"> {answer}" for answer in made.get(line, answers if known is None else known)]
+            lines += [line] + [f"> {answer}" for answer in (answers if known is None else known)]
         for name in ("stdin", "stdout"):
             with open(os.path.join(self.crate, name), "w", encoding="utf-8") as file:
                 file.write("\n".join(lines) + "\n")

@@ -8,7 +8,7 @@ import pathlib
 import sys
 
 import letters
-from messages import GX, TGPP, VOICE, X, aar, attach, avp, base, ccr, component, str_
+from messages import GX, NETWORK, TGPP, VOICE, WITHIN, X, aar, attach, avp, base, ccr, component, str_
 from plain_answers import rar
 from plain_facts import read_tables
 from plain_letters import Range, Whole
@@ -59,7 +59,15 @@ RESTART = ["sites 3",
 STORED = ["sites 2", "# an initial request", msg(0, ccr(1, 0, SESSION, "10.0.0.1", "IMS", (X,))), "show 0",
           "# making a letter of a whole state", "letter 0 1", "# taking a letter of a whole state", "merge 1 0", "show 1"]
 
-SCRIPTS = [CALL, STORED, RESTART]
+LOST = ["sites 2",
+        "# an initial request that gives a prefix", msg(0, ccr(1, 0, SESSION, None, "IMS", (X,), NETWORK)),
+        "# an AA request by a prefix within", msg(0, aar(None, [VOICE], prefix=WITHIN)),
+        "# an update that gives a prefix", msg(0, ccr(2, 1, prefix=NETWORK)),
+        "# a termination request", msg(0, ccr(3, 2)),
+        "# an abort", "abort 0", "# an abort of nothing", "abort 0",
+        "# making a letter of a whole state", "letter 0 1", "# taking a letter of a whole state", "merge 1 0", "show 1"]
+
+SCRIPTS = [CALL, STORED, RESTART, LOST]
 
 
 def world_of(tables, script):
@@ -100,12 +108,19 @@ def three_sessions():
 
 EXCHANGE = base(257, [avp(260, avp(266, TGPP) + avp(258, GX))])
 FURTHER = [ccr(2, 9), base(280), base(282)]
+# A session with a prefix, a call of it, and the session's end: what leaves a call to abort.
+OTHER = {"other-request": ccr(1, 0, "gw;1;9", None, "IMS", (X,), NETWORK), "other-call": aar(None, [VOICE], "af;9", WITHIN),
+         "other-end": ccr(3, 1, "gw;1;9")}
 
 
 def seat_lines(tables):
     """What a seat at site 0 calls, with what site 2 tells it, and the connection that it serves then."""
     world = World(tables, 3)
     ours, theirs = world.sites[0], world.sites[2]
+    yield from OTHER.items()
+    for line in [msg(0, one) for one in OTHER.values()] + ["abort 0"]:
+        world.obey(line)
+    assert len(world.aborts) == 1
     for line in [msg(0, attach()), "letter 0 2", "merge 2 0", msg(2, aar("10.0.0.1", [VOICE]))]:
         world.obey(line)
     yield "request", attach()
@@ -146,7 +161,7 @@ def lines(tables):
 
 # ---- what is printed
 
-CALLS = ["request", "call", "push", "whole", "own", "grown", "updates"]
+CALLS = [*OTHER, "abort", "request", "call", "push", "whole", "own", "grown", "updates"]
 CONNECTION = ["a connection", "an exchange, and a push between its operation and its request's bytes"] + ["a message"] * 3
 
 

@@ -16,6 +16,7 @@ COMMANDS = {  # name: code, application
     "Credit-Control": (272, GX),
     "Re-Auth": (258, GX),
     "AA": (265, RX),
+    "Abort-Session": (274, RX),
     "Session-Termination": (275, RX),
 }
 COMMAND_NAMES = {code: name for name, (code, _) in COMMANDS.items()}
@@ -23,6 +24,7 @@ COMMAND_NAMES = {code: name for name, (code, _) in COMMANDS.items()}
 AVPS = {  # name: code, vendor, kind
     "Framed-IP-Address": (8, 0, "ipv4"),
     "Called-Station-Id": (30, 0, "text"),
+    "Framed-IPv6-Prefix": (97, 0, "prefix"),
     "Host-IP-Address": (257, 0, "address"),
     "Auth-Application-Id": (258, 0, "number"),
     "Vendor-Specific-Application-Id": (260, 0, "group"),
@@ -43,6 +45,7 @@ AVPS = {  # name: code, vendor, kind
     "Subscription-Id": (443, 0, "group"),
     "Subscription-Id-Data": (444, 0, "text"),
     "Subscription-Id-Type": (450, 0, "number"),
+    "Abort-Cause": (500, VENDOR, "number"),
     "Flow-Description": (507, VENDOR, "text"),
     "Flow-Number": (509, VENDOR, "number"),
     "Flow-Status": (511, VENDOR, "number"),
@@ -81,6 +84,7 @@ MEANINGS = {  # what a number means, by the name of its AVP
     "Vendor-Id": {VENDOR: "3GPP"},
     "Disconnect-Cause": {0: "REBOOTING"},
     "Re-Auth-Request-Type": {0: "AUTHORIZE_ONLY"},
+    "Abort-Cause": {0: "BEARER_RELEASED"},
     "CC-Request-Type": {1: "INITIAL_REQUEST", 2: "UPDATE_REQUEST", 3: "TERMINATION_REQUEST"},
     "Subscription-Id-Type": {0: "END_USER_E164", 1: "END_USER_IMSI"},
     "Flow-Status": {0: "ENABLED-UPLINK", 1: "ENABLED-DOWNLINK", 2: "ENABLED", 3: "DISABLED", 4: "REMOVED"},
@@ -90,6 +94,17 @@ MEANINGS = {  # what a number means, by the name of its AVP
     "Pre-emption-Capability": {0: "PRE-EMPTION_CAPABILITY_ENABLED", 1: "PRE-EMPTION_CAPABILITY_DISABLED"},
     "Pre-emption-Vulnerability": {0: "PRE-EMPTION_VULNERABILITY_ENABLED", 1: "PRE-EMPTION_VULNERABILITY_DISABLED"},
 }
+
+
+def write_prefix(text):
+    """The value of a Framed-IPv6-Prefix (RFC 3162, 2.3)."""
+    address, bits = text.split("/")
+    return bytes([0, int(bits)]) + socket.inet_pton(socket.AF_INET6, address)[:-(-int(bits) // 8)]
+
+
+def read_prefix(data):
+    """The prefix as a text."""
+    return f"{socket.inet_ntop(socket.AF_INET6, data[2:].ljust(16, bytes(1)))}/{data[1]}"
 
 
 def write_avps(avps):
@@ -103,6 +118,8 @@ def write_avps(avps):
             data = socket.inet_aton(value)
         elif kind == "address":
             data = b"\0\1" + socket.inet_aton(value)
+        elif kind == "prefix":
+            data = write_prefix(value)
         elif kind == "group":
             data = write_avps(value)
         else:
@@ -136,6 +153,8 @@ def read_avps(data):
             value = struct.unpack(">I", value)[0]
         elif kind in ("ipv4", "address"):
             value = socket.inet_ntoa(value[-4:])
+        elif kind == "prefix":
+            value = read_prefix(value)
         elif kind == "group":
             value = read_avps(value)
         else:

@@ -90,16 +90,16 @@ class Peer:
         self.dialling = socket.create_connection(("127.0.0.1", self.exchange))
         self.at, self.own = (f"127.0.0.1:{number}" for number in (port, self.dialling.getsockname()[1]))
 
-    def write(self, stream, kind, body, version=1):
+    def write(self, stream, kind, body, version=3):
         """Writes a letter of the peer site, which is number 1, in its first epoch."""
         letter = struct.pack(">BIBHB", version, self.edition, 1, 1, kind) + body
         stream.sendall(struct.pack(">I", len(letter)) + letter)
 
-    def acknowledge(self, count, version=1):
+    def acknowledge(self, count, version=3):
         """Acknowledges so many of the site's operations."""
         self.write(self.dialled, 3, struct.pack(">BHQ", 0, 1, count), version)
 
-    def tell_all(self, version=1):
+    def tell_all(self, version=3):
         """Tells the site all that the peer site holds: nothing."""
         self.write(self.dialling, 2, struct.pack(">QQI", 0, 0, 0), version)
 

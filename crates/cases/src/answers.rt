@@ -1,9 +1,9 @@
-//! Answers as bytes.
+//! Answers and aborts as bytes.
 use dia_base::{Identity, Refusal, base_key, refusal_answer};
 use dia_codec::{Flags, Header, Message, write_message};
 use pcrf_values::limits::SESSION_ID_LIMIT;
 use pcrf_values::{AfSid, DiameterIdentity, SessionId};
-use rx_profile::{write_aaa, write_sta};
+use rx_profile::{AbortOut, write_aaa, write_asr, write_sta};
 use std::alloc::{AllocError, Global};
 use std::net::Ipv4Addr;
 
@@ -64,6 +64,22 @@ pub fn header(command: u32) -> Header {
     }
 }
 
+/// The header of an answer of Rx with a command, with P.
+pub fn answer_header(command: u32) -> Header {
+    Header {
+        flags: Flags {
+            request: false,
+            proxiable: true,
+            error: false,
+            retransmitted: false,
+        },
+        command,
+        application: RX,
+        hop_id: 7,
+        end_id: 8,
+    }
+}
+
 /// The answer that a line asks for, in a session.
 fn answer_in(
     alloc: Global,
@@ -94,10 +110,10 @@ fn answer(alloc: Global, line: &str) -> Result<Message, AllocError> {
     answer
 }
 
-/// The bytes of an answer; none where it is no answer.
+/// The bytes of a message; none where it has none.
 fn bytes_of(alloc: Global, message: &Message) -> Vec<u8> {
     let header = message.header;
-    if header.flags.request || header.command >= 1 << 24 {
+    if header.flags.error && header.flags.request || header.command >= 1 << 24 {
         return Vec::new(alloc);
     }
     match write_message(alloc, message) {
@@ -106,7 +122,7 @@ fn bytes_of(alloc: Global, message: &Message) -> Vec<u8> {
     }
 }
 
-/// Writes the bytes of an answer in hexadecimal digits.
+/// Writes the bytes of a message in hexadecimal digits.
 fn put_bytes(alloc: Global, message: &Message, out: &mut String) -> Result<(), AllocError> {
     let bytes = bytes_of(alloc, message);
     let digits = hex::encode(alloc, bytes.as_slice())?;
@@ -116,6 +132,38 @@ fn put_bytes(alloc: Global, message: &Message, out: &mut String) -> Result<(), A
 /// Writes the answer that a line asks for.
 pub fn put_answer(alloc: Global, line: &str, out: &mut String) -> Result<(), AllocError> {
     let message = answer(alloc, line)?;
+    let put = put_bytes(alloc, &message, out);
+    drop(message);
+    put
+}
+
+/// The abort of the session of the application function `af`.
+fn abort(alloc: Global) -> Result<AbortOut, AllocError> {
+    let session = session(alloc)?;
+    let host = name(alloc, b"af")?;
+    let realm = name(alloc, b"r")?;
+    Ok(AbortOut {
+        session,
+        host,
+        realm,
+    })
+}
+
+/// The request of an abort under two identifiers.
+fn abort_request(alloc: Global, hop_id: u32, end_id: u32) -> Result<Message, AllocError> {
+    let identity = identity(alloc)?;
+    let abort = abort(alloc)?;
+    let request = write_asr(alloc, &identity, hop_id, end_id, &abort);
+    drop(abort);
+    drop(identity);
+    request
+}
+
+/// Writes the request of an abort under the identifiers that the words name.
+pub fn put_abort(alloc: Global, words: &str, out: &mut String) -> Result<(), AllocError> {
+    let (hop_id, end_id) = words.split_once(' ').unwrap_or((words, ""));
+    let hop_id = hop_id.parse::<u32>().unwrap_or(0);
+    let message = abort_request(alloc, hop_id, end_id.parse::<u32>().unwrap_or(0))?;
     let put = put_bytes(alloc, &message, out);
     drop(message);
     put

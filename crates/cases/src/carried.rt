@@ -1,6 +1,7 @@
-//! What no script prints of a world: how far its sites took each other, what its pushes and letters are as bytes, and what
-//! all its letters tell together.
+//! What no script prints of a world: how far its sites took each other, what its pushes, aborts and letters are as bytes, and
+//! what all its letters tell together.
 use crate::outcomes::{Outcomes, put_state};
+use crate::text::mixed;
 use dia_base::Identity;
 use dia_codec::{Message, write_message};
 use gx_profile::{PushOut, write_rar};
@@ -8,18 +9,10 @@ use pcrf_values::limits::SITE_LIMIT;
 use pcrf_world::{World, WorldEvent, WorldOutcome};
 use peer_cursors::{Cursor, Cursors};
 use peer_exchange::{Body, Letter, LetterFault, read_letter, write_letter};
+use rx_profile::{AbortOut, write_asr};
 use site_join::{Operation, State};
 use std::alloc::{AllocError, Global};
 use std::fmt::Write as _;
-
-/// Bytes as one number of 32 bits (Fowler, Noll and Vo, FNV-1a).
-fn mixed(bytes: &[u8]) -> u32 {
-    let mut mixed = 0x811c_9dc5u32;
-    for byte in bytes {
-        mixed = (mixed ^ u32::from(*byte)).wrapping_mul(0x0100_0193);
-    }
-    mixed
-}
 
 /// Puts how far a site took operations, or was said to be taken.
 fn put_cursor(out: &mut String, other: u8, cursor: Cursor) -> Result<(), AllocError> {
@@ -73,6 +66,31 @@ fn put_pushes(outcomes: &Outcomes<'_>, out: &mut String) -> Result<(), AllocErro
             && let Some(site) = outcomes.world.site(*i)
         {
             put_rar(outcomes.alloc, site.identity(), push, out)?;
+        }
+    }
+    out.push_str("\n")
+}
+
+/// Puts the abort session request of an abort.
+fn put_asr(
+    alloc: Global,
+    identity: &Identity,
+    abort: &AbortOut,
+    out: &mut String,
+) -> Result<(), AllocError> {
+    let message = write_asr(alloc, identity, 7, 8, abort)?;
+    let bytes = bytes_of(alloc, &message);
+    write!(out, " {:08x}", mixed(bytes.as_slice()))
+}
+
+/// Puts the abort session requests of all aborts.
+fn put_aborts(outcomes: &Outcomes<'_>, out: &mut String) -> Result<(), AllocError> {
+    out.push_str("aborts")?;
+    for (event, answer) in outcomes.events.iter().zip(outcomes.answers) {
+        if let (WorldEvent::Abort(i, _), Ok(WorldOutcome::Aborted(Some(abort)))) = (event, answer)
+            && let Some(site) = outcomes.world.site(*i)
+        {
+            put_asr(outcomes.alloc, site.identity(), abort, out)?;
         }
     }
     out.push_str("\n")
@@ -250,6 +268,7 @@ pub fn put_carried(outcomes: &Outcomes<'_>, out: &mut String) -> Result<(), Allo
         }
     }
     put_pushes(outcomes, out)?;
+    put_aborts(outcomes, out)?;
     put_letters(outcomes.alloc, world, out)?;
     put_together(outcomes.alloc, world, out)
 }

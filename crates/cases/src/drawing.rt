@@ -37,7 +37,7 @@ impl Draws {
             self.put_bytes(size, 256, &mut frame)?;
         } else {
             let length = size.to_be_bytes()[7].wrapping_add(5);
-            frame.extend_from_slice(&[0, 0, 0, length, 1, 0, 0, 0, 7])?;
+            frame.extend_from_slice(&[0, 0, 0, length, 3, 0, 0, 0, 7])?;
             self.put_bytes(size, if kind == 1 { 256 } else { 4 }, &mut frame)?;
         }
         Ok(frame)
@@ -75,9 +75,10 @@ impl Tally {
             Verdict::Refused(LetterFault::BadVersion) => 1,
             Verdict::Refused(LetterFault::BadEdition) => 2,
             Verdict::Refused(LetterFault::BadShape) => 3,
-            _ => 4,
+            Verdict::Older => 4,
+            _ => 5,
         };
-        if number == 0 {
+        if number == 0 || number == 4 {
             self.read = self.read.wrapping_add(1);
         }
         self.mixed = self.mixed.wrapping_mul(31).wrapping_add(number);

@@ -9,6 +9,12 @@ use pcrf_world::WorldEvent;
 use site_core::{Asked, read_request};
 use std::alloc::{AllocError, Global};
 
+/// The host of all gateways.
+const GATEWAY: &[u8] = b"gw";
+
+/// The host of all application functions.
+const FUNCTION: &[u8] = b"af";
+
 /// A line's first word, and those behind it, which are empty where they aren't there.
 #[derive(Clone, Copy)]
 pub struct Words<'a> {
@@ -54,11 +60,11 @@ pub fn site_count(script: &str) -> u8
     n
 }
 
-/// To which host a site pushes: a site of an even number to any, and another to `gw`, the host of all gateways.
-fn host(alloc: Global, site: usize) -> Result<Option<DiameterIdentity>, AllocError> {
+/// To which host a site pushes or aborts: a site of an even number to any, and another to the one that all have whom that concerns.
+fn host(alloc: Global, site: usize, all: &[u8]) -> Result<Option<DiameterIdentity>, AllocError> {
     match site % 2 {
         0 => Ok(None),
-        _ => DiameterIdentity::read(alloc, b"gw"),
+        _ => DiameterIdentity::read(alloc, all),
     }
 }
 
@@ -99,7 +105,8 @@ fn put_requests(
 fn event(alloc: Global, words: Words<'_>) -> Result<Option<WorldEvent>, AllocError> {
     let (one, other) = (words.number(), words.last());
     Ok(match words.first {
-        "push" => Some(WorldEvent::Push(one, host(alloc, one)?)),
+        "push" => Some(WorldEvent::Push(one, host(alloc, one, GATEWAY)?)),
+        "abort" => Some(WorldEvent::Abort(one, host(alloc, one, FUNCTION)?)),
         "letter" => Some(WorldEvent::Letter(one, other)),
         "merge" => Some(WorldEvent::Merge(one, other)),
         "ack" => Some(WorldEvent::Ack(one, other)),

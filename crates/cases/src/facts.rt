@@ -1,10 +1,12 @@
 //! Facts by words. Of a session `FIELD=VALUE`; of a gateway's session `told:NAME=PRECEDENCE`, that the gateway was told this
 //! rule, `told:NAME=OTHER:PRECEDENCE`, that it was told one of another name, and `told:NAME=-`, that it was told to remove it;
-//! of a call `COMPONENT:FIELD=VALUE` and `COMPONENT/FLOW:FIELD=VALUE`, or `removed` in the place of a field; `end`. Behind a
-//! word `@NUMBER.COUNTER.SITE` facts have this tag.
+//! of a call `COMPONENT:FIELD=VALUE` and `COMPONENT/FLOW:FIELD=VALUE`, or `removed` in the place of a field, and `aborted`;
+//! `end`. Behind a word `@NUMBER.COUNTER.SITE` facts have this tag.
 use crate::fault::Fault;
 use crate::rules::named_rule;
-use crate::words::{address, apn, enumerated, filters, number, parted, subscribers, tag, text};
+use crate::words::{
+    address, apn, enumerated, filters, number, parted, prefix, subscribers, tag, text,
+};
 use af_records::{AfFact, ComponentValue, FlowValue};
 use gx_records::{GxFact, SessionValue};
 use pcrf_values::{Enumerated, Enumeration};
@@ -24,6 +26,7 @@ fn session_value<E: Enumeration>(
         "host" => Ok(SessionValue::Host(text(alloc, value)?)),
         "realm" => Ok(SessionValue::Realm(text(alloc, value)?)),
         "last" => Ok(SessionValue::Last(enumerated(value)?)),
+        "prefix" => Ok(SessionValue::Prefix(prefix(alloc, value)?)),
         _ => Err(Fault::NoFieldOfASession),
     }
 }
@@ -119,8 +122,10 @@ fn session_parts(word: &str) -> Option<(&str, &str)> {
 
 /// A fact of a call.
 fn call_fact(alloc: Global, at: Tag, word: &str) -> Result<AfFact, Fault> {
-    if word == "end" {
-        return Ok(AfFact::End);
+    match word {
+        "end" => return Ok(AfFact::End),
+        "aborted" => return Ok(AfFact::Aborted),
+        _ => {}
     }
     match session_parts(word) {
         Some((field, value)) => Ok(AfFact::Session(at, session_value(alloc, field, value)?)),

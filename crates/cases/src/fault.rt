@@ -38,6 +38,8 @@ pub enum Fault {
     NoOperation,
     /// It should be operator tables.
     NoOperatorTables,
+    /// It should be a prefix.
+    NoPrefix,
     /// It should be a question of the notation.
     NoQuestionOfTheNotation,
     /// It should be a script that ends.
@@ -81,6 +83,7 @@ impl Fault {
             Fault::NoNumberOfItsRange => "a number of its range",
             Fault::NoOperation => "an operation",
             Fault::NoOperatorTables => "operator tables",
+            Fault::NoPrefix => "a prefix",
             Fault::NoQuestionOfTheNotation => "a question of the notation",
             Fault::NoScriptThatEnds => "a script that ends",
             Fault::NoScriptThatWritesText => "a script that writes text",

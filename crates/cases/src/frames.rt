@@ -1,5 +1,5 @@
-//! Lines of letters as bytes. `letter HEX` says of a frame that it is read, and written as the same bytes, or the fault. `cut
-//! HEX` also cuts the frame at each of its places, with its length as it was and lowered, and feeds it byte by byte. `held
+//! Lines of letters as bytes. `letter HEX` says of a frame that it is read, and written as the same bytes, or in the last version,
+//! or the fault. `cut HEX` also cuts the frame at each of its places, with its length as it was and lowered, and feeds it byte by byte. `held
 //! HEX` says what a state holds that took its operations, or that it carries: the clock, and each session with how many
 //! facts. `whole N HEX` writes the state of who took its operations and made N itself as a letter. `random SEED N` judges N
 //! random frames, and `changes SEED N HEX` N frames that are this one with a byte changed. `oracle/letters.py` makes the

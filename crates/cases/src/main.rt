@@ -7,7 +7,7 @@
 //!
 //! A line that begins with `# ` says what the lines behind it show, on a state without anything. Operations are taken by
 //! lines (`operations`), and `new-letter` begins a letter of those behind it; questions end with ` =` (`questions`). Other
-//! lines are of requests (`requests`), operator tables (`tables`), scripts (`lines`) or letters as bytes (`frames`), and
+//! lines are of requests (`requests`, `prefixes`), operator tables (`tables`), scripts (`lines`) or letters as bytes (`frames`), and
 //! `script TABLES FILE`, `worlds TABLES FILE` and `streams TABLES FILE` do with the operator tables of a file what another
 //! says: a script is run, the scripts of worlds are run in two ways (`worlds`), and whole streams are answered. The tables
 //! are the examples for operators, so that they stay as the answers show them; the call from its attach to its end is an
@@ -35,6 +35,7 @@ mod notation;
 mod operations;
 mod outcomes;
 mod pieces;
+mod prefixes;
 mod questions;
 mod record_text;
 mod records;
@@ -146,7 +147,8 @@ fn put_line(
             out.push_str(line)?;
             held.start_letter(alloc)?;
         }
-        "aar" | "str" | "aaa" | "sta" => requests::put_line(alloc, line, out)?,
+        "aar" | "str" | "asa" | "aaa" | "sta" | "asr" => requests::put_line(alloc, line, out)?,
+        "prefixes" => prefixes::put_line(alloc, line, out)?,
         "text" | "read" | "look" => tables::put_line(alloc, &given.files, line, out)?,
         "letter" | "cut" | "held" | "whole" | "random" | "changes" => {
             frames::put_line(alloc, line, out)?

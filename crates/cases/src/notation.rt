@@ -1,5 +1,5 @@
-//! AVPs by words: `CODE=TEXT` with `_` for a space, `CODE:NUMBER`, `CODE*COUNT` for a filter of so many bytes,
-//! `CODE^BYTE` for a filter that ends with this byte, and `CODE(` and `)` round the AVPs of a group. Codes from 500 to 599
+//! AVPs by words: `CODE=TEXT` with `_` for a space, `CODE:NUMBER`, `CODE#DIGITS` for bytes by hexadecimal digits, `CODE*COUNT`
+//! for a filter of so many bytes, `CODE^BYTE` for a filter that ends with this byte, and `CODE(` and `)` round the AVPs of a group. Codes from 500 to 599
 //! are those of 3GPP; a `VENDOR/` before a code gives it another vendor.
 use dia_codec::{Avp, write_group};
 use std::alloc::{AllocError, Global};
@@ -65,6 +65,11 @@ fn spaced(alloc: Global, text: &str) -> Result<Vec<u8>, AllocError> {
     Ok(bytes)
 }
 
+/// The bytes that hexadecimal digits spell; none where they spell none.
+fn octets(alloc: Global, digits: &str) -> Vec<u8> {
+    hex::decode(alloc, digits).unwrap_or(Vec::new(alloc))
+}
+
 /// A filter of so many bytes.
 fn long_filter(alloc: Global, count: u32) -> Result<Vec<u8>, AllocError> {
     let mut bytes = Vec::from_slice(alloc, FILTER)?;
@@ -86,6 +91,9 @@ fn ended_filter(alloc: Global, byte: u32) -> Result<Vec<u8>, AllocError> {
 fn put_word(alloc: Global, avps: &mut Vec<Avp>, word: &str) -> Result<(), AllocError> {
     if let Some((code, text)) = word.split_once('=') {
         return put_named(avps, code, spaced(alloc, text)?);
+    }
+    if let Some((code, digits)) = word.split_once('#') {
+        return put_named(avps, code, octets(alloc, digits));
     }
     if let Some((code, count)) = word.split_once('*') {
         return put_named(avps, code, long_filter(alloc, number(count))?);

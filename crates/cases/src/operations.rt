@@ -1,9 +1,10 @@
 //! Operations by lines. `initial`, `update` and `terminate` stand for credit control requests, `call` for an AA request and
 //! `hang-up` for a session termination request; `partial` is an initial request of which the realm is not known, `told` says
-//! that the gateway was told the rule of a word (`rules`), and `gx` and `af` have no facts but those that they name. Behind
-//! that stand the Session-Id, the tag, and what the request gives (`facts`), of a call what regards its parts behind `with`.
-//! The words stand in the order in which an operation has its facts: what is removed, components, flows. `made` and such a line
-//! asks for the operation that its parts make: the Session-Id, the tag and how many facts there are, or `none`.
+//! that the gateway was told the rule of a word (`rules`), `abort` that the application function was asked to abort the session,
+//! and `gx` and `af` have no facts but those that they name. Behind that stand the Session-Id, the tag, and what the request
+//! gives (`facts`), a prefix and what regards parts of a call behind `with`. The words stand in the order in which an operation
+//! has its facts: the prefix, what is removed, components, flows. `made` and such a line asks for the operation that its parts
+//! make: the Session-Id, the tag and how many facts there are, or `none`.
 use crate::facts::{put_call, put_gateway};
 use crate::fault::Fault;
 use crate::rules::rule;
@@ -37,15 +38,18 @@ fn request_of(word: &str) -> Result<Request, Fault> {
         "af" => Ok(Request::Call("")),
         "call" => Ok(Request::Call("host=af realm=r last=0")),
         "hang-up" => Ok(Request::Call("end")),
+        "abort" => Ok(Request::Call("aborted")),
         _ => Err(Fault::NoLineOfTheNotation),
     }
 }
 
 /// The facts of a gateway's session that a request makes.
 fn gateway_facts(alloc: Global, at: Tag, words: &str, each: &str) -> Result<Vec<GxFact>, Fault> {
+    let (session, last) = words.split_once("with ").unwrap_or((words, ""));
     let mut facts = Vec::new(alloc);
-    put_gateway(alloc, &mut facts, at, words)?;
+    put_gateway(alloc, &mut facts, at, session)?;
     put_gateway(alloc, &mut facts, at, each)?;
+    put_gateway(alloc, &mut facts, at, last)?;
     Ok(facts)
 }
 

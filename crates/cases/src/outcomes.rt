@@ -8,6 +8,7 @@ use operator_view::{put_text, put_value, value};
 use pcrf_values::limits::SITE_LIMIT;
 use pcrf_values::{Rule, SessionId};
 use pcrf_world::{World, WorldEvent, WorldFault, WorldOutcome};
+use rx_profile::AbortOut;
 use site_core::{Asked, Request, read_request, write_refusal, write_reply};
 use site_join::State;
 use std::alloc::{AllocError, Global};
@@ -81,6 +82,13 @@ fn put_push(out: &mut String, push: &PushOut) -> Result<(), AllocError> {
     put_installed(out, push.delta.installed())
 }
 
+/// Puts what was aborted.
+fn put_abort(out: &mut String, abort: &AbortOut) -> Result<(), AllocError> {
+    out.push_str("abort ")?;
+    put_text(out, abort.session.as_slice())?;
+    out.push_str("\n")
+}
+
 /// Puts why an event gave nothing.
 fn put_fault(out: &mut String, fault: WorldFault) -> Result<(), AllocError> {
     match fault {
@@ -96,7 +104,10 @@ fn put_fault(out: &mut String, fault: WorldFault) -> Result<(), AllocError> {
 fn put_outcome(out: &mut String, site: usize, answer: Option<&Answer>) -> Result<(), AllocError> {
     match answer {
         Some(Ok(WorldOutcome::Pushed(Some(push)))) => put_push(out, push),
-        Some(Ok(WorldOutcome::Pushed(None))) => out.push_str("none\n"),
+        Some(Ok(WorldOutcome::Aborted(Some(abort)))) => put_abort(out, abort),
+        Some(Ok(WorldOutcome::Pushed(None) | WorldOutcome::Aborted(None))) => {
+            out.push_str("none\n")
+        }
         Some(Ok(WorldOutcome::Lettered(k))) => writeln!(out, "letter {k}"),
         Some(Ok(WorldOutcome::Merged)) => out.push_str("merged\n"),
         Some(Ok(WorldOutcome::Restarted(epoch))) => writeln!(out, "restart {site} epoch {epoch}"),

@@ -1,7 +1,7 @@
-//! Questions about what a case took: `bound` and the Session-Id of a call, `at` and an address, `of` and a subscriber, `rules`
-//! and the Session-Id of a gateway's session, `bindings` and `value` (`seen`), `state` and `any-order` (`states`), `apart` and
-//! `copied` (`apart`). Others regard no state: `made` (`operations`), `joined` (`records`), `difference` and `told-in-turn`
-//! (`deltas`).
+//! Questions about what a case took: `bound` and the Session-Id of a call, `at` and an address, `covering` and a prefix, `of` and
+//! a subscriber, `rules` and the Session-Id of a gateway's session, `bindings` and `value` (`seen`), `state` and `any-order`
+//! (`states`), `apart` and `copied` (`apart`). Others regard no state: `made` (`operations`), `joined` (`records`), `difference`
+//! and `told-in-turn` (`deltas`).
 use crate::apart::{put_apart, put_copied};
 use crate::deltas::{put_difference, put_in_turn};
 use crate::fault::Fault;
@@ -11,8 +11,8 @@ use crate::records::put_joined;
 use crate::seen::{put_bindings, put_value};
 use crate::states::{put_any_order, put_state};
 use crate::text::put_text;
-use crate::words::{address, subscriber, text};
-use bind_index::{bind, sessions_at, sessions_of};
+use crate::words::{address, prefix, subscriber, text};
+use bind_index::{bind, sessions_at, sessions_covering, sessions_of};
 use op_tables::Tables;
 use pcc_rules::derive;
 use pcrf_values::{AfSid, GxSid, Rule, RuleQos};
@@ -69,6 +69,14 @@ fn put_at(alloc: Global, state: &State, word: &str, out: &mut String) -> Result<
     Ok(())
 }
 
+/// The live sessions whose prefix covers one.
+fn put_covering(alloc: Global, state: &State, word: &str, out: &mut String) -> Result<(), Fault> {
+    let prefix = prefix(alloc, word)?;
+    let sessions = sessions_covering(alloc, state, &prefix)?;
+    put_sessions(out, sessions.as_slice())?;
+    Ok(())
+}
+
 /// The live sessions that have a subscriber.
 fn put_of(alloc: Global, state: &State, word: &str, out: &mut String) -> Result<(), Fault> {
     let subscriber = subscriber(alloc, word)?;
@@ -110,6 +118,7 @@ fn put_of_state(
     match asked.split_once(' ').unwrap_or((asked, "")) {
         ("bound", id) => put_bound(alloc, state, id, out),
         ("at", word) => put_at(alloc, state, word, out),
+        ("covering", word) => put_covering(alloc, state, word, out),
         ("of", word) => put_of(alloc, state, word, out),
         ("rules", id) => put_rules_of(alloc, tables, state, id, out),
         ("bindings", "") => Ok(put_bindings(alloc, state, out)?),

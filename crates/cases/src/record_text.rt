@@ -2,7 +2,7 @@
 use crate::text::{put_tag, put_text};
 use af_records::{AfRec, RemovedPart};
 use gx_records::{GxFact, GxRec};
-use pcrf_values::{Apn, DiameterIdentity, Filters, Rule, RuleName, Subscribers};
+use pcrf_values::{Apn, DiameterIdentity, Filters, Ipv6Prefix, Rule, RuleName, Subscribers};
 use ranked::Tag;
 use std::alloc::{AllocError, Global};
 use std::fmt::Write as _;
@@ -47,17 +47,29 @@ fn put_state(out: &mut String, live: bool, ended: bool) -> Result<(), AllocError
     })
 }
 
-/// What is known of the user.
-fn put_user(
+/// Where the user is reached.
+fn put_reached(
     out: &mut String,
     address: Option<(Tag, &Ipv4Addr)>,
-    apn: Option<(Tag, &Apn)>,
-    subscribers: Option<(Tag, &Subscribers)>,
+    prefix: Option<(Tag, &Ipv6Prefix)>,
 ) -> Result<(), AllocError> {
     if let Some((tag, address)) = address {
         write!(out, " address {address}")?;
         put_tag(out, tag)?;
     }
+    if let Some((tag, prefix)) = prefix {
+        write!(out, " prefix {prefix}")?;
+        put_tag(out, tag)?;
+    }
+    Ok(())
+}
+
+/// What else is known of the user.
+fn put_user(
+    out: &mut String,
+    apn: Option<(Tag, &Apn)>,
+    subscribers: Option<(Tag, &Subscribers)>,
+) -> Result<(), AllocError> {
     if let Some((tag, apn)) = apn {
         put_named(out, "apn", tag, apn.as_slice())?;
     }
@@ -83,7 +95,8 @@ fn put_client(
 }
 
 fn put_gx_fields(out: &mut String, record: &GxRec) -> Result<(), AllocError> {
-    put_user(out, record.address(), record.apn(), record.subscribers())?;
+    put_reached(out, record.address(), record.prefix())?;
+    put_user(out, record.apn(), record.subscribers())?;
     put_client(out, record.host(), record.realm())?;
     if let Some((tag, last)) = record.last() {
         put_number(out, "last", tag, last.number())?;
@@ -128,7 +141,8 @@ pub fn put_gx(alloc: Global, record: &GxRec, out: &mut String) -> Result<(), All
 }
 
 fn put_af_fields(out: &mut String, record: &AfRec) -> Result<(), AllocError> {
-    put_user(out, record.address(), record.apn(), record.subscribers())?;
+    put_reached(out, record.address(), record.prefix())?;
+    put_user(out, record.apn(), record.subscribers())?;
     put_client(out, record.host(), record.realm())?;
     if let Some((tag, last)) = record.last() {
         put_number(out, "last", tag, last.number())?;
@@ -233,5 +247,9 @@ pub fn put_af(record: &AfRec, out: &mut String) -> Result<(), AllocError> {
     put_af_fields(out, record)?;
     put_component(out, record, 1)?;
     put_flows(out, record)?;
-    put_removed(out, record)
+    put_removed(out, record)?;
+    if record.aborted() {
+        out.push_str("; aborted")?;
+    }
+    Ok(())
 }

@@ -56,7 +56,12 @@ pub fn put_bindings(alloc: Global, state: &State, out: &mut String) -> Result<()
 
 /// The user of a gateway's live session.
 fn put_user(out: &mut String, user: &GxUser) -> Result<(), AllocError> {
-    write!(out, " {}", user.address)?;
+    if let Some(address) = user.address {
+        write!(out, " {address}")?;
+    }
+    if let Some(prefix) = user.prefix {
+        write!(out, " {prefix}")?;
+    }
     put_word(out, "", user.apn.as_slice())?;
     put_subscribers(out, user.subscribers.as_slice())
 }
@@ -96,6 +101,7 @@ fn put_session_field<L>(out: &mut String, value: &SessionValue<L>) -> Result<(),
         SessionValue::Host(host) => put_word(out, "host ", host.as_slice()),
         SessionValue::Realm(realm) => put_word(out, "realm ", realm.as_slice()),
         SessionValue::Last(_) => out.push_str(" last"),
+        SessionValue::Prefix(prefix) => write!(out, " prefix {prefix}"),
     }
 }
 
@@ -123,6 +129,9 @@ fn put_flow_field(out: &mut String, value: &FlowValue) -> Result<(), AllocError>
 /// What a live call shows.
 fn put_call(out: &mut String, seen: &AfSeen) -> Result<(), AllocError> {
     put_binding(out, &seen.binding)?;
+    if seen.aborted {
+        out.push_str(" aborted")?;
+    }
     for field in &seen.fields {
         match field {
             AfField::Session(value) => put_session_field(out, value)?,

@@ -1,4 +1,4 @@
-//! Bytes and tags as text.
+//! Bytes and tags as text, and bytes as a number.
 use ranked::Tag;
 use std::alloc::AllocError;
 use std::fmt::Write as _;
@@ -9,6 +9,15 @@ pub fn put_text(out: &mut String, bytes: &[u8]) -> Result<(), AllocError> {
         out.push(char::from(byte))?;
     }
     Ok(())
+}
+
+/// Bytes as one number of 32 bits (Fowler, Noll and Vo, FNV-1a).
+pub fn mixed(bytes: &[u8]) -> u32 {
+    let mut mixed = 0x811c_9dc5u32;
+    for byte in bytes {
+        mixed = (mixed ^ u32::from(*byte)).wrapping_mul(0x0100_0193);
+    }
+    mixed
 }
 
 /// A tag, as `@NUMBER.COUNTER.SITE`.

@@ -1,7 +1,7 @@
 //! What was read, as a line of text.
 use crate::text::put_text;
 use dia_base::{Origin, ReadFault};
-use rx_profile::{Aar, Component, Flow, FlowUsage, MediaStatus, Rates, Str};
+use rx_profile::{Aar, Asa, Component, Flow, FlowUsage, MediaStatus, Rates, Str};
 use std::alloc::AllocError;
 use std::fmt::Write as _;
 
@@ -42,6 +42,14 @@ pub fn put_str(out: &mut String, termination: &Str) -> Result<(), AllocError> {
     put_session(out, termination.session.as_slice(), &termination.origin)
 }
 
+/// The session and the codes of an answer to an abort.
+pub fn put_asa(out: &mut String, asa: &Asa) -> Result<(), AllocError> {
+    out.push_str("asa")?;
+    put_word(out, asa.session.as_slice())?;
+    put_number(out, asa.result)?;
+    put_number(out, asa.experimental)
+}
+
 /// The number, the usage, the status, the rates and the filters of a flow.
 fn put_flow(out: &mut String, flow: &Flow) -> Result<(), AllocError> {
     let parts = flow.parts();
@@ -77,6 +85,9 @@ fn put_access(out: &mut String, aar: &Aar) -> Result<(), AllocError> {
     match aar.address {
         Some(address) => write!(out, " {address}")?,
         None => out.push_str(" -")?,
+    }
+    if let Some(prefix) = aar.prefix {
+        write!(out, " {prefix}")?;
     }
     out.push_str(" ")?;
     match &aar.apn {

@@ -1,7 +1,8 @@
 //! Values by words.
 use crate::fault::Fault;
 use pcrf_values::{
-    Apn, BoundedText, Enumerated, Enumeration, Filters, Subscriber, Subscribers, SubscriptionType,
+    Apn, BoundedText, Enumerated, Enumeration, Filters, Ipv6Prefix, Subscriber, Subscribers,
+    SubscriptionType,
 };
 use ranked::Tag;
 use std::alloc::{AllocError, Global};
@@ -68,6 +69,18 @@ pub fn address(word: &str) -> Result<Ipv4Addr, Fault> {
     match word.parse::<Ipv4Addr>() {
         Ok(address) => Ok(address),
         Err(_) => Err(Fault::NoAddress),
+    }
+}
+
+/// An IPv6 prefix, as hexadecimal digits, a slash and the length in bits.
+pub fn prefix(alloc: Global, word: &str) -> Result<Ipv6Prefix, Fault> {
+    let (digits, bits) = parted(word, '/')?;
+    let (Ok(octets), Ok(bits)) = (hex::decode(alloc, digits), bits.parse::<u8>()) else {
+        return Err(Fault::NoPrefix);
+    };
+    match Ipv6Prefix::of(bits, octets.as_slice()) {
+        Some(prefix) => Ok(prefix),
+        None => Err(Fault::NoPrefix),
     }
 }
 

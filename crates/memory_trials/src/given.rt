@@ -46,6 +46,7 @@ impl Given {
     pub fn event(&self, word: &str) -> Option<Event> {
         match word {
             "push" => return Some(Event::Push(None)),
+            "abort" => return Some(Event::Abort(None)),
             "whole" => return Some(Event::AskWhole),
             "own" | "grown" => return Some(Event::AskOwn(0)),
             _ => {}

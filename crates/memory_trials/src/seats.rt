@@ -15,14 +15,24 @@ use std::thread::Threads;
 use world_checks::{is_short, replies, same_sites};
 
 /// How many entries the history has room for.
-const LIMIT: usize = 60;
+const LIMIT: usize = 80;
 
 /// The most bytes that are written to a connection.
 const ROOM: usize = 1 << 12;
 
 /// What is called, by words.
-const CALLS: [&str; 7] = [
-    "request", "call", "push", "whole", "own", "grown", "updates",
+const CALLS: [&str; 11] = [
+    "other-request",
+    "other-call",
+    "other-end",
+    "abort",
+    "request",
+    "call",
+    "push",
+    "whole",
+    "own",
+    "grown",
+    "updates",
 ];
 
 /// What a seat was told of an event stands in its one receipt past so many, and is what the sound site replies; where memory was

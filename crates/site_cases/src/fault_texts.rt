@@ -58,7 +58,10 @@ fn faults_of_streams_of_letters_are_told(rt: HostRuntime) {
 #[test]
 fn faults_of_letters_are_told(rt: HostRuntime) {
     for (fault, text) in [
-        (LetterFault::BadVersion, "the letter's version is not 1"),
+        (
+            LetterFault::BadVersion,
+            "the letter's version is not 1, 2 or 3",
+        ),
         (
             LetterFault::BadEdition,
             "the letter is of another edition of the operator tables",

@@ -5,7 +5,9 @@ use crate::indexes::compared::{
     CALLS, Counts, GATEWAYS, compare_bindings, compare_push, compare_rules, compare_sessions,
 };
 use crate::indexes::draws::Draws;
-use crate::indexes::making::{address, call, call_end, gateway_end, host, request, told};
+use crate::indexes::making::{
+    abort, address, call, call_end, call_within, gateway_end, host, prefix, prefixed, request, told,
+};
 use gx_records::OpenRequestType;
 use indexed_state::IndexedState;
 use ranked::{Ranked, Tag};
@@ -17,6 +19,21 @@ use std::process::Abort;
 
 /// How many addresses sessions share.
 const ADDRESSES: u8 = 7;
+
+/// How many prefixes they share.
+const PREFIXES: u8 = 7;
+
+/// How many calls give an address; those behind them give a prefix alone.
+const WITH_ADDRESS: u8 = 16;
+
+/// Which operations are drawn.
+#[derive(Clone, Copy, PartialEq, Eq)]
+enum Drawn {
+    /// By addresses alone.
+    Addresses,
+    /// By addresses, by prefixes and by both.
+    Prefixes,
+}
 
 /// Of so many operations one comes with a whole state.
 const WHOLE: u64 = 10;
@@ -52,13 +69,42 @@ fn drawn_request(rt: &(impl AllocGlobal + Abort), draws: &mut Draws, at: Tag) ->
     request(rt, number, at, given)
 }
 
-/// An operation, whatever it is. Few sessions end.
-fn drawn(rt: &(impl AllocGlobal + Abort), draws: &mut Draws, counter: u64) -> Operation {
+/// An operation of a session that has a prefix: a gateway's, a call's, or that a call was aborted.
+fn drawn_prefix(rt: &(impl AllocGlobal + Abort), draws: &mut Draws, counter: u64) -> Operation {
+    let at = tag(draws, counter);
+    let given = prefix(rt, draws.byte_below(PREFIXES));
+    match draws.below(20) {
+        0 => abort(rt, draws.byte_below(CALLS), at),
+        1..=9 => call_within(rt, draws.byte_below(CALLS), at, given),
+        _ => prefixed(rt, draws.byte_below(GATEWAYS), at, given),
+    }
+}
+
+/// An operation of a kind. Of those by prefixes the others are by addresses, of the first calls alone.
+fn drawn_of(
+    rt: &(impl AllocGlobal + Abort),
+    draws: &mut Draws,
+    counter: u64,
+    kind: Drawn,
+) -> Operation {
+    if kind == Drawn::Addresses {
+        return drawn(rt, draws, counter, CALLS);
+    }
+    if draws.below(3) == 0 {
+        return drawn_prefix(rt, draws, counter);
+    }
+    drawn(rt, draws, counter, WITH_ADDRESS)
+}
+
+/// An operation by addresses, of so many calls. Few sessions end.
+fn drawn(rt: &(impl AllocGlobal + Abort), draws: &mut Draws, counter: u64, calls: u8) -> Operation
+    requires { 0 < calls }
+{
     let at = tag(draws, counter);
     match draws.below(200) {
         0 => gateway_end(rt, draws.byte_below(GATEWAYS), at),
-        1 => call_end(rt, draws.byte_below(CALLS), at),
-        2..=79 => call(rt, draws.byte_below(CALLS), at, draws.byte_below(ADDRESSES)),
+        1 => call_end(rt, draws.byte_below(calls), at),
+        2..=79 => call(rt, draws.byte_below(calls), at, draws.byte_below(ADDRESSES)),
         _ => drawn_request(rt, draws, at),
     }
 }
@@ -118,16 +164,17 @@ fn push(
     drop(found);
 }
 
-/// Takes so many operations that are drawn, and compares all after each.
+/// Takes so many operations of a kind that are drawn, and compares all after each.
 fn take_drawn(
     rt: &(impl AllocGlobal + Abort),
     draws: &mut Draws,
     held: &mut IndexedState,
     most: u64,
+    kind: Drawn,
     counts: &mut Counts,
 ) {
     for counter in 1..most {
-        let made = drawn(rt, draws, counter);
+        let made = drawn_of(rt, draws, counter, kind);
         if counter % WHOLE == 0 {
             take_whole(rt, held, made);
         } else {
@@ -140,18 +187,34 @@ fn take_drawn(
     }
 }
 
+/// What so many operations of a kind reach that are drawn from a seed.
+fn counts_of(rt: &(impl AllocGlobal + Abort), seed: u64, most: u64, kind: Drawn) -> Counts {
+    let mut draws = Draws::of(seed);
+    let mut counts = Counts::default();
+    let tables = telephony(rt.alloc()).expect(rt, "tables");
+    let mut held = IndexedState::start(rt.alloc(), tables);
+    take_drawn(rt, &mut draws, &mut held, most, kind, &mut counts);
+    drop(held);
+    drop(draws);
+    counts
+}
+
 /// The numbers below say that the draws reach bindings, sessions by subscriber, rules and pushes.
 #[test]
 fn three_thousand_operations_leave_what_the_passes_say(rt: HostRuntime) {
-    let mut draws = Draws::of(1);
-    let mut counts = Counts::default();
-    let tables = telephony(rt.alloc()).expect(&rt, "tables");
-    let mut held = IndexedState::start(rt.alloc(), tables);
-    take_drawn(&rt, &mut draws, &mut held, 3_001, &mut counts);
-    drop(held);
-    drop(draws);
+    let counts = counts_of(&rt, 1, 3_001, Drawn::Addresses);
     assert!(rt; counts.bound >= 10_000, "{counts:?}");
     assert!(rt; counts.subscribed >= 400, "{counts:?}");
     assert!(rt; counts.rules >= 10_000, "{counts:?}");
     assert!(rt; counts.pushes >= 500, "{counts:?}");
+}
+
+/// So do these of sessions and calls that have prefixes.
+#[test]
+fn a_thousand_operations_with_prefixes_leave_what_the_passes_say(rt: HostRuntime) {
+    let counts = counts_of(&rt, 2, 1_001, Drawn::Prefixes);
+    assert!(rt; counts.bound >= 3_000, "{counts:?}");
+    assert!(rt; counts.subscribed >= 100, "{counts:?}");
+    assert!(rt; counts.rules >= 3_000, "{counts:?}");
+    assert!(rt; counts.pushes >= 100, "{counts:?}");
 }

@@ -1,8 +1,11 @@
 //! Operations of sessions told apart by a number.
+use af_records::{AfFact, ComponentValue, FlowValue};
 use gx_records::{GxFact, SessionValue};
-use pcrf_values::{AfSid, GxSid, Rule, RuleName, Subscriber, Subscribers, SubscriptionType};
+use pcrf_values::{
+    AfSid, GxSid, Ipv6Prefix, Rule, RuleName, Subscriber, Subscribers, SubscriptionType,
+};
 use ranked::Tag;
-use samples::{Given, operation, text};
+use samples::{Given, filters, operation, text};
 use site_join::{Operation, SessionFacts};
 use std::alloc::AllocGlobal;
 use std::net::Ipv4Addr;
@@ -38,6 +41,21 @@ pub fn address(number: u8) -> Ipv4Addr {
     Ipv4Addr::new(10, 0, 0, number)
 }
 
+/// One of few prefixes, of which the last ones cover the first.
+pub fn prefix(rt: &impl Abort, number: u8) -> Ipv6Prefix {
+    let (bits, network) = match number {
+        0 => (128, 1),
+        1 => (64, 1),
+        2 => (64, 2),
+        3 => (128, 2),
+        4 => (61, 0),
+        5 => (56, 0),
+        _ => (0, 0),
+    };
+    let octets = [0x20, 1, 0xd, 0xb8, 0, 0, 0, network, 0, 0, 0, 0, 0, 0, 0, 5];
+    Ipv6Prefix::of(bits, &octets).expect(rt, "a prefix")
+}
+
 /// One of few subscribers; the first is the one of a gateway's request.
 pub fn subscriber(rt: &(impl AllocGlobal + Abort), number: u8) -> Subscriber {
     let name = format!(in rt.alloc(); "00101000000000{}", number.saturating_add(1));
@@ -59,6 +77,20 @@ fn subscribers(rt: &(impl AllocGlobal + Abort), number: u8) -> Subscribers {
 pub fn subscribed(rt: &(impl AllocGlobal + Abort), number: u8, at: Tag, who: u8) -> Operation {
     let mut facts = Vec::new(rt.alloc());
     let value = SessionValue::Subscribers(subscribers(rt, who));
+    facts.push(GxFact::Field(at, value)).expect(rt, "memory");
+    let facts = SessionFacts::Gx(gateway_id(rt, number), facts);
+    operation(at, facts).expect(rt, "an operation")
+}
+
+/// That a gateway's session has a prefix.
+pub fn prefixed(
+    rt: &(impl AllocGlobal + Abort),
+    number: u8,
+    at: Tag,
+    prefix: Ipv6Prefix,
+) -> Operation {
+    let mut facts = Vec::new(rt.alloc());
+    let value = SessionValue::Prefix(prefix);
     facts.push(GxFact::Field(at, value)).expect(rt, "memory");
     let facts = SessionFacts::Gx(gateway_id(rt, number), facts);
     operation(at, facts).expect(rt, "an operation")
@@ -95,6 +127,32 @@ pub fn told(
 pub fn call(rt: &(impl AllocGlobal + Abort), number: u8, at: Tag, place: u8) -> Operation {
     let made = samples::call(rt.alloc(), call_id(rt, number), at, address(place));
     made.expect(rt, "a call")
+}
+
+/// That a call of audio with one flow has a prefix.
+pub fn call_within(
+    rt: &(impl AllocGlobal + Abort),
+    number: u8,
+    at: Tag,
+    prefix: Ipv6Prefix,
+) -> Operation {
+    let described = FlowValue::Descriptions(filters(rt.alloc()).expect(rt, "filters"));
+    let mut facts = Vec::new(rt.alloc());
+    for fact in [
+        AfFact::Session(at, SessionValue::Prefix(prefix)),
+        AfFact::Component(1, at, ComponentValue::MediaType(0)),
+        AfFact::Flow(1, 1, at, described),
+    ] {
+        facts.push(fact).expect(rt, "memory");
+    }
+    operation(at, SessionFacts::Af(call_id(rt, number), facts)).expect(rt, "an operation")
+}
+
+/// That a call was aborted.
+pub fn abort(rt: &(impl AllocGlobal + Abort), number: u8, at: Tag) -> Operation {
+    let mut facts = Vec::new(rt.alloc());
+    facts.push(AfFact::Aborted).expect(rt, "memory");
+    operation(at, SessionFacts::Af(call_id(rt, number), facts)).expect(rt, "an operation")
 }
 
 /// The end of a call.

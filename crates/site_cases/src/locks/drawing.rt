@@ -56,8 +56,14 @@ fn push_to_gateway(rt: &impl Abort, alloc: Global) -> Event {
     Event::Push(DiameterIdentity::read(alloc, b"gw").expect(rt, "memory"))
 }
 
+/// An application function is to be asked to end a session that is bound to none: the one of all sessions.
+fn abort_to_function(rt: &impl Abort, alloc: Global) -> Event {
+    Event::Abort(DiameterIdentity::read(alloc, b"af").expect(rt, "memory"))
+}
+
 /// What a thread asks at a turn: of 4,096 calls four ask for all that the site holds, 16 for operations that it made, 200 have
-/// it push to any gateway and as many to the one that there is, and the others have it serve a request.
+/// it push to any gateway and as many to the one that there is, 40 have it abort a session of any application function and as
+/// many of the one that there is, and the others have it serve a request.
 pub fn event_at(rt: &impl Abort, alloc: Global, draws: &mut SplitMix64, turn: u32) -> Event {
     let draw = draws.next_u64();
     let n = draw % 4_096;
@@ -69,6 +75,10 @@ pub fn event_at(rt: &impl Abort, alloc: Global, draws: &mut SplitMix64, turn: u3
         Event::Push(None)
     } else if n < 420 {
         push_to_gateway(rt, alloc)
+    } else if n < 460 {
+        Event::Abort(None)
+    } else if n < 500 {
+        abort_to_function(rt, alloc)
     } else {
         serve(rt, alloc, draw, turn)
     }

@@ -2,7 +2,9 @@
 //! request's has no answer.
 use crate::checks::{check, check_same};
 use crate::locks::requests::{Asking, Kind, request};
-use crate::locks::sites::{attach, attach_of, new_site, numbered_site, push_to, take_last};
+use crate::locks::sites::{
+    abort_to, attach, attach_of, new_site, numbered_site, push_to, take_last,
+};
 use crate::locks::told::{Told, told_by};
 use dia_codec::{Flags, Header};
 use site_core::write_reply;
@@ -240,6 +242,45 @@ fn at_the_end_of_the_clock_nothing_is_granted(rt: HostRuntime) {
     drop(site);
 }
 
+/// A site with a call of the application function `af` whose gateway's session ended.
+fn with_lost_call(rt: &(impl AllocGlobal + Abort)) -> Site {
+    let mut site = new_site(rt, rt.alloc(), 0);
+    answers(rt, &mut site, Kind::Initial, 1, Told::Granted(0));
+    answers(rt, &mut site, Kind::Call, 1, Told::Done);
+    happens(rt, &mut site, Event::Abort(None), Told::NothingAborted);
+    answers(rt, &mut site, Kind::Termination, 1, Told::Granted(0));
+    site
+}
+
+/// A session of this host is aborted, or none is.
+fn is_aborted(rt: &(impl AllocGlobal + Abort), site: &mut Site, host: &[u8], wanted: Told) {
+    happens(rt, site, abort_to(rt, rt.alloc(), host), wanted);
+}
+
+#[test]
+fn a_call_without_its_gateway_is_aborted_once(rt: HostRuntime) {
+    let mut site = with_lost_call(&rt);
+    is_aborted(&rt, &mut site, b"gw", Told::NothingAborted);
+    is_aborted(&rt, &mut site, b"af", Told::Aborted);
+    is_aborted(&rt, &mut site, b"af", Told::NothingAborted);
+    happens(&rt, &mut site, Event::Abort(None), Told::NothingAborted);
+    happens(&rt, &mut site, Event::AskOwn(3), Told::Own(1, 4));
+    answers(&rt, &mut site, Kind::CallEnd, 1, Told::Done);
+    happens(&rt, &mut site, Event::Abort(None), Told::NothingAborted);
+    drop(site);
+}
+
+#[test]
+fn at_the_end_of_the_clock_only_an_abort_of_a_call_is_refused(rt: HostRuntime) {
+    let mut site = with_lost_call(&rt);
+    takes_last(&rt, &mut site);
+    let before = held(&rt, &site);
+    is_aborted(&rt, &mut site, b"gw", Told::NothingAborted);
+    is_aborted(&rt, &mut site, b"af", Told::Fault(StepFault::ClockFull));
+    holds_still(&rt, &site, before);
+    drop(site);
+}
+
 /// A reply to another event than a request has no answer.
 fn has_no_answer(rt: &(impl AllocGlobal + Abort), site: &Site, asked: &Request, reply: Reply) {
     let header = Header {
@@ -260,7 +301,7 @@ fn has_no_answer(rt: &(impl AllocGlobal + Abort), site: &Site, asked: &Request, 
     check(rt, answer.is_empty());
 }
 
-/// Replies of two other kinds have none.
+/// Replies of three other kinds have none.
 fn have_no_answers(rt: &(impl AllocGlobal + Abort), site: &Site) {
     let asking = Asking {
         kind: Kind::Initial,
@@ -270,6 +311,7 @@ fn have_no_answers(rt: &(impl AllocGlobal + Abort), site: &Site) {
     let asked = request(rt, rt.alloc(), asking);
     has_no_answer(rt, site, &asked, Reply::Taken(1));
     has_no_answer(rt, site, &asked, Reply::Pushed(None));
+    has_no_answer(rt, site, &asked, Reply::Aborted(None));
     drop(asked);
 }
 

@@ -55,6 +55,7 @@ fn world_event(rt: &impl Abort, event: &Event) -> Option<WorldEvent> {
             Some(WorldEvent::Serve(0, copy))
         }
         Event::Push(host) => Some(WorldEvent::Push(0, host.try_copy().expect(rt, "memory"))),
+        Event::Abort(host) => Some(WorldEvent::Abort(0, host.try_copy().expect(rt, "memory"))),
         _ => None,
     }
 }
@@ -77,13 +78,17 @@ fn is_answer(answer: &Answer, reply: &Reply) -> bool {
         (Ok(WorldOutcome::Replied(ours)), theirs) => ours.equal(theirs),
         (Ok(WorldOutcome::Pushed(Some(ours))), Reply::Pushed(Some(theirs))) => ours.equal(theirs),
         (Ok(WorldOutcome::Pushed(None)), Reply::Pushed(None)) => true,
+        (Ok(WorldOutcome::Aborted(Some(ours))), Reply::Aborted(Some(theirs))) => {
+            ours.equal(theirs)
+        }
+        (Ok(WorldOutcome::Aborted(None)), Reply::Aborted(None)) => true,
         _ => false,
     }
 }
 
 /// Whether an event is one that a world answers.
 fn is_answered(event: &Event) -> bool {
-    matches!(event, Event::Serve(_) | Event::Push(_))
+    matches!(event, Event::Serve(_) | Event::Push(_) | Event::Abort(_))
 }
 
 /// Whether the answers of a world are the replies of a history, in order.

@@ -47,6 +47,11 @@ pub fn attach(rt: &impl Abort, alloc: Global, letter: u8) -> Event {
     attach_of(rt, alloc, b"gw", letter)
 }
 
+/// A session of an application function of a host is to be aborted.
+pub fn abort_to(rt: &impl Abort, alloc: Global, host: &[u8]) -> Event {
+    Event::Abort(Some(text(alloc, host).expect(rt, "a host")))
+}
+
 /// A push to the gateways of a host is to be made.
 pub fn push_to(rt: &impl Abort, alloc: Global, host: &[u8]) -> Event {
     Event::Push(Some(text(alloc, host).expect(rt, "a host")))

@@ -16,6 +16,9 @@ pub enum Told {
     /// So many rules are installed by a push.
     Pushed(usize),
     NothingPushed,
+    /// An application function is asked to end a session.
+    Aborted,
+    NothingAborted,
     /// So many of the site's own operations, of how many.
     Own(usize, u64),
     /// A copy with this clock, and how many operations the site made itself.
@@ -35,6 +38,8 @@ pub fn told_by(reply: &Result<Reply, StepFault>) -> Told {
         Ok(Reply::Taken(count)) => Told::Taken(*count),
         Ok(Reply::Pushed(Some(push))) => Told::Pushed(push.delta.installed().len()),
         Ok(Reply::Pushed(None)) => Told::NothingPushed,
+        Ok(Reply::Aborted(Some(_))) => Told::Aborted,
+        Ok(Reply::Aborted(None)) => Told::NothingAborted,
         Ok(Reply::Own(operations, made)) => Told::Own(operations.len(), *made),
         Ok(Reply::Copy(state, made)) => Told::Copy(state.clock(), *made),
         Ok(_) => Told::Other,
