@@ -29,6 +29,8 @@ use Rattle.kept_rules.specs.Kept.{RulesValue, kept_at, AreKept}
 use Rattle.kept_rules.proofs.Keeping.{none_kept}
 use Rattle.waiting_sessions.specs.Waits.{WaitingValue, waiting_of, DueWait, Keeps, WaitsIfDue, ListedWait}
 use Rattle.waiting_sessions.proofs.Waited.{may_wait}
+use Rattle.waiting_aborts.specs.Abandoned.{AbandonedWait, ListedCallsWait}
+use Rattle.waiting_aborts.proofs.Followed.{call_followed, gateway_followed}
 use Rattle.indexed_state.specs.Indexed.{Agree, address_value, IsReached, TouchesAt, Unsettled}
 use Rattle.indexed_state.specs.declared.reached.Reached.{Reached}
 use Rattle.indexed_state.proofs.Reading.{mapped, none_there}
@@ -46,21 +48,30 @@ or_not_right : (a b : Bool) → (a || b) ≡ false → b ≡ false
 or_not_right a b n = is_false b (λ e. clash (a || b) (or_right a b e) n)
 
 -- with another index that is whole only where it covers
-pub agree_index : (t : Tables) (i : ℕ) (h : Holding) (b c : Bool) (old new : IndexValue) (r : RulesValue) (w : WaitingValue) → (c ≡ true → Covers (view h.facts) new) → Agree t i h b old r w → Agree t i h c new r w
-agree_index t i h b c old new r w covers a = record { covers = covers; kept = a.kept; due = a.due }
+pub agree_index : (t : Tables) (i : ℕ) (h : Holding) (b c : Bool) (old new : IndexValue) (r : RulesValue) (w x : WaitingValue) → (c ≡ true → Covers (view h.facts) new) → Agree t i h b old r w x → Agree t i h c new r w x
+agree_index t i h b c old new r w x covers a = record { covers = covers; kept = a.kept; due = a.due; abandoned = a.abandoned }
 
 -- with one that grew
-pub agree_grown : (t : Tables) (i : ℕ) (h : Holding) (b : Bool) (old new : IndexValue) (r : RulesValue) (w : WaitingValue) → Grows old new → Agree t i h b old r w → Agree t i h b new r w
-agree_grown t i h b old new r w g a = record { covers = λ e. covers_grow (view h.facts) old new g (a.covers e); kept = a.kept; due = a.due }
+pub agree_grown : (t : Tables) (i : ℕ) (h : Holding) (b : Bool) (old new : IndexValue) (r : RulesValue) (w x : WaitingValue) → Grows old new → Agree t i h b old r w x → Agree t i h b new r w x
+agree_grown t i h b old new r w x g a = record { covers = λ e. covers_grow (view h.facts) old new g (a.covers e); kept = a.kept; due = a.due; abandoned = a.abandoned }
 
 -- where all wait, all that are due do
 pub all_wait : (t : Tables) (i : ℕ) (v : View) (w : WaitingValue) → w.all ≡ true → DueWait t i v w
 all_wait t i v w all = record { listed = λ a. clash w.all all a }
 
+-- and all that are abandoned
+pub all_calls_wait : (i : ℕ) (v : View) (x : WaitingValue) → x.all ≡ true → AbandonedWait i v x
+all_calls_wait i v x all = record { listed = λ a. clash x.all all a }
+
 -- where no list is kept and all wait, an index is enough
-pub agree_anew : (t : Tables) (i : ℕ) (h : Holding) (c : Bool) (index : IndexValue) (r : RulesValue) (w : WaitingValue) → (c ≡ true → Covers (view h.facts) index)
-    → Unsettled r w → Agree t i h c index r w
-agree_anew t i h c index r w covers all = record { covers = covers; kept = none_kept t (view h.facts) r all.stale; due = all_wait t i (view h.facts) w all.waits }
+pub agree_anew : (t : Tables) (i : ℕ) (h : Holding) (c : Bool) (index : IndexValue) (r : RulesValue) (w x : WaitingValue) → (c ≡ true → Covers (view h.facts) index)
+    → Unsettled r w → x.all ≡ true → Agree t i h c index r w x
+agree_anew t i h c index r w x covers all calls = record {
+  covers = covers;
+  kept = none_kept t (view h.facts) r all.stale;
+  due = all_wait t i (view h.facts) w all.waits;
+  abandoned = all_calls_wait i (view h.facts) x calls;
+}
 
 -- nothing is shown where nothing is held
 nothing_shown : (s : Session) (p : Place) → value (view []) s p ≡ None
@@ -78,8 +89,8 @@ covers_nothing index = record {
 -- ---- one session that changed
 
 -- the holdings before and after, the session, the index before what it shows was listed and after, the lists of rules at first and as they went stale at
--- both addresses, who waited and who waits, and where the user of the session is reached before and after
-module _ (t : Tables) (i : ℕ) (h k : Holding) (d : Session) (old new : IndexValue) (first third : RulesValue) (u w : WaitingValue) (before after : Reached) where
+-- both addresses, who waited and who waits for a push and for an abort, and where the user of the session is reached before and after
+module _ (t : Tables) (i : ℕ) (h k : Holding) (d : Session) (old new : IndexValue) (first third : RulesValue) (u w x y : WaitingValue) (before after : Reached) where
   -- what the code did
   pub record Followed : Type 0 where
     pub differs : DifferInOne h.facts k.facts d
@@ -97,6 +108,11 @@ module _ (t : Tables) (i : ℕ) (h k : Holding) (d : Session) (old new : IndexVa
     pub near_before : ListedWait (view k.facts) new w before.address
     pub near_after : ListedWait (view k.facts) new w after.address
     pub all : (before.by_prefix || after.by_prefix) ≡ true → Unsettled third w
+    pub abandoned : AbandonedWait i (view h.facts) x
+    pub go_on : Keeps x y
+    pub own_call : is_gx d.kind ≡ false → WaitsIfDue (view k.facts) y d
+    pub near_calls : is_gx d.kind ≡ true → ListedCallsWait (view k.facts) new y before.address
+    pub all_calls : is_gx d.kind ≡ true → before.by_prefix ≡ true → y.all ≡ true
 
   module _ (z : Followed) where
     -- a session that has the address is listed under it
@@ -174,9 +190,21 @@ module _ (t : Tables) (i : ℕ) (h k : Holding) (d : Session) (old new : IndexVa
       }
     ]
 
+    -- and so do all that are abandoned
+    pub calls_wait : AbandonedWait i (view k.facts) y
+    calls_wait = elim (split (is_gx d.kind)) [
+      | inr c ↦ call_followed i h.facts k.facts d x y z.differs z.go_on z.abandoned c (z.own_call c)
+      | inl g ↦ elim (split before.by_prefix) [
+        | inl p ↦ all_calls_wait i (view k.facts) y (z.all_calls g p)
+        | inr n ↦ gateway_followed i h.facts k.facts d x y z.differs z.go_on z.abandoned g
+            (none_there (value (view h.facts) d prefix) (sym n ∙ z.was_at.at_prefix))
+            new (covers_grow (view h.facts) old new z.grows z.covers) before.address z.was_at.at_address (z.near_calls g)
+      ]
+    ]
+
     -- so the parts agree, also with an index that covers without what the session no longer shows
-    pub agree_followed : (b : Bool) (index : IndexValue) → (Covers (view k.facts) new → Covers (view k.facts) index) → Agree t i k b index third w
-    agree_followed b index forgets = record { covers = λ _. forgets z.covered; kept = lists_kept; due = due_wait }
+    pub agree_followed : (b : Bool) (index : IndexValue) → (Covers (view k.facts) new → Covers (view k.facts) index) → Agree t i k b index third w y
+    agree_followed b index forgets = record { covers = λ _. forgets z.covered; kept = lists_kept; due = due_wait; abandoned = calls_wait }
 
 -- ---- an operation
 

@@ -21,7 +21,8 @@ use Rattle.pcrf_model.proofs.WaitingLaws.{one_enough}
 use Rattle.session_index.specs.Index.{IndexValue}
 use Rattle.kept_rules.specs.Kept.{RulesValue}
 use Rattle.waiting_sessions.specs.Waits.{WaitingValue, waiting_of, Keeps, WaitsIfDue}
-use Rattle.waiting_sessions.proofs.Waited.{may_wait}
+use Rattle.waiting_sessions.proofs.Waited.{keeps_itself, may_wait}
+use Rattle.waiting_aborts.proofs.Followed.{told_followed}
 use Rattle.indexed_state.specs.Indexed.{Agree, IsTold, tells}
 use Rattle.indexed_state.proofs.PlacedRecord.{held-append}
 
@@ -95,9 +96,9 @@ module _ (h k : Holding) (id : List ℕ) (known : List Fact) (told : IsTold h (g
   ]
 
   -- so the parts agree, where the session waits
-  pub agree_told : (t : Tables) (i : ℕ) (b : Bool) (index : IndexValue) (r : RulesValue) (u w : WaitingValue) → Keeps u w → WaitsIfDue (view k.facts) w (gx id)
-      → Agree t i h b index r u → Agree t i k b index r w
-  agree_told t i b index r u w keeps waits a = record {
+  pub agree_told : (t : Tables) (i : ℕ) (b : Bool) (index : IndexValue) (r : RulesValue) (u w x : WaitingValue) → Keeps u w → WaitsIfDue (view k.facts) w (gx id)
+      → Agree t i h b index r u x → Agree t i k b index r w x
+  agree_told t i b index r u w x keeps waits a = record {
     covers = λ e. record {
       addresses = λ s x f. (a.covers e).addresses s x (same_value s address (ap (λ (p : Party). p.address) alike.reads) ∙ f);
       prefixes = λ s p f. (a.covers e).prefixes s p (same_value s prefix (ap (λ (q : Party). q.prefix) alike.reads) ∙ f);
@@ -111,4 +112,5 @@ module _ (h k : Holding) (id : List ℕ) (known : List Fact) (told : IsTold h (g
       listed = λ all. one_enough t i h.facts k.facts (gx id) (waiting_of u) (waiting_of w) differs
           (a.due.listed (keeps.some all)) (keeps.stay all) (may_wait i (view k.facts) w (gx id) all (λ _. waits)) alike;
     };
+    abandoned = told_followed i h.facts k.facts (gx id) x x differs (keeps_itself x) a.abandoned alike;
   }

@@ -16,6 +16,7 @@ use Rattle.pcrf_model.specs.Views.{View, view, value}
 use Rattle.session_index.specs.Index.{IndexValue, Covers, listed_at}
 use Rattle.kept_rules.specs.Kept.{RulesValue, kept_at, AreKept}
 use Rattle.waiting_sessions.specs.Waits.{WaitingValue, DueWait}
+use Rattle.waiting_aborts.specs.Abandoned.{AbandonedWait}
 use Rattle.indexed_state.specs.declared.reached.Reached.{Reached}
 
 -- operator tables, and what is held
@@ -27,11 +28,13 @@ pub record IndexedValue : Type 0 where
 abbrev pub with_holding : IndexedValue → Holding → IndexedValue
 with_holding x h = record x { holding = h }
 
--- an index that is whole covers what is held, each list of rules that isn't stale is that of its session, and each session that is due at a site waits
-pub record Agree (t : Tables) (i : ℕ) (h : Holding) (is_whole : Bool) (index : IndexValue) (lists : RulesValue) (w : WaitingValue) : Type 0 where
+-- an index that is whole covers what is held, each list of rules that isn't stale is that of its session, each session that is due at a site waits for a
+-- push, and each that is abandoned there for an abort
+pub record Agree (t : Tables) (i : ℕ) (h : Holding) (is_whole : Bool) (index : IndexValue) (lists : RulesValue) (w x : WaitingValue) : Type 0 where
   pub covers : is_whole ≡ true → Covers (view h.facts) index
   pub kept : AreKept t (view h.facts) lists
   pub due : DueWait t i (view h.facts) w
+  pub abandoned : AbandonedWait i (view h.facts) x
 
 -- an address of the code, as what a place shows
 abbrev pub address_value : Ipv4Addr → Value

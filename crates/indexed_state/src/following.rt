@@ -11,6 +11,7 @@ ghost use Rattle.site_join.specs.States.{record_facts};
 ghost use Rattle.indexed_state.specs.Indexed.{Agree, Unsettled};
 
 use crate::forgetting::{forget_gateway, forget_stood};
+use crate::aborting::wait_lost;
 use crate::reached::gateway_reached_in;
 use crate::unsettling::{unsettle, unsettle_all, wait_gateway};
 use gx_records::GxRec;
@@ -19,6 +20,7 @@ use pcrf_values::GxSid;
 use session_index::Index;
 use site_join::State;
 use std::alloc::Global;
+use waiting_aborts::WaitingCalls;
 use waiting_sessions::Waiting;
 
 /// Has an index, lists of rules and those that wait agree with a state in which one gateway's session, of which this record
@@ -30,38 +32,48 @@ pub(crate) fn follow(
     is_whole: &mut bool,
     rules: &mut Rules,
     waiting: &mut Waiting,
+    aborts: &mut WaitingCalls,
     id: &GxSid,
     stood: &Option<GxRec>,
 )
     ensures { (t : Tables) (i : ℕ) (h : Holding) → DifferInOne h.facts state.now.facts (gx id.now)
         → record_facts stood.now ≡ facts_on h.facts (gx id.now)
-        → Agree t i h is_whole.old index.old rules.old waiting.old
-        → Agree t i state.now is_whole.new index.new rules.new waiting.new }
+        → Agree t i h is_whole.old index.old rules.old waiting.old aborts.old
+        → Agree t i state.now is_whole.new index.new rules.new waiting.new aborts.new }
 {
     if !*is_whole {
-        keep_nothing(alloc, is_whole, rules, waiting);
+        keep_nothing(alloc, is_whole, rules, waiting, aborts);
         return;
     }
     let known = state.gx(id);
     if !list_known(known, index, id) {
-        keep_nothing(alloc, is_whole, rules, waiting);
+        keep_nothing(alloc, is_whole, rules, waiting, aborts);
         return;
     }
     let before = gateway_reached_in(stood.as_ref());
     let after = gateway_reached_in(known);
     wait_gateway(state, waiting, id, after.address);
     unsettle(alloc, state, index, rules, waiting, before, after);
+    wait_lost(alloc, state, index, aborts, before);
     forget_gateway(index, id, before.address, after.address);
     forget_stood(index, id, stood.as_ref(), known);
 }
 
 /// The index isn't whole, no list of rules is kept, and all sessions wait.
-fn keep_nothing(alloc: Global, is_whole: &mut bool, rules: &mut Rules, waiting: &mut Waiting)
+fn keep_nothing(
+    alloc: Global,
+    is_whole: &mut bool,
+    rules: &mut Rules,
+    waiting: &mut Waiting,
+    aborts: &mut WaitingCalls,
+)
     ensures whole { is_whole.new ≡ false }
     ensures unsettled { Unsettled rules.new waiting.new }
+    ensures calls { aborts.new.all ≡ true }
 {
     *is_whole = false;
     unsettle_all(alloc, rules, waiting);
+    *aborts = WaitingCalls::start(alloc);
 }
 
 /// Lists a gateway's session by the record that is known of it; false where memory is refused.

@@ -21,7 +21,9 @@ ghost use Rattle.rule_delta.specs.Pushed.{push_of, untold_difference};
 ghost use Rattle.session_index.specs.Index.{Covers};
 ghost use Rattle.site_join.specs.States.{record_facts};
 ghost use Rattle.waiting_sessions.specs.Waits.{DueWait, is_waiting};
+ghost use Rattle.waiting_aborts.specs.Abandoned.{AbandonedWait};
 
+use crate::aborting::wait_calls;
 use crate::following::follow;
 use crate::forgetting::{forget_given, forget_moved, subscribers_before};
 use crate::reached::reached_by;
@@ -41,6 +43,7 @@ use session_index::Index;
 use site_join::{Operation, State};
 use std::alloc::{AllocError, Global};
 use std::marker::Model;
+use waiting_aborts::WaitingCalls;
 use waiting_pushes::{next_waiting, untold_difference_by};
 use waiting_sessions::{Waiting, gather};
 
@@ -57,8 +60,10 @@ pub struct IndexedState {
     pub(crate) is_whole: bool,
     pub(crate) rules: Rules,
     pub(crate) waiting: Waiting,
-    /// The number of the site at which those that wait may be due.
-    site: u8,
+    /// The calls that wait to be looked at for an abort.
+    pub(crate) aborts: WaitingCalls,
+    /// The number of the site at which those that wait may be due, or abandoned.
+    pub(crate) site: u8,
 }
 
 impl Model for IndexedState {
@@ -72,7 +77,7 @@ impl Model for IndexedState {
     } };
 
     ghost invariant = { λ s. Agree s.tables s.site s.state s.is_whole
-        s.index s.rules s.waiting };
+        s.index s.rules s.waiting s.aborts };
 }
 
 impl IndexedState {
@@ -91,6 +96,7 @@ impl IndexedState {
             is_whole: true,
             rules: Rules::start(alloc),
             waiting: Waiting::start(alloc),
+            aborts: WaitingCalls::start(alloc),
             site: 0,
         }
     }
@@ -118,6 +124,7 @@ impl IndexedState {
         self.is_whole = true;
         self.rules.touch_all();
         self.waiting = Waiting::start(self.alloc);
+        self.aborts = WaitingCalls::start(self.alloc);
     }
 
     /// Takes an operation, wherever it was made, once or again; a refusal changes nothing. Its time grows with the number of
@@ -146,6 +153,14 @@ impl IndexedState {
             before,
             after,
         );
+        wait_calls(
+            self.alloc,
+            &self.state,
+            &self.index,
+            &mut self.aborts,
+            facts,
+            before,
+        );
         forget_moved(&mut self.index, facts, before.address, after.address);
         forget_given(&mut self.index, &self.state, facts, shown.as_slice());
         Ok(())
@@ -163,6 +178,7 @@ impl IndexedState {
         self.is_whole = true;
         self.rules = Rules::start(self.alloc);
         self.waiting = Waiting::start(self.alloc);
+        self.aborts = WaitingCalls::start(self.alloc);
         Ok(())
     }
 
@@ -193,6 +209,7 @@ impl IndexedState {
             &mut self.is_whole,
             &mut self.rules,
             &mut self.waiting,
+            &mut self.aborts,
             id,
             &stood,
         );
@@ -322,7 +339,13 @@ impl IndexedState {
         ensures same { self.new ≡ self.old }
     {
         make_whole(&self.state, &mut self.index, &mut self.is_whole)?;
-        wait_for(self.alloc, &mut self.waiting, &mut self.site, site);
+        wait_for(
+            self.alloc,
+            &mut self.waiting,
+            &mut self.aborts,
+            &mut self.site,
+            site,
+        );
         gather(self.alloc, &self.state, &mut self.waiting)?;
         next_waiting(
             self.alloc,
@@ -346,17 +369,26 @@ fn index_of(alloc: Global, state: &State) -> Result<Index, AllocError>
     Ok(index)
 }
 
-/// Has those wait that may be due at a site: all, where those that wait may be due at another.
-fn wait_for(alloc: Global, waiting: &mut Waiting, of: &mut u8, site: u8)
+/// Has those wait that may be due or abandoned at a site: all, where those that wait may be so at another.
+pub(crate) fn wait_for(
+    alloc: Global,
+    waiting: &mut Waiting,
+    aborts: &mut WaitingCalls,
+    of: &mut u8,
+    site: u8,
+)
     ensures of { of.new ≡ site }
     ensures due { (t : TablesValue) (v : View) → DueWait t of.old v waiting.old
         → DueWait t site v waiting.new }
+    ensures abandoned { (v : View) → AbandonedWait of.old v aborts.old
+        → AbandonedWait site v aborts.new }
 {
     if *of == site {
         return;
     }
     *of = site;
     *waiting = Waiting::start(alloc);
+    *aborts = WaitingCalls::start(alloc);
 }
 
 /// Whether one waits at a site for a host, where those that wait may be due at this one: all do where it is another.
@@ -367,7 +399,7 @@ fn waits_at(of: u8, waiting: &Waiting, site: u8, host: &DiameterIdentity) -> boo
 }
 
 /// The host that is given, as a name under which sessions wait: none where none is given, or no name has these bytes.
-fn name_of(alloc: Global, host: Option<&[u8]>) -> Result<Option<DiameterIdentity>, AllocError>
+pub(crate) fn name_of(alloc: Global, host: Option<&[u8]>) -> Result<Option<DiameterIdentity>, AllocError>
     ensures { IfOk result (λ name. IfSome name (λ n. option_copied host.entry ≡ Some n)) }
 {
     let Some(bytes) = host else {

@@ -2,6 +2,7 @@
 //! that sessions are bound, rules derived and pushes found without a pass over all sessions.
 #![tactic(auto)]
 
+mod aborting;
 mod following;
 mod forgetting;
 mod held;

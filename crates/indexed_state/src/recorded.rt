@@ -6,6 +6,7 @@ ghost use Rattle.pcrf_model.specs.Operations.{with_operation};
 ghost use Rattle.pcrf_model.specs.Sessions.{gx, af};
 ghost use Rattle.indexed_state.specs.Indexed.{IsTold};
 
+use crate::aborting::wait_lost;
 use crate::forgetting::{forget_call, forget_gateway, forget_stood};
 use crate::indexed::IndexedState;
 use crate::reached::{call_reached_in, gateway_reached_in};
@@ -16,6 +17,7 @@ use gx_records::GxRec;
 use pcrf_values::{AfSid, GxSid};
 use site_join::Operation;
 use std::alloc::AllocError;
+use waiting_aborts::wait_one as wait_call;
 use waiting_sessions::wait_one;
 
 impl IndexedState {
@@ -54,6 +56,13 @@ impl IndexedState {
             &mut self.waiting,
             before,
             after,
+        );
+        wait_lost(
+            self.alloc,
+            &self.state,
+            &self.index,
+            &mut self.aborts,
+            before,
         );
         forget_gateway(&mut self.index, id, before.address, after.address);
         forget_stood(&mut self.index, id, stood.as_ref(), self.state.gx(id));
@@ -117,6 +126,7 @@ impl IndexedState {
             before,
             after,
         );
+        wait_call(&self.state, &mut self.aborts, id);
         forget_call(&mut self.index, id, before.address, after.address);
         self.index.forget_call_prefix(id, self.state.af(id));
         Ok(())

@@ -4,7 +4,7 @@ ghost use Rattle.site_machine.specs.Values.{event_value, reply_value};
 ghost use Rattle.site_book.specs.Books.{new_seats};
 ghost use Rattle.site_book.specs.Gains.{HoldsAll};
 ghost use Rattle.site_book.specs.Settling.{EachOnce, Settles};
-ghost use Rattle.site_lock.specs.Calls.{FindsNothingDue, GainsReceipt, TellsPast};
+ghost use Rattle.site_lock.specs.Calls.{FindsNoneAbandoned, FindsNothingDue, GainsReceipt, TellsPast};
 ghost use Rattle.site_lock.specs.Locked.{beside};
 ghost use Rattle.living_site.specs.Calls.{GainsBeginning, IsAccount, IsFound};
 ghost use Rattle.living_site.specs.Deeds.{IsAccountOf, LeadsTo, OfSeats, as_book, beginnings, calls};
@@ -125,6 +125,24 @@ impl<L: Roll> LivingSite<L> {
         let mut chronicle = self.chronicle.lock(rt);
         chronicle.audit(seat);
         chronicle.site().is_waiting(host)
+    }
+
+    /// Whether a session of a host may be to be asked to abort, once the lock is free. Where it answers false none was at the site
+    /// that a history had led to in which the seat has just a receipt for each of its entries: so after all that the seat did.
+    /// It makes no entry, and wakes nobody.
+    pub fn is_aborting<R: Wait>(
+        &self,
+        rt: &R,
+        seat: &mut Seat<L>,
+        host: &DiameterIdentity,
+    ) -> bool
+        ensures none { result ≡ false
+            → FindsNoneAbandoned (IsFound L.seats L.opening) seat.old host.now }
+        ensures same { seat.new ≡ seat.old }
+    {
+        let mut chronicle = self.chronicle.lock(rt);
+        chronicle.audit(seat);
+        chronicle.site().is_aborting(host)
     }
 
     /// Makes an event happen, as a call of a seat, once the lock is free. The seat gains the receipt of this event with the

@@ -46,6 +46,10 @@ impl<L: Roll> SharedSite for LivingSite<L> {
         self.is_waiting(rt, seat, host)
     }
 
+    fn wants_abort<R: Wait>(&self, rt: &R, seat: &mut Seat<L>, host: &DiameterIdentity) -> bool {
+        self.is_aborting(rt, seat, host)
+    }
+
     fn call<R: Threads + Wait + Sync>(
         &self,
         rt: &R,

@@ -49,6 +49,10 @@ impl<L: Ledger> SharedSite for LockedSite<L> {
         true
     }
 
+    fn wants_abort<R: Wait>(&self, _rt: &R, _seat: &mut Seat<L>, _host: &DiameterIdentity) -> bool {
+        true
+    }
+
     fn call<R: Threads + Wait + Sync>(
         &self,
         rt: &R,

@@ -5,7 +5,7 @@ ghost use Rattle.site_machine.specs.Sites.{SiteValue};
 ghost use Rattle.site_machine.specs.Values.{event_value, reply_value};
 ghost use Rattle.site_book.specs.Books.{SeatValue};
 ghost use Rattle.living_site.specs.Deeds.{counted_to, last_place};
-ghost use Rattle.site_lock.specs.Calls.{FindsNothingDue, GainsReceipt, TellsPast};
+ghost use Rattle.site_lock.specs.Calls.{FindsNoneAbandoned, FindsNothingDue, GainsReceipt, TellsPast};
 ghost use Rattle.site_lock.specs.Locked.{LockedValue};
 
 use dia_base::Identity;
@@ -59,6 +59,12 @@ pub trait SharedSite {
     /// for, of nothing too: it wants each.
     fn wants_push<R: Wait>(&self, rt: &R, seat: &mut Self::Seat, host: &DiameterIdentity) -> bool
         ensures none { result ≡ false → FindsNothingDue found (seen seat.old) host.now }
+        ensures same { seat.new ≡ seat.old };
+
+    /// Whether an abort at a host is to be asked for. Where it answers false the seat found that no session of the host was to be
+    /// asked to abort, and made no call of it. A site whose history is kept when the program runs wants each, as with pushes.
+    fn wants_abort<R: Wait>(&self, rt: &R, seat: &mut Self::Seat, host: &DiameterIdentity) -> bool
+        ensures none { result ≡ false → FindsNoneAbandoned found (seen seat.old) host.now }
         ensures same { seat.new ≡ seat.old };
 
     /// Makes an event happen, as a call of a seat, once the lock is free. The seat gains the receipt of this event with the

@@ -2,7 +2,7 @@
 use Rattle.std.specs.Prelude.{◌≡◌, ◌<◌, ℕ, List}
 use Rattle.pcrf_model.specs.Replies.{ReplyValue, Own, Copy}
 use Rattle.pcrf_model.specs.Steps.{SiteEvent}
-use Rattle.site_machine.specs.Sites.{OwesNothing, SiteValue}
+use Rattle.site_machine.specs.Sites.{AbandonsNone, OwesNothing, SiteValue}
 use Rattle.site_book.specs.Books.{SeatValue, with_receipt}
 
 -- one more receipt, of that event and that reply, at the place of some entry
@@ -18,3 +18,7 @@ TellsPast past r = Unit {0}
 -- a seat finds that nothing is due to the host, where it may find the site so
 abbrev pub FindsNothingDue : (SeatValue → SiteValue → Type 0) → SeatValue → List ℕ → Type 0
 FindsNothingDue Found seat host = (site : SiteValue) × Found seat site × OwesNothing site host
+
+-- and that no session of the host is to be asked to abort
+abbrev pub FindsNoneAbandoned : (SeatValue → SiteValue → Type 0) → SeatValue → List ℕ → Type 0
+FindsNoneAbandoned Found seat host = (site : SiteValue) × Found seat site × AbandonsNone site host

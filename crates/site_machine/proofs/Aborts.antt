@@ -11,7 +11,7 @@ use Rattle.pcrf_model.specs.Refusals.{is_clock_full}
 use Rattle.pcrf_model.proofs.AbortingLaws.{first_abandoned, abandoned_kind}
 use Rattle.site_machine.specs.Facts.{operation_on_call}
 use Rattle.site_machine.specs.Sites.{SiteValue, abort_outcome_at}
-use Rattle.site_machine.proofs.AbandonedRecord.{is_call}
+use Rattle.waiting_aborts.proofs.Firsts.{af_is}
 
 module _ (s : SiteValue) (name : Option (List ℕ)) where
   -- what is held
@@ -64,7 +64,7 @@ module _ (s : SiteValue) (name : Option (List ℕ)) where
             session = r;
             is_next = k;
             is = same;
-            named = ap (λ (x : AbortValue). af x.session) same ∙ is_call r r.kind refl (abandoned_kind s.number v name r one);
+            named = ap (λ (x : AbortValue). af x.session) same ∙ af_is r r.kind refl (abandoned_kind s.number v name r one);
           }
 
   -- the abort and its operation

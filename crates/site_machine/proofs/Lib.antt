@@ -1,4 +1,3 @@
-pub mod AbandonedRecord
 pub mod Aborts
 pub mod CallLaws
 pub mod Formed

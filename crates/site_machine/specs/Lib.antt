@@ -1,4 +1,3 @@
-pub mod Abandoned
 pub mod Calls
 pub mod Facts
 pub mod Left

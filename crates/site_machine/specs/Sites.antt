@@ -9,7 +9,7 @@ use Rattle.pcrf_model.specs.Requests.{CcrValue, AarValue, StrValue, RequestValue
 use Rattle.pcrf_model.specs.Replies.{Outcome, ReplyValue}
 use Rattle.pcrf_model.specs.Serving.{serve, serve_ccr, serve_aar, serve_str}
 use Rattle.pcrf_model.specs.Pushing.{due_session, push}
-use Rattle.pcrf_model.specs.Aborting.{abort}
+use Rattle.pcrf_model.specs.Aborting.{abandoned_session, abort}
 use Rattle.pcrf_model.specs.Steps.{SiteState, SiteEvent, MayReply, kept_state, state_after}
 use Rattle.pcrf_model.specs.Tables.{Tables}
 use Rattle.pcrf_model.specs.Views.{view}
@@ -57,6 +57,10 @@ abort_outcome_at s name = abort s.number s.state.holding name
 -- nothing is due to the gateways of a host
 abbrev pub OwesNothing : SiteValue → List ℕ → Type 0
 OwesNothing s name = due_session s.tables s.number (view s.state.holding.facts) (Some name) ≡ None
+
+-- no session of the host is to be asked to abort
+abbrev pub AbandonsNone : SiteValue → List ℕ → Type 0
+AbandonsNone s name = abandoned_session s.number (view s.state.holding.facts) (Some name) ≡ None
 
 -- with one operation: what is kept of it is held
 abbrev pub with_one : SiteValue → Operation → SiteValue

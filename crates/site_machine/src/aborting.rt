@@ -9,7 +9,6 @@ ghost use Rattle.pcrf_model.specs.Views.{view};
 ghost use Rattle.rx_profile.specs.Aborts.{abort_view};
 ghost use Rattle.site_machine.specs.Replies.{spares};
 
-use crate::abandoned::next_abort;
 use crate::fault::StepFault;
 use crate::site::Site;
 use crate::spare::spare_aborts;
@@ -29,7 +28,8 @@ impl Site {
     /// their client, are bound to none and weren't asked for yet, whose home is this site and whose host is the given one, any
     /// where none is given, that with the least Session-Id. It is one operation of the site's own, which says that the session
     /// was aborted: the session stays live until its application function ends it, and may be bound again. `None` where there
-    /// is none such, which changes nothing. An error changes nothing. Its time grows with the number of sessions.
+    /// is none such, which changes nothing. An error changes nothing. For a host it looks at sessions alone that wait under it; where
+    /// none is given its time grows with the number of application functions' sessions.
     pub fn abort(&mut self, host: Option<&[u8]>) -> Result<Option<AbortOut>, StepFault>
         ensures abort { IfOk result (λ abort. Aborted (option_map abort_view abort)
             ≡ (abort_outcome_at self.old (option_copied host.entry)).reply) }
@@ -88,13 +88,14 @@ impl Site {
     }
 
     /// The abort that is due for a host, any where none is given.
-    fn next_abort(&self, host: Option<&[u8]>) -> Result<Option<AbortOut>, AllocError>
-        ensures { IfOk result (λ abort. option_map abort_view abort
-            ≡ option_map (abort_of (view self.now.state.holding.facts))
-            (abandoned_session self.now.number (view self.now.state.holding.facts)
+    fn next_abort(&mut self, host: Option<&[u8]>) -> Result<Option<AbortOut>, AllocError>
+        ensures abort { IfOk result (λ abort. option_map abort_view abort
+            ≡ option_map (abort_of (view self.old.state.holding.facts))
+            (abandoned_session self.old.number (view self.old.state.holding.facts)
             (option_copied host.entry))) }
+        ensures same { self.new ≡ self.old }
     {
-        next_abort(&self.held, self.number, host)
+        self.held.next_abort(self.number, host)
     }
 
     /// Adds the operation of an abort, or changes nothing.

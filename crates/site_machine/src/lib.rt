@@ -2,7 +2,6 @@
 //! above (`site_core`).
 #![tactic(auto)]
 
-mod abandoned;
 mod aborting;
 mod adding;
 mod calls;

@@ -11,7 +11,7 @@ use pcrf_values::{DiameterIdentity, GxSid, Subscriber};
 use std::alloc::AllocError;
 
 impl Site {
-    ghost use Rattle.site_machine.specs.Sites.{OwesNothing, push_outcome_at};
+    ghost use Rattle.site_machine.specs.Sites.{AbandonsNone, OwesNothing, push_outcome_at};
 
     /// The index of its sessions, where it is whole.
     pub fn index(&self) -> Option<&Index>
@@ -42,5 +42,15 @@ impl Site {
             self.now.state.holding (Some host.now) ≡ false }
     {
         self.held.is_waiting(self.number, host)
+    }
+    /// Whether a session of a host may be to be asked to abort. Where it answers false none is: an abort that is asked for the
+    /// host asks nothing, is never refused for want of a counter, and changes nothing. It answers true as long as a session of
+    /// the host waits to be looked at, as each does that may have lost the gateway's session to which it was bound; and of every
+    /// host while all sessions wait, as they do until the first abort for a host after the site began, was emptied, took a whole
+    /// state, had a gateway's session with a prefix change, or was refused memory for one that waits. It is a look-up.
+    pub fn is_aborting(&self, host: &DiameterIdentity) -> bool
+        ensures { result ≡ false → AbandonsNone self.now host.now }
+    {
+        self.held.is_aborting(self.number, host)
     }
 }

@@ -1,4 +1,4 @@
-use Rattle.std.proofs.Common.{ap, ◌∙◌}
+use Rattle.std.proofs.Common.{true, refl, ap, ◌∙◌}
 use Rattle.ranked.proofs.Plain.{clash}
 use Rattle.pcrf_model.specs.Sessions.{gx}
 use Rattle.pcrf_model.specs.Views.{view}
@@ -9,13 +9,13 @@ use Rattle.indexed_state.proofs.following.follow.Goals as goal
 
 pub returns-then-not-is_whole : goal.returns-then-not-is_whole
 returns-then-not-is_whole c = λ t i h differs was a.
-    agree_anew t i c.args.state.now c.keep_nothing.new.is_whole c.args.index.now c.keep_nothing.new.rules c.keep_nothing.new.waiting
-    (λ e. clash _ e c.keep_nothing.ensures.whole) c.keep_nothing.ensures.unsettled
+    agree_anew t i c.args.state.now c.keep_nothing.new.is_whole c.args.index.now c.keep_nothing.new.rules c.keep_nothing.new.waiting c.keep_nothing.new.aborts
+    (λ e. clash _ e c.keep_nothing.ensures.whole) c.keep_nothing.ensures.unsettled c.keep_nothing.ensures.calls
 
 pub returns-then-not-list_known : goal.returns-then-not-list_known
 returns-then-not-list_known c = λ t i h differs was a.
-    agree_anew t i c.args.state.now c.keep_nothing-then-not-list_known.new.is_whole c.list_known.new.index c.keep_nothing-then-not-list_known.new.rules c.keep_nothing-then-not-list_known.new.waiting
-    (λ e. clash _ e c.keep_nothing-then-not-list_known.ensures.whole) c.keep_nothing-then-not-list_known.ensures.unsettled
+    agree_anew t i c.args.state.now c.keep_nothing-then-not-list_known.new.is_whole c.list_known.new.index c.keep_nothing-then-not-list_known.new.rules c.keep_nothing-then-not-list_known.new.waiting c.keep_nothing-then-not-list_known.new.aborts
+    (λ e. clash _ e c.keep_nothing-then-not-list_known.ensures.whole) c.keep_nothing-then-not-list_known.ensures.unsettled c.keep_nothing-then-not-list_known.ensures.calls
 
 pub returns : goal.returns
 returns c = λ t i h differs was a.
@@ -26,7 +26,7 @@ returns c = λ t i h differs was a.
     let w = c.unsettle.new.waiting in
     let covers = a.covers c.if-not-is_whole.false in
     let last = c.unsettle.ensures.keeps in
-    let z : Followed t i h k d c.args.index.now new c.args.rules.now c.unsettle.new.rules c.args.waiting.now w c.gateway_reached_in-before.result c.gateway_reached_in-after.result
+    let z : Followed t i h k d c.args.index.now new c.args.rules.now c.unsettle.new.rules c.args.waiting.now w c.args.aborts.now c.wait_lost.new.aborts c.gateway_reached_in-before.result c.gateway_reached_in-after.result
     = record {
       differs = differs;
       covers = covers;
@@ -43,7 +43,12 @@ returns c = λ t i h differs was a.
       near_before = c.unsettle.ensures.wait_before;
       near_after = c.unsettle.ensures.wait_after;
       all = c.unsettle.ensures.all;
+      abandoned = a.abandoned;
+      go_on = c.wait_lost.ensures.keeps;
+      own_call = λ e. clash true refl e;
+      near_calls = λ _. c.wait_lost.ensures.near;
+      all_calls = λ _. c.wait_lost.ensures.all;
     } in
-    agree_followed t i h k d c.args.index.now new c.args.rules.now c.unsettle.new.rules c.args.waiting.now w c.gateway_reached_in-before.result c.gateway_reached_in-after.result
+    agree_followed t i h k d c.args.index.now new c.args.rules.now c.unsettle.new.rules c.args.waiting.now w c.args.aborts.now c.wait_lost.new.aborts c.gateway_reached_in-before.result c.gateway_reached_in-after.result
     z c.args.is_whole.now c.forget_stood.new.index
     (λ all. c.forget_stood.ensures k.facts c.gx-known.ensures (c.forget_gateway.ensures (view k.facts) (c.gateway_reached_in-after.ensures k.facts id c.gx-known.ensures).at_address all))

@@ -7,6 +7,6 @@ use Rattle.indexed_state.proofs.indexed.IndexedState.clear.Goals as goal
 
 pub invariant_of-self : goal.invariant_of-self
 invariant_of-self c =
-    agree_anew c.self.inside.tables c.self.inside.site c.start.result true c.start-2.result c.touch_all.new.self c.start-3.result
+    agree_anew c.self.inside.tables c.self.inside.site c.start.result true c.start-2.result c.touch_all.new.self c.start-3.result c.start-4.result
     (λ _. subst (λ (h : Holding). Covers (view h.facts) c.start-2.result) (sym c.start.ensures) (covers_nothing c.start-2.result))
-    (record { stale = c.touch_all.ensures; waits = c.start-3.ensures })
+    (record { stale = c.touch_all.ensures; waits = c.start-3.ensures }) c.start-4.ensures

@@ -13,8 +13,8 @@ use Rattle.indexed_state.proofs.indexed.IndexedState.take_call.Goals as goal
 
 pub invariant_of-self-in_err-cover : goal.invariant_of-self-in_err-cover
 invariant_of-self-in_err-cover c =
-    agree_grown c.self.inside.tables c.self.inside.site c.self.inside.state c.make_whole.new.is_whole c.make_whole.new.index c.cover.new.self _ _ c.cover.ensures.grows
-    (agree_index c.self.inside.tables c.self.inside.site c.self.inside.state c.self.inside.is_whole c.make_whole.new.is_whole c.self.inside.index c.make_whole.new.index _ _
+    agree_grown c.self.inside.tables c.self.inside.site c.self.inside.state c.make_whole.new.is_whole c.make_whole.new.index c.cover.new.self _ _ _ c.cover.ensures.grows
+    (agree_index c.self.inside.tables c.self.inside.site c.self.inside.state c.self.inside.is_whole c.make_whole.new.is_whole c.self.inside.index c.make_whole.new.index _ _ _
     (c.make_whole.ensures.covers c.self.invariant.covers) c.self.invariant)
 
 pub put_af-requires-clause-counted : goal.put_af-requires-clause-counted
@@ -28,9 +28,9 @@ put_af-requires-clause-counted c =
 
 pub invariant_of-self-in_err-stood : goal.invariant_of-self-in_err-stood
 invariant_of-self-in_err-stood c =
-    subst (λ (m : Holding). Agree c.self.inside.tables c.self.inside.site m c.make_whole.new.is_whole c.cover.new.self c.self.inside.rules c.self.inside.waiting) (sym c.in_err-stood.ensures.unchanged)
-    (agree_grown c.self.inside.tables c.self.inside.site c.self.inside.state c.make_whole.new.is_whole c.make_whole.new.index c.cover.new.self _ _ c.cover.ensures.grows
-    (agree_index c.self.inside.tables c.self.inside.site c.self.inside.state c.self.inside.is_whole c.make_whole.new.is_whole c.self.inside.index c.make_whole.new.index _ _
+    subst (λ (m : Holding). Agree c.self.inside.tables c.self.inside.site m c.make_whole.new.is_whole c.cover.new.self c.self.inside.rules c.self.inside.waiting c.self.inside.aborts) (sym c.in_err-stood.ensures.unchanged)
+    (agree_grown c.self.inside.tables c.self.inside.site c.self.inside.state c.make_whole.new.is_whole c.make_whole.new.index c.cover.new.self _ _ _ c.cover.ensures.grows
+    (agree_index c.self.inside.tables c.self.inside.site c.self.inside.state c.self.inside.is_whole c.make_whole.new.is_whole c.self.inside.index c.make_whole.new.index _ _ _
     (c.make_whole.ensures.covers c.self.invariant.covers) c.self.invariant))
 
 pub invariant_of-self-2 : goal.invariant_of-self-2
@@ -49,7 +49,7 @@ invariant_of-self-2 c =
     let last = c.unsettle.ensures.keeps in
     let is_at = c.call_reached_in-after.ensures k.facts c.args.id.now (known ∙ ap (λ (m : Holding). facts_on m.facts s) (sym is)) in
     let covers = c.make_whole.ensures.covers c.self.invariant.covers c.in_ok-make_whole.ensures.whole in
-    let z : Followed c.self.inside.tables c.self.inside.site h k s c.make_whole.new.index c.cover.new.self c.self.inside.rules c.unsettle.new.rules c.self.inside.waiting w before after
+    let z : Followed c.self.inside.tables c.self.inside.site h k s c.make_whole.new.index c.cover.new.self c.self.inside.rules c.unsettle.new.rules c.self.inside.waiting w c.self.inside.aborts c.wait_one.new.waiting before after
     = record {
       differs = placed_differs h k s (record_facts (Some c.args.known)) c.max-clock.result c.in_ok-stood.ensures.placed;
       covers = covers;
@@ -66,8 +66,13 @@ invariant_of-self-2 c =
       near_before = c.unsettle.ensures.wait_before;
       near_after = c.unsettle.ensures.wait_after;
       all = c.unsettle.ensures.all;
+      abandoned = c.self.invariant.abandoned;
+      go_on = c.wait_one.ensures.keeps;
+      own_call = λ _. c.wait_one.ensures.waits;
+      near_calls = λ g. clash false g refl;
+      all_calls = λ g. clash false g refl;
     } in
-    agree_followed c.self.inside.tables c.self.inside.site h k s c.make_whole.new.index c.cover.new.self c.self.inside.rules c.unsettle.new.rules c.self.inside.waiting w
+    agree_followed c.self.inside.tables c.self.inside.site h k s c.make_whole.new.index c.cover.new.self c.self.inside.rules c.unsettle.new.rules c.self.inside.waiting w c.self.inside.aborts c.wait_one.new.waiting
     before after z c.make_whole.new.is_whole c.forget_call_prefix.new.self (λ all. c.forget_call_prefix.ensures.covers k.facts c.af.ensures (c.forget_call.ensures (view k.facts) is_at.at_address all))
 
 pub returns-clause-ok : goal.returns-clause-ok

@@ -1,5 +1,6 @@
-use Rattle.std.proofs.Common.{ℕ, max, Some, sym, ap, ◌∙◌, subst}
+use Rattle.std.proofs.Common.{ℕ, max, Some, sym, ap, ◌∙◌, subst, true, refl}
 use Rattle.pcrf_facts.specs.Held.{kept_list, join_of}
+use Rattle.ranked.proofs.Plain.{clash}
 use Rattle.pcrf_model.specs.Holdings.{Holding, facts_on, kept_of}
 use Rattle.pcrf_model.specs.Operations.{with_operation}
 use Rattle.pcrf_model.specs.Sessions.{gx}
@@ -13,8 +14,8 @@ use Rattle.indexed_state.proofs.indexed.IndexedState.take_gateway.Goals as goal
 
 pub invariant_of-self-in_err-cover : goal.invariant_of-self-in_err-cover
 invariant_of-self-in_err-cover c =
-    agree_grown c.self.inside.tables c.self.inside.site c.self.inside.state c.make_whole.new.is_whole c.make_whole.new.index c.cover.new.self _ _ c.cover.ensures.grows
-    (agree_index c.self.inside.tables c.self.inside.site c.self.inside.state c.self.inside.is_whole c.make_whole.new.is_whole c.self.inside.index c.make_whole.new.index _ _
+    agree_grown c.self.inside.tables c.self.inside.site c.self.inside.state c.make_whole.new.is_whole c.make_whole.new.index c.cover.new.self _ _ _ c.cover.ensures.grows
+    (agree_index c.self.inside.tables c.self.inside.site c.self.inside.state c.self.inside.is_whole c.make_whole.new.is_whole c.self.inside.index c.make_whole.new.index _ _ _
     (c.make_whole.ensures.covers c.self.invariant.covers) c.self.invariant)
 
 pub put_gx-requires-clause-counted : goal.put_gx-requires-clause-counted
@@ -28,9 +29,9 @@ put_gx-requires-clause-counted c =
 
 pub invariant_of-self-in_err-stood : goal.invariant_of-self-in_err-stood
 invariant_of-self-in_err-stood c =
-    subst (λ (m : Holding). Agree c.self.inside.tables c.self.inside.site m c.make_whole.new.is_whole c.cover.new.self c.self.inside.rules c.self.inside.waiting) (sym c.in_err-stood.ensures.unchanged)
-    (agree_grown c.self.inside.tables c.self.inside.site c.self.inside.state c.make_whole.new.is_whole c.make_whole.new.index c.cover.new.self _ _ c.cover.ensures.grows
-    (agree_index c.self.inside.tables c.self.inside.site c.self.inside.state c.self.inside.is_whole c.make_whole.new.is_whole c.self.inside.index c.make_whole.new.index _ _
+    subst (λ (m : Holding). Agree c.self.inside.tables c.self.inside.site m c.make_whole.new.is_whole c.cover.new.self c.self.inside.rules c.self.inside.waiting c.self.inside.aborts) (sym c.in_err-stood.ensures.unchanged)
+    (agree_grown c.self.inside.tables c.self.inside.site c.self.inside.state c.make_whole.new.is_whole c.make_whole.new.index c.cover.new.self _ _ _ c.cover.ensures.grows
+    (agree_index c.self.inside.tables c.self.inside.site c.self.inside.state c.self.inside.is_whole c.make_whole.new.is_whole c.self.inside.index c.make_whole.new.index _ _ _
     (c.make_whole.ensures.covers c.self.invariant.covers) c.self.invariant))
 
 pub invariant_of-self-2 : goal.invariant_of-self-2
@@ -49,7 +50,7 @@ invariant_of-self-2 c =
     let last = c.unsettle.ensures.keeps in
     let is_at = c.gateway_reached_in-after.ensures k.facts c.args.id.now (known ∙ ap (λ (m : Holding). facts_on m.facts s) (sym is)) in
     let covers = c.make_whole.ensures.covers c.self.invariant.covers c.in_ok-make_whole.ensures.whole in
-    let z : Followed c.self.inside.tables c.self.inside.site h k s c.make_whole.new.index c.cover.new.self c.self.inside.rules c.unsettle.new.rules c.self.inside.waiting w before after
+    let z : Followed c.self.inside.tables c.self.inside.site h k s c.make_whole.new.index c.cover.new.self c.self.inside.rules c.unsettle.new.rules c.self.inside.waiting w c.self.inside.aborts c.wait_lost.new.aborts before after
     = record {
       differs = placed_differs h k s (record_facts (Some c.args.known)) c.max-clock.result c.in_ok-stood.ensures.placed;
       covers = covers;
@@ -66,8 +67,13 @@ invariant_of-self-2 c =
       near_before = c.unsettle.ensures.wait_before;
       near_after = c.unsettle.ensures.wait_after;
       all = c.unsettle.ensures.all;
+      abandoned = c.self.invariant.abandoned;
+      go_on = c.wait_lost.ensures.keeps;
+      own_call = λ e. clash true refl e;
+      near_calls = λ _. c.wait_lost.ensures.near;
+      all_calls = λ _. c.wait_lost.ensures.all;
     } in
-    agree_followed c.self.inside.tables c.self.inside.site h k s c.make_whole.new.index c.cover.new.self c.self.inside.rules c.unsettle.new.rules c.self.inside.waiting w
+    agree_followed c.self.inside.tables c.self.inside.site h k s c.make_whole.new.index c.cover.new.self c.self.inside.rules c.unsettle.new.rules c.self.inside.waiting w c.self.inside.aborts c.wait_lost.new.aborts
     before after z c.make_whole.new.is_whole c.forget_stood.new.index (λ all. c.forget_stood.ensures k.facts c.gx.ensures (c.forget_gateway.ensures (view k.facts) is_at.at_address all))
 
 pub returns-clause-ok : goal.returns-clause-ok

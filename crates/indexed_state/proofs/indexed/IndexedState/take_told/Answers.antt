@@ -32,7 +32,7 @@ invariant_of-self-2 c =
     let told = subst (λ (x : IndexedValue). IsTold x.holding s c.args.known) (sym c.self.view_is) c.requires.told in
     agree_told h k c.args.id.now c.args.known told (known ∙ ap (λ (m : Holding). facts_on m.facts s) (sym is))
     (placed_differs h k s (record_facts (Some c.args.known)) c.max-clock.result c.in_ok-put_gx.ensures.placed)
-    c.self.inside.tables c.self.inside.site c.self.inside.is_whole c.self.inside.index c.self.inside.rules c.self.inside.waiting c.wait_one.new.waiting
+    c.self.inside.tables c.self.inside.site c.self.inside.is_whole c.self.inside.index c.self.inside.rules c.self.inside.waiting c.wait_one.new.waiting c.self.inside.aborts
     c.wait_one.ensures.keeps c.wait_one.ensures.waits c.self.invariant
 
 pub returns-clause-ok : goal.returns-clause-ok

@@ -1,0 +1,126 @@
+//! Calls that may be abandoned, and the abort of the first that is.
+ghost use Rattle.std.specs.Prelude.{◌≡◌, Some, None, true, false, IfOk, option_map};
+ghost use Rattle.std.specs.Option.{option_copied};
+ghost use Rattle.pcrf_model.specs.Aborting.{abandoned_session, abort_of};
+ghost use Rattle.pcrf_model.specs.Sessions.{is_gx};
+ghost use Rattle.pcrf_model.specs.Views.{view};
+ghost use Rattle.rx_profile.specs.Aborts.{abort_view};
+ghost use Rattle.site_join.specs.States.{session_of};
+ghost use Rattle.waiting_sessions.specs.Waits.{Keeps, WaitsIfDue};
+ghost use Rattle.waiting_aborts.specs.Abandoned.{ListedCallsWait};
+
+use crate::indexed::{IndexedState, name_of, wait_for};
+use crate::reached::Reached;
+use crate::whole::make_whole;
+use pcrf_values::DiameterIdentity;
+use rx_profile::AbortOut;
+use session_index::Index;
+use site_join::{SessionFacts, State};
+use std::alloc::{AllocError, Global};
+use waiting_aborts::{WaitingCalls, first_abort, gather, next_abort, wait_at, wait_one};
+
+impl IndexedState {
+    /// The abort that a site has to ask for: of the live sessions of application functions that say who their client is, are
+    /// bound to no gateway's session and weren't asked to abort yet, whose home the site is and whose host is the given one, any
+    /// where none is given, that of the session with the least Session-Id (TS 29.214, 4.4.6.1); `None` where no session is
+    /// abandoned. For a host it looks at sessions alone that wait under it.
+    pub fn next_abort(
+        &mut self,
+        site: u8,
+        host: Option<&[u8]>,
+    ) -> Result<Option<AbortOut>, AllocError>
+        ensures abort { IfOk result (λ abort. option_map abort_view abort
+            ≡ option_map (abort_of (view self.old.holding.facts)) (abandoned_session site
+            (view self.old.holding.facts) (option_copied host.entry))) }
+        ensures same { self.new ≡ self.old }
+    {
+        if let Some(name) = name_of(self.alloc, host)? {
+            return self.abort_waiting(site, &name);
+        }
+        make_whole(&self.state, &mut self.index, &mut self.is_whole)?;
+        first_abort(&self.state, &self.index, site, host)
+    }
+
+    /// Whether an abort may be due at a site for a host: a session waits under it, or all wait. Where none does none is
+    /// abandoned. It is a look-up alone.
+    #[tactic(auto, using(waiting_aborts::proofs::FirstLeft::nobody_left))]
+    pub fn is_aborting(&self, site: u8, host: &DiameterIdentity) -> bool
+        ensures { result ≡ false → abandoned_session site
+            (view self.now.holding.facts) (Some host.now) ≡ None }
+    {
+        self.site != site || self.aborts.is_waiting(host)
+    }
+
+    /// The abort that is due at a site for this host.
+    fn abort_waiting(
+        &mut self,
+        site: u8,
+        host: &DiameterIdentity,
+    ) -> Result<Option<AbortOut>, AllocError>
+        ensures abort { IfOk result (λ abort. option_map abort_view abort
+            ≡ option_map (abort_of (view self.old.holding.facts)) (abandoned_session site
+            (view self.old.holding.facts) (Some host.now))) }
+        ensures same { self.new ≡ self.old }
+    {
+        make_whole(&self.state, &mut self.index, &mut self.is_whole)?;
+        wait_for(
+            self.alloc,
+            &mut self.waiting,
+            &mut self.aborts,
+            &mut self.site,
+            site,
+        );
+        gather(self.alloc, &self.state, &mut self.aborts)?;
+        next_abort(
+            &self.state,
+            &self.index,
+            &mut self.aborts,
+            self.site,
+            host,
+        )
+    }
+}
+
+/// Has those calls wait that may be abandoned once the session of these facts changed, where it was reached so before: the
+/// session itself, if it is of an application function, and else those that may lose it.
+pub(crate) fn wait_calls(
+    alloc: Global,
+    state: &State,
+    index: &Index,
+    aborts: &mut WaitingCalls,
+    facts: &SessionFacts,
+    before: Reached,
+)
+    ensures keeps { Keeps aborts.old aborts.new }
+    ensures own { is_gx (session_of facts.now).kind ≡ false
+        → WaitsIfDue (view state.now.facts) aborts.new (session_of facts.now) }
+    ensures near { is_gx (session_of facts.now).kind ≡ true
+        → ListedCallsWait (view state.now.facts) index.now aborts.new before.address }
+    ensures all { is_gx (session_of facts.now).kind ≡ true → before.by_prefix ≡ true
+        → aborts.new.all ≡ true }
+{
+    match facts {
+        SessionFacts::Gx(_, _) => wait_lost(alloc, state, index, aborts, before),
+        SessionFacts::Af(id, _) => wait_one(state, aborts, id),
+    }
+}
+
+/// Has those calls wait that may lose a gateway's session that was reached so: those listed under its address, and all where it
+/// showed a prefix.
+pub(crate) fn wait_lost(
+    alloc: Global,
+    state: &State,
+    index: &Index,
+    aborts: &mut WaitingCalls,
+    before: Reached,
+)
+    ensures keeps { Keeps aborts.old aborts.new }
+    ensures near { ListedCallsWait (view state.now.facts) index.now aborts.new before.address }
+    ensures all { before.by_prefix ≡ true → aborts.new.all ≡ true }
+{
+    if before.by_prefix {
+        *aborts = WaitingCalls::start(alloc);
+        return;
+    }
+    wait_at(state, index, aborts, before.address);
+}
