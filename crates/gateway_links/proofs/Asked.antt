@@ -1,13 +1,14 @@
 -- What is asked for by a seat's last receipt, whose reply and place are known.
-use Rattle.std.proofs.Common.{◌≡◌, ℕ, ◌+◌, List, Option, Some, None, option_map, option_and_then, refl, sym, ap, ◌∙◌}
+use Rattle.std.proofs.Common.{◌≡◌, ℕ, ◌+◌, Bool, false, List, Option, Some, None, option_map, option_and_then, refl, sym, ap, ◌∙◌}
 use Rattle.dia_base.specs.declared.identity.Identity.{Identity}
 use Rattle.link_ends.specs.Books.{ReceiptValue}
 use Rattle.link_ends.specs.Deeds.{counted_place}
-use Rattle.link_ends.specs.Replies.{ReplyValue, Pushed}
+use Rattle.link_ends.specs.Replies.{ReplyValue, Pushed, Aborted}
 use Rattle.dia_codec.specs.Written.{written_spelling}
 use Rattle.gx_profile.specs.Pushes.{rar}
+use Rattle.rx_profile.specs.Aborts.{asr}
 use Rattle.ranked.proofs.Plain.{none_some, some_same}
-use Rattle.gateway_links.specs.Requests.{identifier_at, push_in, request_of, request_saying}
+use Rattle.gateway_links.specs.Requests.{asks, identifier_at, request_of, request_saying}
 
 -- the request of the reply that it has, with the identifiers of its place
 pub asked_by_last : (names : Identity) (first : ℕ) (last : Option ReceiptValue) (place : ℕ) (reply : ReplyValue)
@@ -23,13 +24,15 @@ pub asked_by_none : (names : Identity) (first : ℕ) (last : Option ReceiptValue
 asked_by_none names first (Some r) at = none_some (counted_place r) at
 asked_by_none names first None at = refl
 
--- where no request is made nothing was pushed
-pub none_pushed : (names : Identity) (first place : ℕ) (reply : ReplyValue) → None ≡ request_saying names first place reply → push_in reply ≡ None
-none_pushed names first place (Pushed (Some p)) e = none_some (written_spelling (rar names (identifier_at place) (identifier_at (first + place)) p)) e
-none_pushed names first place (Pushed None) e = refl
-none_pushed names first place reply e = refl
+-- where no request is made nothing is asked
+pub none_asked : (names : Identity) (first place : ℕ) (reply : ReplyValue) → None ≡ request_saying names first place reply → asks reply ≡ false
+none_asked names first place (Pushed (Some p)) e = none_some (written_spelling (rar names (identifier_at place) (identifier_at (first + place)) p)) e
+none_asked names first place (Pushed None) e = refl
+none_asked names first place (Aborted (Some a)) e = none_some (written_spelling (asr names (identifier_at place) (identifier_at (first + place)) a)) e
+none_asked names first place (Aborted None) e = refl
+none_asked names first place reply e = refl
 
 -- where there is no place nothing was replied
-pub none_replied : (last : Option ReceiptValue) (reply : ReplyValue) → None ≡ option_map counted_place last → option_map (λ r. r.reply) last ≡ Some reply → push_in reply ≡ None
+pub none_replied : (last : Option ReceiptValue) (reply : ReplyValue) → None ≡ option_map counted_place last → option_map (λ r. r.reply) last ≡ Some reply → asks reply ≡ false
 none_replied (Some r) reply at said = none_some (counted_place r) at
 none_replied None reply at said = none_some reply said

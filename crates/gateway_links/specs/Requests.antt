@@ -1,11 +1,12 @@
--- The requests by which gateways are told of pushes.
-use Rattle.std.specs.Prelude.{◌≡◌, ℕ, ◌+◌, ◌-◌, ◌*◌, ◌%◌, ◌^◌, List, length, slice_get, Option, Some, None, option_and_then, option_map}
+-- The requests by which gateways are told of pushes, and application functions of aborts.
+use Rattle.std.specs.Prelude.{◌≡◌, ℕ, ◌+◌, ◌-◌, ◌*◌, ◌%◌, ◌^◌, Bool, true, false, List, length, slice_get, Option, Some, None, option_and_then, option_map}
 use Rattle.dia_base.specs.declared.identity.Identity.{Identity}
 use Rattle.dia_codec.specs.Written.{written_spelling}
 use Rattle.gx_profile.specs.Pushes.{rar}
 use Rattle.link_ends.specs.Books.{ReceiptValue}
 use Rattle.link_ends.specs.Deeds.{counted_place}
-use Rattle.link_ends.specs.Replies.{PushValue, ReplyValue, Pushed}
+use Rattle.link_ends.specs.Replies.{ReplyValue, Pushed, Aborted}
+use Rattle.rx_profile.specs.Aborts.{asr}
 
 -- a number as identifiers have it, which have 32 bits (RFC 6733, 3)
 abbrev pub identifier_at : ℕ → ℕ
@@ -16,10 +17,11 @@ identifier_at number = number % 2 ^ 32
 abbrev pub first_end_id : ℕ → ℕ → ℕ
 first_end_id seconds random = seconds % 2 ^ 12 * 2 ^ 20 + random % 2 ^ 20
 
--- The bytes of the re-authorisation request of what was replied at a place of a history, if something was pushed. The Hop-by-Hop
--- Identifier is the place, and the End-to-End Identifier as much behind the first one.
+-- The bytes of the request of what was replied at a place of a history: a re-authorisation request if something was pushed, an abort session
+-- request if something was aborted. The Hop-by-Hop Identifier is the place, and the End-to-End Identifier as much behind the first one.
 abbrev pub request_saying : Identity → ℕ → ℕ → ReplyValue → Option (List ℕ)
 request_saying names first place (Pushed (Some push)) = Some (written_spelling (rar names (identifier_at place) (identifier_at (first + place)) push))
+request_saying names first place (Aborted (Some abort)) = Some (written_spelling (asr names (identifier_at place) (identifier_at (first + place)) abort))
 request_saying names first place reply = None
 
 -- those of a receipt: its place is as a count of 64 bits has it
@@ -34,7 +36,8 @@ last_request names first receipts = option_and_then (request_of names first) (sl
 abbrev pub WasReplied : List ReceiptValue → ReplyValue → Type 0
 WasReplied receipts reply = option_map (λ r. r.reply) (slice_get receipts (length receipts - 1)) ≡ Some reply
 
--- what was pushed, by what was replied
-abbrev pub push_in : ReplyValue → Option PushValue
-push_in (Pushed push) = push
-push_in reply = None
+-- something is asked, by what was replied
+abbrev pub asks : ReplyValue → Bool
+asks (Pushed (Some push)) = true
+asks (Aborted (Some abort)) = true
+asks reply = false

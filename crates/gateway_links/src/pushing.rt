@@ -1,13 +1,16 @@
-//! Pushes to the gateways that can be reached.
-ghost use Rattle.std.specs.Prelude.{◌≡◌, ◌+◌, None, IfNone, IfOk, option_map};
+//! What a site asks of the hosts that can be reached: pushes to gateways, and aborts at application functions.
+ghost use Rattle.std.specs.Prelude.{◌≡◌, ◌+◌, false, IfNone, IfOk, option_map};
 ghost use Rattle.dia_codec.specs.Written.{written_spelling};
-ghost use Rattle.gateway_links.specs.Due.{NothingWasDue, WasAsked};
-ghost use Rattle.gateway_links.specs.Requests.{WasReplied, identifier_at, last_request, push_in, request_saying};
+ghost use Rattle.gateway_links.specs.Due.{FindsNone, NothingWasDue, WasAsked};
+ghost use Rattle.gateway_links.specs.Requests.{WasReplied, asks, identifier_at, last_request, request_saying};
 ghost use Rattle.gx_profile.specs.Pushes.{rar};
-ghost use Rattle.link_ends.specs.Earlier.{Adds};
-ghost use Rattle.link_ends.specs.Events.{IsPushTo, IsPushToHost};
+ghost use Rattle.link_ends.specs.Earlier.{Adds, HasEarlier};
+ghost use Rattle.link_ends.specs.Books.{SeatValue};
+ghost use Rattle.link_ends.specs.Events.{IsPushTo, IsPushToHost, event_to};
+ghost use Rattle.link_ends.specs.declared.demand.Demand.TheVariants as demands;
 ghost use Rattle.link_ends.specs.Values.{event_value, reply_value};
 ghost use Rattle.reply_values.specs.Replies.{push_view};
+ghost use Rattle.rx_profile.specs.Aborts.{abort_view, asr};
 
 use crate::gateways::{Gateways, Reached};
 use crate::half::Half;
@@ -16,10 +19,11 @@ use crate::outgoing::Outgoing;
 use dia_base::Identity;
 use dia_codec::{WriteFault, write_message};
 use gx_profile::write_rar;
-use link_ends::{Event, Pushes, Reply, SharedSite, StepFault};
+use link_ends::{Demand, Event, Pushes, Reply, SharedSite, StepFault};
 use pcrf_values::DiameterIdentity;
 use ranked::Ranked;
 use reply_values::PushOut;
+use rx_profile::{AbortOut, write_asr};
 use std::alloc::{AllocError, Global};
 use std::io::Write;
 use std::sync::Wait;
@@ -28,14 +32,14 @@ use std::thread::Threads;
 /// How many identifiers a request can have (RFC 6733, 3).
 const IDENTIFIERS: u64 = 1 << 32;
 
-/// How the pushing to one gateway ended.
+/// How the pushing to one host ended.
 #[derive(Clone, Copy, PartialEq, Eq)]
 enum Pushed {
-    /// Nothing is due to it any more.
+    /// Nothing is to be asked of it any more.
     All,
     /// Nothing can be written to it.
     Unreached,
-    /// The site makes no further push: its history is full.
+    /// The site makes no further one: its history is full.
     HistoryFull,
     /// It makes none: its clock is at its end.
     ClockFull,
@@ -61,6 +65,26 @@ fn request_bytes(
     }
 }
 
+/// The bytes of an abort session request with these identifiers.
+#[tactic(auto, unfolding(rx_profile::specs::Aborts::asr))]
+fn abort_bytes(
+    alloc: Global,
+    identity: &Identity,
+    hop_id: u32,
+    end_id: u32,
+    abort: &AbortOut,
+) -> Result<Vec<u8>, AllocError>
+    ensures { IfOk result (λ bytes. bytes.items
+        ≡ written_spelling (asr identity.now hop_id end_id (abort_view abort.now))) }
+{
+    let request = write_asr(alloc, identity, hop_id, end_id, abort)?;
+    match write_message(alloc, &request) {
+        Ok(bytes) => Ok(bytes),
+        Err(WriteFault::TooLong) => unreachable!(),
+        Err(WriteFault::NoMemory) => Err(AllocError),
+    }
+}
+
 /// The Hop-by-Hop Identifier of a request that stands at this place.
 fn hop_id_at(place: u64) -> u32
     ensures { result ≡ identifier_at place }
@@ -75,7 +99,7 @@ fn end_id_at(first: u32, place: u64) -> u32
     ((u64::from(first) + place % IDENTIFIERS) % IDENTIFIERS) as u32
 }
 
-/// The request of what was replied at a place; none where nothing was due.
+/// The request of what was replied at a place; none where nothing is asked.
 fn request_saying(
     alloc: Global,
     identity: &Identity,
@@ -85,18 +109,24 @@ fn request_saying(
 ) -> Result<Option<Vec<u8>>, AllocError>
     ensures request { IfOk result (λ request. option_map (λ bytes. bytes.items) request
         ≡ request_saying identity.now first place (reply_value reply.now)) }
-    ensures none { IfOk result (λ request. IfNone request (push_in (reply_value reply.now) ≡ None)) }
+    ensures none { IfOk result (λ request. IfNone request (asks (reply_value reply.now) ≡ false)) }
 {
-    let Reply::Pushed(Some(push)) = reply else {
-        return Ok(None);
-    };
     let (hop_id, end_id) = (hop_id_at(place), end_id_at(first, place));
-    let bytes = request_bytes(alloc, identity, hop_id, end_id, push)?;
-    Ok(Some(bytes))
+    match reply {
+        Reply::Pushed(Some(push)) => {
+            let bytes = request_bytes(alloc, identity, hop_id, end_id, push)?;
+            Ok(Some(bytes))
+        }
+        Reply::Aborted(Some(abort)) => {
+            let bytes = abort_bytes(alloc, identity, hop_id, end_id, abort)?;
+            Ok(Some(bytes))
+        }
+        _ => Ok(None),
+    }
 }
 
 /// The request of the call that a seat made last, which was replied to so, as its receipt has it: a push goes out just as it counts
-/// as told.
+/// as told, and an abort just as it counts as asked for.
 #[tactic(auto, using(crate::proofs::Asked::asked_by_last, crate::proofs::Asked::asked_by_none))]
 fn last_request<S: SharedSite>(
     alloc: Global,
@@ -108,7 +138,7 @@ fn last_request<S: SharedSite>(
     requires { WasReplied (S.seen seat.now).receipts (reply_value reply.now) }
     ensures request { IfOk result (λ request. option_map (λ bytes. bytes.items) request
         ≡ last_request (S.beside site.now).identity first (S.seen seat.now).receipts) }
-    ensures none { IfOk result (λ request. IfNone request (push_in (reply_value reply.now) ≡ None)) }
+    ensures none { IfOk result (λ request. IfNone request (asks (reply_value reply.now) ≡ false)) }
 {
     match site.last_of(seat) {
         Some(place) => request_saying(alloc, site.identity(), first, place, reply),
@@ -116,7 +146,7 @@ fn last_request<S: SharedSite>(
     }
 }
 
-/// Makes a push, if something is due: what is replied tells what is pushed, as the seat's last receipt does.
+/// Makes a push, if something is due: what is replied tells what is asked, as the seat's last receipt does.
 fn push_once<R: Threads + Wait + Sync, S: SharedSite>(
     rt: &R,
     site: &S,
@@ -131,7 +161,7 @@ fn push_once<R: Threads + Wait + Sync, S: SharedSite>(
 }
 
 /// Writes the request of the push that the seat made last, which was replied to so, behind the answers that are gathered: the bytes
-/// are those of `last_request`. None where nothing was due, and false if it can't be written.
+/// are those of `last_request`. None where nothing is asked, and false if it can't be written.
 fn send<S: SharedSite, W: Write + Drop>(
     rt: &impl Wait,
     alloc: Global,
@@ -142,7 +172,7 @@ fn send<S: SharedSite, W: Write + Drop>(
     outgoing: &mut Outgoing<'_, W>,
 ) -> Result<Option<bool>, AllocError>
     requires { WasReplied (S.seen seat.now).receipts (reply_value reply.now) }
-    ensures { IfOk result (λ sent. IfNone sent (push_in (reply_value reply.now) ≡ None)) }
+    ensures { IfOk result (λ sent. IfNone sent (asks (reply_value reply.now) ≡ false)) }
 {
     let Some(bytes) = last_request(alloc, site, seat, half.first_end_id(), reply)? else {
         return Ok(None);
@@ -151,24 +181,42 @@ fn send<S: SharedSite, W: Write + Drop>(
     Ok(Some(half.put(rt, bytes.as_slice())))
 }
 
-/// Pushes to one gateway until nothing is due to its host, or it can't go on. No push is asked for where the site wants none.
+/// Whether a call that asks this of a host is to be made.
+fn is_wanted<R: Wait, S: SharedSite>(
+    rt: &R,
+    site: &S,
+    seat: &mut S::Seat,
+    host: &DiameterIdentity,
+    demand: Demand,
+) -> bool
+    ensures none { result ≡ false → FindsNone S.found demand (S.seen seat.old) host.now }
+    ensures same { seat.new ≡ seat.old }
+{
+    match demand {
+        Demand::Rules => site.wants_push(rt, seat, host),
+        Demand::Abort => site.wants_abort(rt, seat, host),
+    }
+}
+
+/// Asks it of one host until nothing is left to ask, or it can't go on. No call is made where the site wants none.
 fn push_each<R: Threads + Wait + Sync, S: SharedSite, W: Write + Drop>(
     rt: &R,
     alloc: Global,
     site: &S,
     seat: &mut S::Seat,
     host: &DiameterIdentity,
+    demand: Demand,
     event: &Event,
     half: &Half<W>,
     outgoing: &mut Outgoing<'_, W>,
 ) -> Result<Pushed, AllocError>
-    requires { IsPushTo host.now (event_value event.now) }
+    requires { event_value event.now ≡ event_to demand host.now }
     ensures adds { Adds (IsPushTo host.now) (S.seen seat.old) (S.seen seat.new) }
     ensures settled { IfOk result (λ pushed. pushed ≡ Pushed.All
-        → NothingWasDue S.found host.now (S.seen seat.new)) }
+        → NothingWasDue S.found demand host.now (S.seen seat.new)) }
 {
     for _ in rt.forever() {
-        if !site.wants_push(rt, seat, host) {
+        if !is_wanted(rt, site, seat, host, demand) {
             return Ok(Pushed::All);
         }
         let reply = match push_once(rt, site, seat, event) {
@@ -188,14 +236,40 @@ fn push_each<R: Threads + Wait + Sync, S: SharedSite, W: Write + Drop>(
     unreachable!()
 }
 
-/// The push to a host.
-fn push_to(host: &DiameterIdentity) -> Result<Event, AllocError>
-    ensures { IfOk result (λ event. IsPushTo host.now (event_value event)) }
+/// The event by which it is asked of a host.
+fn event_to(host: &DiameterIdentity, demand: Demand) -> Result<Event, AllocError>
+    ensures { IfOk result (λ event. event_value event ≡ event_to demand host.now) }
 {
-    Ok(Event::Push(Some(host.try_copy()?)))
+    let host = Some(host.try_copy()?);
+    match demand {
+        Demand::Rules => Ok(Event::Push(host)),
+        Demand::Abort => Ok(Event::Abort(host)),
+    }
 }
 
-/// Pushes to a gateway: to its host, by its half.
+/// Asks it of a host, by its half.
+fn push_demand<R: Threads + Wait + Sync, S: SharedSite, W: Write + Drop>(
+    rt: &R,
+    alloc: Global,
+    site: &S,
+    seat: &mut S::Seat,
+    gateway: &Reached<W>,
+    demand: Demand,
+    outgoing: &mut Outgoing<'_, W>,
+) -> Result<Pushed, AllocError>
+    ensures adds { Adds (IsPushTo gateway.now.host) (S.seen seat.old) (S.seen seat.new) }
+    ensures settled { IfOk result (λ pushed. pushed ≡ Pushed.All
+        → NothingWasDue S.found demand gateway.now.host (S.seen seat.new)) }
+{
+    let host = &gateway.host;
+    let half = &gateway.half;
+    let event = event_to(host, demand)?;
+    let pushed = push_each(rt, alloc, site, seat, host, demand, &event, half, outgoing);
+    drop(event);
+    pushed
+}
+
+/// Pushes to a host, by its half: first what its gateway is to be told, and then what its application function is to end.
 fn push_gateway<R: Threads + Wait + Sync, S: SharedSite, W: Write + Drop>(
     rt: &R,
     alloc: Global,
@@ -205,14 +279,17 @@ fn push_gateway<R: Threads + Wait + Sync, S: SharedSite, W: Write + Drop>(
     outgoing: &mut Outgoing<'_, W>,
 ) -> Result<Pushed, AllocError>
     ensures adds { Adds (IsPushTo gateway.now.host) (S.seen seat.old) (S.seen seat.new) }
-    ensures settled { IfOk result (λ pushed. pushed ≡ Pushed.All
-        → NothingWasDue S.found gateway.now.host (S.seen seat.new)) }
+    ensures told { IfOk result (λ pushed. pushed ≡ Pushed.All → (between : SeatValue)
+        × HasEarlier between (S.seen seat.new)
+        × NothingWasDue S.found demands.Rules gateway.now.host between) }
+    ensures aborted { IfOk result (λ pushed. pushed ≡ Pushed.All
+        → NothingWasDue S.found demands.Abort gateway.now.host (S.seen seat.new)) }
 {
-    let host = &gateway.host;
-    let event = push_to(host)?;
-    let pushed = push_each(rt, alloc, site, seat, host, &event, &gateway.half, outgoing);
-    drop(event);
-    pushed
+    let told = push_demand(rt, alloc, site, seat, gateway, Demand::Rules, outgoing)?;
+    if told != Pushed::All {
+        return Ok(told);
+    }
+    push_demand(rt, alloc, site, seat, gateway, Demand::Abort, outgoing)
 }
 
 /// Tells an observer how many entries the history had when the seat made its last call.
@@ -249,9 +326,9 @@ fn conclude<R: Threads + Wait + Sync, S: SharedSite, W: Write + Drop, O: Observe
     }
 }
 
-/// Pushes to every gateway that can be reached, one host after another, until nothing is due to any. A full history or clock
-/// ends it; a gateway to which nothing can be written is reached no more. What was gathered is written before the first
-/// re-authorisation request, so that an answer comes before what it led to.
+/// Pushes to every host that can be reached, one after another, until nothing is due to any and no session of any is to be
+/// aborted. A full history or clock ends it; a host to which nothing can be written is reached no more. What was gathered is
+/// written before the first request, so that an answer comes before what it led to.
 pub fn push_all<R: Threads + Wait + Sync, S: SharedSite, W: Write + Drop, O: Observer>(
     rt: &R,
     alloc: Global,

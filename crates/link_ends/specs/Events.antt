@@ -1,15 +1,23 @@
 -- Kinds of events, by who makes them happen.
 use Rattle.std.specs.Prelude.{◌≡◌, ℕ, List, Some, ⊤}
 use Rattle.pcrf_model.specs.Steps.{SiteEvent, Serve, Push, Ops, Whole, AskOwn, AskWhole}
+use Rattle.pcrf_model.specs.Steps as steps
+use Rattle.link_ends.specs.declared.demand.Demand.{Demand}
+use Rattle.link_ends.specs.declared.demand.Demand.TheVariants.{Rules, Abort}
 
 -- a request is served
 abbrev pub IsServed : SiteEvent → Type 0
 IsServed (Serve request) = ⊤
 IsServed event = ⊥
 
--- a push to that host
+-- a push to that host: of rules, or an abort
+abbrev pub event_to : Demand → List ℕ → SiteEvent
+event_to Rules host = Push (Some host)
+event_to Abort host = steps.Abort (Some host)
+
+-- one of them
 abbrev pub IsPushTo : List ℕ → SiteEvent → Type 0
-IsPushTo host event = event ≡ Push (Some host)
+IsPushTo host event = (demand : Demand) × (event ≡ event_to demand host)
 
 -- a push to a host that is named
 abbrev pub IsPushToHost : SiteEvent → Type 0

@@ -2,10 +2,12 @@
 //! what a worker is to push after a message.
 #![tactic(auto)]
 
+mod demand;
 mod end;
 mod gate;
 mod pushes;
 
+pub use demand::Demand;
 pub use end::LinkEnd;
 pub use gate::Gate;
 pub use pushes::Pushes;

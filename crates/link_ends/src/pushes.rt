@@ -10,7 +10,8 @@ use std::thread::Threads;
 
 /// Whoever knows how gateways are reached.
 pub trait Pushes {
-    /// Has the site make every push that is due to a gateway that can be reached, each as a call of the seat, and sends them.
+    /// Has the site make every push that is due to a host that can be reached, of rules or an abort, each as a call of the seat, and
+    /// sends them.
     /// A history or a clock that is full ends the pushing, and a gateway to which nothing can be written is passed over; want
     /// of memory alone is an error. Each push is to a host that is named, so that no gateway gets what is another's.
     fn push_all<R: Threads + Wait + Sync, S: SharedSite>(

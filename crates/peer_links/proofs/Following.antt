@@ -8,7 +8,9 @@ use Rattle.pcrf_model.specs.Cursors.{Cursor, CursorsValue, cursors_after_ack, cu
 use Rattle.pcrf_model.specs.Steps.{SiteEvent, Serve, Push, Ops, Whole, AskOwn, AskWhole}
 use Rattle.link_ends.specs.Books.{ReceiptValue, SeatValue}
 use Rattle.link_ends.specs.Earlier.{Gains, Adds, with_receipts}
-use Rattle.link_ends.specs.Events.{IsExchange, IsPushToHost}
+use Rattle.link_ends.specs.Events.{IsExchange, IsPushToHost, event_to}
+use Rattle.link_ends.specs.declared.demand.Demand.{Demand}
+use Rattle.link_ends.specs.declared.demand.Demand.TheVariants.{Rules, Abort}
 use Rattle.link_ends.proofs.Chains.{gains_weaker}
 use Rattle.peer_links.specs.Exchanging.{makers_after, takes_whole, holds_whole, body_of, Brings, IsBrought, IsHeldBy, IsOfExchange, Exchanged, IsIdle, GainsWhole, GainsPart}
 
@@ -57,7 +59,11 @@ exchanged_then s t u first second third a b =
 
 -- a push is none of what letters bring
 push_idle : (r : ReceiptValue) → IsPushToHost r.event → IsIdle r
-push_idle r is = (inr is, ap (λ e. takes_whole e r.reply) is.1)
+push_idle r is = (inr is, ap (λ e. takes_whole e r.reply) is.1.1 ∙ none is.1.0)
+  where
+    none : (demand : Demand) → takes_whole (event_to demand is.0) r.reply ≡ false
+    none Rules = refl
+    none Abort = refl
 
 -- an exchange, and then pushes
 pub exchanged_pushed : (s t u : SeatValue) (makers after : List Cursor) → Exchanged s t makers after → Adds IsPushToHost t u → Exchanged s u makers after

@@ -3,20 +3,20 @@ use Rattle.link_ends.specs.Values.{event_value}
 use Rattle.gateway_links.proofs.Settled.{pushed_on}
 use Rattle.gateway_links.proofs.pushing.push_each.Goals as goal
 
--- Each turn adds the receipt of one push to those of the turns before; that a push is wanted is found without one.
+-- Each turn adds the receipt of one demand to those of the turns before; that one is wanted is found without one.
 
 pub returns-in_err-sent-clause-adds : goal.returns-in_err-sent-clause-adds
 returns-in_err-sent-clause-adds g c =
-    pushed_on c.args.host.now (event_value c.args.event.now) _ _ _ _ c.requires c.loop.invariant (ap g.S.SharedSite.seen c.wants_push.ensures.same) c.push_once.ensures.adds
+    pushed_on c.args.demand c.args.host.now (event_value c.args.event.now) _ _ _ _ c.requires c.loop.invariant (ap g.S.SharedSite.seen c.is_wanted.ensures.same) c.push_once.ensures.adds
 
 pub loop-preserved : goal.loop-preserved
 loop-preserved g c =
-    pushed_on c.args.host.now (event_value c.args.event.now) _ _ _ _ c.requires c.loop.invariant (ap g.S.SharedSite.seen c.wants_push.ensures.same) c.push_once.ensures.adds
+    pushed_on c.args.demand c.args.host.now (event_value c.args.event.now) _ _ _ _ c.requires c.loop.invariant (ap g.S.SharedSite.seen c.is_wanted.ensures.same) c.push_once.ensures.adds
 
 pub returns-in-Some-false-clause-adds : goal.returns-in-Some-false-clause-adds
 returns-in-Some-false-clause-adds g c =
-    pushed_on c.args.host.now (event_value c.args.event.now) _ _ _ _ c.requires c.loop.invariant (ap g.S.SharedSite.seen c.wants_push.ensures.same) c.push_once.ensures.adds
+    pushed_on c.args.demand c.args.host.now (event_value c.args.event.now) _ _ _ _ c.requires c.loop.invariant (ap g.S.SharedSite.seen c.is_wanted.ensures.same) c.push_once.ensures.adds
 
 pub returns-in-None-2-clause-adds : goal.returns-in-None-2-clause-adds
 returns-in-None-2-clause-adds g c =
-    pushed_on c.args.host.now (event_value c.args.event.now) _ _ _ _ c.requires c.loop.invariant (ap g.S.SharedSite.seen c.wants_push.ensures.same) c.push_once.ensures.adds
+    pushed_on c.args.demand c.args.host.now (event_value c.args.event.now) _ _ _ _ c.requires c.loop.invariant (ap g.S.SharedSite.seen c.is_wanted.ensures.same) c.push_once.ensures.adds
