@@ -35,7 +35,7 @@ const GREATER: Gateway = (b"gz", b"gz;1;1", 2);
 const RULES: u32 = 41;
 
 /// How many entries the history has room for.
-const ROOM: usize = 9;
+const ROOM: usize = 12;
 
 /// The request that sets up the session of a host.
 fn attach(alloc: Global, gateway: Gateway) -> Result<Event, SampleFault> {
@@ -230,22 +230,24 @@ fn check_living<R: Threads + Wait + Abort + Sync>(
 
 #[test]
 fn a_push_reaches_its_own_host_alone(rt: HostRuntime) {
-    // The lesser host is asked first, and nothing is due to it; the second time nothing is due to either.
-    let outcome = "lesser:\ngreater: 258#2#2:gz;1;1@gz\n6 entries\n";
+    // The lesser host is asked first, and nothing is due to it; the second time nothing is due to either. Each time it is asked, too,
+    // whether a call of the host is to be aborted.
+    let outcome = "lesser:\ngreater: 258#3#3:gz;1;1@gz\n10 entries\n";
     check(&rt, rt.alloc(), &[GREATER], outcome);
 }
 
 #[test]
 fn each_host_gets_its_own_push(rt: HostRuntime) {
-    let outcome = "lesser: 258#2#2:gw;1;1@gw\ngreater: 258#4#4:gz;1;1@gz\n8 entries\n";
+    let outcome = "lesser: 258#2#2:gw;1;1@gw\ngreater: 258#5#5:gz;1;1@gz\n12 entries\n";
     check(&rt, rt.alloc(), &[GREATER, LESSER], outcome);
 }
 
 #[test]
 fn a_site_that_lives_is_asked_for_no_push_of_nothing(rt: HostRuntime) {
-    // All wait until the first push. The second time nobody waits, so no push is asked for.
-    let outcome = "lesser:\ngreater: 258#2#2:gz;1;1@gz\n4 entries\n";
+    // All wait until the first push, and until the first question for calls to abort. The second time nobody waits, so nothing is
+    // asked for.
+    let outcome = "lesser:\ngreater: 258#3#3:gz;1;1@gz\n5 entries\n";
     check_living(&rt, rt.alloc(), &[GREATER], outcome);
-    let outcome = "lesser: 258#2#2:gw;1;1@gw\ngreater: 258#4#4:gz;1;1@gz\n6 entries\n";
+    let outcome = "lesser: 258#2#2:gw;1;1@gw\ngreater: 258#5#5:gz;1;1@gz\n7 entries\n";
     check_living(&rt, rt.alloc(), &[GREATER, LESSER], outcome);
 }

@@ -268,7 +268,8 @@ fn a_push_without_room_ends_no_connection(rt: HostRuntime) {
 const CALLING: Sends = &[&[CALL]];
 
 /// The second connection's call is set up once the first has a session, and the first goes on once it is. The exchange, the
-/// request and the call make an entry each, and each a push behind it, of which the last tells of the call.
+/// request and the call make an entry each, and each a push behind it, of which the last tells of the call, and a question whether
+/// something is to be aborted.
 fn with_call(sends: [Sends; 3], fails: Fails, outcome: &'static str) -> Case {
     Case {
         orders: &[((1, 0), (0, 1)), ((0, 2), (1, 0))],
@@ -282,9 +283,9 @@ const GATEWAY: Sends = &[&[EXCHANGE, INITIAL], &[DISCONNECT]];
 
 #[test]
 fn a_gateway_is_told_of_a_call(rt: HostRuntime) {
-    let outcome = "Disconnected 3: 257=2001 272=2001 258#5#5:gw;1;1@gw 282=2001\n\
+    let outcome = "Disconnected 3: 257=2001 272=2001 258#7#7:gw;1;1@gw 282=2001\n\
         Closed 1: 265=2001\nClosed 0:\n\
-        9 entries, 9 told, clock 3, 0 reached\ngw r 2001\n";
+        13 entries, 13 told, clock 3, 0 reached\ngw r 2001\n";
     check(
         &rt,
         rt.alloc(),
@@ -310,7 +311,7 @@ fn a_gateway_that_was_refused_is_not_told(rt: HostRuntime) {
 #[test]
 fn a_gateway_that_cannot_be_told_is_reached_no_more(rt: HostRuntime) {
     let outcome = "WriteFailed 1: 257=2001 272=2001\nClosed 1: 265=2001\nClosed 0:\n\
-        7 entries, 7 told, clock 3, 0 reached\ngw r 2001\ngw unreached \n";
+        9 entries, 9 told, clock 3, 0 reached\ngw r 2001\ngw unreached \n";
     check(
         &rt,
         rt.alloc(),
@@ -327,10 +328,10 @@ const CALL_TO_ITS_END: Sends = &[&[CALL], &[RELEASE]];
 #[test]
 fn a_gateway_is_told_by_its_last_connection(rt: HostRuntime) {
     let outcome = "Disconnected 2: 257=2001 272=2001 282=2001\n\
-        Disconnected 4: 257=2001 258#7#7:gw;1;1@gw \
-        258#12#12:gw;1;1@gw 282=2001\n\
+        Disconnected 4: 257=2001 258#10#10:gw;1;1@gw \
+        258#17#17:gw;1;1@gw 282=2001\n\
         Closed 2: 265=2001 275=2001\n\
-        16 entries, 16 told, clock 5, 0 reached\ngw r 2001\ngw r 2001\n";
+        23 entries, 23 told, clock 5, 0 reached\ngw r 2001\ngw r 2001\n";
     // The gateway connects again before the call; its first connection has its last answer before the call ends.
     let again = Case {
         orders: &[
