@@ -2,7 +2,7 @@ use Rattle.std.proofs.Common.{Option, subst}
 use Rattle.std.specs.declared.net.ipv4_addr.Ipv4Addr.{Ipv4Addr}
 use Rattle.indexed_state.specs.Indexed.{TouchesAt}
 use Rattle.indexed_state.proofs.Reading.{octets_same, touched_then, touched_since}
-use Rattle.indexed_state.proofs.addresses.touch_both.Goals as goal
+use Rattle.indexed_state.proofs.unsettling.touch_both.Goals as goal
 
 pub returns-then-same_address-clause-after : goal.returns-then-same_address-clause-after
 returns-then-same_address-clause-after c = subst (λ (o : Option Ipv4Addr). TouchesAt c.args.rules.now c.touch_at.new.rules c.args.index.now o)

@@ -1,7 +1,7 @@
 use Rattle.std.proofs.Common.{sym, ap, ◌∙◌, is_some}
 use Rattle.ranked.proofs.Plain.{clash}
 use Rattle.waiting_sessions.proofs.Waited.{keeps_itself}
-use Rattle.indexed_state.proofs.addresses.wait_gateway.Goals as goal
+use Rattle.indexed_state.proofs.unsettling.wait_gateway.Goals as goal
 
 pub returns-then-is_some-clause-keeps : goal.returns-then-is_some-clause-keeps
 returns-then-is_some-clause-keeps c = keeps_itself c.args.waiting.now

@@ -3,7 +3,7 @@ use Rattle.std.specs.Ordering.{is_eq}
 use Rattle.ranked.proofs.Plain.{some_same}
 use Rattle.session_index.specs.Index.{address_cmp}
 use Rattle.session_index.proofs.Covering.{address_itself}
-use Rattle.indexed_state.proofs.addresses.shows.Goals as goal
+use Rattle.indexed_state.proofs.forgetting.shows.Goals as goal
 
 pub returns-in-Some : goal.returns-in-Some
 returns-in-Some c = λ e.

@@ -4,7 +4,7 @@ use Rattle.pcrf_model.specs.Views.{view}
 use Rattle.waiting_sessions.specs.Waits.{ListedWait}
 use Rattle.waiting_sessions.proofs.Waited.{keeps_through, listed_on}
 use Rattle.indexed_state.proofs.Reading.{octets_same}
-use Rattle.indexed_state.proofs.addresses.wait_both.Goals as goal
+use Rattle.indexed_state.proofs.unsettling.wait_both.Goals as goal
 
 pub returns-then-same_address-clause-after : goal.returns-then-same_address-clause-after
 returns-then-same_address-clause-after c = subst (λ (o : Option Ipv4Addr). ListedWait (view c.args.state.now.facts) c.args.index.now c.wait_at.new.waiting o)

@@ -1,7 +1,7 @@
 use Rattle.ranked.proofs.Plain.{clash}
 use Rattle.pcrf_model.specs.Sessions.{af}
 use Rattle.indexed_state.proofs.Reading.{not_shown}
-use Rattle.indexed_state.proofs.addresses.forget_call.Goals as goal
+use Rattle.indexed_state.proofs.forgetting.forget_call.Goals as goal
 
 pub returns : goal.returns
 returns c = λ v is covers.
