@@ -14,8 +14,8 @@ returns c =
     let prefix = c.in_ok-user.ensures.prefix in
     let fields =
     (λ j. user j ++ client j ++ prefix j)
-    ∙ ap (λ (fs : List FieldShown). shown_at shows user_places ++ fs) (sym (filter_map-append (field_at shows) client_places prefix_places))
-    ∙ sym (filter_map-append (field_at shows) user_places (client_places ++ prefix_places))
+    ∙ ap (λ (fs : List FieldShown). fs ++ shown_at shows prefix_places) (sym (filter_map-append (field_at shows) user_places client_places))
+    ∙ sym (filter_map-append (field_at shows) (user_places ++ client_places) prefix_places)
     ∙ sym (gx_fields c.args.known.now c.note_places.ensures.components c.note_places.ensures.flows) in
     λ i. record {
       fields = fields i;
