@@ -1,13 +1,13 @@
--- What the code reads of addresses, and what is stale and unlisted at them.
-use Rattle.std.proofs.Common.{◌≡◌, ℕ, List, [], Option, Some, None, refl, sym, ap, ◌∙◌, subst, option_map}
+-- What the code reads of where users are reached, and what is stale, unlisted and waits at addresses.
+use Rattle.std.proofs.Common.{◌≡◌, ℕ, false, List, [], Option, Some, None, is_some, refl, sym, ap, ◌∙◌, subst, option_map}
 use Rattle.std.specs.Net.Addr.{ipv4_octets}
 use Rattle.std.specs.declared.net.ipv4_addr.Ipv4Addr.{Ipv4Addr}
 use Rattle.ranked.specs.Sets.{In}
-use Rattle.ranked.proofs.Plain.{none_some, some_same}
+use Rattle.ranked.proofs.Plain.{clash, none_some, some_same}
 use Rattle.pcrf_values.specs.RuleValues.{RuleValue}
 use Rattle.pcrf_facts.specs.Facts.{Fact}
 use Rattle.pcrf_facts.specs.Held.{entry_shown}
-use Rattle.pcrf_facts.specs.Places.{address}
+use Rattle.pcrf_facts.specs.Places.{address, prefix}
 use Rattle.pcrf_facts.specs.Values.{Value, Address, Entry}
 use Rattle.pcrf_model.specs.Holdings.{SessionFact, facts_on}
 use Rattle.pcrf_model.specs.Sessions.{Session, Gx}
@@ -15,13 +15,29 @@ use Rattle.pcrf_model.specs.Views.{View, view, value}
 use Rattle.session_index.specs.Forgetting.{ShowsAddress}
 use Rattle.session_index.specs.Index.{IndexValue, listed_at}
 use Rattle.kept_rules.specs.Kept.{RulesValue, kept_at, AreStale}
-use Rattle.indexed_state.specs.Indexed.{address_value, IsAddressOf, TouchesAt}
+use Rattle.waiting_sessions.proofs.Reading.{value_shown}
+use Rattle.waiting_sessions.specs.Waits.{WaitingValue, Keeps, ListedWait}
+use Rattle.indexed_state.specs.Indexed.{address_value, IsAddressOf, TouchesAt, Unsettled}
 
 -- what a record shows as its address is what the view has
 pub address_shown : (facts : List SessionFact) (s : Session) (known : List Fact) (o : Option Entry) → known ≡ facts_on facts s → o ≡ entry_shown known address
     → option_map (λ (e : Entry). e.1) o ≡ value (view facts) s address
-unfolding view
-address_shown facts s known o k e = ap (option_map (λ (d : Entry). d.1)) (e ∙ ap (λ (fs : List Fact). entry_shown fs address) k)
+address_shown facts s known o k e = value_shown facts s known address o k e
+
+-- what is mapped is there where it was
+still_there : {A B : Type 0} (f : A → B) (o : Option A) → is_some o ≡ is_some (option_map f o)
+still_there f None = refl
+still_there f (Some x) = refl
+
+-- a record shows a prefix where the view has one
+pub prefix_shown : (facts : List SessionFact) (s : Session) (known : List Fact) (o : Option Entry) → known ≡ facts_on facts s → o ≡ entry_shown known prefix
+    → is_some o ≡ is_some (value (view facts) s prefix)
+prefix_shown facts s known o k e = still_there (λ (d : Entry). d.1) o ∙ ap is_some (value_shown facts s known prefix o k e)
+
+-- what isn't there is none
+pub none_there : {A : Type 0} (o : Option A) → false ≡ is_some o → o ≡ None
+none_there None h = refl
+none_there (Some x) h = clash false (h) refl
 
 -- what is mapped from something was there
 pub mapped : {A B : Type 0} (f : A → B) (o : Option A) (y : B) → option_map f o ≡ Some y → (x : A) × (o ≡ Some x) × (f x ≡ y)
@@ -72,3 +88,18 @@ octets_same None None e = refl
 octets_same None (Some b) e = none_some _ e
 octets_same (Some a) None e = none_some _ (sym e)
 octets_same (Some a) (Some b) e = let octets : ipv4_octets a ≡ ipv4_octets b = some_same _ _ e in ap Some (λ j. record { octets = octets j })
+
+-- ---- where no list is kept and all wait
+
+module _ (old new : RulesValue) (u w : WaitingValue) (all : Unsettled new w) where
+  -- the lists at an address are stale
+  pub stale_at : (index : IndexValue) (at : Option Ipv4Addr) → TouchesAt old new index at
+  stale_at index at = record { gone = λ a e id m. all.stale id; same = λ id rs e. none_some rs (sym (all.stale id) ∙ e) }
+
+  -- who waited waits
+  pub all_keeps : Keeps u w
+  all_keeps = record { some = λ a. clash w.all all.waits a; stay = λ a. clash w.all all.waits a }
+
+  -- and so do those that are listed under an address
+  pub all_listed : (v : View) (index : IndexValue) (at : Option Ipv4Addr) → ListedWait v index w at
+  all_listed v index at = record { each = λ a s e k m. record { there = λ some name h. clash w.all all.waits some } }

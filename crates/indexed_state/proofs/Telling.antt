@@ -1,12 +1,15 @@
 -- Where a gateway is told something, nothing else changes: no binding, no list of rules, and no session has to be listed.
-use Rattle.std.proofs.Common.{◌≡◌, ℕ, Bool, true, false, not, ◌&&◌, List, ◌++◌, is_some, inl, inr, refl, sym, ap, ◌∙◌, subst, option_map}
+use Rattle.std.proofs.Common.{◌≡◌, ℕ, Bool, true, false, not, ◌&&◌, List, ◌++◌, None, inl, inr, refl, sym, ap, ◌∙◌, subst, option_map}
 use Rattle.ranked.specs.Sets.{In}
 use Rattle.ranked.proofs.Plain.{clash}
-use Rattle.pcrf_facts.specs.Facts.{Fact, End, Removed, Field}
+use Rattle.pcrf_facts.specs.Facts.{Fact, End, Removed, Field, Aborted}
 use Rattle.pcrf_facts.specs.Held.{kept_list, is_ended, entry_shown}
-use Rattle.pcrf_facts.specs.Places.{Place, OfSession, OfComponent, OfFlow, OfRuleName, address, apn, subscribers, host, realm, last}
+use Rattle.pcrf_facts.specs.FlowWords.{value_at}
+use Rattle.pcrf_facts.specs.Live.{Shows, gx_has_what_it_needs}
+use Rattle.pcrf_facts.specs.Places.{Place, OfSession, OfComponent, OfFlow, OfRuleName, address, prefix, apn, subscribers}
 use Rattle.pcrf_facts.specs.Values.{Entry}
 use Rattle.pcrf_facts.proofs.ShownLaws.{shown-held, is_ended-held}
+use Rattle.pcrf_model.specs.Bindings.{Party, Stamp, last_reached}
 use Rattle.pcrf_model.specs.Holdings.{Holding, facts_on}
 use Rattle.pcrf_model.specs.Laws.{DifferInOne, BindsAlike}
 use Rattle.pcrf_model.specs.Sessions.{Session, gx}
@@ -29,7 +32,15 @@ its_name (Removed r) h = clash false h refl
 its_name (Field (OfSession g) t v) h = clash false h refl
 its_name (Field (OfComponent c g) t v) h = clash false h refl
 its_name (Field (OfFlow c n g) t v) h = clash false h refl
+its_name Aborted h = clash false h refl
 its_name (Field (OfRuleName n) t v) h = record { name = n; tag = t; value = v; is = refl }
+
+-- what shows at the places of the session's fields alone
+abbrev own_fields : Shows → Shows
+own_fields shows (OfSession f) = shows (OfSession f)
+own_fields shows (OfComponent c f) = None
+own_fields shows (OfFlow c n f) = None
+own_fields shows (OfRuleName n) = None
 
 module _ (h k : Holding) (id : List ℕ) (known : List Fact) (told : IsTold h (gx id) known) (there : known ≡ facts_on k.facts (gx id)) (differs : DifferInOne h.facts k.facts (gx id)) where
   -- the session's facts before
@@ -47,6 +58,16 @@ module _ (h k : Holding) (id : List ℕ) (known : List Fact) (told : IsTold h (g
   shows_on : (p : Place) → is_told p ≡ false → entry_shown own p ≡ entry_shown (facts_on k.facts (gx id)) p
   shows_on p n = sym (ap (λ (fs : List Fact). entry_shown fs p) now_is ∙ shown-held (own ++ told.told) p ∙ field_shows own told.told each_tells p n)
 
+  -- and so do the fields of the session
+  fields_on : own_fields (entry_shown own) ≡ own_fields (entry_shown (facts_on k.facts (gx id)))
+  fields_on = λ i p. each p i
+    where
+      each : (p : Place) → own_fields (entry_shown own) p ≡ own_fields (entry_shown (facts_on k.facts (gx id))) p
+      each (OfSession f) = shows_on (OfSession f) refl
+      each (OfComponent c f) = refl
+      each (OfFlow c n f) = refl
+      each (OfRuleName n) = refl
+
   -- and the session is ended just where it was
   ended_on : is_ended own ≡ is_ended (facts_on k.facts (gx id))
   ended_on = sym (ap is_ended now_is ∙ is_ended-held (own ++ told.told) ∙ ended_same own told.told each_tells)
@@ -56,12 +77,14 @@ module _ (h k : Holding) (id : List ℕ) (known : List Fact) (told : IsTold h (g
   unfolding view
   alike = record {
     of_gateway = refl;
-    lives = λ i. not (ended_on i) && (is_some (shows_on address refl i) && (is_some (shows_on apn refl i) && (is_some (shows_on subscribers refl i)
-        && (is_some (shows_on host refl i) && (is_some (shows_on realm refl i) && is_some (shows_on last refl i))))));
-    stands = ap (option_map (λ (e : Entry). (e.0.counter, (e.0.site, id)))) (shows_on address refl);
-    at_address = ap (option_map (λ (e : Entry). e.1)) (shows_on address refl);
-    of_subscribers = ap (option_map (λ (e : Entry). e.1)) (shows_on subscribers refl);
-    at_apn = ap (option_map (λ (e : Entry). e.1)) (shows_on apn refl);
+    reads = λ i. record {
+      live = not (ended_on i) && gx_has_what_it_needs (fields_on i);
+      address = value_at (fields_on i) address;
+      prefix = value_at (fields_on i) prefix;
+      subscribers = value_at (fields_on i) subscribers;
+      apn = value_at (fields_on i) apn;
+    };
+    stands = ap (λ (shows : Shows). option_map (λ (t : Stamp). (t.0, (t.1, id))) (last_reached shows)) fields_on;
   }
 
   -- each session shows what it showed at a place where this one does
@@ -76,8 +99,9 @@ module _ (h k : Holding) (id : List ℕ) (known : List Fact) (told : IsTold h (g
       → Agree t i h b index r u → Agree t i k b index r w
   agree_told t i b index r u w keeps waits a = record {
     covers = λ e. record {
-      addresses = λ s x f. (a.covers e).addresses s x (same_value s address alike.at_address ∙ f);
-      subscribed = λ other xs x f m. (a.covers e).subscribed other xs x (same_value (gx other) subscribers alike.of_subscribers ∙ f) m;
+      addresses = λ s x f. (a.covers e).addresses s x (same_value s address (ap (λ (p : Party). p.address) alike.reads) ∙ f);
+      prefixes = λ s p f. (a.covers e).prefixes s p (same_value s prefix (ap (λ (q : Party). q.prefix) alike.reads) ∙ f);
+      subscribed = λ other xs x f m. (a.covers e).subscribed other xs x (same_value (gx other) subscribers (ap (λ (p : Party). p.subscribers) alike.reads) ∙ f) m;
     };
     kept = record {
       each = λ other rs f. a.kept.each other rs f ∙ all_keep t h.facts k.facts (gx id) (gx other) differs alike;

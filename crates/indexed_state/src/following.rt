@@ -1,7 +1,6 @@
 //! What follows a change of one gateway's session.
-ghost use Rattle.std.specs.Prelude.{◌≡◌, ℕ, List, None, true, false};
+ghost use Rattle.std.specs.Prelude.{◌≡◌, ℕ, List, true, false};
 ghost use Rattle.std.specs.Option.{option_copied};
-ghost use Rattle.kept_rules.specs.Kept.{kept_at};
 ghost use Rattle.pcrf_model.specs.Holdings.{Holding, SessionFact, facts_on};
 ghost use Rattle.pcrf_model.specs.Laws.{DifferInOne};
 ghost use Rattle.pcrf_model.specs.Sessions.{gx};
@@ -9,10 +8,11 @@ ghost use Rattle.pcrf_model.specs.Tables.{Tables};
 ghost use Rattle.pcrf_model.specs.Views.{view};
 ghost use Rattle.session_index.specs.Index.{Covers, Grows};
 ghost use Rattle.site_join.specs.States.{record_facts};
-ghost use Rattle.indexed_state.specs.Indexed.{Agree};
+ghost use Rattle.indexed_state.specs.Indexed.{Agree, Unsettled};
 
-use crate::addresses::{address_in, forget_gateway, touch_both, wait_both, wait_gateway};
-use crate::forgetting::forget_subscribers;
+use crate::forgetting::{forget_gateway, forget_stood};
+use crate::reached::gateway_reached_in;
+use crate::unsettling::{unsettle, unsettle_all, wait_gateway};
 use gx_records::GxRec;
 use kept_rules::Rules;
 use pcrf_values::GxSid;
@@ -47,24 +47,21 @@ pub(crate) fn follow(
         keep_nothing(alloc, is_whole, rules, waiting);
         return;
     }
-    let before = address_in(stood.as_ref());
-    let after = address_in(known);
-    touch_both(rules, index, before, after);
-    wait_gateway(state, waiting, id, after);
-    wait_both(state, index, waiting, before, after);
-    forget_gateway(index, id, before, after);
-    forget_subscribers(index, id, stood.as_ref(), known);
+    let before = gateway_reached_in(stood.as_ref());
+    let after = gateway_reached_in(known);
+    wait_gateway(state, waiting, id, after.address);
+    unsettle(alloc, state, index, rules, waiting, before, after);
+    forget_gateway(index, id, before.address, after.address);
+    forget_stood(index, id, stood.as_ref(), known);
 }
 
 /// The index isn't whole, no list of rules is kept, and all sessions wait.
 fn keep_nothing(alloc: Global, is_whole: &mut bool, rules: &mut Rules, waiting: &mut Waiting)
     ensures whole { is_whole.new ≡ false }
-    ensures kept { (id : List ℕ) → kept_at rules.new id ≡ None }
-    ensures waits { waiting.new.all ≡ true }
+    ensures unsettled { Unsettled rules.new waiting.new }
 {
     *is_whole = false;
-    rules.touch_all();
-    *waiting = Waiting::start(alloc);
+    unsettle_all(alloc, rules, waiting);
 }
 
 /// Lists a gateway's session by the record that is known of it; false where memory is refused.

@@ -1,14 +1,16 @@
-//! What an index no longer lists: gateways' sessions under subscribers that they don't show, and the session of an operation
-//! under what the operation gives it and it doesn't show, being ended, or showing what another operation gave it.
-ghost use Rattle.std.specs.Prelude.{◌≡◌, List};
+//! What an index no longer lists: sessions under addresses and prefixes that they show no longer, gateways' sessions under
+//! subscribers that they don't show, and the session of an operation under what the operation gives it and it doesn't show, being
+//! ended, or showing what another operation gave it.
+ghost use Rattle.std.specs.Prelude.{◌≡◌, List, Some, true};
 ghost use Rattle.std.specs.Option.{option_copied};
 ghost use Rattle.pcrf_model.specs.Holdings.{SessionFact, facts_on};
 ghost use Rattle.pcrf_model.specs.Sessions.{gx, af};
-ghost use Rattle.pcrf_model.specs.Views.{view};
+ghost use Rattle.pcrf_model.specs.Views.{View, view};
 ghost use Rattle.session_index.specs.Index.{Covers};
-ghost use Rattle.site_join.specs.States.{record_facts};
+ghost use Rattle.site_join.specs.States.{record_facts, session_of};
+ghost use Rattle.indexed_state.specs.Indexed.{IsAddressOf};
 
-use crate::addresses::{address_in, call_address_in, forget_call, forget_gateway};
+use crate::reached::{address_in, call_address_in};
 use af_records::{AfFact, AfRec};
 use fact_records::SessionValue;
 use gx_records::{GxFact, GxRec};
@@ -17,6 +19,72 @@ use ranked::Ranked;
 use session_index::Index;
 use site_join::{SessionFacts, State};
 use std::alloc::{AllocError, Global};
+use std::net::Ipv4Addr;
+
+/// Takes the session of these facts out from under the address that it showed, where it shows it no longer: the session is
+/// ended, or moved to another address.
+pub(crate) fn forget_moved(
+    index: &mut Index,
+    facts: &SessionFacts,
+    before: Option<Ipv4Addr>,
+    after: Option<Ipv4Addr>,
+)
+    ensures { (v : View) → IsAddressOf v (session_of facts.now) after
+        → Covers v index.old → Covers v index.new }
+{
+    match facts {
+        SessionFacts::Gx(id, _) => forget_gateway(index, id, before, after),
+        SessionFacts::Af(id, _) => forget_call(index, id, before, after),
+    }
+}
+
+/// So with a gateway's session.
+pub(crate) fn forget_gateway(
+    index: &mut Index,
+    id: &GxSid,
+    before: Option<Ipv4Addr>,
+    after: Option<Ipv4Addr>,
+)
+    ensures { (v : View) → IsAddressOf v (gx id.now) after
+        → Covers v index.old → Covers v index.new }
+{
+    let Some(address) = before else {
+        return;
+    };
+    if shows(after, address) {
+        return;
+    }
+    index.forget_gateway_at(address, id);
+}
+
+/// And with an application function's.
+pub(crate) fn forget_call(
+    index: &mut Index,
+    id: &AfSid,
+    before: Option<Ipv4Addr>,
+    after: Option<Ipv4Addr>,
+)
+    ensures { (v : View) → IsAddressOf v (af id.now) after
+        → Covers v index.old → Covers v index.new }
+{
+    let Some(address) = before else {
+        return;
+    };
+    if shows(after, address) {
+        return;
+    }
+    index.forget_call_at(address, id);
+}
+
+/// The address that is shown is this one.
+fn shows(shown: Option<Ipv4Addr>, address: Ipv4Addr) -> bool
+    ensures { (shown ≡ Some address) → result ≡ true }
+{
+    match shown {
+        Some(other) => other.cmp(&address).is_eq(),
+        None => false,
+    }
+}
 
 /// The subscribers that the session of these facts shows, where it is of a gateway and may show others or none with the
 /// facts; none else.
@@ -54,14 +122,24 @@ fn subscribers_in(alloc: Global, known: Option<&GxRec>) -> Result<Vec<Subscriber
     Subscriber::try_copy_slice(alloc, subscribers.as_slice())
 }
 
-/// Takes a gateway's session out from under the subscribers that the record that stood shows and the one that is known now
-/// doesn't.
-pub(crate) fn forget_subscribers(
+/// Takes a gateway's session out of those that were given a prefix, if the record that is known now shows none, and out from
+/// under the subscribers that the one that stood shows and this one doesn't.
+pub(crate) fn forget_stood(
     index: &mut Index,
     id: &GxSid,
     stood: Option<&GxRec>,
     known: Option<&GxRec>,
 )
+    ensures { (facts : List SessionFact)
+        → record_facts (option_copied known.entry) ≡ facts_on facts (gx id.now)
+        → Covers (view facts) index.old → Covers (view facts) index.new }
+{
+    index.forget_gateway_prefix(id, known);
+    forget_subscribers(index, id, stood, known);
+}
+
+/// Takes it out from under these subscribers.
+fn forget_subscribers(index: &mut Index, id: &GxSid, stood: Option<&GxRec>, known: Option<&GxRec>)
     ensures { (facts : List SessionFact)
         → record_facts (option_copied known.entry) ≡ facts_on facts (gx id.now)
         → Covers (view facts) index.old → Covers (view facts) index.new }
@@ -75,8 +153,8 @@ pub(crate) fn forget_subscribers(
     index.forget_unshown(id, subscribers.as_slice(), known);
 }
 
-/// Takes the session of these facts out from under what they give it, and from under these subscribers, where the state doesn't
-/// show that of it.
+/// Takes the session of these facts out from under what they give it, from under these subscribers, and out of those that were
+/// given a prefix, where the state doesn't show that of it.
 pub(crate) fn forget_given(
     index: &mut Index,
     state: &State,
@@ -89,10 +167,13 @@ pub(crate) fn forget_given(
         SessionFacts::Gx(id, facts) => {
             let known = state.gx(id);
             index.forget_unshown(id, subscribers, known);
+            index.forget_gateway_prefix(id, known);
             forget_given_gateway(index, id, facts.as_slice(), known);
         }
         SessionFacts::Af(id, facts) => {
-            forget_given_call(index, id, facts.as_slice(), state.af(id));
+            let known = state.af(id);
+            index.forget_call_prefix(id, known);
+            forget_given_call(index, id, facts.as_slice(), known);
         }
     }
 }

@@ -22,9 +22,10 @@ ghost use Rattle.session_index.specs.Index.{Covers};
 ghost use Rattle.site_join.specs.States.{record_facts};
 ghost use Rattle.waiting_sessions.specs.Waits.{DueWait, is_waiting};
 
-use crate::addresses::{address_of, forget_moved, touch_both, wait_both, wait_unlisted};
 use crate::following::follow;
-use crate::forgetting::{forget_given, subscribers_before};
+use crate::forgetting::{forget_given, forget_moved, subscribers_before};
+use crate::reached::reached_by;
+use crate::unsettling::{unsettle, wait_unlisted};
 use crate::whole::make_whole;
 use af_records::AfRec;
 use bind_index::{bind, bind_by, sessions_of};
@@ -120,7 +121,8 @@ impl IndexedState {
     }
 
     /// Takes an operation, wherever it was made, once or again; a refusal changes nothing. Its time grows with the number of
-    /// gateways' sessions that are listed under the addresses that the operation's session shows before and after.
+    /// gateways' sessions that are listed under the addresses that the operation's session shows before and after. If it shows a
+    /// prefix before or after, all rules are derived anew when they are next asked for, and all sessions wait.
     pub fn take(&mut self, operation: &Operation) -> Result<(), AllocError>
         ensures ok { OnOk result (self.new ≡ with_holding self.old
             (kept_of (with_operation self.old.holding operation.now))) }
@@ -129,15 +131,22 @@ impl IndexedState {
         make_whole(&self.state, &mut self.index, &mut self.is_whole)?;
         self.index.cover(operation)?;
         let facts = operation.facts();
-        let before = address_of(&self.state, facts);
+        let before = reached_by(&self.state, facts);
         let shown = subscribers_before(self.alloc, &self.state, facts)?;
         self.state.note_kept();
         self.state.take(operation)?;
-        let after = address_of(&self.state, facts);
-        touch_both(&mut self.rules, &self.index, before, after);
-        wait_unlisted(&self.state, &mut self.waiting, facts, after);
-        wait_both(&self.state, &self.index, &mut self.waiting, before, after);
-        forget_moved(&mut self.index, facts, before, after);
+        let after = reached_by(&self.state, facts);
+        wait_unlisted(&self.state, &mut self.waiting, facts, after.address);
+        unsettle(
+            self.alloc,
+            &self.state,
+            &self.index,
+            &mut self.rules,
+            &mut self.waiting,
+            before,
+            after,
+        );
+        forget_moved(&mut self.index, facts, before.address, after.address);
         forget_given(&mut self.index, &self.state, facts, shown.as_slice());
         Ok(())
     }

@@ -2,13 +2,14 @@
 //! that sessions are bound, rules derived and pushes found without a pass over all sessions.
 #![tactic(auto)]
 
-mod addresses;
 mod following;
 mod forgetting;
 mod held;
 mod indexed;
+mod reached;
 mod recorded;
 mod renewing;
+mod unsettling;
 mod whole;
 
 pub use indexed::IndexedState;

@@ -6,11 +6,10 @@ ghost use Rattle.pcrf_model.specs.Operations.{with_operation};
 ghost use Rattle.pcrf_model.specs.Sessions.{gx, af};
 ghost use Rattle.indexed_state.specs.Indexed.{IsTold};
 
-use crate::addresses::{
-    address_in, call_address_in, forget_call, forget_gateway, touch_both, wait_both, wait_gateway,
-};
-use crate::forgetting::forget_subscribers;
+use crate::forgetting::{forget_call, forget_gateway, forget_stood};
 use crate::indexed::IndexedState;
+use crate::reached::{call_reached_in, gateway_reached_in};
+use crate::unsettling::{unsettle, wait_gateway};
 use crate::whole::make_whole;
 use af_records::AfRec;
 use gx_records::GxRec;
@@ -42,15 +41,22 @@ impl IndexedState {
         self.state.note_kept();
         self.state.note_form();
         operation.note_form();
-        let after = address_in(Some(&known));
+        let after = gateway_reached_in(Some(&known));
         let clock = self.state.clock().max(operation.counter());
         let stood = self.state.put_gx(id, Some(known), clock)?;
-        let before = address_in(stood.as_ref());
-        touch_both(&mut self.rules, &self.index, before, after);
-        wait_gateway(&self.state, &mut self.waiting, id, after);
-        wait_both(&self.state, &self.index, &mut self.waiting, before, after);
-        forget_gateway(&mut self.index, id, before, after);
-        forget_subscribers(&mut self.index, id, stood.as_ref(), self.state.gx(id));
+        let before = gateway_reached_in(stood.as_ref());
+        wait_gateway(&self.state, &mut self.waiting, id, after.address);
+        unsettle(
+            self.alloc,
+            &self.state,
+            &self.index,
+            &mut self.rules,
+            &mut self.waiting,
+            before,
+            after,
+        );
+        forget_gateway(&mut self.index, id, before.address, after.address);
+        forget_stood(&mut self.index, id, stood.as_ref(), self.state.gx(id));
         Ok(())
     }
 
@@ -98,13 +104,21 @@ impl IndexedState {
         self.state.note_kept();
         self.state.note_form();
         operation.note_form();
-        let after = call_address_in(Some(&known));
+        let after = call_reached_in(Some(&known));
         let clock = self.state.clock().max(operation.counter());
         let stood = self.state.put_af(id, Some(known), clock)?;
-        let before = call_address_in(stood.as_ref());
-        touch_both(&mut self.rules, &self.index, before, after);
-        wait_both(&self.state, &self.index, &mut self.waiting, before, after);
-        forget_call(&mut self.index, id, before, after);
+        let before = call_reached_in(stood.as_ref());
+        unsettle(
+            self.alloc,
+            &self.state,
+            &self.index,
+            &mut self.rules,
+            &mut self.waiting,
+            before,
+            after,
+        );
+        forget_call(&mut self.index, id, before.address, after.address);
+        self.index.forget_call_prefix(id, self.state.af(id));
         Ok(())
     }
 }

@@ -1,5 +1,6 @@
--- The rules of the calls at a session's address are all rules of flows that it has.
-use Rattle.std.proofs.Common.{◌≡◌, ℕ, Bool, true, false, cond, List, [], ◌∷◌, ◌++◌, map, Option, Some, None, option_map, unwrap_or, refl, sym, ap, ◌∙◌, subst}
+-- The rules of the calls at a session's address, and of those with a prefix alone, are all rules of flows that it has.
+use Rattle.std.proofs.Common.{◌≡◌, ℕ, Bool, true, false, cond, not, List, [], ◌∷◌, ◌++◌, map, Option, Some, None, is_some, option_map, unwrap_or, inl, inr, refl, sym, ap, ◌∙◌, subst}
+use Rattle.std.proofs.lemmas.Grind.{flat_map-append}
 use Rattle.std.proofs.lemmas.List.{map-append, append_assoc, append-nil}
 use Rattle.std.specs.Net.Addr.{ipv4_octets}
 use Rattle.std.specs.Ordering.{is_eq}
@@ -8,52 +9,102 @@ use Rattle.ranked.specs.Sets.{In}
 use Rattle.ranked.specs.declared.tag.Tag.{Tag}
 use Rattle.ranked.proofs.OrderLaws.{eq_is}
 use Rattle.ranked.proofs.Plain.{clash, none_some, some_same}
-use Rattle.ranked.proofs.SetLaws.{In-map, map-In}
+use Rattle.ranked.proofs.SetLaws.{In-cases, In-filter, In-left, In-map, In-right, map-In}
+use Rattle.pcrf_values.specs.RuleValues.{RuleValue}
 use Rattle.pcrf_facts.specs.Facts.{Fact}
 use Rattle.pcrf_facts.specs.FlowWords.{flows}
 use Rattle.pcrf_facts.specs.Held.{entry_shown}
-use Rattle.pcrf_facts.specs.Places.{address}
-use Rattle.pcrf_facts.specs.Values.{Value, Address, Entry}
-use Rattle.pcrf_model.specs.Bindings.{bind, is_bound_to}
+use Rattle.pcrf_facts.specs.Places.{Place, address, prefix}
+use Rattle.pcrf_facts.specs.Values.{Value, Address, Prefix, Entry}
+use Rattle.pcrf_model.specs.Bindings.{bind, is_bound_to, matches}
 use Rattle.pcrf_model.specs.Holdings.{SessionFact, facts_on}
 use Rattle.pcrf_model.specs.Sessions.{Af, Session, session_cmp, gx, af}
 use Rattle.pcrf_model.specs.Tables.{Tables}
 use Rattle.pcrf_model.specs.Views.{View, view, value}
 use Rattle.pcrf_model.proofs.BindLaws.{bind-greatest}
 use Rattle.pcrf_model.proofs.HoldingLaws.{session_ranked}
-use Rattle.pcrf_model.proofs.NeighbourLaws.{both_show}
-use Rattle.session_index.specs.Index.{IndexValue, Covers, listed_at}
-use Rattle.pcc_rules.specs.FlowsAlone.{AreLow, rules_of_flows, rules_of_sessions}
-use Rattle.pcc_rules.specs.Listed.{AddsCalled, AddsRules, HasBound, record_of, records_of}
+use Rattle.pcrf_model.proofs.NeighbourLaws.{shows_a_prefix, shows_the_address}
+use Rattle.session_index.specs.Index.{IndexValue, Covers, listed_at, with_prefix}
+use Rattle.session_index.proofs.Indexed.{prefixes_met}
+use Rattle.pcc_rules.specs.FlowsAlone.{AreLow, AreLowWhereBound, rules_of_flows, rules_of_sessions}
+use Rattle.pcc_rules.specs.Listed.{AddsCalled, AddsRules, record_of, records_of}
 use Rattle.pcc_rules.specs.Listing.{keyed}
 use Rattle.pcc_rules.proofs.SoFar.{Keyed, SessionsSoFar}
+use Rattle.kept_rules.specs.Calls.{AddsBound, has_address, without_address}
 
 -- ---- session by session
 
-module _ (t : Tables) (v : View) (s : Session) (before all_before : Keyed) (e : List ℕ × List Fact) (es all : List (List ℕ × List Fact)) where
-  -- after the rules of a session that is bound were added
-  pub added_next : (now : Keyed) → is_bound_to v s (af e.0) ≡ true → now ≡ before ++ map keyed (rules_of_flows t e.0 e.1) → AreLow (flows e.1)
-      → SessionsSoFar t v s all_before before (e ∷ es) all → SessionsSoFar t v s all_before now es all
-  added_next now b added low h = record {
+module _ (t : Tables) (v : View) (s : Session) where
+  -- to the rules found nothing is added
+  pub none_added : (found : Keyed) → AddsRules t v s found found []
+  none_added found = record { items = sym (append-nil found); low = tt }
+
+  -- of a session that is bound all are added
+  pub one_added : (e : List ℕ × List Fact) (before now : Keyed) → is_bound_to v s (af e.0) ≡ true → now ≡ before ++ map keyed (rules_of_flows t e.0 e.1) → AreLow (flows e.1)
+      → AddsRules t v s before now (e ∷ [])
+  one_added e before now b added low = record {
     items =
-        ap (λ (xs : Keyed). xs ++ map keyed (rules_of_sessions t v s es)) added
-        ∙ append_assoc before (map keyed (rules_of_flows t e.0 e.1)) (map keyed (rules_of_sessions t v s es))
-        ∙ ap (λ (xs : Keyed). before ++ xs) (sym (map-append keyed (rules_of_flows t e.0 e.1) (rules_of_sessions t v s es)))
-        ∙ ap (λ (y : Bool). before ++ map keyed (cond y (rules_of_flows t e.0 e.1) [] ++ rules_of_sessions t v s es)) (sym b)
-        ∙ h.items;
-    low = λ l. h.low (λ _. low, l);
+        added
+        ∙ ap (λ (xs : List RuleValue). before ++ map keyed xs) (sym (append-nil (rules_of_flows t e.0 e.1)))
+        ∙ ap (λ (y : Bool). before ++ map keyed (cond y (rules_of_flows t e.0 e.1) [] ++ [])) (sym b);
+    low = (λ _. low, tt);
   }
 
-  -- and past one that isn't
-  pub passed_next : is_bound_to v s (af e.0) ≡ false → SessionsSoFar t v s all_before before (e ∷ es) all → SessionsSoFar t v s all_before before es all
-  passed_next b h = record {
-    items = ap (λ (y : Bool). before ++ map keyed (cond y (rules_of_flows t e.0 e.1) [] ++ rules_of_sessions t v s es)) (sym b) ∙ h.items;
-    low = λ l. h.low (λ y. clash _ y b, l);
+  -- and of one that isn't none
+  pub one_passed : (e : List ℕ × List Fact) (found : Keyed) → is_bound_to v s (af e.0) ≡ false → AddsRules t v s found found (e ∷ [])
+  one_passed e found b = record {
+    items = sym (append-nil found) ∙ ap (λ (y : Bool). found ++ map keyed (cond y (rules_of_flows t e.0 e.1) [] ++ [])) (sym b);
+    low = (λ y. clash _ y b, tt);
   }
 
--- at the end all were added
-pub all_added : (t : Tables) (v : View) (s : Session) (before now : Keyed) (all : List (List ℕ × List Fact)) → SessionsSoFar t v s before now [] all → AddsRules t v s before now all
-all_added t v s before now all h = record { items = sym (append-nil now) ∙ h.items; low = h.low tt }
+  -- what is low where bound among some and among others is so among both
+  both_low : (es ds : List (List ℕ × List Fact)) → AreLowWhereBound v s es → AreLowWhereBound v s ds → AreLowWhereBound v s (es ++ ds)
+  both_low [] ds h k = k
+  both_low (e ∷ es) ds h k = (h.0, both_low es ds h.1 k)
+
+  -- the rules of some and then of others are those of both
+  both_items : (es ds : List (List ℕ × List Fact)) (before : Keyed)
+      → (before ++ map keyed (rules_of_sessions t v s es)) ++ map keyed (rules_of_sessions t v s ds) ≡ before ++ map keyed (rules_of_sessions t v s (es ++ ds))
+  both_items es ds before =
+      append_assoc before (map keyed (rules_of_sessions t v s es)) (map keyed (rules_of_sessions t v s ds))
+      ∙ ap (λ (xs : Keyed). before ++ xs) (sym (map-append keyed (rules_of_sessions t v s es) (rules_of_sessions t v s ds)))
+      ∙ ap (λ (xs : List RuleValue). before ++ map keyed xs) (sym (flat_map-append (λ (e : List ℕ × List Fact). cond (is_bound_to v s (af e.0)) (rules_of_flows t e.0 e.1) []) es ds))
+
+  -- so they are added
+  pub both_added : (es ds : List (List ℕ × List Fact)) (before between now : Keyed) → AddsRules t v s before between es → AddsRules t v s between now ds → AddsRules t v s before now (es ++ ds)
+  both_added es ds before between now h k = record {
+    items = k.items ∙ ap (λ (xs : Keyed). xs ++ map keyed (rules_of_sessions t v s ds)) h.items ∙ both_items es ds before;
+    low = both_low es ds h.low k.low;
+  }
+
+  -- and after those of one the rules go on with those of the others
+  pub next_added : (all_before before now : Keyed) (e : List ℕ × List Fact) (es all : List (List ℕ × List Fact)) → AddsRules t v s before now (e ∷ [])
+      → SessionsSoFar t v s all_before before (e ∷ es) all → SessionsSoFar t v s all_before now es all
+  next_added all_before before now e es all one h = record {
+    items = ap (λ (xs : Keyed). xs ++ map keyed (rules_of_sessions t v s es)) one.items ∙ both_items (e ∷ []) es before ∙ h.items;
+    low = λ l. h.low (one.low.0, l);
+  }
+
+  -- at the end all were added
+  pub all_added : (before now : Keyed) (all : List (List ℕ × List Fact)) → SessionsSoFar t v s before now [] all → AddsRules t v s before now all
+  all_added before now all h = record { items = sym (append-nil now) ∙ h.items; low = h.low tt }
+
+-- ---- calls without an address
+
+module _ (t : Tables) (facts : List SessionFact) (s : Session) (all_before before now : Keyed) (id : List ℕ) (ids all : List (List ℕ)) where
+  -- one that shows an address is passed over
+  pub addressed_next : has_address facts id ≡ true → SessionsSoFar t (view facts) s all_before before (records_of facts (without_address facts (id ∷ ids))) (records_of facts all)
+      → SessionsSoFar t (view facts) s all_before before (records_of facts (without_address facts ids)) (records_of facts all)
+  addressed_next a h =
+      subst (λ (b : Bool). SessionsSoFar t (view facts) s all_before before (records_of facts (cond (not b) (id ∷ without_address facts ids) (without_address facts ids))) (records_of facts all)) a h
+
+  -- one that shows none isn't
+  pub unaddressed_next : has_address facts id ≡ false → AddsRules t (view facts) s before now (records_of facts (id ∷ []))
+      → SessionsSoFar t (view facts) s all_before before (records_of facts (without_address facts (id ∷ ids))) (records_of facts all)
+      → SessionsSoFar t (view facts) s all_before now (records_of facts (without_address facts ids)) (records_of facts all)
+  unaddressed_next a one h =
+      next_added t (view facts) s all_before before now (record_of facts id) (records_of facts (without_address facts ids)) (records_of facts all) one
+      (subst (λ (b : Bool). SessionsSoFar t (view facts) s all_before before (records_of facts (cond (not b) (id ∷ without_address facts ids) (without_address facts ids))) (records_of facts all)) a h)
 
 -- ---- sessions that are bound
 
@@ -66,54 +117,126 @@ is_one s (Some z) h = ap Some (eq_is session_ranked z s h)
 abbrev value_of : Option Entry → Option Value
 value_of = option_map (λ (e : Entry). e.1)
 
+-- an entry that shows has a value
+shown_value : (o : Option Entry) → is_some o ≡ true → (x : Value) × (value_of o ≡ Some x)
+shown_value None h = clash false h refl
+shown_value (Some e) h = (e.1, refl)
+
+-- and one that doesn't has none
+no_value : (o : Option Entry) → is_some o ≡ false → value_of o ≡ None
+no_value None h = refl
+no_value (Some e) h = clash true refl h
+
 module _ (t : Tables) (facts : List SessionFact) (id : List ℕ) (known : List Fact) (its : known ≡ facts_on facts (gx id)) where
   -- what is read of the facts
   abbrev v : View
   v = view facts
 
-  -- what a session's record says of its address
-  own_address : value_of (entry_shown known address) ≡ value v (gx id) address
+  -- what a session's record says
+  own_value : (p : Place) → value_of (entry_shown known p) ≡ value v (gx id) p
   unfolding view
-  own_address = ap (λ (fs : List Fact). value_of (entry_shown fs address)) its
+  own_value p = ap (λ (fs : List Fact). value_of (entry_shown fs p)) its
 
-  -- a session that is bound shows the same address
-  same_address : (a : List ℕ) → is_bound_to v (gx id) (af a) ≡ true → (x : Value) × (value v (af a) address ≡ Some x) × (value_of (entry_shown known address) ≡ Some x)
-  same_address a b =
-      let bound : bind v (af a) ≡ Some (gx id) = is_one (gx id) (bind v (af a)) b in
-      let w = both_show v (af a) (gx id) ((bind-greatest facts (af a) (gx id)).0 bound).fits in
-      (w.0, w.1, own_address ∙ w.2)
+  -- what is bound to it matches
+  bound_fits : (a : List ℕ) → is_bound_to v (gx id) (af a) ≡ true → matches v (af a) (gx id) ≡ true
+  bound_fits a b = ((bind-greatest facts (af a) (gx id)).0 (is_one (gx id) (bind v (af a)) b)).fits
 
-  -- to the rules found nothing is added
-  none_added : (found : Keyed) → AddsRules t v (gx id) found found []
-  none_added found = record { items = sym (append-nil found); low = tt }
+  -- a call that shows an address
+  call_shows : (a : List ℕ) → has_address facts a ≡ true → (x : Value) × (value v (af a) address ≡ Some x)
+  unfolding view
+  call_shows a h = shown_value (entry_shown (facts_on facts (af a)) address) h
 
-  -- without an address it has no calls
-  pub without_address : (found : Keyed) → entry_shown known address ≡ None → AddsCalled t facts (gx id) found found
-  without_address found none = record {
+  -- or shows none
+  call_shows_none : (a : List ℕ) → has_address facts a ≡ false → value v (af a) address ≡ None
+  unfolding view
+  call_shows_none a h = no_value (entry_shown (facts_on facts (af a)) address) h
+
+  -- where it is bound the session shows the same address
+  same_address : (a : List ℕ) → is_bound_to v (gx id) (af a) ≡ true → has_address facts a ≡ true
+      → (x : Value) × (value v (af a) address ≡ Some x) × (value_of (entry_shown known address) ≡ Some x)
+  same_address a b h =
+      let w = call_shows a h in
+      (w.0, w.1, own_value address ∙ shows_the_address v (af a) (gx id) (bound_fits a b) w.0 w.1)
+
+  -- without an address it has no calls that show one
+  pub no_address : (found : Keyed) → entry_shown known address ≡ None → AddsBound true t facts (gx id) found found
+  no_address found none = record {
     among = [];
-    bound = record { own = λ e i. absurd i; has = λ a p x b h. let w = same_address a b in none_some w.0 (sym (ap value_of none) ∙ w.2) };
-    adds = none_added found;
+    own = λ e i. absurd i;
+    has = λ a b h. let w = same_address a b h in none_some w.0 (sym (ap value_of none) ∙ w.2);
+    adds = none_added t v (gx id) found;
   }
 
-  module _ (i : IndexValue) (all : Covers v i) (tag : Tag) (at : Ipv4Addr) (shows : Some (tag, Address (ipv4_octets at)) ≡ entry_shown known address) where
-    -- a call that is bound is listed under the address
-    listed : (a : List ℕ) → is_bound_to v (gx id) (af a) ≡ true → In a (listed_at i Af at)
-    listed a b =
-        let w = same_address a b in
-        let own : w.0 ≡ Address (ipv4_octets at) = some_same _ _ (sym w.2 ∙ sym (ap value_of shows)) in
-        all.addresses (af a) at (w.1 ∙ ap Some own)
+  -- and without a prefix none that don't
+  pub no_prefix : (found : Keyed) → entry_shown known prefix ≡ None → AddsBound false t facts (gx id) found found
+  no_prefix found none = record {
+    among = [];
+    own = λ e i. absurd i;
+    has = λ a b h.
+        let w = shows_a_prefix v (af a) (gx id) (bound_fits a b) (call_shows_none a h) in
+        none_some w.0 (sym (ap value_of none) ∙ own_value prefix ∙ w.1);
+    adds = none_added t v (gx id) found;
+  }
 
-    -- so the calls that are listed there have all that are bound
-    has_bound : (ids : List (List ℕ)) → ids ≡ listed_at i Af at → HasBound facts (gx id) (records_of facts ids)
-    has_bound ids are = record {
-      own = λ e m. let w = map-In (record_of facts) e ids m in ap (λ (z : List ℕ × List Fact). facts_on facts (af z.0)) w.2 ∙ sym (ap (λ (z : List ℕ × List Fact). z.1) w.2);
-      has = λ a p x b h. In-map (record_of facts) a ids (subst (λ (l : List (List ℕ)). In a l) (sym are) (listed a b));
+  -- each of these records is that of its session
+  own_records : (ids : List (List ℕ)) (e : List ℕ × List Fact) → In e (records_of facts ids) → facts_on facts (af e.0) ≡ e.1
+  own_records ids e m =
+      let w = map-In (record_of facts) e ids m in
+      ap (λ (z : List ℕ × List Fact). facts_on facts (af z.0)) w.2 ∙ sym (ap (λ (z : List ℕ × List Fact). z.1) w.2)
+
+  -- the rules of calls that show an address and of those that show none are the rules of all
+  pub all_called : (before between now : Keyed) → AddsBound true t facts (gx id) before between → AddsBound false t facts (gx id) between now → AddsCalled t facts (gx id) before now
+  all_called before between now h k = record {
+    among = h.among ++ k.among;
+    bound = record {
+      own = λ e m. elim (In-cases e h.among k.among m) [ inl i ↦ h.own e i | inr i ↦ k.own e i ];
+      has = λ a p x b shows. among a b (has_address facts a) refl;
+    };
+    adds = both_added t v (gx id) h.among k.among before between now h.adds k.adds;
+  }
+    where
+      among : (a : List ℕ) → is_bound_to v (gx id) (af a) ≡ true → (y : Bool) → has_address facts a ≡ y → In (a, facts_on facts (af a)) (h.among ++ k.among)
+      among a b true e = In-left _ h.among k.among (h.has a b e)
+      among a b false e = In-right _ h.among k.among (k.has a b e)
+
+  module _ (i : IndexValue) (all : Covers v i) where
+    module _ (tag : Tag) (at : Ipv4Addr) (shows : Some (tag, Address (ipv4_octets at)) ≡ entry_shown known address) where
+      -- a call that is bound and shows an address is listed under it
+      listed : (a : List ℕ) → is_bound_to v (gx id) (af a) ≡ true → has_address facts a ≡ true → In a (listed_at i Af at)
+      listed a b h =
+          let w = same_address a b h in
+          let own : w.0 ≡ Address (ipv4_octets at) = some_same _ _ (sym w.2 ∙ sym (ap value_of shows)) in
+          all.addresses (af a) at (w.1 ∙ ap Some own)
+
+      -- so the rules of those that are listed there are the rules of all such
+      pub listed_added : (ids : List (List ℕ)) (before now : Keyed) → ids ≡ listed_at i Af at → AddsRules t v (gx id) before now (records_of facts ids) → AddsBound true t facts (gx id) before now
+      listed_added ids before now are h = record {
+        among = records_of facts ids;
+        own = own_records ids;
+        has = λ a b e. In-map (record_of facts) a ids (subst (λ (l : List (List ℕ)). In a l) (sym are) (listed a b e));
+        adds = h;
+      }
+
+      -- none where none is listed
+      pub none_listed : (found : Keyed) → [] ≡ listed_at i Af at → AddsBound true t facts (gx id) found found
+      none_listed found none = listed_added [] found found none (none_added t v (gx id) found)
+
+    -- a call that is bound and shows no address is listed with those that were given a prefix
+    listed_with_prefix : (a : List ℕ) → is_bound_to v (gx id) (af a) ≡ true → has_address facts a ≡ false → In a (with_prefix i Af)
+    listed_with_prefix a b h = let w = prefixes_met v (af a) (gx id) (bound_fits a b) (call_shows_none a h) in all.prefixes (af a) w.asked w.asks
+
+    -- so the rules of those of them that show no address are the rules of all such
+    pub prefixed_added : (ids : List (List ℕ)) (before now : Keyed) → ids ≡ with_prefix i Af → AddsRules t v (gx id) before now (records_of facts (without_address facts ids))
+        → AddsBound false t facts (gx id) before now
+    prefixed_added ids before now are h = record {
+      among = records_of facts (without_address facts ids);
+      own = own_records (without_address facts ids);
+      has = λ a b e.
+          In-map (record_of facts) a (without_address facts ids)
+          (In-filter (λ (x : List ℕ). not (has_address facts x)) a ids (subst (λ (l : List (List ℕ)). In a l) (sym are) (listed_with_prefix a b e)) (ap not e));
+      adds = h;
     }
 
-    -- and all rules are added
-    pub all_called : (ids : List (List ℕ)) (before now : Keyed) → ids ≡ listed_at i Af at → AddsRules t v (gx id) before now (records_of facts ids) → AddsCalled t facts (gx id) before now
-    all_called ids before now are h = record { among = records_of facts ids; bound = has_bound ids are; adds = h }
-
-    -- none where none is listed
-    pub none_called : (found : Keyed) → [] ≡ listed_at i Af at → AddsCalled t facts (gx id) found found
-    none_called found none = all_called [] found found none (none_added found)
+    -- none where there are none
+    pub none_prefixed : (found : Keyed) → [] ≡ with_prefix i Af → AddsBound false t facts (gx id) found found
+    none_prefixed found none = prefixed_added [] found found none (none_added t v (gx id) found)

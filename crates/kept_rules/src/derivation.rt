@@ -1,5 +1,5 @@
 //! The rules of a session, by an index of sessions.
-ghost use Rattle.std.specs.Prelude.{◌≡◌, ◌++◌, map, IfOk, OnOk};
+ghost use Rattle.std.specs.Prelude.{◌≡◌, ◌++◌, [], ◌∷◌, map, true, false, IfOk, OnOk};
 ghost use Rattle.pcrf_facts.specs.FlowWords.{flows};
 ghost use Rattle.pcrf_model.specs.Bindings.{is_bound_to};
 ghost use Rattle.pcrf_model.specs.Differences.{rule_name_of};
@@ -12,6 +12,7 @@ ghost use Rattle.session_index.specs.Index.{Covers};
 ghost use Rattle.pcc_rules.specs.FlowsAlone.{AreLow, rules_of_flows};
 ghost use Rattle.pcc_rules.specs.Listing.{keyed};
 ghost use Rattle.pcc_rules.specs.Listed.{AddsCalled, AddsRules, records_of};
+ghost use Rattle.kept_rules.specs.Calls.{AddsBound, has_address, without_address};
 
 use gx_records::GxRec;
 use op_tables::Tables;
@@ -24,7 +25,8 @@ use std::alloc::{AllocError, Global};
 
 /// The PCC rules of a gateway's session as `derive` gives them, by an index that covers the state. Its time grows with the
 /// number of application functions' sessions that are listed under the session's address, times that of gateways' sessions
-/// listed there.
+/// listed there; and where the session has a prefix, with the number of application functions' sessions that were given one,
+/// and for those of them without an address times that of gateways' sessions that were given one.
 pub fn derive_by(
     alloc: Global,
     tables: &Tables,
@@ -62,6 +64,24 @@ fn add_called(
         → Covers (view state.now.facts) index.now → AddsCalled tables.now
         state.now.facts (gx session.now) found.old.items found.new.items) }
 {
+    add_at_address(alloc, found, tables, state, index, session, gateway)?;
+    add_by_prefix(alloc, found, tables, state, index, session, gateway)
+}
+
+/// Adds the rules of those that show an address: it is that of the gateway's session.
+fn add_at_address(
+    alloc: Global,
+    found: &mut Vec<(u32, Rule)>,
+    tables: &Tables,
+    state: &State,
+    index: &Index,
+    session: &GxSid,
+    gateway: &GxRec,
+) -> Result<(), AllocError>
+    ensures { OnOk result ((gateway.now ≡ facts_on state.now.facts (gx session.now))
+        → Covers (view state.now.facts) index.now → AddsBound true tables.now
+        state.now.facts (gx session.now) found.old.items found.new.items) }
+{
     let Some((_, address)) = gateway.address() else {
         return Ok(());
     };
@@ -69,6 +89,29 @@ fn add_called(
         return Ok(());
     };
     add_listed(alloc, found, tables, state, index, session, calls)
+}
+
+/// Adds the rules of those that show none: the prefix of the gateway's session covers that of each.
+fn add_by_prefix(
+    alloc: Global,
+    found: &mut Vec<(u32, Rule)>,
+    tables: &Tables,
+    state: &State,
+    index: &Index,
+    session: &GxSid,
+    gateway: &GxRec,
+) -> Result<(), AllocError>
+    ensures { OnOk result ((gateway.now ≡ facts_on state.now.facts (gx session.now))
+        → Covers (view state.now.facts) index.now → AddsBound false tables.now
+        state.now.facts (gx session.now) found.old.items found.new.items) }
+{
+    if gateway.prefix().is_none() {
+        return Ok(());
+    }
+    let Some(calls) = index.calls_with_prefix() else {
+        return Ok(());
+    };
+    add_unaddressed(alloc, found, tables, state, index, session, calls)
 }
 
 /// Adds the rules of those of the application functions' sessions that are bound to the gateway's session.
@@ -86,9 +129,59 @@ fn add_listed(
         (records_of state.now.facts calls.now)) }
 {
     for call in calls.iter() {
-        if is_bound_by(state, index, call, session) {
-            add_call(alloc, found, tables, state, call)?;
+        add_if_bound(alloc, found, tables, state, index, session, call)?;
+    }
+    Ok(())
+}
+
+/// Adds the rules of those of the application functions' sessions that show no address and are bound to the gateway's session.
+fn add_unaddressed(
+    alloc: Global,
+    found: &mut Vec<(u32, Rule)>,
+    tables: &Tables,
+    state: &State,
+    index: &Index,
+    session: &GxSid,
+    calls: &SessionIds<AfSid>,
+) -> Result<(), AllocError>
+    ensures { OnOk result (Covers (view state.now.facts) index.now → AddsRules tables.now
+        (view state.now.facts) (gx session.now) found.old.items found.new.items
+        (records_of state.now.facts (without_address state.now.facts calls.now))) }
+{
+    for call in calls.iter() {
+        if !has_address(state, call) {
+            add_if_bound(alloc, found, tables, state, index, session, call)?;
         }
+    }
+    Ok(())
+}
+
+/// The application function's session shows an address.
+fn has_address(state: &State, call: &AfSid) -> bool
+    ensures { result ≡ has_address state.now.facts call.now }
+{
+    match state.af(call) {
+        Some(known) => known.address().is_some(),
+        None => false,
+    }
+}
+
+/// Adds the rules of an application function's session, if it is bound to the gateway's session.
+fn add_if_bound(
+    alloc: Global,
+    found: &mut Vec<(u32, Rule)>,
+    tables: &Tables,
+    state: &State,
+    index: &Index,
+    session: &GxSid,
+    call: &AfSid,
+) -> Result<(), AllocError>
+    ensures { OnOk result (Covers (view state.now.facts) index.now → AddsRules tables.now
+        (view state.now.facts) (gx session.now) found.old.items found.new.items
+        (records_of state.now.facts (call.now ∷ []))) }
+{
+    if is_bound_by(state, index, call, session) {
+        return add_call(alloc, found, tables, state, call);
     }
     Ok(())
 }

@@ -4,7 +4,7 @@ use Rattle.std.specs.List.{filter_map, cons_option}
 use Rattle.fact_records.specs.declared.session_value.SessionValue.TheVariants as session_value
 use Rattle.af_records.specs.RecordFacts.{fact_of}
 use Rattle.af_records.specs.declared.fact.AfFact.{AfFact}
-use Rattle.af_records.specs.declared.fact.AfFact.TheVariants.{End, ComponentRemoved, FlowRemoved, Session, Component, Flow}
+use Rattle.af_records.specs.declared.fact.AfFact.TheVariants.{End, ComponentRemoved, FlowRemoved, Aborted, Session, Component, Flow}
 use Rattle.af_records.specs.declared.fact.ComponentValue.TheVariants as component_value
 use Rattle.af_records.specs.declared.fact.FlowValue.TheVariants as flow_value
 use Rattle.operator_view.specs.Fields.{field_of, af_field}
@@ -15,12 +15,14 @@ field_given : (f : AfFact) → option_map af_field_shown (af_field f) ≡ field_
 field_given End = refl
 field_given (ComponentRemoved c) = refl
 field_given (FlowRemoved c n) = refl
+field_given Aborted = refl
 field_given (Session t (session_value.Address x)) = refl
 field_given (Session t (session_value.Apn x)) = refl
 field_given (Session t (session_value.Subscribers x)) = refl
 field_given (Session t (session_value.Host x)) = refl
 field_given (Session t (session_value.Realm x)) = refl
 field_given (Session t (session_value.Last x)) = refl
+field_given (Session t (session_value.Prefix x)) = refl
 field_given (Component c t (component_value.MediaType x)) = refl
 field_given (Component c t (component_value.Status x)) = refl
 field_given (Component c t (component_value.RateUp x)) = refl

@@ -13,7 +13,7 @@ use Rattle.ranked.proofs.SetLaws.{filter_map-In, In-filter_map}
 use Rattle.ranked.proofs.AscendingLaws.{filter_map-ascending, ascending-ascending, same_ascending}
 use Rattle.pcrf_facts.specs.Places.{Place, place_cmp, OfSession, OfComponent, OfFlow, OfRuleName}
 use Rattle.pcrf_facts.specs.Values.{Value, value_cmp, Entry, entry_cmp}
-use Rattle.pcrf_facts.specs.Facts.{Fact, End, Removed, Field, fact_cmp}
+use Rattle.pcrf_facts.specs.Facts.{Fact, End, Removed, Field, Aborted, fact_cmp}
 use Rattle.pcrf_facts.specs.Held.{kept_set, kept_list, entry_shown}
 use Rattle.pcrf_facts.proofs.FactLaws.{place_ranked, tag_ranked, value_ranked, fact_ranked}
 use Rattle.pcrf_facts.proofs.ShownLaws.{shown-held, fact_there}
@@ -45,6 +45,7 @@ field_is (OfRuleName n) x u h = none_some u h
 fact_is : (f : Fact) (u : FieldShown) → field_of f ≡ Some u → (t : Tag) × (f ≡ Field u.0 t u.1) × (field_shown u.0 u.1 ≡ Some u)
 fact_is End u h = none_some u h
 fact_is (Removed r) u h = none_some u h
+fact_is Aborted u h = none_some u h
 fact_is (Field p t x) u h =
     let e = field_is p x u h in
     (t, ap (λ (z : FieldShown). Field z.0 t z.1) e, subst (λ (z : FieldShown). field_shown z.0 z.1 ≡ Some u) e h)

@@ -4,7 +4,7 @@ use Rattle.std.specs.List.{filter_map}
 use Rattle.ranked.specs.Sets.{In}
 use Rattle.ranked.proofs.Plain.{none_some}
 use Rattle.pcrf_facts.specs.Facts.{Fact}
-use Rattle.pcrf_facts.specs.Held.{is_ended}
+use Rattle.pcrf_facts.specs.Held.{is_ended, is_aborted}
 use Rattle.pcrf_facts.specs.Live.{gx_is_live, af_is_live, home}
 use Rattle.pcrf_model.specs.Holdings.{SessionFact, facts_on, Holding}
 use Rattle.pcrf_model.specs.OperatorValues.{GxShown, AfShown, SessionValue, Ended, Partial, Live, OperatorValue, binding_id, gx_shown, af_shown, gx_value, af_value, operator_value}
@@ -77,7 +77,12 @@ module _ (facts : List SessionFact) (es : Records) (r : AreRecordsOf af facts es
 
   -- what shows is read alone
   af_shows_alone : (id : List ℕ) → af_live (view facts) id (facts_on facts (af id)) ≡ af_shown (view facts) (af id)
-  af_shows_alone id = λ i. record { fields = fields_alone facts (af id) i; binding = binding_id (view facts) (af id) }
+  unfolding view
+  af_shows_alone id = λ i. record {
+    fields = fields_alone facts (af id) i;
+    binding = binding_id (view facts) (af id);
+    aborted = is_aborted (facts_on facts (af id));
+  }
 
   -- and so is what is seen
   af_alone : (id : List ℕ) → Some (id, af_seen (view facts) id (facts_on facts (af id))) ≡ af_pick (af id)

@@ -2,7 +2,7 @@
 use Rattle.std.specs.Prelude.{ℕ, if◌then◌else◌, not, List, Option, Some, None}
 use Rattle.std.specs.List.{filter_map}
 use Rattle.pcrf_facts.specs.Facts.{Fact}
-use Rattle.pcrf_facts.specs.Held.{is_ended}
+use Rattle.pcrf_facts.specs.Held.{is_ended, is_aborted}
 use Rattle.pcrf_facts.specs.Live.{gx_is_live, af_is_live, home}
 use Rattle.pcrf_facts.specs.ToldWords.{told_rules}
 use Rattle.pcrf_model.specs.OperatorValues.{GxShown, AfShown, SessionValue, Ended, Partial, Live, binding_id}
@@ -45,7 +45,7 @@ gx_among t v = filter_map (gx_known t v)
 
 -- what a live AF session of these facts shows
 abbrev pub af_live : View → List ℕ → List Fact → AfShown
-af_live v id facts = record { fields = fields_of facts; binding = binding_id v (af id) }
+af_live v id facts = record { fields = fields_of facts; binding = binding_id v (af id); aborted = is_aborted facts }
 
 -- what is seen of one of these facts
 abbrev pub af_seen : View → List ℕ → List Fact → SessionValue AfShown

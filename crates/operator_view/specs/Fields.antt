@@ -2,7 +2,7 @@
 use Rattle.std.specs.Prelude.{List, [], ◌∷◌, Option, Some, None}
 use Rattle.std.proofs.Common.{option_map}
 use Rattle.std.specs.List.{filter_map}
-use Rattle.pcrf_facts.specs.Places.{SessionField, FramedIpAddress, CalledStationId, SubscriptionIds, OriginHost, OriginRealm, RequestType, OfSession}
+use Rattle.pcrf_facts.specs.Places.{SessionField, FramedIpAddress, CalledStationId, SubscriptionIds, OriginHost, OriginRealm, RequestType, FramedIpv6Prefix, OfSession}
 use Rattle.pcrf_facts.specs.Values.{Entry}
 use Rattle.pcrf_facts.specs.Facts as facts
 use Rattle.pcrf_facts.specs.Facts.{Fact}
@@ -19,6 +19,7 @@ abbrev pub field_of : Fact → Option FieldShown
 field_of facts.End = None
 field_of (facts.Removed r) = None
 field_of (facts.Field p t x) = field_shown p x
+field_of facts.Aborted = None
 
 -- those that are kept, ascending by their places
 abbrev pub fields_of : List Fact → List FieldShown
@@ -34,18 +35,22 @@ field_at shows f = option_map (λ (e : Entry). (OfSession f, e.1)) (shows (OfSes
 abbrev pub shown_at : Shows → List SessionField → List FieldShown
 shown_at shows fs = filter_map (field_at shows) fs
 
--- those of the user, and those of the client
+-- those of the user but for its prefix, those of the client, and the prefix
 abbrev pub user_places : List SessionField
 user_places = FramedIpAddress ∷ CalledStationId ∷ SubscriptionIds ∷ []
 
 abbrev pub client_places : List SessionField
 client_places = OriginHost ∷ OriginRealm ∷ RequestType ∷ []
 
+abbrev pub prefix_places : List SessionField
+prefix_places = FramedIpv6Prefix ∷ []
+
 -- ---- facts of the code
 
 -- the field that the fact gives
 abbrev pub af_field : AfFact → Option AfField
 af_field af_fact.End = None
+af_field af_fact.Aborted = None
 af_field (af_fact.ComponentRemoved c) = None
 af_field (af_fact.FlowRemoved c n) = None
 af_field (af_fact.Session t x) = Some (Session x)

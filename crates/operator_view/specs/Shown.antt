@@ -1,8 +1,12 @@
 -- What the code sees, as the definitions have it.
 use Rattle.std.specs.Prelude.{ℕ, List, [], ◌∷◌, ◌++◌, map, Some}
+use Rattle.std.proofs.Common.{option_map}
+use Rattle.std.specs.List.{cons_option}
+use Rattle.std.specs.declared.net.ipv4_addr.Ipv4Addr.{Ipv4Addr}
 use Rattle.pcrf_facts.specs.Places as places
 use Rattle.pcrf_facts.specs.Places.{OfComponent, OfFlow}
-use Rattle.pcrf_facts.specs.Values.{Text, Subscribers, Number, Filters}
+use Rattle.pcrf_values.specs.Prefixes.{Ipv6Prefix}
+use Rattle.pcrf_facts.specs.Values.{Text, Subscribers, Number, Filters, Prefix}
 use Rattle.pcrf_model.specs.OperatorValues.{FieldShown, GxShown, AfShown, SessionValue, OperatorValue}
 use Rattle.pcrf_model.specs.OperatorValues as seen
 use Rattle.fact_records.specs.SessionFacts.{address_value}
@@ -27,9 +31,20 @@ session_seen f (on.Live x) = seen.Live (f x)
 
 -- ---- gateways
 
--- the fields of the user
+-- an address and a prefix, as fields
+abbrev pub address_field : Ipv4Addr → FieldShown
+address_field a = (places.address, address_value a)
+
+abbrev pub prefix_field : Ipv6Prefix → FieldShown
+prefix_field p = (places.prefix, Prefix p)
+
+-- the fields of the user but for its prefix
 abbrev pub user_fields : GxUser → List FieldShown
-user_fields u = (places.address, address_value u.address) ∷ (places.apn, Text u.apn) ∷ (places.subscribers, Subscribers u.subscribers) ∷ []
+user_fields u = cons_option (option_map address_field u.address) ((places.apn, Text u.apn) ∷ (places.subscribers, Subscribers u.subscribers) ∷ [])
+
+-- and that, the last field of a session
+abbrev pub prefix_fields : GxUser → List FieldShown
+prefix_fields u = cons_option (option_map prefix_field u.prefix) []
 
 -- and of the client
 abbrev pub client_fields : GxClient → List FieldShown
@@ -38,7 +53,7 @@ client_fields c = (places.host, Text c.host) ∷ (places.realm, Text c.realm) �
 -- what a live one shows
 abbrev pub gx_shown : GxSeen → GxShown
 gx_shown x = record {
-  fields = user_fields x.user ++ client_fields x.client;
+  fields = user_fields x.user ++ client_fields x.client ++ prefix_fields x.user;
   home = Some x.home;
   rules = x.rules.items;
   told = x.told;
@@ -62,6 +77,7 @@ af_field_shown (Session (session_value.Subscribers x)) = (places.subscribers, Su
 af_field_shown (Session (session_value.Host x)) = (places.host, Text x)
 af_field_shown (Session (session_value.Realm x)) = (places.realm, Text x)
 af_field_shown (Session (session_value.Last x)) = (places.last, Number x)
+af_field_shown (Session (session_value.Prefix x)) = prefix_field x
 af_field_shown (Component c (component_value.MediaType x)) = (OfComponent c places.MediaType, Number x)
 af_field_shown (Component c (component_value.Status x)) = (OfComponent c places.ComponentStatus, Number x)
 af_field_shown (Component c (component_value.RateUp x)) = (OfComponent c places.ComponentRateUp, Number x)
@@ -74,7 +90,7 @@ af_field_shown (Flow c n (flow_value.RateDown x)) = (OfFlow c n places.FlowRateD
 
 -- what a live one shows
 abbrev pub af_shown : AfSeen → AfShown
-af_shown x = record { fields = map af_field_shown x.fields.items; binding = x.binding }
+af_shown x = record { fields = map af_field_shown x.fields.items; binding = x.binding; aborted = x.aborted }
 
 -- of any
 abbrev pub af_session : SessionSeen AfSeen → SessionValue AfShown

@@ -54,7 +54,8 @@ pub(crate) fn binding_of(state: &State, session: &AfSid) -> Result<Option<GxSid>
 }
 
 /// As `bindings` gives them, by an index that covers the state. Its time grows with the number of application functions'
-/// sessions, for each with that of gateways' sessions that are listed under its address.
+/// sessions, for each with that of gateways' sessions that are listed under its address, or of those that are given a prefix
+/// where it shows no address.
 pub fn bindings_by(
     alloc: Global,
     state: &State,

@@ -71,7 +71,11 @@ fn af_shown(
     let facts = known.facts(alloc)?;
     let fields = fields_of(alloc, facts)?;
     let binding = binding_of(state, session)?;
-    Ok(AfSeen { fields, binding })
+    Ok(AfSeen {
+        fields,
+        binding,
+        aborted: known.aborted(),
+    })
 }
 
 /// The fields that facts give.
@@ -106,6 +110,7 @@ fn field_of(fact: AfFact) -> Option<AfField>
         AfFact::Component(component, _, value) => Some(AfField::Component(component, value)),
         AfFact::Flow(component, flow, _, value) => Some(AfField::Flow(component, flow, value)),
         AfFact::End => None,
+        AfFact::Aborted => None,
         AfFact::ComponentRemoved(_) => None,
         AfFact::FlowRemoved(_, _) => None,
     }

@@ -1,22 +1,24 @@
 //! The sessions of gateways.
-ghost use Rattle.std.specs.Prelude.{◌≡◌, true, IfOk, Some, map};
+ghost use Rattle.std.specs.Prelude.{◌≡◌, true, IfOk, Some, map, option_map};
 ghost use Rattle.pcrf_facts.specs.Held.{entry_shown};
 ghost use Rattle.pcrf_facts.specs.Live.{gx_is_live, home};
+ghost use Rattle.pcrf_facts.specs.Places.{FramedIpAddress, FramedIpv6Prefix};
 ghost use Rattle.pcrf_model.specs.Views.{view};
 ghost use Rattle.operator_view.specs.ByRecord.{gx_among, gx_seen, gx_live};
-ghost use Rattle.operator_view.specs.Fields.{client_places, shown_at, user_places};
-ghost use Rattle.operator_view.specs.Shown.{client_fields, gx_pair, gx_session, gx_shown, user_fields};
+ghost use Rattle.operator_view.specs.Fields.{client_places, field_at, prefix_places, shown_at, user_places};
+ghost use Rattle.operator_view.specs.Shown.{address_field, client_fields, gx_pair, gx_session, gx_shown, prefix_field, prefix_fields, user_fields};
 
 use crate::seen::{GxClient, GxSeen, GxUser, SessionSeen};
 use gx_records::GxRec;
 use lattice_core::FactSet;
 use op_tables::Tables;
 use pcc_rules::derive;
-use pcrf_values::GxSid;
+use pcrf_values::{GxSid, Ipv6Prefix};
 use ranked::Ranked;
 use site_join::State;
 use std::alloc::{AllocError, Global};
 use std::collections::btree_map::Iter;
+use std::net::Ipv4Addr;
 
 /// What is seen of those of these sessions that have a fact.
 #[tactic(auto, using(crate::proofs::Pushes::pushed))]
@@ -102,6 +104,8 @@ fn fields_of(known: &GxRec) -> Result<(GxUser, GxClient), AllocError>
     requires { gx_is_live known.now ≡ true }
     ensures user { IfOk result (λ fields. user_fields fields.0
         ≡ shown_at (entry_shown known.now) user_places) }
+    ensures prefix { IfOk result (λ fields. prefix_fields fields.0
+        ≡ shown_at (entry_shown known.now) prefix_places) }
     ensures client { IfOk result (λ fields. client_fields fields.1
         ≡ shown_at (entry_shown known.now) client_places) }
 {
@@ -113,26 +117,47 @@ fn fields_of(known: &GxRec) -> Result<(GxUser, GxClient), AllocError>
 /// The user of a live one.
 fn user_of(known: &GxRec) -> Result<GxUser, AllocError>
     requires { gx_is_live known.now ≡ true }
-    ensures { IfOk result (λ user. user_fields user
+    ensures fields { IfOk result (λ user. user_fields user
         ≡ shown_at (entry_shown known.now) user_places) }
+    ensures prefix { IfOk result (λ user. prefix_fields user
+        ≡ shown_at (entry_shown known.now) prefix_places) }
 {
-    let Some((_, address)) = known.address() else {
-        unreachable!()
-    };
     let Some((_, apn)) = known.apn() else {
         unreachable!()
     };
     let Some((_, subscribers)) = known.subscribers() else {
         unreachable!()
     };
-    let address = *address;
     let apn = apn.try_copy()?;
     let subscribers = subscribers.try_copy()?;
     Ok(GxUser {
-        address,
+        address: address_of(known),
+        prefix: prefix_of(known),
         apn,
         subscribers,
     })
+}
+
+/// The address of the user, if one shows.
+fn address_of(known: &GxRec) -> Option<Ipv4Addr>
+    ensures { option_map address_field result
+        ≡ field_at (entry_shown known.now) FramedIpAddress }
+{
+    let Some((_, address)) = known.address() else {
+        return None;
+    };
+    Some(*address)
+}
+
+/// The prefix of the user, if one shows.
+fn prefix_of(known: &GxRec) -> Option<Ipv6Prefix>
+    ensures { option_map prefix_field result
+        ≡ field_at (entry_shown known.now) FramedIpv6Prefix }
+{
+    let Some((_, prefix)) = known.prefix() else {
+        return None;
+    };
+    Some(*prefix)
 }
 
 /// The gateway of a live one.

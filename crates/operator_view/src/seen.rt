@@ -2,7 +2,7 @@
 use af_records::{AfRequestType, ComponentValue, FlowValue};
 use fact_records::SessionValue;
 use gx_records::{OpenRequestType, Told};
-use pcrf_values::{AfSid, Apn, DiameterIdentity, Enumerated, GxSid, Rule, Subscribers};
+use pcrf_values::{AfSid, Apn, DiameterIdentity, Enumerated, GxSid, Ipv6Prefix, Rule, Subscribers};
 use std::net::Ipv4Addr;
 
 /// What is seen of a session.
@@ -16,11 +16,13 @@ pub enum SessionSeen<S> {
     Live(S),
 }
 
-/// The user of a gateway's live session.
+/// The user of a gateway's live session, who is reached at an address, at a prefix or at both.
 #[derive(Drop)]
 pub struct GxUser {
-    /// Framed-IP-Address.
-    pub address: Ipv4Addr,
+    /// Framed-IP-Address, if the session shows one.
+    pub address: Option<Ipv4Addr>,
+    /// Framed-IPv6-Prefix (RFC 3162, 2.3), if the session shows one.
+    pub prefix: Option<Ipv6Prefix>,
     /// Called-Station-Id.
     pub apn: Apn,
     /// Subscription-Id.
@@ -67,6 +69,8 @@ pub struct AfSeen {
     pub fields: Vec<AfField>,
     /// The Session-Id of the gateway's session to which it is bound, if it is bound to one.
     pub binding: Option<GxSid>,
+    /// The application function was asked to abort it (TS 29.214, 4.4.6.1).
+    pub aborted: bool,
 }
 
 /// What an operator sees of a site.

@@ -12,7 +12,7 @@ use std::alloc::{AllocError, Global};
 
 /// What an operator sees of a site that holds this: its clock, and each session of which it knows a fact, as ended, as
 /// partial, or as live with what it shows: a gateway's with its fields, its home, its rules and what its gateway was told of
-/// them, an application function's with its fields and its binding. Rules and bindings are found anew for each session, so
+/// them, an application function's with its fields, its binding and whether it was aborted. Rules and bindings are found anew for each session, so
 /// its time grows with the number of application functions' sessions times the square of that of gateways' sessions.
 pub fn value(alloc: Global, tables: &Tables, state: &State) -> Result<OperatorValue, AllocError>
     ensures { IfOk result (λ value. value_view value ≡ operator_value tables.now state.now) }

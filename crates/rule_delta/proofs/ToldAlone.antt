@@ -12,8 +12,8 @@ use Rattle.ranked.proofs.SetLaws.{any-In, both_top, filter_map-In, In-filter_map
 use Rattle.ranked.proofs.AscendingLaws.{filter_map-ascending, ascending-ascending, same_ascending}
 use Rattle.pcrf_values.specs.RuleValues.{rule_cmp}
 use Rattle.pcrf_facts.specs.Places.{Place, OfSession, OfComponent, OfFlow, OfRuleName}
-use Rattle.pcrf_facts.specs.Values.{Number, Text, Address, Subscribers, Filters, Untold, Told, Entry, entry_cmp}
-use Rattle.pcrf_facts.specs.Facts.{Fact, End, Removed, Field, fact_cmp, is_shaded_by}
+use Rattle.pcrf_facts.specs.Values.{Number, Text, Address, Subscribers, Filters, Untold, Told, Prefix, Entry, entry_cmp}
+use Rattle.pcrf_facts.specs.Facts.{Fact, End, Removed, Field, Aborted, fact_cmp, is_shaded_by}
 use Rattle.pcrf_facts.specs.Held.{kept_set, kept_list, blocks, is_gone, value_at, entry_shown}
 use Rattle.pcrf_facts.specs.ToldWords.{ToldEntry, ToldRule, told_entry, told_entries, told_rule}
 use Rattle.pcrf_facts.specs.ToldWords as words
@@ -44,6 +44,7 @@ kept_shows facts p e i =
 entry_fact : (f : Fact) (a : ToldEntry) → told_entry f ≡ Some a → f ≡ Field (OfRuleName a.0) a.1.0 (told_value a.1.1)
 entry_fact End a h = none_some a h
 entry_fact (Removed r) a h = none_some a h
+entry_fact Aborted a h = none_some a h
 entry_fact (Field (OfSession s) t x) a h = none_some a h
 entry_fact (Field (OfComponent c s) t x) a h = none_some a h
 entry_fact (Field (OfFlow c n s) t x) a h = none_some a h
@@ -52,6 +53,7 @@ entry_fact (Field (OfRuleName n) t (Text x)) a h = none_some a h
 entry_fact (Field (OfRuleName n) t (Address x)) a h = none_some a h
 entry_fact (Field (OfRuleName n) t (Subscribers x)) a h = none_some a h
 entry_fact (Field (OfRuleName n) t (Filters x)) a h = none_some a h
+entry_fact (Field (OfRuleName n) t (Prefix x)) a h = none_some a h
 entry_fact (Field (OfRuleName n) t Untold) a h = ap (λ (z : ToldEntry). Field (OfRuleName z.0) z.1.0 (told_value z.1.1)) (some_same (n, (t, None)) a h)
 entry_fact (Field (OfRuleName n) t (Told r)) a h = ap (λ (z : ToldEntry). Field (OfRuleName z.0) z.1.0 (told_value z.1.1)) (some_same (n, (t, Some r)) a h)
 

@@ -1,5 +1,5 @@
 -- The live sessions that have a subscriber, among those that an index lists, and what it still covers once those are forgotten that don't show one.
-use Rattle.std.proofs.Common.{◌≡◌, ℕ, Bool, true, false, ◌&&◌, List, [], ◌∷◌, ◌++◌, Option, Some, None, ◌⊎◌, ◌||◌, inl, inr, refl, sym, ap, ◌∙◌, subst, map, if◌then◌else◌}
+use Rattle.std.proofs.Common.{◌≡◌, ℕ, Bool, true, false, ◌&&◌, List, [], ◌∷◌, ◌++◌, Option, Some, ◌⊎◌, ◌||◌, inl, inr, refl, sym, ap, ◌∙◌, subst, map, if◌then◌else◌}
 use Rattle.std.specs.Cmp.{first_so, second_so}
 use Rattle.std.specs.List.{list_any}
 use Rattle.std.specs.Ordering.{is_eq}
@@ -14,7 +14,7 @@ use Rattle.ranked.proofs.SetLaws.{In-left, In-right, In-cases, In-any, any-In, I
 use Rattle.pcrf_values.specs.Subscribers.{subscriber_cmp}
 use Rattle.pcrf_facts.specs.Facts.{Fact}
 use Rattle.pcrf_facts.specs.Places.{Place, subscribers}
-use Rattle.pcrf_facts.specs.Values.{Value, Entry, Number, Text, Address, Subscriber, Subscribers, Filters, Untold, Told}
+use Rattle.pcrf_facts.specs.Values.{Value, Entry, Subscriber, Subscribers}
 use Rattle.pcrf_facts.proofs.FactLaws.{subscriber_ranked}
 use Rattle.pcrf_model.specs.Bindings.{meets}
 use Rattle.pcrf_model.specs.Holdings.{SessionFact, facts_on}
@@ -27,21 +27,14 @@ use Rattle.pcrf_model.proofs.ViewLaws.{its_session, shows-known}
 use Rattle.bind_index.specs.Beside.{beside}
 use Rattle.bind_index.specs.Listings.{Question, HasSubscriber, shows_asked, listed, live_sessions, sessions_of}
 use Rattle.session_lists.specs.Lists.{ids_at, without, without_id}
-use Rattle.session_index.specs.Forgetting.{ShowsAddress, ForgetsUnshown, shows_subscriber}
+use Rattle.session_index.specs.Forgetting.{SamePrefixed, ShowsAddress, ForgetsUnshown, shows_subscriber}
 use Rattle.session_index.specs.Index.{ByAddress, BySubscriber, IndexValue, Covers, address_cmp, asked_among, listed_at, listed_of}
-use Rattle.session_index.proofs.Forgotten.{among_or_not, left_out_once, stays}
+use Rattle.session_index.proofs.Forgotten.{among_or_not, left_out_once, prefixed_still, stays}
 
 -- ---- what is shown
 
 -- a value that has the subscriber is a list of some in which it is
 shows_it : (x : Subscriber) (o : Option Value) → meets (Some (Subscribers (x ∷ []))) o ≡ true → (us : List Subscriber) × (o ≡ Some (Subscribers us)) × In x us
-shows_it x None h = clash false h refl
-shows_it x (Some (Number n)) h = clash false h refl
-shows_it x (Some (Text t)) h = clash false h refl
-shows_it x (Some (Address a)) h = clash false h refl
-shows_it x (Some (Filters fs)) h = clash false h refl
-shows_it x (Some Untold) h = clash false h refl
-shows_it x (Some (Told r)) h = clash false h refl
 shows_it x (Some (Subscribers us)) h = by (list_any (λ y. is_eq (subscriber_cmp x y)) us) refl h
   where
     by : (b : Bool) → list_any (λ y. is_eq (subscriber_cmp x y)) us ≡ b → (b || false) ≡ true → (zs : List Subscriber) × (Some (Subscribers us) ≡ Some (Subscribers zs)) × In x zs
@@ -49,6 +42,7 @@ shows_it x (Some (Subscribers us)) h = by (list_any (λ y. is_eq (subscriber_cmp
         let w = any-In (λ y. is_eq (subscriber_cmp x y)) us e in
         (us, refl, subst (λ (y : Subscriber). In y us) (sym (eq_is subscriber_ranked x w.0 w.2)) w.1)
     by false e t = clash false t refl
+shows_it x o h = clash false h refl
 
 -- and each in the list is had
 it_shows : (x : Subscriber) (us : List Subscriber) → In x us → meets (Some (Subscribers (x ∷ []))) (Some (Subscribers us)) ≡ true
@@ -197,10 +191,11 @@ unshown_more i j k id xs y facts f r = record {
 
 -- an index from which a session was taken out from under subscribers that it doesn't show covers what it covered
 pub unshown_forgotten : (i j : IndexValue) (id : List ℕ) (xs : List Subscriber) (facts : List SessionFact) → ForgetsUnshown i.subscribed j.subscribed id xs (facts_on facts (gx id))
-    → j.gateways ≡ i.gateways → j.calls ≡ i.calls → Covers (view facts) i → Covers (view facts) j
+    → j.gateways ≡ i.gateways → j.calls ≡ i.calls → SamePrefixed i j → Covers (view facts) i → Covers (view facts) j
 unfolding view
-unshown_forgotten i j id xs facts f g c h = record {
+unshown_forgotten i j id xs facts f g c p h = record {
   addresses = λ s a e. at s.kind s.id a e;
+  prefixes = λ s q e. prefixed_still i j p s.kind s.id (h.prefixes s q e);
   subscribed = λ n us x e m. under n us x e m (shows_subscriber (facts_on facts (gx id)) x) refl (h.subscribed n us x e m);
 }
   where

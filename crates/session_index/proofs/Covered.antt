@@ -4,14 +4,14 @@ use Rattle.std.specs.Net.Addr.{ipv4_octets}
 use Rattle.ranked.specs.Sets.{In}
 use Rattle.ranked.proofs.Plain.{none_some, some_same}
 use Rattle.pcrf_facts.specs.Facts.{Field}
-use Rattle.pcrf_facts.specs.Places.{Place, address, subscribers}
-use Rattle.pcrf_facts.specs.Values.{Value, Address, Subscribers, Entry}
+use Rattle.pcrf_facts.specs.Places.{Place, address, prefix, subscribers}
+use Rattle.pcrf_facts.specs.Values.{Value, Address, Subscribers, Prefix, Entry}
 use Rattle.pcrf_model.specs.Holdings.{under, Holding, union, kept_of}
 use Rattle.pcrf_model.specs.Operations.{Operation}
 use Rattle.pcrf_model.specs.Sessions.{Session, gx}
 use Rattle.pcrf_model.specs.Views.{View, view, value}
 use Rattle.pcrf_model.proofs.TakingLaws.{union_shows, shows_a_fact}
-use Rattle.session_index.specs.Index.{IndexValue, listed_at, Covers, CoversUnions, CoversWithMore, Grows, ListsFacts}
+use Rattle.session_index.specs.Index.{IndexValue, listed_at, with_prefix, Covers, CoversUnions, CoversWithMore, Grows, ListsFacts}
 
 -- the entry of a value that shows
 its_entry : (o : Option Entry) (x : Value) → option_map (λ (e : Entry). e.1) o ≡ Some x → (e : Entry) × (o ≡ Some e) × (e.1 ≡ x)
@@ -36,6 +36,7 @@ of_one h k s p x e =
 pub covers_grow : (v : View) (i j : IndexValue) → Grows i j → Covers v i → Covers v j
 covers_grow v i j g c = record {
   addresses = λ s a h. g.addresses s.kind a s.id (c.addresses s a h);
+  prefixes = λ s p h. g.prefixes s.kind s.id (c.prefixes s p h);
   subscribed = λ id xs x h m. g.subscribed x id (c.subscribed id xs x h m);
 }
 
@@ -43,6 +44,7 @@ covers_grow v i j g c = record {
 pub covers_union : CoversUnions
 covers_union h k i c d = record {
   addresses = λ s a e. elim (of_one h k s address (Address (ipv4_octets a)) e) [ inl m ↦ c.addresses s a m | inr m ↦ d.addresses s a m ];
+  prefixes = λ s p e. elim (of_one h k s prefix (Prefix p) e) [ inl m ↦ c.prefixes s p m | inr m ↦ d.prefixes s p m ];
   subscribed = λ id xs x e n. elim (of_one h k (gx id) subscribers (Subscribers xs) e) [ inl m ↦ c.subscribed id xs x m n | inr m ↦ d.subscribed id xs x m n ];
 }
 
@@ -54,6 +56,11 @@ covers_facts o i l = record {
       let f = shows_a_fact o.session s o.facts address w.0 w.1 in
       subst (λ (r : Session). In r.id (listed_at i r.kind a)) (sym f.0)
       (l.addresses w.0.0 a (subst (λ (x : Value). In (Field address w.0.0 x) o.facts) w.2 f.1));
+  prefixes = λ s p h.
+      let w = its_entry ((view (under o.session o.facts)).shows s prefix) (Prefix p) h in
+      let f = shows_a_fact o.session s o.facts prefix w.0 w.1 in
+      subst (λ (r : Session). In r.id (with_prefix i r.kind)) (sym f.0)
+      (l.prefixes w.0.0 p (subst (λ (x : Value). In (Field prefix w.0.0 x) o.facts) w.2 f.1));
   subscribed = λ id xs x h n.
       let w = its_entry ((view (under o.session o.facts)).shows (gx id) subscribers) (Subscribers xs) h in
       let f = shows_a_fact o.session (gx id) o.facts subscribers w.0 w.1 in

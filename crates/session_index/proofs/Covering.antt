@@ -13,14 +13,15 @@ use Rattle.ranked.proofs.OrderLaws.{text_ranked, eq_itself}
 use Rattle.ranked.proofs.Plain.{clash}
 use Rattle.ranked.proofs.SetLaws.{In-cases}
 use Rattle.pcrf_facts.specs.Facts.{Fact, Field}
-use Rattle.pcrf_facts.specs.Places.{address, subscribers}
-use Rattle.pcrf_facts.specs.Values.{Subscriber, Address, Subscribers}
+use Rattle.pcrf_facts.specs.Places.{address, prefix, subscribers}
+use Rattle.pcrf_facts.specs.Values.{Subscriber, Address, Subscribers, Prefix}
+use Rattle.pcrf_values.specs.Prefixes.{Ipv6Prefix}
 use Rattle.pcrf_values.specs.Subscribers.{subscriber_cmp}
 use Rattle.pcrf_facts.proofs.FactLaws.{subscriber_ranked}
 use Rattle.pcrf_model.specs.Sessions.{Kind, Gx, Af, Session, gx}
 use Rattle.session_lists.specs.Lists.{ids_at, with_id}
 use Rattle.session_lists.proofs.IdLists.{place_has, place_keeps}
-use Rattle.session_index.specs.Index.{address_cmp, BySubscriber, ByAddress, IndexValue, listed_at, Grows, GrowsUnder, ListedUnder, ListsFacts}
+use Rattle.session_index.specs.Index.{address_cmp, BySubscriber, ByAddress, IndexValue, listed_at, with_prefix, Grows, GrowsUnder, ListedUnder, ListsFacts}
 
 -- ---- one list that grows
 
@@ -42,12 +43,13 @@ module _ {K : Type 0} (cmp : K → K → Ordering) (before after : List (K × Li
 
 -- it grows from itself
 pub grows_itself : (i : IndexValue) → Grows i i
-grows_itself i = record { addresses = λ k a id h. h; subscribed = λ x id h. h }
+grows_itself i = record { addresses = λ k a id h. h; prefixes = λ k id h. h; subscribed = λ x id h. h }
 
 -- and goes on growing
 pub grows_through : (i j k : IndexValue) → Grows i j → Grows j k → Grows i k
 grows_through i j k g h = record {
   addresses = λ m a id x. h.addresses m a id (g.addresses m a id x);
+  prefixes = λ m id x. h.prefixes m id (g.prefixes m id x);
   subscribed = λ s id x. h.subscribed s id (g.subscribed s id x);
 }
 
@@ -84,17 +86,19 @@ under_added before after y id added = (record { each = list_grows subscriber_cmp
 pub facts_grow : (i j : IndexValue) (s : Session) (facts : List Fact) → Grows i j → ListsFacts i s facts → ListsFacts j s facts
 facts_grow i j s facts g h = record {
   addresses = λ t a m. g.addresses s.kind a s.id (h.addresses t a m);
+  prefixes = λ t p m. g.prefixes s.kind s.id (h.prefixes t p m);
   subscribed = λ id e t xs m. under_grows i.subscribed j.subscribed id xs (record { each = g.subscribed }) (h.subscribed id e t xs m);
 }
 
 -- by no fact nothing need be listed
 pub no_facts : (i : IndexValue) (s : Session) → ListsFacts i s []
-no_facts i s = record { addresses = λ t a m. absurd m; subscribed = λ id e t xs m. absurd m }
+no_facts i s = record { addresses = λ t a m. absurd m; prefixes = λ t p m. absurd m; subscribed = λ id e t xs m. absurd m }
 
 -- by the facts of both
 pub both_facts : (i : IndexValue) (s : Session) (xs ys : List Fact) → ListsFacts i s xs → ListsFacts i s ys → ListsFacts i s (xs ++ ys)
 both_facts i s xs ys g h = record {
   addresses = λ t a m. elim (In-cases (Field address t (Address (ipv4_octets a))) xs ys m) [ inl n ↦ g.addresses t a n | inr n ↦ h.addresses t a n ];
+  prefixes = λ t p m. elim (In-cases (Field prefix t (Prefix p)) xs ys m) [ inl n ↦ g.prefixes t p n | inr n ↦ h.prefixes t p n ];
   subscribed = λ id e t us m. elim (In-cases (Field subscribers t (Subscribers us)) xs ys m) [ inl n ↦ g.subscribed id e t us n | inr n ↦ h.subscribed id e t us n ];
 }
 
@@ -109,7 +113,7 @@ result_grows cmp before after key id (Err v) h e k x i = subst (λ l. In x l) (s
 
 -- with other lists of gateways' sessions
 pub gateways_grow : (now : IndexValue) (g : ByAddress) → ((a : Ipv4Addr) (x : List ℕ) → In x (ids_at address_cmp now.gateways a) → In x (ids_at address_cmp g a)) → Grows now (record now { gateways = g })
-gateways_grow now g h = record { addresses = by; subscribed = λ x id m. m }
+gateways_grow now g h = record { addresses = by; prefixes = λ k id m. m; subscribed = λ x id m. m }
   where
     by : (k : Kind) (a : Ipv4Addr) (id : List ℕ) → In id (listed_at now k a) → In id (listed_at (record now { gateways = g }) k a)
     by Gx a id m = h a id m
@@ -117,7 +121,7 @@ gateways_grow now g h = record { addresses = by; subscribed = λ x id m. m }
 
 -- with other lists of calls
 pub calls_grow : (now : IndexValue) (g : ByAddress) → ((a : Ipv4Addr) (x : List ℕ) → In x (ids_at address_cmp now.calls a) → In x (ids_at address_cmp g a)) → Grows now (record now { calls = g })
-calls_grow now g h = record { addresses = by; subscribed = λ x id m. m }
+calls_grow now g h = record { addresses = by; prefixes = λ k id m. m; subscribed = λ x id m. m }
   where
     by : (k : Kind) (a : Ipv4Addr) (id : List ℕ) → In id (listed_at now k a) → In id (listed_at (record now { calls = g }) k a)
     by Gx a id m = m
@@ -125,7 +129,33 @@ calls_grow now g h = record { addresses = by; subscribed = λ x id m. m }
 
 -- with other lists by subscriber
 pub subscribed_grow : (now : IndexValue) (g : BySubscriber) → GrowsUnder now.subscribed g → Grows now (record now { subscribed = g })
-subscribed_grow now g h = record { addresses = λ k a id m. m; subscribed = λ x id m. h.each x id m }
+subscribed_grow now g h = record { addresses = λ k a id m. m; prefixes = λ k id m. m; subscribed = λ x id m. h.each x id m }
+
+-- with another list of gateways' sessions that were given a prefix
+pub prefixed_gateways_grow : (now : IndexValue) (g : List (List ℕ)) → ((x : List ℕ) → In x now.prefixed_gateways → In x g) → Grows now (record now { prefixed_gateways = g })
+prefixed_gateways_grow now g h = record { addresses = λ k a id m. m; prefixes = by; subscribed = λ x id m. m }
+  where
+    by : (k : Kind) (id : List ℕ) → In id (with_prefix now k) → In id (with_prefix (record now { prefixed_gateways = g }) k)
+    by Gx id m = h id m
+    by Af id m = m
+
+-- with another list of calls that were given one
+pub prefixed_calls_grow : (now : IndexValue) (g : List (List ℕ)) → ((x : List ℕ) → In x now.prefixed_calls → In x g) → Grows now (record now { prefixed_calls = g })
+prefixed_calls_grow now g h = record { addresses = λ k a id m. m; prefixes = by; subscribed = λ x id m. m }
+  where
+    by : (k : Kind) (id : List ℕ) → In id (with_prefix now k) → In id (with_prefix (record now { prefixed_calls = g }) k)
+    by Gx id m = m
+    by Af id m = h id m
+
+-- after a call that added one to a set, or nothing, what was there stays
+pub set_grows : {A E : Type 0} (before after : List (List ℕ)) (id : List ℕ) (r : Result A E) → OnOk r (after ≡ place text_cmp id before) → OnErr r (after ≡ before)
+    → (x : List ℕ) → In x before → In x after
+set_grows before after id (Ok v) h e x i = subst (λ l. In x l) (sym h) (place_keeps text_cmp text_ranked id x before i)
+set_grows before after id (Err v) h e x i = subst (λ l. In x l) (sym e) i
+
+-- and the one that was added is there
+pub set_has : (before after : List (List ℕ)) (id : List ℕ) → after ≡ place text_cmp id before → In id after
+set_has before after id h = subst (λ l. In id l) (sym h) (place_has text_cmp text_ranked id before)
 
 -- the octets of a fact that gives an address
 abbrev octets_in : Fact → List ℕ
@@ -137,6 +167,11 @@ abbrev subscribers_in : Fact → List Subscriber
 subscribers_in (Field p t (Subscribers xs)) = xs
 subscribers_in f = []
 
+-- the fact gives a prefix
+abbrev gives_prefix : Fact → Bool
+gives_prefix (Field p t (Prefix q)) = true
+gives_prefix f = false
+
 -- the fact gives an address
 abbrev gives_address : Fact → Bool
 gives_address (Field p t (Address a)) = true
@@ -144,7 +179,11 @@ gives_address f = false
 
 -- by the fact of an address
 pub address_fact : (i : IndexValue) (s : Session) (t : Tag) (a : Ipv4Addr) → In s.id (listed_at i s.kind a) → ListsFacts i s (Field address t (Address (ipv4_octets a)) ∷ [])
-address_fact i s t a h = record { addresses = by; subscribed = λ id e u xs m. elim m [ inl q ↦ clash true refl (ap gives_address (sym q)) | inr n ↦ absurd n ] }
+address_fact i s t a h = record {
+  addresses = by;
+  prefixes = λ u p m. elim m [ inl q ↦ clash true refl (ap gives_address (sym q)) | inr n ↦ absurd n ];
+  subscribed = λ id e u xs m. elim m [ inl q ↦ clash true refl (ap gives_address (sym q)) | inr n ↦ absurd n ];
+}
   where
     by : (u : Tag) (b : Ipv4Addr) → In (Field address u (Address (ipv4_octets b))) (Field address t (Address (ipv4_octets a)) ∷ []) → In s.id (listed_at i s.kind b)
     by u b (inl q) =
@@ -153,10 +192,19 @@ address_fact i s t a h = record { addresses = by; subscribed = λ id e u xs m. e
         subst (λ (x : Ipv4Addr). In s.id (listed_at i s.kind x)) same h
     by u b (inr n) = absurd n
 
+-- by the fact of a prefix
+pub prefix_fact : (i : IndexValue) (s : Session) (t : Tag) (q : Ipv6Prefix) → In s.id (with_prefix i s.kind) → ListsFacts i s (Field prefix t (Prefix q) ∷ [])
+prefix_fact i s t q h = record {
+  addresses = λ u a m. elim m [ inl e ↦ clash true refl (ap gives_address e) | inr n ↦ absurd n ];
+  prefixes = λ u p m. h;
+  subscribed = λ id e u xs m. elim m [ inl r ↦ clash true refl (ap gives_prefix (sym r)) | inr n ↦ absurd n ];
+}
+
 -- by the fact of a gateway's session's subscribers
 pub subscribers_fact : (i : IndexValue) (id : List ℕ) (t : Tag) (xs : List Subscriber) → ListedUnder i.subscribed id xs → ListsFacts i (gx id) (Field subscribers t (Subscribers xs) ∷ [])
 subscribers_fact i id t xs h = record {
   addresses = λ u b m. elim m [ inl q ↦ clash true refl (ap gives_address q) | inr n ↦ absurd n ];
+  prefixes = λ u p m. elim m [ inl q ↦ clash true refl (ap gives_prefix q) | inr n ↦ absurd n ];
   subscribed = λ id2 e u ys m. elim m [
     | inl q ↦ subst (λ (us : List Subscriber). ListedUnder i.subscribed id2 us) (sym (ap subscribers_in q)) (subst (λ (s : Session). ListedUnder i.subscribed s.id xs) e h)
     | inr n ↦ absurd n

@@ -1,5 +1,5 @@
 -- What an index still lists and covers once a session is forgotten.
-use Rattle.std.proofs.Common.{◌≡◌, ℕ, Bool, true, false, not, cond, List, [], ◌∷◌, ◌++◌, Option, Some, None, option_map, ◌⊎◌, ◌||◌, inl, inr, refl, sym, ap, ◌∙◌, subst, if◌then◌else◌}
+use Rattle.std.proofs.Common.{◌≡◌, ℕ, Bool, true, false, not, cond, List, [], ◌∷◌, ◌++◌, Option, Some, None, is_some, option_map, ◌⊎◌, ◌||◌, inl, inr, refl, sym, ap, ◌∙◌, subst, if◌then◌else◌}
 use Rattle.std.specs.List.{list_any}
 use Rattle.std.specs.Net.Addr.{ipv4_octets}
 use Rattle.std.specs.Ordering.{is_eq}
@@ -10,19 +10,20 @@ use Rattle.ranked.specs.declared.tag.Tag.{Tag}
 use Rattle.ranked.proofs.OrderLaws.{text_ranked, eq_is, eq_itself}
 use Rattle.ranked.proofs.Plain.{clash, is_false, none_some, some_same}
 use Rattle.ranked.proofs.SetLaws.{In-filter, In-left, In-right, In-cases, In-any, any-In}
+use Rattle.pcrf_values.specs.Prefixes.{Ipv6Prefix}
 use Rattle.pcrf_values.specs.Subscribers.{subscriber_cmp}
-use Rattle.pcrf_facts.specs.Facts.{Fact, End, Removed, Field}
+use Rattle.pcrf_facts.specs.Facts.{Fact, End, Removed, Field, Aborted}
 use Rattle.pcrf_facts.specs.FlowWords.{value_at}
 use Rattle.pcrf_facts.specs.Held.{entry_shown, is_ended, is_gone, blocks}
-use Rattle.pcrf_facts.specs.Places.{Place, address, subscribers}
-use Rattle.pcrf_facts.specs.Values.{Value, Entry, Subscriber, Address, Subscribers}
+use Rattle.pcrf_facts.specs.Places.{Place, address, prefix, subscribers}
+use Rattle.pcrf_facts.specs.Values.{Value, Entry, Subscriber, Address, Subscribers, Prefix}
 use Rattle.pcrf_facts.proofs.FactLaws.{subscriber_ranked}
-use Rattle.pcrf_model.specs.Holdings.{facts_on}
+use Rattle.pcrf_model.specs.Holdings.{SessionFact, facts_on}
 use Rattle.pcrf_model.specs.Sessions.{Kind, Gx, Af, Session, gx, af}
 use Rattle.pcrf_model.specs.Views.{View, view, value}
 use Rattle.session_lists.specs.Lists.{ids_at, without, without_id}
-use Rattle.session_index.specs.Index.{address_cmp, ByAddress, BySubscriber, IndexValue, listed_at, listed_of, Covers}
-use Rattle.session_index.specs.Forgetting.{ShowsAddress, EndedShowNothing, GivesAddress, ForgetsAddress, ForgetsEach, ForgetsSubscribers}
+use Rattle.session_index.specs.Index.{address_cmp, ByAddress, BySubscriber, IndexValue, listed_at, listed_of, with_prefix, Covers}
+use Rattle.session_index.specs.Forgetting.{SamePrefixed, SameKeyed, shows_prefix, ShowsAddress, EndedShowNothing, GivesAddress, ForgetsAddress, ForgetsEach, ForgetsSubscribers}
 use Rattle.session_index.proofs.Covering.{address_itself}
 
 -- ---- lists without one
@@ -51,6 +52,16 @@ among_or_not x xs = by (list_any (λ y. is_eq (subscriber_cmp x y)) xs) refl
 
 -- ---- what is covered stays so
 
+-- where those that have a prefix stay listed, each that was among them is
+pub prefixed_still : (i j : IndexValue) → SamePrefixed i j → (k : Kind) (id : List ℕ) → In id (with_prefix i k) → In id (with_prefix j k)
+prefixed_still i j p Gx id m = subst (λ (l : List (List ℕ)). In id l) (sym p.gateways) m
+prefixed_still i j p Af id m = subst (λ (l : List (List ℕ)). In id l) (sym p.calls) m
+
+-- so where those under addresses do
+keyed_still : (i j : IndexValue) → SameKeyed i j → (k : Kind) (a : Ipv4Addr) (id : List ℕ) → In id (listed_at i k a) → In id (listed_at j k a)
+keyed_still i j p Gx a id m = subst (λ (l : ByAddress). In id (ids_at address_cmp l a)) (sym p.gateways) m
+keyed_still i j p Af a id m = subst (λ (l : ByAddress). In id (ids_at address_cmp l a)) (sym p.calls) m
+
 -- addresses that are the same
 same_address : (a b : Ipv4Addr) → is_eq (address_cmp a b) ≡ true → a ≡ b
 same_address a b e = let octets = eq_is text_ranked (ipv4_octets a) (ipv4_octets b) e in λ i. record { octets = octets i }
@@ -67,9 +78,10 @@ module _ (lists : ByAddress) (at : Ipv4Addr) (id : List ℕ) where
 
 -- an index without a gateway's session under an address that it doesn't show covers what it covered
 pub gateway_forgotten : (i j : IndexValue) (at : Ipv4Addr) (id : List ℕ) → ((a : Ipv4Addr) → listed_at j Gx a ≡ without_id address_cmp text_cmp i.gateways at id a)
-    → j.calls ≡ i.calls → j.subscribed ≡ i.subscribed → (v : View) → ¬ ShowsAddress v (gx id) at → Covers v i → Covers v j
-gateway_forgotten i j at id g c u v none h = record {
+    → j.calls ≡ i.calls → j.subscribed ≡ i.subscribed → SamePrefixed i j → (v : View) → ¬ ShowsAddress v (gx id) at → Covers v i → Covers v j
+gateway_forgotten i j at id g c u p v none h = record {
   addresses = λ s a e. by s.kind s.id a e;
+  prefixes = λ s q e. prefixed_still i j p s.kind s.id (h.prefixes s q e);
   subscribed = λ n xs x e m. subst (λ (l : BySubscriber). In n (ids_at subscriber_cmp l x)) (sym u) (h.subscribed n xs x e m);
 }
   where
@@ -80,9 +92,10 @@ gateway_forgotten i j at id g c u v none h = record {
 
 -- so it is without an application function's session
 pub call_forgotten : (i j : IndexValue) (at : Ipv4Addr) (id : List ℕ) → ((a : Ipv4Addr) → listed_at j Af a ≡ without_id address_cmp text_cmp i.calls at id a)
-    → j.gateways ≡ i.gateways → j.subscribed ≡ i.subscribed → (v : View) → ¬ ShowsAddress v (af id) at → Covers v i → Covers v j
-call_forgotten i j at id c g u v none h = record {
+    → j.gateways ≡ i.gateways → j.subscribed ≡ i.subscribed → SamePrefixed i j → (v : View) → ¬ ShowsAddress v (af id) at → Covers v i → Covers v j
+call_forgotten i j at id c g u p v none h = record {
   addresses = λ s a e. by s.kind s.id a e;
+  prefixes = λ s q e. prefixed_still i j p s.kind s.id (h.prefixes s q e);
   subscribed = λ n xs x e m. subst (λ (l : BySubscriber). In n (ids_at subscriber_cmp l x)) (sym u) (h.subscribed n xs x e m);
 }
   where
@@ -93,9 +106,10 @@ call_forgotten i j at id c g u v none h = record {
 
 -- and without one under subscribers, where it shows none
 pub subscribers_forgotten : (i j : IndexValue) (id : List ℕ) (xs : List Subscriber) → ForgetsEach i.subscribed j.subscribed id xs
-    → j.gateways ≡ i.gateways → j.calls ≡ i.calls → (v : View) → value v (gx id) subscribers ≡ None → Covers v i → Covers v j
-subscribers_forgotten i j id xs f g c v none h = record {
+    → j.gateways ≡ i.gateways → j.calls ≡ i.calls → SamePrefixed i j → (v : View) → value v (gx id) subscribers ≡ None → Covers v i → Covers v j
+subscribers_forgotten i j id xs f g c p v none h = record {
   addresses = λ s a e. by s.kind s.id a e;
+  prefixes = λ s q e. prefixed_still i j p s.kind s.id (h.prefixes s q e);
   subscribed = λ n us x e m. under n x (λ q. none_some (Subscribers us) (sym none ∙ ap (λ (l : List ℕ). value v (gx l) subscribers) (sym q) ∙ e)) (h.subscribed n us x e m);
 }
   where
@@ -109,6 +123,45 @@ subscribers_forgotten i j id xs f g c v none h = record {
       | inr k ↦ subst (λ (l : List (List ℕ)). In n l) (sym (f.others x k)) m
     ]
 
+-- a session that shows no prefix isn't one that shows one
+others_have : (v : View) (s r : Session) (q : Ipv6Prefix) → value v s prefix ≡ None → value v r prefix ≡ Some (Prefix q) → (r ≡ s → ⊥)
+others_have v s r q none e same = none_some (Prefix q) (sym none ∙ ap (λ (z : Session). value v z prefix) (sym same) ∙ e)
+
+-- so an index without a gateway's session among those that have a prefix, where it shows none, covers what it covered
+pub prefixed_gateway_forgotten : (i j : IndexValue) (id : List ℕ) → j.prefixed_gateways ≡ without text_cmp id i.prefixed_gateways → j.prefixed_calls ≡ i.prefixed_calls
+    → SameKeyed i j → (v : View) → value v (gx id) prefix ≡ None → Covers v i → Covers v j
+prefixed_gateway_forgotten i j id g c k v none h = record {
+  addresses = λ s a e. keyed_still i j k s.kind a s.id (h.addresses s a e);
+  prefixes = λ s q e. by s.kind s.id q e;
+  subscribed = λ n xs x e m. subst (λ (l : BySubscriber). In n (ids_at subscriber_cmp l x)) (sym k.subscribed) (h.subscribed n xs x e m);
+}
+  where
+    by : (kind : Kind) (n : List ℕ) (q : Ipv6Prefix) → value v (record { kind = kind; id = n }) prefix ≡ Some (Prefix q) → In n (with_prefix j kind)
+    by Gx n q e = subst (λ (l : List (List ℕ)). In n l) (sym g) (stays id n i.prefixed_gateways (λ s. others_have v (gx id) (gx n) q none e (ap gx s)) (h.prefixes (gx n) q e))
+    by Af n q e = subst (λ (l : List (List ℕ)). In n l) (sym c) (h.prefixes (af n) q e)
+
+-- and without an application function's
+pub prefixed_call_forgotten : (i j : IndexValue) (id : List ℕ) → j.prefixed_calls ≡ without text_cmp id i.prefixed_calls → j.prefixed_gateways ≡ i.prefixed_gateways
+    → SameKeyed i j → (v : View) → value v (af id) prefix ≡ None → Covers v i → Covers v j
+prefixed_call_forgotten i j id c g k v none h = record {
+  addresses = λ s a e. keyed_still i j k s.kind a s.id (h.addresses s a e);
+  prefixes = λ s q e. by s.kind s.id q e;
+  subscribed = λ n xs x e m. subst (λ (l : BySubscriber). In n (ids_at subscriber_cmp l x)) (sym k.subscribed) (h.subscribed n xs x e m);
+}
+  where
+    by : (kind : Kind) (n : List ℕ) (q : Ipv6Prefix) → value v (record { kind = kind; id = n }) prefix ≡ Some (Prefix q) → In n (with_prefix j kind)
+    by Gx n q e = subst (λ (l : List (List ℕ)). In n l) (sym g) (h.prefixes (gx n) q e)
+    by Af n q e = subst (λ (l : List (List ℕ)). In n l) (sym c) (stays id n i.prefixed_calls (λ s. others_have v (af id) (af n) q none e (ap af s)) (h.prefixes (af n) q e))
+
+-- a session whose facts show no prefix has no value there
+pub shows_none : (facts : List SessionFact) (s : Session) (own : List Fact) → own ≡ facts_on facts s → shows_prefix own ≡ false → value (view facts) s prefix ≡ None
+unfolding view
+shows_none facts s own its none = by (entry_shown (facts_on facts s) prefix) (ap shows_prefix (sym its) ∙ none)
+  where
+    by : (o : Option Entry) → is_some o ≡ false → option_map (λ (e : Entry). e.1) o ≡ None
+    by None h = refl
+    by (Some e) h = clash true refl h
+
 -- ---- an ended session shows nothing
 
 -- what ends a session blocks each of its places
@@ -121,6 +174,7 @@ end_blocks p (Removed r ∷ fs) e = either (blocks p (Removed r)) (end_blocks p 
     either true h = refl
     either false h = h
 end_blocks p (Field q t v ∷ fs) e = end_blocks p fs e
+end_blocks p (Aborted ∷ fs) e = end_blocks p fs e
 
 pub ended_show_nothing : EndedShowNothing
 unfolding view

@@ -8,7 +8,8 @@ use Rattle.pcrf_values.specs.Subscribers.{subscriber_cmp}
 use Rattle.pcrf_facts.specs.Facts.{Fact}
 use Rattle.pcrf_facts.specs.FlowWords.{value_at}
 use Rattle.pcrf_facts.specs.Held.{entry_shown}
-use Rattle.pcrf_facts.specs.Places.{Place, address, subscribers}
+use Rattle.pcrf_facts.specs.Live.{shows_at}
+use Rattle.pcrf_facts.specs.Places.{Place, address, prefix, subscribers}
 use Rattle.pcrf_facts.specs.Values.{Subscriber, Address, Subscribers}
 use Rattle.pcrf_model.specs.Holdings.{SessionFact}
 use Rattle.pcrf_model.specs.Sessions.{Session}
@@ -61,3 +62,18 @@ pub record ForgetsUnshown (before after : BySubscriber) (id : List ℕ) (xs : Li
   pub gone : (x : Subscriber) → In x xs → shows_subscriber facts x ≡ false → ids_at subscriber_cmp after x ≡ without text_cmp id (ids_at subscriber_cmp before x)
   pub shown : (x : Subscriber) → shows_subscriber facts x ≡ true → ids_at subscriber_cmp after x ≡ ids_at subscriber_cmp before x
   pub others : (x : Subscriber) → ¬ In x xs → ids_at subscriber_cmp after x ≡ ids_at subscriber_cmp before x
+
+-- these facts of a session show a prefix
+abbrev pub shows_prefix : List Fact → Bool
+shows_prefix facts = shows_at (entry_shown facts) prefix
+
+-- those that have a prefix stay listed, and no others are
+pub record SamePrefixed (before after : IndexValue) : Type 0 where
+  pub gateways : after.prefixed_gateways ≡ before.prefixed_gateways
+  pub calls : after.prefixed_calls ≡ before.prefixed_calls
+
+-- sessions stay listed under addresses and subscribers, and no others are
+pub record SameKeyed (before after : IndexValue) : Type 0 where
+  pub gateways : after.gateways ≡ before.gateways
+  pub calls : after.calls ≡ before.calls
+  pub subscribed : after.subscribed ≡ before.subscribed

@@ -6,7 +6,7 @@ ghost use Rattle.pcrf_model.specs.Sessions.{gx, af};
 ghost use Rattle.pcrf_model.specs.Views.{view};
 ghost use Rattle.ranked.specs.declared.tag.Tag.{Tag};
 ghost use Rattle.fact_records.specs.SessionFacts.{session_fact};
-ghost use Rattle.session_index.specs.Index.{Covers, Grows, ListAddresses, ListSubscribers, ListsAddress, ListsFacts, ListsSubscribers};
+ghost use Rattle.session_index.specs.Index.{Covers, Grows, ListEach, ListsAddress, ListsCall, ListsFacts, ListsGateway, ListsPrefix, ListsSubscribers};
 
 use crate::index::Index;
 use af_records::{AfFact, AfRec, AfRequestType};
@@ -18,8 +18,9 @@ use std::alloc::AllocError;
 use std::collections::btree_map::Iter;
 
 impl Index {
-    /// Lists the session of an operation under each address that it gives it, and one of a gateway under each subscriber. A
-    /// refusal leaves what was listed so far. An index that covers a state before then covers it with the operation.
+    /// Lists the session of an operation under each address that it gives it, with those that were given a prefix if it gives
+    /// it one, and one of a gateway under each subscriber. A refusal leaves what was listed so far. An index that covers a
+    /// state before then covers it with the operation.
     pub fn cover(&mut self, operation: &Operation) -> Result<(), AllocError>
         ensures grows { Grows self.old self.new }
         ensures lists { OnOk result
@@ -31,8 +32,8 @@ impl Index {
         }
     }
 
-    /// Lists each session of a state under the address that it shows, and each of a gateway under the subscribers that it
-    /// shows. A refusal leaves what was listed so far.
+    /// Lists each session of a state under the address that it shows, with those that were given a prefix if it shows one, and
+    /// each of a gateway under the subscribers that it shows. A refusal leaves what was listed so far.
     pub fn cover_state(&mut self, state: &State) -> Result<(), AllocError>
         ensures grows { Grows self.old self.new }
         ensures covers { OnOk result (Covers (view state.now.facts) self.new) }
@@ -41,14 +42,14 @@ impl Index {
         self.list_calls(state.all_af())
     }
 
-    /// Lists a gateway's session under the address and each subscriber that a record of it shows. A refusal leaves what was
-    /// listed so far.
+    /// Lists a gateway's session under the address and each subscriber that a record of it shows, and with those that were given
+    /// a prefix if it shows one. A refusal leaves what was listed so far.
     pub fn cover_gateway(&mut self, id: &GxSid, known: &GxRec) -> Result<(), AllocError>
         ensures grows { Grows self.old self.new }
-        ensures address { OnOk result (ListsAddress self.new (gx id.now) known.now) }
-        ensures subscribers { OnOk result (ListsSubscribers self.new id.now known.now) }
+        ensures lists { OnOk result (ListsGateway self.new id.now known.now) }
     {
         self.list_gateway_address(id, known)?;
+        self.list_gateway_prefix(id, known)?;
         self.list_gateway_subscribers(id, known)
     }
 
@@ -88,6 +89,7 @@ impl Index {
     {
         match value {
             SessionValue::Address(address) => self.add_gateway(address, id),
+            SessionValue::Prefix(_) => self.add_prefixed_gateway(id),
             SessionValue::Subscribers(subscribers) => {
                 self.add_subscribed(subscribers.as_slice(), id)
             }
@@ -131,6 +133,7 @@ impl Index {
     {
         match value {
             SessionValue::Address(address) => self.add_call(address, id),
+            SessionValue::Prefix(_) => self.add_prefixed_call(id),
             _ => Ok(()),
         }
     }
@@ -138,12 +141,10 @@ impl Index {
     /// Lists gateways' sessions by what their records show.
     fn list_gateways(&mut self, sessions: Iter<'_, GxSid, GxRec>) -> Result<(), AllocError>
         ensures grows { Grows self.old self.new }
-        ensures addresses { OnOk result (ListAddresses self.new gx sessions.entry) }
-        ensures subscribers { OnOk result (ListSubscribers self.new sessions.entry) }
+        ensures lists { OnOk result (ListEach ListsGateway self.new sessions.entry) }
     {
         for (id, known) in sessions {
-            self.list_gateway_address(id, known)?;
-            self.list_gateway_subscribers(id, known)?;
+            self.cover_gateway(id, known)?;
         }
         Ok(())
     }
@@ -159,6 +160,17 @@ impl Index {
         self.add_gateway(address, id)
     }
 
+    /// Lists a gateway's session with those that were given a prefix, if its record shows one.
+    fn list_gateway_prefix(&mut self, id: &GxSid, known: &GxRec) -> Result<(), AllocError>
+        ensures grows { Grows self.old self.new }
+        ensures lists { OnOk result (ListsPrefix self.new (gx id.now) known.now) }
+    {
+        if known.prefix().is_none() {
+            return Ok(());
+        }
+        self.add_prefixed_gateway(id)
+    }
+
     /// Lists a gateway's session under each subscriber that its record shows.
     fn list_gateway_subscribers(&mut self, id: &GxSid, known: &GxRec) -> Result<(), AllocError>
         ensures grows { Grows self.old self.new }
@@ -170,15 +182,25 @@ impl Index {
         self.add_subscribed(subscribers.as_slice(), id)
     }
 
-    /// Lists application functions' sessions under the addresses that their records show.
+    /// Lists application functions' sessions by what their records show.
     fn list_calls(&mut self, sessions: Iter<'_, AfSid, AfRec>) -> Result<(), AllocError>
         ensures grows { Grows self.old self.new }
-        ensures lists { OnOk result (ListAddresses self.new af sessions.entry) }
+        ensures lists { OnOk result (ListEach ListsCall self.new sessions.entry) }
     {
         for (id, known) in sessions {
-            self.list_call_address(id, known)?;
+            self.cover_call(id, known)?;
         }
         Ok(())
+    }
+
+    /// Lists an application function's session under the address that its record shows, and with those that were given a
+    /// prefix if it shows one.
+    fn cover_call(&mut self, id: &AfSid, known: &AfRec) -> Result<(), AllocError>
+        ensures grows { Grows self.old self.new }
+        ensures lists { OnOk result (ListsCall self.new id.now known.now) }
+    {
+        self.list_call_address(id, known)?;
+        self.list_call_prefix(id, known)
     }
 
     /// Lists an application function's session under the address that its record shows.
@@ -190,5 +212,16 @@ impl Index {
             return Ok(());
         };
         self.add_call(address, id)
+    }
+
+    /// Lists an application function's session with those that were given a prefix, if its record shows one.
+    fn list_call_prefix(&mut self, id: &AfSid, known: &AfRec) -> Result<(), AllocError>
+        ensures grows { Grows self.old self.new }
+        ensures lists { OnOk result (ListsPrefix self.new (af id.now) known.now) }
+    {
+        if known.prefix().is_none() {
+            return Ok(());
+        }
+        self.add_prefixed_call(id)
     }
 }

@@ -7,8 +7,9 @@ ghost use Rattle.pcrf_model.specs.Sessions.{gx, af};
 ghost use Rattle.pcrf_model.specs.Views.{view};
 ghost use Rattle.ranked.specs.Sets.{greatest};
 ghost use Rattle.bind_index.specs.Asking.{with_record};
-ghost use Rattle.session_index.specs.Index.{Covers, matches_listed};
+ghost use Rattle.session_index.specs.Index.{AreAskedFor, Covers, matches_listed};
 ghost use Rattle.bind_index.specs.Matches.{match_of, match_value};
+ghost use Rattle.session_lists.specs.Lists.{ids_or_none};
 
 use crate::index::Index;
 use af_records::AfRec;
@@ -19,8 +20,8 @@ use site_join::State;
 
 impl Index {
     /// The gateway's session to which an application function's session is bound, `None` where it is bound to none, by an
-    /// index that covers the state. Its time grows with the number of gateways' sessions that are listed under the address;
-    /// it takes no memory.
+    /// index that covers the state. Its time grows with the number of gateways' sessions that are listed under the address, or
+    /// where the session has a prefix and no address with that of all that were given a prefix; it takes no memory.
     pub fn bind(&self, state: &State, session: &AfSid) -> Option<&GxSid>
         ensures { Covers (view state.now.facts) self.now → option_map gx (option_copied result)
             ≡ bind (view state.now.facts) (af session.now) }
@@ -32,23 +33,33 @@ impl Index {
     }
 
     /// The gateway's session to which an application function's session would be bound, were this its record, by an index
-    /// that covers the state. Its time grows with the number of gateways' sessions that are listed under the address; it
-    /// takes no memory.
+    /// that covers the state. Its time grows as that of `bind`; it takes no memory.
     pub fn bind_by(&self, state: &State, asking: &AfRec) -> Option<&GxSid>
         ensures { Covers (view state.now.facts) self.now → (a : List ℕ)
             → option_map gx (option_copied result)
             ≡ bind (view (with_record state.now (af a) asking.now).facts) (af a) }
     {
-        let Some((_, address)) = asking.address() else {
-            return None;
-        };
-        let Some(ids) = self.gateways_at(*address) else {
+        let Some(ids) = self.sessions_for(asking) else {
             return None;
         };
         let Some(found) = greatest_listed(asking, state, ids) else {
             return None;
         };
         Some(found.session)
+    }
+
+    /// The gateways' sessions among which an application function's session of this record finds its own: those under its
+    /// address, or where it has a prefix alone those that were given one.
+    fn sessions_for(&self, asking: &AfRec) -> Option<&SessionIds<GxSid>>
+        ensures { AreAskedFor self.now asking.now (ids_or_none (option_copied result)) }
+    {
+        if let Some((_, address)) = asking.address() {
+            return self.gateways_at(*address);
+        }
+        if asking.prefix().is_none() {
+            return None;
+        }
+        self.gateways_with_prefix()
     }
 }
 

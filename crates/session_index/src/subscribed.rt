@@ -14,7 +14,7 @@ ghost use Rattle.ranked.specs.Orders.{text_cmp};
 ghost use Rattle.bind_index.specs.Listings.{HasSubscriber, sessions_of};
 ghost use Rattle.session_lists.specs.Lists.{ids_at, without_id};
 ghost use Rattle.site_join.specs.States.{record_facts};
-ghost use Rattle.session_index.specs.Forgetting.{ForgetsUnshown, shows_subscriber};
+ghost use Rattle.session_index.specs.Forgetting.{ForgetsUnshown, SamePrefixed, shows_subscriber};
 ghost use Rattle.session_index.specs.Index.{Covers, asked_among};
 
 use crate::index::Index;
@@ -50,6 +50,7 @@ impl Index {
             id.now subscribers.now (record_facts (option_copied known.entry)) }
         ensures gateways { self.new.gateways ≡ self.old.gateways }
         ensures calls { self.new.calls ≡ self.old.calls }
+        ensures prefixed { SamePrefixed self.old self.new }
         ensures covers { (facts : List SessionFact)
             → record_facts (option_copied known.entry) ≡ facts_on facts (gx id.now)
             → Covers (view facts) self.old → Covers (view facts) self.new }

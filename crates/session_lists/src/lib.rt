@@ -4,7 +4,9 @@
 mod ids;
 mod iter;
 mod lists;
+mod set;
 
 pub use ids::SessionIds;
 pub use iter::Ids;
 pub use lists::SessionLists;
+pub use set::SessionSet;

@@ -10,12 +10,12 @@ use Rattle.indexed_state.proofs.following.follow.Goals as goal
 pub returns-then-not-is_whole : goal.returns-then-not-is_whole
 returns-then-not-is_whole c = λ t i h differs was a.
     agree_anew t i c.args.state.now c.keep_nothing.new.is_whole c.args.index.now c.keep_nothing.new.rules c.keep_nothing.new.waiting
-    (λ e. clash _ e c.keep_nothing.ensures.whole) c.keep_nothing.ensures.kept c.keep_nothing.ensures.waits
+    (λ e. clash _ e c.keep_nothing.ensures.whole) c.keep_nothing.ensures.unsettled
 
 pub returns-then-not-list_known : goal.returns-then-not-list_known
 returns-then-not-list_known c = λ t i h differs was a.
     agree_anew t i c.args.state.now c.keep_nothing-then-not-list_known.new.is_whole c.list_known.new.index c.keep_nothing-then-not-list_known.new.rules c.keep_nothing-then-not-list_known.new.waiting
-    (λ e. clash _ e c.keep_nothing-then-not-list_known.ensures.whole) c.keep_nothing-then-not-list_known.ensures.kept c.keep_nothing-then-not-list_known.ensures.waits
+    (λ e. clash _ e c.keep_nothing-then-not-list_known.ensures.whole) c.keep_nothing-then-not-list_known.ensures.unsettled
 
 pub returns : goal.returns
 returns c = λ t i h differs was a.
@@ -23,10 +23,10 @@ returns c = λ t i h differs was a.
     let id = c.args.id.now in
     let d = gx id in
     let new = c.list_known.new.index in
-    let w = c.wait_both.new.waiting in
+    let w = c.unsettle.new.waiting in
     let covers = a.covers c.if-not-is_whole.false in
-    let last = c.wait_both.ensures.keeps in
-    let z : Followed t i h k d c.args.index.now new c.args.rules.now c.touch_both.new.rules c.args.waiting.now w c.address_in-before.result c.address_in-after.result
+    let last = c.unsettle.ensures.keeps in
+    let z : Followed t i h k d c.args.index.now new c.args.rules.now c.unsettle.new.rules c.args.waiting.now w c.gateway_reached_in-before.result c.gateway_reached_in-after.result
     = record {
       differs = differs;
       covers = covers;
@@ -34,15 +34,16 @@ returns c = λ t i h differs was a.
       kept = a.kept;
       due = a.due;
       grows = c.list_known.ensures.grows;
-      was_at = c.address_in-before.ensures h.facts id (ap record_facts c.as_ref.ensures.value ∙ was);
-      is_at = c.address_in-after.ensures k.facts id c.gx-known.ensures;
-      touched_before = c.touch_both.ensures.before;
-      touched_after = c.touch_both.ensures.after;
+      was_at = c.gateway_reached_in-before.ensures h.facts id (ap record_facts c.as_ref.ensures.value ∙ was);
+      is_at = c.gateway_reached_in-after.ensures k.facts id c.gx-known.ensures;
+      touched_before = c.unsettle.ensures.stale_before;
+      touched_after = c.unsettle.ensures.stale_after;
       keeps = keeps_through c.args.waiting.now c.wait_gateway.new.waiting w c.wait_gateway.ensures.keeps last;
       own = λ none g. waits_on (view k.facts) c.wait_gateway.new.waiting w d last (c.wait_gateway.ensures.waits none);
-      near_before = c.wait_both.ensures.before;
-      near_after = c.wait_both.ensures.after;
+      near_before = c.unsettle.ensures.wait_before;
+      near_after = c.unsettle.ensures.wait_after;
+      all = c.unsettle.ensures.all;
     } in
-    agree_followed t i h k d c.args.index.now new c.args.rules.now c.touch_both.new.rules c.args.waiting.now w c.address_in-before.result c.address_in-after.result
-    z c.args.is_whole.now c.forget_subscribers.new.index
-    (λ all. c.forget_subscribers.ensures k.facts c.gx-known.ensures (c.forget_gateway.ensures (view k.facts) (c.address_in-after.ensures k.facts id c.gx-known.ensures) all))
+    agree_followed t i h k d c.args.index.now new c.args.rules.now c.unsettle.new.rules c.args.waiting.now w c.gateway_reached_in-before.result c.gateway_reached_in-after.result
+    z c.args.is_whole.now c.forget_stood.new.index
+    (λ all. c.forget_stood.ensures k.facts c.gx-known.ensures (c.forget_gateway.ensures (view k.facts) (c.gateway_reached_in-after.ensures k.facts id c.gx-known.ensures).at_address all))

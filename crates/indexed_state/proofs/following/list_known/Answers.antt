@@ -1,13 +1,12 @@
 use Rattle.std.proofs.Common.{List, sym, ap, ◌∙◌, subst}
 use Rattle.std.specs.Option.{option_copied}
 use Rattle.pcrf_facts.specs.Facts.{Fact}
-use Rattle.pcrf_model.specs.Sessions.{gx}
 use Rattle.pcrf_model.specs.Views.{view}
-use Rattle.session_index.specs.Index.{ListsAddress, ListsSubscribers}
+use Rattle.session_index.specs.Index.{ListsGateway}
 use Rattle.session_index.proofs.Covered.{covers_grow}
 use Rattle.session_index.proofs.Covering.{grows_itself}
 use Rattle.site_join.specs.States.{record_facts}
-use Rattle.indexed_state.proofs.Agreeing.{placed_covered, none_address, none_subscribers}
+use Rattle.indexed_state.proofs.Agreeing.{placed_covered, none_listed}
 use Rattle.indexed_state.proofs.following.list_known.Goals as goal
 
 pub returns-in_default-clause-grows : goal.returns-in_default-clause-grows
@@ -17,8 +16,7 @@ pub returns-in_default-clause-covers : goal.returns-in_default-clause-covers
 returns-in_default-clause-covers c = λ listed before after is differs covers.
     let none = sym (ap (λ o. record_facts (option_copied o)) c.in_default.is) ∙ is in
     placed_covered before after c.args.id.now c.args.index.now differs covers
-    (subst (λ (fs : List Fact). ListsAddress c.args.index.now (gx c.args.id.now) fs) none (none_address c.args.index.now (gx c.args.id.now)))
-    (subst (λ (fs : List Fact). ListsSubscribers c.args.index.now c.args.id.now fs) none (none_subscribers c.args.index.now c.args.id.now))
+    (subst (λ (fs : List Fact). ListsGateway c.args.index.now c.args.id.now fs) none (none_listed c.args.index.now c.args.id.now))
 
 pub returns-in-Ok-clause-covers : goal.returns-in-Ok-clause-covers
 returns-in-Ok-clause-covers c = λ listed before after is differs covers.
@@ -26,5 +24,4 @@ returns-in-Ok-clause-covers c = λ listed before after is differs covers.
     let facts = sym (ap (λ o. record_facts (option_copied o)) c.in-Some.is) ∙ is in
     placed_covered before after c.args.id.now index differs
     (covers_grow (view before) c.args.index.now index c.cover_gateway.ensures.grows covers)
-    (subst (λ (fs : List Fact). ListsAddress index (gx c.args.id.now) fs) facts c.in-Ok.ensures.address)
-    (subst (λ (fs : List Fact). ListsSubscribers index c.args.id.now fs) facts c.in-Ok.ensures.subscribers)
+    (subst (λ (fs : List Fact). ListsGateway index c.args.id.now fs) facts c.in-Ok.ensures)

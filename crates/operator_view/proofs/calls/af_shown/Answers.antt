@@ -11,4 +11,4 @@ returns c =
     ap (map af_field_shown) c.in_ok-fields.ensures
     ∙ fields_given c.in_ok-facts.facts.items
     ∙ ap (filter_map field_of) (c.in_ok-facts.ensures ∙ sym c.note_valid.ensures) in
-    λ i. record { fields = fields i; binding = c.in_ok-binding.ensures i }
+    λ i. record { fields = fields i; binding = c.in_ok-binding.ensures i; aborted = c.aborted.ensures i }

@@ -9,4 +9,4 @@ pub invariant_of-self : goal.invariant_of-self
 invariant_of-self c =
     agree_anew c.self.inside.tables c.self.inside.site c.start.result true c.start-2.result c.touch_all.new.self c.start-3.result
     (λ _. subst (λ (h : Holding). Covers (view h.facts) c.start-2.result) (sym c.start.ensures) (covers_nothing c.start-2.result))
-    c.touch_all.ensures c.start-3.ensures
+    (record { stale = c.touch_all.ensures; waits = c.start-3.ensures })

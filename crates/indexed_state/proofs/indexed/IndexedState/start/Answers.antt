@@ -9,4 +9,4 @@ pub invariant_of-result : goal.invariant_of-result
 invariant_of-result c =
     agree_anew c.args.tables 0 c.start.result true c.start-2.result c.start-3.result c.start-4.result
     (λ _. subst (λ (h : Holding). Covers (view h.facts) c.start-2.result) (sym c.start.ensures) (covers_nothing c.start-2.result))
-    c.start-3.ensures c.start-4.ensures
+    (record { stale = c.start-3.ensures; waits = c.start-4.ensures })

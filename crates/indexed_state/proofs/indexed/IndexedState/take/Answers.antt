@@ -4,7 +4,7 @@ use Rattle.pcrf_model.specs.Sessions.{Session, is_gx}
 use Rattle.pcrf_model.specs.Views.{view}
 use Rattle.waiting_sessions.specs.Waits.{WaitsIfDue}
 use Rattle.waiting_sessions.proofs.Waited.{keeps_through, waits_on}
-use Rattle.indexed_state.specs.Indexed.{Agree, IsAddressOf}
+use Rattle.indexed_state.specs.Indexed.{Agree, IsAddressOf, IsReached}
 use Rattle.indexed_state.proofs.Agreeing.{Followed, agree_index, agree_grown, agree_followed, operation_differs, operation_covered}
 use Rattle.indexed_state.proofs.indexed.IndexedState.take.Goals as goal
 
@@ -37,16 +37,16 @@ invariant_of-self-2 c =
     let h = c.self.inside.state in
     let k = c.take.new.self in
     let o = c.args.operation.now in
-    let w = c.wait_both.new.waiting in
-    let before = c.address_of-before.result in
-    let after = c.address_of-after.result in
+    let w = c.unsettle.new.waiting in
+    let before = c.reached_by-before.result in
+    let after = c.reached_by-after.result in
     let session = c.facts-facts.ensures.session in
-    let last = c.wait_both.ensures.keeps in
-    let is_at : IsAddressOf (view k.facts) o.session after =
-    subst (λ (s : Session). IsAddressOf (view k.facts) s after) session c.address_of-after.ensures in
-    let own = subst (λ (s : Session). after ≡ None → is_gx s.kind ≡ true → WaitsIfDue (view k.facts) c.wait_unlisted.new.waiting s) session c.wait_unlisted.ensures.waits in
+    let last = c.unsettle.ensures.keeps in
+    let is_at : IsReached (view k.facts) o.session after =
+    subst (λ (s : Session). IsReached (view k.facts) s after) session c.reached_by-after.ensures in
+    let own = subst (λ (s : Session). after.address ≡ None → is_gx s.kind ≡ true → WaitsIfDue (view k.facts) c.wait_unlisted.new.waiting s) session c.wait_unlisted.ensures.waits in
     let covers = c.make_whole.ensures.covers c.self.invariant.covers c.in_ok-make_whole.ensures.whole in
-    let z : Followed c.self.inside.tables c.self.inside.site h k o.session c.make_whole.new.index c.cover.new.self c.self.inside.rules c.touch_both.new.rules c.self.inside.waiting w before after
+    let z : Followed c.self.inside.tables c.self.inside.site h k o.session c.make_whole.new.index c.cover.new.self c.self.inside.rules c.unsettle.new.rules c.self.inside.waiting w before after
     = record {
       differs = operation_differs h k o c.make_whole.new.index c.cover.new.self c.in_ok-take.ensures.ok c.note_kept.ensures;
       covers = covers;
@@ -54,15 +54,16 @@ invariant_of-self-2 c =
       kept = c.self.invariant.kept;
       due = c.self.invariant.due;
       grows = c.cover.ensures.grows;
-      was_at = subst (λ (s : Session). IsAddressOf (view h.facts) s before) session c.address_of-before.ensures;
+      was_at = subst (λ (s : Session). IsReached (view h.facts) s before) session c.reached_by-before.ensures;
       is_at = is_at;
-      touched_before = c.touch_both.ensures.before;
-      touched_after = c.touch_both.ensures.after;
+      touched_before = c.unsettle.ensures.stale_before;
+      touched_after = c.unsettle.ensures.stale_after;
       keeps = keeps_through c.self.inside.waiting c.wait_unlisted.new.waiting w c.wait_unlisted.ensures.keeps last;
       own = λ none g. waits_on (view k.facts) c.wait_unlisted.new.waiting w o.session last (own none g);
-      near_before = c.wait_both.ensures.before;
-      near_after = c.wait_both.ensures.after;
+      near_before = c.unsettle.ensures.wait_before;
+      near_after = c.unsettle.ensures.wait_after;
+      all = c.unsettle.ensures.all;
     } in
-    agree_followed c.self.inside.tables c.self.inside.site h k o.session c.make_whole.new.index c.cover.new.self c.self.inside.rules c.touch_both.new.rules c.self.inside.waiting w
+    agree_followed c.self.inside.tables c.self.inside.site h k o.session c.make_whole.new.index c.cover.new.self c.self.inside.rules c.unsettle.new.rules c.self.inside.waiting w
     before after z c.make_whole.new.is_whole c.forget_given.new.index
-    (λ all. c.forget_given.ensures (c.forget_moved.ensures (view k.facts) (subst (λ (s : Session). IsAddressOf (view k.facts) s after) (sym session) is_at) all))
+    (λ all. c.forget_given.ensures (c.forget_moved.ensures (view k.facts) (subst (λ (s : Session). IsAddressOf (view k.facts) s after.address) (sym session) is_at.at_address) all))

@@ -43,13 +43,13 @@ invariant_of-self-2 c =
     let is = c.in_ok-stood.ensures.placed ∙ put_is_taken h o c.note_kept.ensures c.max-clock.result counter s c.requires.session c.args.known joins in
     let k = c.put_gx.new.self in
     let known = put_known h o c.note_kept.ensures c.max-clock.result counter s c.requires.session c.args.known joins in
-    let w = c.wait_both.new.waiting in
-    let before = c.address_in-before.result in
-    let after = c.address_in-after.result in
-    let last = c.wait_both.ensures.keeps in
-    let is_at = c.address_in-after.ensures k.facts c.args.id.now (known ∙ ap (λ (m : Holding). facts_on m.facts s) (sym is)) in
+    let w = c.unsettle.new.waiting in
+    let before = c.gateway_reached_in-before.result in
+    let after = c.gateway_reached_in-after.result in
+    let last = c.unsettle.ensures.keeps in
+    let is_at = c.gateway_reached_in-after.ensures k.facts c.args.id.now (known ∙ ap (λ (m : Holding). facts_on m.facts s) (sym is)) in
     let covers = c.make_whole.ensures.covers c.self.invariant.covers c.in_ok-make_whole.ensures.whole in
-    let z : Followed c.self.inside.tables c.self.inside.site h k s c.make_whole.new.index c.cover.new.self c.self.inside.rules c.touch_both.new.rules c.self.inside.waiting w before after
+    let z : Followed c.self.inside.tables c.self.inside.site h k s c.make_whole.new.index c.cover.new.self c.self.inside.rules c.unsettle.new.rules c.self.inside.waiting w before after
     = record {
       differs = placed_differs h k s (record_facts (Some c.args.known)) c.max-clock.result c.in_ok-stood.ensures.placed;
       covers = covers;
@@ -57,17 +57,18 @@ invariant_of-self-2 c =
       kept = c.self.invariant.kept;
       due = c.self.invariant.due;
       grows = c.cover.ensures.grows;
-      was_at = c.address_in-before.ensures h.facts c.args.id.now (ap record_facts c.as_ref.ensures.value ∙ c.in_ok-stood.ensures.stood);
+      was_at = c.gateway_reached_in-before.ensures h.facts c.args.id.now (ap record_facts c.as_ref.ensures.value ∙ c.in_ok-stood.ensures.stood);
       is_at = is_at;
-      touched_before = c.touch_both.ensures.before;
-      touched_after = c.touch_both.ensures.after;
+      touched_before = c.unsettle.ensures.stale_before;
+      touched_after = c.unsettle.ensures.stale_after;
       keeps = keeps_through c.self.inside.waiting c.wait_gateway.new.waiting w c.wait_gateway.ensures.keeps last;
       own = λ none g. waits_on (view k.facts) c.wait_gateway.new.waiting w s last (c.wait_gateway.ensures.waits none);
-      near_before = c.wait_both.ensures.before;
-      near_after = c.wait_both.ensures.after;
+      near_before = c.unsettle.ensures.wait_before;
+      near_after = c.unsettle.ensures.wait_after;
+      all = c.unsettle.ensures.all;
     } in
-    agree_followed c.self.inside.tables c.self.inside.site h k s c.make_whole.new.index c.cover.new.self c.self.inside.rules c.touch_both.new.rules c.self.inside.waiting w
-    before after z c.make_whole.new.is_whole c.forget_subscribers.new.index (λ all. c.forget_subscribers.ensures k.facts c.gx.ensures (c.forget_gateway.ensures (view k.facts) is_at all))
+    agree_followed c.self.inside.tables c.self.inside.site h k s c.make_whole.new.index c.cover.new.self c.self.inside.rules c.unsettle.new.rules c.self.inside.waiting w
+    before after z c.make_whole.new.is_whole c.forget_stood.new.index (λ all. c.forget_stood.ensures k.facts c.gx.ensures (c.forget_gateway.ensures (view k.facts) is_at.at_address all))
 
 pub returns-clause-ok : goal.returns-clause-ok
 returns-clause-ok c =

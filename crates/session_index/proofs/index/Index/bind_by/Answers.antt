@@ -1,34 +1,27 @@
-use Rattle.std.proofs.Common.{[], Some, None, refl, sym}
+use Rattle.std.proofs.Common.{[], Some, None, refl}
 use Rattle.pcrf_model.specs.Sessions.{af}
 use Rattle.bind_index.specs.Asking.{with_record}
 use Rattle.bind_index.specs.Matches.{match_value}
 use Rattle.bind_index.proofs.Alike.{placed_record}
-use Rattle.session_index.proofs.Indexed.{no_address, listed_is_bound}
+use Rattle.session_index.proofs.Indexed.{listed_is_bound}
 use Rattle.session_index.proofs.index.Index.bind_by.Goals as goal
 
 pub returns-in_default : goal.returns-in_default
 returns-in_default c = λ all a.
     let h = c.args.state.now in
     let asking = c.args.asking.now in
-    no_address h.facts asking (with_record h (af a) asking).facts a (placed_record h asking a) (sym c.in_default.ensures)
-
-pub returns-in_default-gateways_at : goal.returns-in_default-gateways_at
-returns-in_default-gateways_at c = λ all a.
-    let h = c.args.state.now in
-    let asking = c.args.asking.now in
-    listed_is_bound h.facts asking (with_record h (af a) asking).facts a (placed_record h asking a) c.args.self.now c.in-Some.address.now _ None [] all c.in-Some.ensures
-    c.in_default-gateways_at.ensures refl
+    listed_is_bound h.facts asking (with_record h (af a) asking).facts a (placed_record h asking a) c.args.self.now None [] all c.in_default.ensures refl
 
 pub returns-in_default-greatest_listed : goal.returns-in_default-greatest_listed
 returns-in_default-greatest_listed c = λ all a.
     let h = c.args.state.now in
     let asking = c.args.asking.now in
-    listed_is_bound h.facts asking (with_record h (af a) asking).facts a (placed_record h asking a) c.args.self.now c.in-Some.address.now _ None c.in-Some-gateways_at.ids.now
-    all c.in-Some.ensures c.in-Some-gateways_at.ensures c.in_default-greatest_listed.ensures
+    listed_is_bound h.facts asking (with_record h (af a) asking).facts a (placed_record h asking a) c.args.self.now None c.in-Some.ids.now all c.in-Some.ensures
+    c.in_default-greatest_listed.ensures
 
 pub returns : goal.returns
 returns c = λ all a.
     let h = c.args.state.now in
     let asking = c.args.asking.now in
-    listed_is_bound h.facts asking (with_record h (af a) asking).facts a (placed_record h asking a) c.args.self.now c.in-Some.address.now _
-    (Some (match_value c.in-Some-greatest_listed.found)) c.in-Some-gateways_at.ids.now all c.in-Some.ensures c.in-Some-gateways_at.ensures c.in-Some-greatest_listed.ensures
+    listed_is_bound h.facts asking (with_record h (af a) asking).facts a (placed_record h asking a) c.args.self.now (Some (match_value c.in-Some-greatest_listed.found)) c.in-Some.ids.now
+    all c.in-Some.ensures c.in-Some-greatest_listed.ensures

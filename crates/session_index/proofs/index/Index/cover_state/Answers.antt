@@ -1,6 +1,7 @@
 use Rattle.std.proofs.lemmas.Result.{on_ok_weaker}
+use Rattle.session_index.specs.Index.{ListsGateway}
 use Rattle.session_index.proofs.Covering.{grows_through}
-use Rattle.session_index.proofs.Records.{addresses_grow, subscribers_each_grow, covers_records}
+use Rattle.session_index.proofs.Records.{each_grow, gateway_grows, covers_records}
 use Rattle.session_index.proofs.index.Index.cover_state.Goals as goal
 
 pub returns-clause-grows : goal.returns-clause-grows
@@ -13,7 +14,6 @@ returns-clause-covers c =
     (record { ascending = c.all_gx.ensures.ascending; reads = c.all_gx.ensures.facts })
     (record { ascending = c.all_af.ensures.ascending; reads = c.all_af.ensures.facts })
     c.list_calls.new.self
-    (addresses_grow _ _ _ _ c.list_calls.ensures.grows c.in_ok-list_gateways.ensures.addresses)
-    (subscribers_each_grow _ _ _ c.list_calls.ensures.grows c.in_ok-list_gateways.ensures.subscribers)
+    (each_grow ListsGateway gateway_grows _ _ _ c.list_calls.ensures.grows c.in_ok-list_gateways.ensures.lists)
     listed)
     c.list_calls.ensures.lists

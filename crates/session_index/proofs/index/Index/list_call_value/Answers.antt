@@ -3,7 +3,7 @@ use Rattle.std.proofs.lemmas.Result.{on_ok_weaker}
 use Rattle.fact_records.specs.SessionFacts.{session_fact}
 use Rattle.pcrf_model.specs.Sessions.{af}
 use Rattle.session_index.specs.Index.{ListsFacts}
-use Rattle.session_index.proofs.Covering.{address_fact}
+use Rattle.session_index.proofs.Covering.{address_fact, prefix_fact}
 use Rattle.session_index.proofs.index.Index.list_call_value.Goals as goal
 
 pub returns-in-Address-clause-lists : goal.returns-in-Address-clause-lists
@@ -12,3 +12,10 @@ returns-in-Address-clause-lists c =
     (λ added t. subst (λ v. ListsFacts c.add_call.new.self (af c.args.id.now) (session_fact t v ∷ [])) (sym c.in-Address.is)
     (address_fact c.add_call.new.self (af c.args.id.now) t c.in-Address.address added))
     c.add_call.ensures.lists
+
+pub returns-in-Prefix-clause-lists : goal.returns-in-Prefix-clause-lists
+returns-in-Prefix-clause-lists c =
+    on_ok_weaker c.add_prefixed_call.result
+    (λ added t. subst (λ v. ListsFacts c.add_prefixed_call.new.self (af c.args.id.now) (session_fact t v ∷ [])) (sym c.in-Prefix.is)
+    (prefix_fact c.add_prefixed_call.new.self (af c.args.id.now) t _ added))
+    c.add_prefixed_call.ensures.lists
