@@ -15,7 +15,7 @@ use Rattle.pcrf_facts.specs.Facts.{Fact}
 use Rattle.pcrf_facts.specs.FlowWords.{flows}
 use Rattle.pcrf_facts.specs.Held.{entry_shown}
 use Rattle.pcrf_facts.specs.Places.{Place, address, prefix}
-use Rattle.pcrf_facts.specs.Values.{Value, Address, Prefix, Entry}
+use Rattle.pcrf_facts.specs.Values.{Value, Address, Entry}
 use Rattle.pcrf_model.specs.Bindings.{bind, is_bound_to, matches}
 use Rattle.pcrf_model.specs.Holdings.{SessionFact, facts_on}
 use Rattle.pcrf_model.specs.Sessions.{Af, Session, session_cmp, gx, af}
