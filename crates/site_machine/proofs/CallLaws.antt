@@ -13,7 +13,7 @@ use Rattle.pcrf_model.specs.Holdings.{Holding, SessionFact, under, facts_on}
 use Rattle.pcrf_model.specs.Tables.{Tables}
 use Rattle.pcrf_model.specs.Views.{view}
 use Rattle.pcrf_model.specs.Live.{is_live}
-use Rattle.pcrf_model.specs.Requests.{AarValue, StrValue}
+use Rattle.pcrf_model.specs.Requests.{gives_no_address, AarValue, StrValue}
 use Rattle.pcrf_model.specs.Refusals.{first_cause, aar_refusal, str_refusal, binds_to_none, has_no_class, is_clock_full}
 use Rattle.pcrf_model.specs.Replies.{Done, Refused}
 use Rattle.pcrf_model.specs.Serving.{serve_aar, serve_str}
@@ -86,33 +86,33 @@ module _ (t : Tables) (i : ℕ) (h : Holding) (q : AarValue) where
   unfolding view
   live_is = refl
 
-  -- nor gives it an address
-  no_address : (b : Bool) → (not (af_is_live own) && is_none q.address) ≡ b → (not (is_live (view h.facts) (af q.session)) && is_none q.address) ≡ b
-  no_address b given = ap (λ (l : Bool). not l && is_none q.address) live_is ∙ given
+  -- nor says the request where its user is reached
+  no_address : (b : Bool) → (not (af_is_live own) && gives_no_address q.user) ≡ b → (not (is_live (view h.facts) (af q.session)) && gives_no_address q.user) ≡ b
+  no_address b given = ap (λ (l : Bool). not l && gives_no_address q.user) live_is ∙ given
 
   -- of an ended session
   pub call_ended : is_ended (facts_on h.facts (af q.session)) ≡ true → aar_refusal t i h q ≡ Some unknown_session_id
   unfolding aar_refusal
   call_ended ended = rw (ended_is, ended) refl
 
-  -- without an address, where none shows
-  pub call_unknown : is_ended (facts_on h.facts (af q.session)) ≡ false → (not (af_is_live (facts_on h.facts (af q.session))) && is_none q.address) ≡ true → aar_refusal t i h q ≡ Some missing_avp
+  -- by which it isn't known where the user is reached
+  pub call_unknown : is_ended (facts_on h.facts (af q.session)) ≡ false → (not (af_is_live (facts_on h.facts (af q.session))) && gives_no_address q.user) ≡ true → aar_refusal t i h q ≡ Some missing_avp
   unfolding aar_refusal
-  call_unknown ended unknown = second_stands ((view h.facts).ended (af q.session)) (not (is_live (view h.facts) (af q.session)) && is_none q.address) unknown_session_id missing_avp
+  call_unknown ended unknown = second_stands ((view h.facts).ended (af q.session)) (not (is_live (view h.facts) (af q.session)) && gives_no_address q.user) unknown_session_id missing_avp
       ((list_any (has_no_class t) q.components, service_not_authorized) ∷ ((binds_to_none i h q, session_not_available) ∷ (is_clock_full h, unable_to_comply) ∷ [])) (ended_is ∙ ended) (no_address true unknown)
 
   -- with a Media-Type without a row
-  pub call_unclassed : is_ended (facts_on h.facts (af q.session)) ≡ false → (not (af_is_live (facts_on h.facts (af q.session))) && is_none q.address) ≡ false
+  pub call_unclassed : is_ended (facts_on h.facts (af q.session)) ≡ false → (not (af_is_live (facts_on h.facts (af q.session))) && gives_no_address q.user) ≡ false
       → list_any (has_no_class t) q.components ≡ true → aar_refusal t i h q ≡ Some service_not_authorized
   unfolding aar_refusal
-  call_unclassed ended known unclassed = third_stands ((view h.facts).ended (af q.session)) (not (is_live (view h.facts) (af q.session)) && is_none q.address) (list_any (has_no_class t) q.components)
+  call_unclassed ended known unclassed = third_stands ((view h.facts).ended (af q.session)) (not (is_live (view h.facts) (af q.session)) && gives_no_address q.user) (list_any (has_no_class t) q.components)
       unknown_session_id missing_avp service_not_authorized ((binds_to_none i h q, session_not_available) ∷ (is_clock_full h, unable_to_comply) ∷ []) (ended_is ∙ ended) (no_address false known) unclassed
 
   -- else by its binding and by the clock
-  pub call_open : is_ended (facts_on h.facts (af q.session)) ≡ false → (not (af_is_live (facts_on h.facts (af q.session))) && is_none q.address) ≡ false
+  pub call_open : is_ended (facts_on h.facts (af q.session)) ≡ false → (not (af_is_live (facts_on h.facts (af q.session))) && gives_no_address q.user) ≡ false
       → list_any (has_no_class t) q.components ≡ false → aar_refusal t i h q ≡ late_refusal i h q
   unfolding aar_refusal
-  call_open ended known classed = later_stands ((view h.facts).ended (af q.session)) (not (is_live (view h.facts) (af q.session)) && is_none q.address) (list_any (has_no_class t) q.components)
+  call_open ended known classed = later_stands ((view h.facts).ended (af q.session)) (not (is_live (view h.facts) (af q.session)) && gives_no_address q.user) (list_any (has_no_class t) q.components)
       unknown_session_id missing_avp service_not_authorized ((binds_to_none i h q, session_not_available) ∷ (is_clock_full h, unable_to_comply) ∷ []) (ended_is ∙ ended) (no_address false known) classed
 
 -- would be bound to none

@@ -11,7 +11,7 @@ use Rattle.pcrf_values.specs.Numbers.{request_kind_number}
 use Rattle.pcrf_values.specs.RuleValues.{RuleValue, DeltaValue}
 use Rattle.pcrf_values.specs.declared.request_kind.RequestKind.{RequestKind}
 use Rattle.pcrf_values.specs.declared.request_kind.RequestKind.TheVariants.{Initial, Update, Termination}
-use Rattle.pcrf_facts.specs.Facts.{Fact, End, fact_cmp}
+use Rattle.pcrf_facts.specs.Facts.{Fact, End, Aborted, fact_cmp}
 use Rattle.pcrf_facts.specs.Places.{RequestType}
 use Rattle.pcrf_facts.specs.Values.{Number}
 use Rattle.pcrf_model.specs.Sessions.{Gx, gx, af}
@@ -22,13 +22,13 @@ use Rattle.pcrf_model.specs.Tables.{Tables}
 use Rattle.pcrf_model.specs.Rules.{rules}
 use Rattle.pcrf_model.specs.Differences.{rule_name_of}
 use Rattle.pcrf_model.specs.Requests.{CcrValue, AarValue, StrValue, Ccr, Aar, Str}
-use Rattle.pcrf_model.specs.Making.{ccr_fields, told_facts}
+use Rattle.pcrf_model.specs.Making.{request_says, ccr_fields, told_facts}
 use Rattle.pcrf_model.specs.Serving.{delta_of}
 use Rattle.pcrf_model.specs.Forms.{is_stamp, is_text, is_rule, is_operation, is_holding, is_request, are_up_to, fits_session_field}
 use Rattle.pcrf_model.proofs.FormLaws.{le_passes}
 use Rattle.pcrf_model.proofs.FormReading.{each_passes}
 use Rattle.pcrf_model.proofs.GatewayForms.{CanTell}
-use Rattle.pcrf_model.proofs.MadeForms.{end_in_form, stamped_in_form}
+use Rattle.pcrf_model.proofs.MadeForms.{end_in_form, alone_in_form, stamped_in_form}
 use Rattle.pcrf_model.proofs.ProvisionLaws.{first_apart}
 use Rattle.pcrf_model.proofs.RecordForms.{holding_up_to}
 use Rattle.pcrf_model.proofs.ServedForms.{ccr_parts, aar_parts, origin_parts, call_makes, fields_in_form, provision_in_form, telling_in_form}
@@ -63,7 +63,7 @@ made_formed counter i q stamp w = by_kind q.kind refl
     sorted : fits_session_field Gx RequestType (Number (request_kind_number q.kind)) ≡ true → is_operation (record { counter = counter; site = i; number = q.number; session = gx q.session; facts = ccr_fields q (record { number = q.number; counter = counter; site = i }) }) ≡ true
     sorted last =
         subst (λ (fs : List Fact). is_operation (record { counter = counter; site = i; number = q.number; session = gx q.session; facts = fs }) ≡ true)
-        (fields_in_order (record { number = q.number; counter = counter; site = i }) q.address q.apn q.subscribers q.host q.realm (request_kind_number q.kind))
+        (fields_in_order (record { number = q.number; counter = counter; site = i }) (request_says q.user q.host q.realm (request_kind_number q.kind)))
         (fields_in_form counter i stamp q w last)
 
     by_kind : (k : RequestKind) → q.kind ≡ k → is_operation (operation_made i counter q k) ≡ true
@@ -109,6 +109,11 @@ call_formed counter i q stamp w =
 -- the end of a session
 pub hung_up_formed : (counter i : ℕ) (q : StrValue) → is_stamp counter i ≡ true → is_request (Str q) ≡ true → is_operation (operation_on_call i counter q.session (End ∷ [])) ≡ true
 hung_up_formed counter i q stamp w = end_in_form counter i 0 (af q.session) stamp refl (origin_parts q.session q.host q.realm w).0
+
+-- the abort of a session
+pub aborted_formed : (counter i : ℕ) (session : List ℕ) → is_stamp counter i ≡ true → is_text session_id_limit session ≡ true
+    → is_operation (operation_on_call i counter session (Aborted ∷ [])) ≡ true
+aborted_formed counter i session stamp text = alone_in_form counter i 0 (af session) Aborted stamp refl text refl
 
 -- ---- what is put back
 

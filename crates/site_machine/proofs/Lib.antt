@@ -1,3 +1,5 @@
+pub mod AbandonedRecord
+pub mod Aborts
 pub mod CallLaws
 pub mod Formed
 pub mod Left

@@ -78,9 +78,9 @@ module _ (t : Tables) (h : Holding) (q : CcrValue) where
   initial_lacking kind ended lacks = rw (kind, ended_is, ended, lacks) refl
 
   -- one that lacks nothing
-  pub initial_whole : q.kind ≡ Initial → is_ended (facts_on h.facts (gx q.session)) ≡ false → lacks_parameters q ≡ false → ccr_refusal t h q ≡ or_else (by_row t q.apn) (by_clock h)
+  pub initial_whole : q.kind ≡ Initial → is_ended (facts_on h.facts (gx q.session)) ≡ false → lacks_parameters q ≡ false → ccr_refusal t h q ≡ or_else (by_row t q.user.apn) (by_clock h)
   unfolding ccr_refusal
-  initial_whole kind ended lacks = rw (kind, ended_is, ended, lacks) (cause_or (names_no_row t q.apn) authorization_rejected (by_clock h))
+  initial_whole kind ended lacks = rw (kind, ended_is, ended, lacks) (cause_or (names_no_row t q.user.apn) authorization_rejected (by_clock h))
 
   -- an update of a session that is not live
   pub update_unknown : q.kind ≡ Update → gx_is_live (facts_on h.facts (gx q.session)) ≡ false → ccr_refusal t h q ≡ Some unknown_session_id
@@ -88,9 +88,9 @@ module _ (t : Tables) (h : Holding) (q : CcrValue) where
   update_unknown kind live = rw (kind, live_is, live) refl
 
   -- an update of a live one
-  pub update_known : q.kind ≡ Update → gx_is_live (facts_on h.facts (gx q.session)) ≡ true → ccr_refusal t h q ≡ or_else (by_row t q.apn) (by_clock h)
+  pub update_known : q.kind ≡ Update → gx_is_live (facts_on h.facts (gx q.session)) ≡ true → ccr_refusal t h q ≡ or_else (by_row t q.user.apn) (by_clock h)
   unfolding ccr_refusal
-  update_known kind live = rw (kind, live_is, live) (cause_or (names_no_row t q.apn) authorization_rejected (by_clock h))
+  update_known kind live = rw (kind, live_is, live) (cause_or (names_no_row t q.user.apn) authorization_rejected (by_clock h))
 
   -- a termination of a session that is not live
   pub termination_unknown : q.kind ≡ Termination → gx_is_live (facts_on h.facts (gx q.session)) ≡ false → ccr_refusal t h q ≡ Some unknown_session_id

@@ -2,13 +2,13 @@
 use Rattle.std.proofs.Common.{◌≡◌, ℕ, List, [], ◌∷◌, map, Option, Some, None, refl, sym, ◌∙◌, ap}
 use Rattle.std.specs.declared.net.ipv4_addr.Ipv4Addr.{Ipv4Addr}
 use Rattle.ranked.specs.declared.tag.Tag.{Tag}
-use Rattle.pcrf_facts.specs.Places.{Place, OfSession, OfRuleName, OfComponent, OfFlow, FramedIpAddress, CalledStationId, SubscriptionIds, OriginHost, OriginRealm, RequestType, MediaType, ComponentStatus, ComponentRateUp, ComponentRateDown, FlowDescriptions, FlowUsage, FlowStatus, FlowRateUp, FlowRateDown}
+use Rattle.pcrf_facts.specs.Places.{Place, OfSession, OfRuleName, OfComponent, OfFlow, FramedIpAddress, CalledStationId, SubscriptionIds, OriginHost, OriginRealm, RequestType, FramedIpv6Prefix, MediaType, ComponentStatus, ComponentRateUp, ComponentRateDown, FlowDescriptions, FlowUsage, FlowStatus, FlowRateUp, FlowRateDown}
 use Rattle.pcrf_facts.specs.Places as places
 use Rattle.pcrf_facts.specs.Values as values
 use Rattle.pcrf_facts.specs.Facts.{Fact}
 use Rattle.pcrf_facts.specs.Facts as facts
 use Rattle.fact_records.specs.declared.session_value.SessionValue.{SessionValue}
-use Rattle.fact_records.specs.declared.session_value.SessionValue.TheVariants.{Address, Apn, Subscribers, Host, Realm, Last}
+use Rattle.fact_records.specs.declared.session_value.SessionValue.TheVariants.{Address, Apn, Subscribers, Host, Realm, Last, Prefix}
 use Rattle.gx_records.specs.declared.fact.GxFact.{GxFact}
 use Rattle.gx_records.specs.declared.fact.GxFact.TheVariants as gx
 use Rattle.gx_records.specs.GxFacts as gx_facts
@@ -46,6 +46,7 @@ gx_read (facts.Field (OfSession SubscriptionIds) t (values.Subscribers x)) = Som
 gx_read (facts.Field (OfSession OriginHost) t (values.Text x)) = Some (gx.Field t (Host x))
 gx_read (facts.Field (OfSession OriginRealm) t (values.Text x)) = Some (gx.Field t (Realm x))
 gx_read (facts.Field (OfSession RequestType) t (values.Number x)) = Some (gx.Field t (Last x))
+gx_read (facts.Field (OfSession FramedIpv6Prefix) t (values.Prefix x)) = Some (gx.Field t (Prefix x))
 gx_read (facts.Field (OfRuleName name) t values.Untold) = Some (gx.Told t name None)
 gx_read (facts.Field (OfRuleName name) t (values.Told r)) = Some (gx.Told t name (Some r))
 gx_read f = None
@@ -59,6 +60,7 @@ gx_read_back (gx.Field t (Subscribers x)) = refl
 gx_read_back (gx.Field t (Host x)) = refl
 gx_read_back (gx.Field t (Realm x)) = refl
 gx_read_back (gx.Field t (Last x)) = refl
+gx_read_back (gx.Field t (Prefix x)) = refl
 gx_read_back (gx.Told t name None) = refl
 gx_read_back (gx.Told t name (Some r)) = refl
 
@@ -71,12 +73,14 @@ af_read : Fact → Option AfFact
 af_read facts.End = Some af.End
 af_read (facts.Removed (places.Component c)) = Some (af.ComponentRemoved c)
 af_read (facts.Removed (places.Flow c n)) = Some (af.FlowRemoved c n)
+af_read facts.Aborted = Some af.Aborted
 af_read (facts.Field (OfSession FramedIpAddress) t (values.Address o)) = Some (af.Session t (Address (record { octets = o })))
 af_read (facts.Field (OfSession CalledStationId) t (values.Text x)) = Some (af.Session t (Apn x))
 af_read (facts.Field (OfSession SubscriptionIds) t (values.Subscribers x)) = Some (af.Session t (Subscribers x))
 af_read (facts.Field (OfSession OriginHost) t (values.Text x)) = Some (af.Session t (Host x))
 af_read (facts.Field (OfSession OriginRealm) t (values.Text x)) = Some (af.Session t (Realm x))
 af_read (facts.Field (OfSession RequestType) t (values.Number x)) = Some (af.Session t (Last x))
+af_read (facts.Field (OfSession FramedIpv6Prefix) t (values.Prefix x)) = Some (af.Session t (Prefix x))
 af_read (facts.Field (OfComponent c MediaType) t (values.Number x)) = Some (af.Component c t (of_component.MediaType x))
 af_read (facts.Field (OfComponent c ComponentStatus) t (values.Number x)) = Some (af.Component c t (of_component.Status x))
 af_read (facts.Field (OfComponent c ComponentRateUp) t (values.Number x)) = Some (af.Component c t (of_component.RateUp x))
@@ -93,12 +97,14 @@ unfolding af_read
 af_read_back af.End = refl
 af_read_back (af.ComponentRemoved c) = refl
 af_read_back (af.FlowRemoved c n) = refl
+af_read_back af.Aborted = refl
 af_read_back (af.Session t (Address a)) = refl
 af_read_back (af.Session t (Apn x)) = refl
 af_read_back (af.Session t (Subscribers x)) = refl
 af_read_back (af.Session t (Host x)) = refl
 af_read_back (af.Session t (Realm x)) = refl
 af_read_back (af.Session t (Last x)) = refl
+af_read_back (af.Session t (Prefix x)) = refl
 af_read_back (af.Component c t (of_component.MediaType x)) = refl
 af_read_back (af.Component c t (of_component.Status x)) = refl
 af_read_back (af.Component c t (of_component.RateUp x)) = refl

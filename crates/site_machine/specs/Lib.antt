@@ -1,3 +1,4 @@
+pub mod Abandoned
 pub mod Calls
 pub mod Facts
 pub mod Left

@@ -13,6 +13,7 @@ ghost use Rattle.pcrf_model.specs.Holdings.{facts_on, under};
 ghost use Rattle.pcrf_model.specs.Views.{view};
 ghost use Rattle.pcrf_model.specs.Bindings.{bind};
 ghost use Rattle.pcrf_model.specs.Refusals.{aar_refusal, binds_to_none, has_no_class};
+ghost use Rattle.pcrf_model.specs.Requests.{gives_no_address};
 ghost use Rattle.af_records.specs.RecordFacts.{fact_of};
 ghost use Rattle.site_join.specs.States.{record_facts};
 ghost use Rattle.rx_profile.specs.Requests.{aar_view};
@@ -197,12 +198,19 @@ fn is_live(known: Option<&AfRec>) -> bool
     }
 }
 
-/// The session isn't live, and the request gives no address.
+/// The request says nowhere its user is reached: it gives neither an address nor a prefix.
+fn gives_no_address(aar: &Aar) -> bool
+    ensures { result ≡ gives_no_address (aar_view aar.now).user }
+{
+    aar.address.is_none() && aar.prefix.is_none()
+}
+
+/// The session isn't live, and the request says nowhere its user is reached.
 fn lacks_address(known: Option<&AfRec>, aar: &Aar) -> bool
     ensures { result ≡ (not (af_is_live (record_facts (option_copied known.entry)))
-        && is_none (aar_view aar.now).address) }
+        && gives_no_address (aar_view aar.now).user) }
 {
-    !is_live(known) && aar.address.is_none()
+    !is_live(known) && gives_no_address(aar)
 }
 
 /// A component that isn't removed has a Media-Type without a row in the tables.

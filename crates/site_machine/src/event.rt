@@ -9,6 +9,7 @@ use exact_values::{Exact, same};
 use pcrf_values::{DiameterIdentity, Refusal};
 use ranked::Ranked;
 use reply_values::{GxReply, PushOut};
+use rx_profile::AbortOut;
 use site_join::{Operation, State};
 use std::alloc::AllocError;
 
@@ -19,6 +20,9 @@ pub enum Event {
     Serve(Request),
     /// A gateway of this host is to be told what it was not told yet, one of any host where none is given.
     Push(Option<DiameterIdentity>),
+    /// An application function of this host is to be asked to end a session that is bound to none, one of any host where none is
+    /// given.
+    Abort(Option<DiameterIdentity>),
     /// Operations of a letter are to be taken.
     Ops(Vec<Operation>),
     /// All that another site holds is to be taken.
@@ -42,6 +46,8 @@ pub enum Reply {
     Base(u32),
     /// What was pushed; nothing where nothing was due.
     Pushed(Option<PushOut>),
+    /// What was asked to end; nothing where no session is to be aborted.
+    Aborted(Option<AbortOut>),
     /// So many operations, the first of those that were given, stand taken: less than all only where memory was refused.
     Taken(usize),
     /// Operations that the site made itself, the first 100 if there are more, and how many it made in all.
@@ -58,6 +64,7 @@ impl Event {
         match self {
             Event::Serve(request) => Ok(Event::Serve(request.try_copy()?)),
             Event::Push(host) => Ok(Event::Push(host.try_copy()?)),
+            Event::Abort(host) => Ok(Event::Abort(host.try_copy()?)),
             Event::Ops(operations) => Ok(Event::Ops(copy_operations(operations)?)),
             Event::Whole(state) => Ok(Event::Whole(state.try_copy()?)),
             Event::AskOwn(from) => Ok(Event::AskOwn(*from)),
@@ -72,6 +79,7 @@ impl Event {
         match (self, other) {
             (Event::Serve(ours), Event::Serve(theirs)) => ours.equal(theirs),
             (Event::Push(ours), Event::Push(theirs)) => same(ours, theirs),
+            (Event::Abort(ours), Event::Abort(theirs)) => same(ours, theirs),
             (Event::Ops(ours), Event::Ops(theirs)) => {
                 same_operations(ours.as_slice(), theirs.as_slice())
             }
@@ -95,6 +103,8 @@ impl Reply {
             Reply::Base(code) => Ok(Reply::Base(*code)),
             Reply::Pushed(Some(push)) => Ok(Reply::Pushed(Some(push.try_copy()?))),
             Reply::Pushed(None) => Ok(Reply::Pushed(None)),
+            Reply::Aborted(Some(abort)) => Ok(Reply::Aborted(Some(abort.try_copy()?))),
+            Reply::Aborted(None) => Ok(Reply::Aborted(None)),
             Reply::Taken(count) => Ok(Reply::Taken(*count)),
             Reply::Own(operations, length) => {
                 Ok(Reply::Own(copy_operations(operations)?, *length))
@@ -113,6 +123,7 @@ impl Reply {
             (Reply::Refused(ours), Reply::Refused(theirs)) => *ours == *theirs,
             (Reply::Base(ours), Reply::Base(theirs)) => *ours == *theirs,
             (Reply::Pushed(ours), Reply::Pushed(theirs)) => same_push(ours, theirs),
+            (Reply::Aborted(ours), Reply::Aborted(theirs)) => same_abort(ours, theirs),
             (Reply::Taken(ours), Reply::Taken(theirs)) => *ours == *theirs,
             (Reply::Own(ours, length), Reply::Own(theirs, other_length)) => {
                 *length == *other_length && same_operations(ours.as_slice(), theirs.as_slice())
@@ -127,6 +138,17 @@ impl Reply {
 
 /// Both push the same, or nothing.
 fn same_push(ours: &Option<PushOut>, theirs: &Option<PushOut>) -> bool
+    ensures { IsTrue result ↔ (ours.now ≡ theirs.now) }
+{
+    match (ours, theirs) {
+        (Some(ours), Some(theirs)) => ours.equal(theirs),
+        (None, None) => true,
+        _ => false,
+    }
+}
+
+/// Both ask the same to end, or nothing.
+fn same_abort(ours: &Option<AbortOut>, theirs: &Option<AbortOut>) -> bool
     ensures { IsTrue result ↔ (ours.now ≡ theirs.now) }
 {
     match (ours, theirs) {

@@ -7,7 +7,7 @@ pub enum StepFault {
     /// The history that is kept of the site is at its limit. A site alone, which keeps none, never answers so.
     #[error("the history is full")]
     HistoryFull,
-    /// Something is to be pushed, and the clock is at its end.
+    /// Something is to be pushed or aborted, and the clock is at its end.
     #[error("the clock is at its end")]
     ClockFull,
     #[error("no memory")]

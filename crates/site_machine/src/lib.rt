@@ -2,12 +2,15 @@
 //! above (`site_core`).
 #![tactic(auto)]
 
+mod abandoned;
+mod aborting;
 mod adding;
 mod calls;
 mod event;
 mod fault;
 mod lookup;
 mod operations;
+mod refusals;
 mod renewing;
 mod request;
 mod site;

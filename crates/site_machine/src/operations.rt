@@ -108,6 +108,7 @@ fn same_af_fact(ours: &AfFact, theirs: &AfFact) -> bool
 {
     match (ours, theirs) {
         (AfFact::End, AfFact::End) => true,
+        (AfFact::Aborted, AfFact::Aborted) => true,
         (AfFact::ComponentRemoved(component), AfFact::ComponentRemoved(other)) => {
             *component == *other
         }
@@ -138,6 +139,7 @@ fn same_value<L: Ranked>(ours: &SessionValue<L>, theirs: &SessionValue<L>) -> bo
         (SessionValue::Host(ours), SessionValue::Host(theirs)) => same(ours, theirs),
         (SessionValue::Realm(ours), SessionValue::Realm(theirs)) => same(ours, theirs),
         (SessionValue::Last(ours), SessionValue::Last(theirs)) => same(ours, theirs),
+        (SessionValue::Prefix(ours), SessionValue::Prefix(theirs)) => same(ours, theirs),
         _ => false,
     }
 }

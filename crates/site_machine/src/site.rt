@@ -2,10 +2,9 @@
 ghost use Rattle.std.specs.Prelude.{◌≡◌, ◌≢◌, ◌<◌, ◌≤◌, ◌+◌, ◌++◌, [], ◌∷◌, None, Some, false, true, length, map, take, if◌then◌else◌, IfOk, OnOk, OnErr, IfErr, IfSome, option_map};
 ghost use Rattle.std.specs.Option.{option_copied};
 ghost use Rattle.ranked.specs.Sets.{Distinct};
-ghost use Rattle.pcrf_values.specs.Results.{authorization_rejected, unable_to_comply};
+ghost use Rattle.pcrf_values.specs.Results.{unable_to_comply};
 ghost use Rattle.pcrf_values.specs.declared.request_kind.RequestKind.TheVariants.{Termination};
-ghost use Rattle.pcrf_facts.specs.Held.{kept_list, is_ended, join_of};
-ghost use Rattle.pcrf_facts.specs.Live.{gx_is_live};
+ghost use Rattle.pcrf_facts.specs.Held.{kept_list, join_of};
 ghost use Rattle.pcrf_values.specs.Limits.{delta_limit, last_counter, site_limit};
 ghost use Rattle.pcrf_model.specs.Holdings.{facts_on, kept_of, with_facts_of};
 ghost use Rattle.pcrf_model.specs.Pushing.{due_session, lacks_counter};
@@ -18,7 +17,7 @@ ghost use Rattle.pcrf_model.specs.Rules.{quality_of, rules};
 ghost use Rattle.pcrf_model.specs.Differences.{rule_name_of};
 ghost use Rattle.pcrf_model.specs.OperatorValues.{bindings_of, operator_value};
 ghost use Rattle.operator_view.specs.Shown.{value_view};
-ghost use Rattle.pcrf_model.specs.Refusals.{is_clock_full, ccr_refusal, lacks_parameters, names_no_row};
+ghost use Rattle.pcrf_model.specs.Refusals.{is_clock_full, ccr_refusal};
 ghost use Rattle.pcrf_model.specs.ToldTags.{ToldUpTo};
 ghost use Rattle.pcrf_model.specs.Forms.{are_up_to, is_holding, is_operation, is_record};
 ghost use Rattle.pcrf_model.specs.Operations.{with_operation};
@@ -34,13 +33,12 @@ ghost use Rattle.site_machine.specs.Values.{reply_value, request_value};
 
 use crate::event::Reply;
 use crate::fault::StepFault;
+use crate::refusals::{has_ended, is_live, lacks, row_refusal};
 use crate::request::Request;
 use crate::spare::{nothing_told, refused, spare_pushes, spare_replies};
 use base_profile::{BaseRequest, base_refusal};
 use dia_base::Identity;
-use dia_base::codes::results::{
-    AUTHORIZATION_REJECTED, INITIAL_PARAMETERS, SUCCESS, UNABLE_TO_COMPLY, UNKNOWN_SESSION_ID,
-};
+use dia_base::codes::results::{INITIAL_PARAMETERS, SUCCESS, UNABLE_TO_COMPLY, UNKNOWN_SESSION_ID};
 use fact_making::{ended_gateway, facts_made, note_ccr, note_entries, put_told};
 use gx_profile::Ccr;
 use gx_records::{GxFact, GxRec};
@@ -50,7 +48,7 @@ use op_tables::Tables;
 use operator_view::{OperatorValue, value};
 use pcrf_model::ranges::note_text;
 use pcrf_values::limits::{LAST_COUNTER, RANGE_LIMIT};
-use pcrf_values::{AfSid, Apn, DefaultQuality, Delta, GxSid, Refusal, RequestKind, Rule};
+use pcrf_values::{AfSid, DefaultQuality, Delta, GxSid, Refusal, RequestKind, Rule};
 use ranked::{Ranked, Tag};
 use reply_values::{FirstEntries, GxReply, PushOut};
 use site_join::{Operation, SessionFacts, State};
@@ -720,44 +718,6 @@ pub(crate) fn reply_to_base(request: &BaseRequest) -> Reply
         Some(refusal) => Reply::Base(refusal.code),
         None => Reply::Base(SUCCESS),
     }
-}
-
-/// The session has ended, as far as is known.
-fn has_ended(known: Option<&GxRec>) -> bool
-    ensures { result ≡ is_ended (record_facts (option_copied known.entry)) }
-{
-    match known {
-        Some(session) => session.ended(),
-        None => false,
-    }
-}
-
-/// The session is live.
-fn is_live(known: Option<&GxRec>) -> bool
-    ensures { result ≡ gx_is_live (record_facts (option_copied known.entry)) }
-{
-    match known {
-        Some(session) => session.live(),
-        None => false,
-    }
-}
-
-/// The refusal of a request that names an access point without a row in the tables.
-fn row_refusal(tables: &Tables, apn: &Option<Apn>) -> Option<Refusal>
-    ensures { result
-        ≡ (if names_no_row tables.now apn.now then Some authorization_rejected else None) }
-{
-    match apn {
-        Some(name) if tables.apn(name).is_none() => Some(Refusal::base(AUTHORIZATION_REJECTED)),
-        _ => None,
-    }
-}
-
-/// The request lacks what an initial one must give (TS 29.212, 4.5.1).
-fn lacks(ccr: &Ccr) -> bool
-    ensures { result ≡ lacks_parameters (ccr_view ccr.now) }
-{
-    ccr.address.is_none() || ccr.apn.is_none() || ccr.subscribers.is_none()
 }
 
 /// The operations from a position on, as many as are told at once.

@@ -7,6 +7,7 @@ ghost use Rattle.site_machine.specs.Replies.{gx_reply_value, spares};
 
 use pcrf_values::Refusal;
 use reply_values::{FirstEntries, GxReply, PushOut};
+use rx_profile::AbortOut;
 use std::alloc::{AllocError, Global};
 
 /// Two more of a reply.
@@ -36,6 +37,21 @@ pub(crate) fn spare_pushes(
     }
     let second = push.try_copy()?;
     let third = push.try_copy()?;
+    Ok(Some((second, third)))
+}
+
+/// Two more of an abort.
+pub(crate) fn spare_aborts(
+    abort: &AbortOut,
+    thrice: bool,
+) -> Result<Option<(AbortOut, AbortOut)>, AllocError>
+    ensures { IfOk result (λ spare. spare ≡ spares thrice abort.now) }
+{
+    if !thrice {
+        return Ok(None);
+    }
+    let second = abort.try_copy()?;
+    let third = abort.try_copy()?;
     Ok(Some((second, third)))
 }
 

@@ -1,6 +1,6 @@
 //! The steps of a site.
 ghost use Rattle.std.specs.Prelude.{◌≡◌, ◌≢◌, true, IfOk, IfErr, OnErr};
-ghost use Rattle.pcrf_model.specs.Steps.{Serve, Push, Ops, Whole, AskOwn, AskWhole};
+ghost use Rattle.pcrf_model.specs.Steps.{Serve, Push, Abort, Ops, Whole, AskOwn, AskWhole};
 ghost use Rattle.site_machine.specs.Replies.{is_plain};
 ghost use Rattle.site_machine.specs.Values.{event_lacks_counter, event_value, reply_value, request_value};
 
@@ -28,6 +28,7 @@ impl Site {
         match event {
             Event::Serve(request) => self.step_serve(request),
             Event::Push(host) => self.step_push(host),
+            Event::Abort(host) => self.step_abort(host),
             Event::Ops(operations) => Ok(self.step_take(operations.as_slice())),
             Event::Whole(state) => self.step_whole(state),
             Event::AskOwn(from) => self.step_ask_own(*from),
@@ -65,6 +66,22 @@ impl Site {
         self.note_kept();
         let host = host.as_ref().map(|host| host.as_slice());
         Ok(Reply::Pushed(self.push(host)?))
+    }
+
+    /// Aborts as an event asks for it.
+    fn step_abort(&mut self, host: &Option<DiameterIdentity>) -> Result<Reply, StepFault>
+        ensures reply { IfOk result (λ reply. SiteMayReply self.old
+            (Abort host.now) (reply_value reply)) }
+        ensures ok { IfOk result (λ reply. self.new
+            ≡ after_event self.old (Abort host.now) (reply_value reply)) }
+        ensures full { IfErr result (λ fault. fault ≡ StepFault.ClockFull → event_lacks_counter
+            self.old.tables self.old.number self.old.state.holding (Abort host.now) ≡ true) }
+        ensures memory { IfErr result (λ fault. fault ≢ StepFault.HistoryFull) }
+        ensures err { OnErr result (self.new ≡ self.old) }
+    {
+        self.note_kept();
+        let host = host.as_ref().map(|host| host.as_slice());
+        Ok(Reply::Aborted(self.abort(host)?))
     }
 
     /// Takes the operations of an event.

@@ -1,6 +1,6 @@
 //! Events whose reply is told three times.
 ghost use Rattle.std.specs.Prelude.{◌≡◌, ◌≢◌, true, IfOk, OnOk, IfErr, OnErr};
-ghost use Rattle.pcrf_model.specs.Steps.{Serve, Push};
+ghost use Rattle.pcrf_model.specs.Steps.{Serve, Push, Abort};
 ghost use Rattle.site_machine.specs.Replies.{is_plain};
 ghost use Rattle.site_machine.specs.Values.{event_lacks_counter, event_value, reply_value, request_value};
 
@@ -31,6 +31,7 @@ impl Site {
         match event {
             Event::Serve(request) => self.step_serve_thrice(request),
             Event::Push(host) => self.step_push_thrice(host),
+            Event::Abort(host) => self.step_abort_thrice(host),
             Event::Ops(operations) => Ok(plain_thrice(self.step_take(operations.as_slice()))),
             Event::Whole(state) => Ok(plain_thrice(self.step_whole(state)?)),
             Event::AskOwn(from) => thrice(self.step_ask_own(*from)?),
@@ -111,6 +112,40 @@ impl Site {
             Reply::Pushed(Some(push)),
             Reply::Pushed(Some(second)),
             Reply::Pushed(Some(third)),
+        ))
+    }
+
+    /// Aborts as an event asks for it.
+    fn step_abort_thrice(
+        &mut self,
+        host: &Option<DiameterIdentity>,
+    ) -> Result<(Reply, Reply, Reply), StepFault>
+        ensures reply { IfOk result (λ r. SiteMayReply self.old (Abort host.now) (reply_value r.0)) }
+        ensures second { IfOk result (λ r. reply_value r.1 ≡ reply_value r.0) }
+        ensures third { IfOk result (λ r. reply_value r.2 ≡ reply_value r.0) }
+        ensures ok { IfOk result (λ r. self.new
+            ≡ after_event self.old (Abort host.now) (reply_value r.0)) }
+        ensures full { IfErr result (λ fault. fault ≡ StepFault.ClockFull → event_lacks_counter
+            self.old.tables self.old.number self.old.state.holding (Abort host.now) ≡ true) }
+        ensures room { IfErr result (λ fault. fault ≢ StepFault.HistoryFull) }
+        ensures err { OnErr result (self.new ≡ self.old) }
+    {
+        self.note_kept();
+        let host = host.as_ref().map(|host| host.as_slice());
+        let Some((abort, spare)) = self.abort_told(host, true)? else {
+            return Ok((
+                Reply::Aborted(None),
+                Reply::Aborted(None),
+                Reply::Aborted(None),
+            ));
+        };
+        let Some((second, third)) = spare else {
+            unreachable!()
+        };
+        Ok((
+            Reply::Aborted(Some(abort)),
+            Reply::Aborted(Some(second)),
+            Reply::Aborted(Some(third)),
         ))
     }
 }

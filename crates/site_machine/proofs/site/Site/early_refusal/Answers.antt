@@ -1,4 +1,4 @@
-use Rattle.std.proofs.Common.{◌≡◌, false, not, ◌&&◌, is_none, List, Some, ap, sym, ◌∙◌}
+use Rattle.std.proofs.Common.{◌≡◌, false, not, ◌&&◌, List, Some, ap, sym, ◌∙◌}
 use Rattle.std.specs.List.{list_any}
 use Rattle.pcrf_facts.specs.Facts.{Fact}
 use Rattle.pcrf_facts.specs.Held.{is_ended}
@@ -6,6 +6,7 @@ use Rattle.pcrf_facts.specs.Live.{af_is_live}
 use Rattle.pcrf_model.specs.Sessions.{af}
 use Rattle.pcrf_model.specs.Holdings.{facts_on}
 use Rattle.pcrf_model.specs.Refusals.{has_no_class}
+use Rattle.pcrf_model.specs.Requests.{gives_no_address}
 use Rattle.pcrf_model.specs.Tables.{Tables}
 use Rattle.rx_profile.specs.Requests.{aar_view}
 use Rattle.site_machine.specs.Sites.{SiteValue}
@@ -26,7 +27,7 @@ returns-then-lacks_address c =
     let q = aar_view c.args.aar.now in
     let own = c.af-known.ensures ∙ ap (λ (x : SiteValue). facts_on x.state.holding.facts (af q.session)) c.self.view_is in
     let ended = sym (c.has_ended.ensures ∙ ap is_ended own) ∙ c.if-has_ended.false in
-    let unknown = sym (c.lacks_address.ensures ∙ ap (λ (fs : List Fact). not (af_is_live fs) && is_none q.address) own) ∙ c.if-lacks_address.true in
+    let unknown = sym (c.lacks_address.ensures ∙ ap (λ (fs : List Fact). not (af_is_live fs) && gives_no_address q.user) own) ∙ c.if-lacks_address.true in
     call_unknown s.tables s.number s.state.holding q ended unknown ∙ ap Some (sym c.base-then-lacks_address.ensures)
 
 pub returns-then-lack_class : goal.returns-then-lack_class
@@ -35,7 +36,7 @@ returns-then-lack_class c =
     let q = aar_view c.args.aar.now in
     let own = c.af-known.ensures ∙ ap (λ (x : SiteValue). facts_on x.state.holding.facts (af q.session)) c.self.view_is in
     let ended = sym (c.has_ended.ensures ∙ ap is_ended own) ∙ c.if-has_ended.false in
-    let known = sym (c.lacks_address.ensures ∙ ap (λ (fs : List Fact). not (af_is_live fs) && is_none q.address) own) ∙ c.if-lacks_address.false in
+    let known = sym (c.lacks_address.ensures ∙ ap (λ (fs : List Fact). not (af_is_live fs) && gives_no_address q.user) own) ∙ c.if-lacks_address.false in
     let components = ap (list_any (has_no_class s.tables)) c.as_slice.ensures.components in
     let unclassed = sym (c.lack_class.ensures ∙ ap (λ (t : Tables). list_any (has_no_class t) c.as_slice.result.now) c.tables.ensures ∙ ap (λ (x : SiteValue). list_any (has_no_class x.tables) c.as_slice.result.now) c.self.view_is ∙ components) ∙ c.if-lack_class.true in
     call_unclassed s.tables s.number s.state.holding q ended known unclassed ∙ ap Some (sym c.experimental.ensures)
@@ -46,7 +47,7 @@ returns c =
     let q = aar_view c.args.aar.now in
     let own = c.af-known.ensures ∙ ap (λ (x : SiteValue). facts_on x.state.holding.facts (af q.session)) c.self.view_is in
     let ended = sym (c.has_ended.ensures ∙ ap is_ended own) ∙ c.if-has_ended.false in
-    let known = sym (c.lacks_address.ensures ∙ ap (λ (fs : List Fact). not (af_is_live fs) && is_none q.address) own) ∙ c.if-lacks_address.false in
+    let known = sym (c.lacks_address.ensures ∙ ap (λ (fs : List Fact). not (af_is_live fs) && gives_no_address q.user) own) ∙ c.if-lacks_address.false in
     let components = ap (list_any (has_no_class s.tables)) c.as_slice.ensures.components in
     let classed = sym (c.lack_class.ensures ∙ ap (λ (t : Tables). list_any (has_no_class t) c.as_slice.result.now) c.tables.ensures ∙ ap (λ (x : SiteValue). list_any (has_no_class x.tables) c.as_slice.result.now) c.self.view_is ∙ components) ∙ c.if-lack_class.false in
     call_open s.tables s.number s.state.holding q ended known classed

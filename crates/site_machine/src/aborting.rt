@@ -1,0 +1,114 @@
+//! Sessions of application functions that a site asks to end, of its own accord.
+ghost use Rattle.std.specs.Prelude.{◌≡◌, ◌≢◌, ◌<◌, ◌∷◌, [], Some, false, true, length, IfOk, IfSome, OnOk, OnErr, IfErr, option_map};
+ghost use Rattle.std.specs.Option.{option_copied};
+ghost use Rattle.pcrf_facts.specs.Facts as facts;
+ghost use Rattle.pcrf_model.specs.Aborting.{abandoned_session, abort_of, lacks_counter_to_abort};
+ghost use Rattle.pcrf_model.specs.Forms.{is_operation};
+ghost use Rattle.pcrf_model.specs.Replies.{Aborted};
+ghost use Rattle.pcrf_model.specs.Views.{view};
+ghost use Rattle.rx_profile.specs.Aborts.{abort_view};
+ghost use Rattle.site_machine.specs.Replies.{spares};
+
+use crate::abandoned::next_abort;
+use crate::fault::StepFault;
+use crate::site::Site;
+use crate::spare::spare_aborts;
+use af_records::AfFact;
+use pcrf_model::ranges::note_text;
+use pcrf_values::AfSid;
+use ranked::Ranked;
+use rx_profile::AbortOut;
+use site_join::{Operation, SessionFacts};
+use std::alloc::AllocError;
+
+impl Site {
+    ghost use Rattle.site_machine.specs.Facts.{operation_on_call};
+    ghost use Rattle.site_machine.specs.Sites.{abort_outcome_at, with_made};
+
+    /// Asks an application function to end a session that is bound to none (TS 29.214, 4.4.6.1): of the live sessions that show
+    /// their client, are bound to none and weren't asked for yet, whose home is this site and whose host is the given one, any
+    /// where none is given, that with the least Session-Id. It is one operation of the site's own, which says that the session
+    /// was aborted: the session stays live until its application function ends it, and may be bound again. `None` where there
+    /// is none such, which changes nothing. An error changes nothing. Its time grows with the number of sessions.
+    pub fn abort(&mut self, host: Option<&[u8]>) -> Result<Option<AbortOut>, StepFault>
+        ensures abort { IfOk result (λ abort. Aborted (option_map abort_view abort)
+            ≡ (abort_outcome_at self.old (option_copied host.entry)).reply) }
+        ensures ok { OnOk result (self.new
+            ≡ with_made self.old (abort_outcome_at self.old (option_copied host.entry)).added) }
+        ensures room { OnOk result (lacks_counter_to_abort self.old.number
+            self.old.state.holding (option_copied host.entry) ≡ false) }
+        ensures full { IfErr result (λ fault. fault ≡ StepFault.ClockFull → lacks_counter_to_abort
+            self.old.number self.old.state.holding (option_copied host.entry) ≡ true) }
+        ensures memory { IfErr result (λ fault. fault ≢ StepFault.HistoryFull) }
+        ensures err { OnErr result (self.new ≡ self.old) }
+    {
+        match self.abort_told(host, false)? {
+            Some((abort, _)) => Ok(Some(abort)),
+            None => Ok(None),
+        }
+    }
+
+    /// Aborts; where the abort is wanted three times, two spare ones come with it. An error changes nothing.
+    pub(crate) fn abort_told(
+        &mut self,
+        host: Option<&[u8]>,
+        thrice: bool,
+    ) -> Result<Option<(AbortOut, Option<(AbortOut, AbortOut)>)>, StepFault>
+        ensures abort { IfOk result (λ found. Aborted (option_map (λ told. abort_view told.0) found)
+            ≡ (abort_outcome_at self.old (option_copied host.entry)).reply) }
+        ensures ok { OnOk result (self.new
+            ≡ with_made self.old (abort_outcome_at self.old (option_copied host.entry)).added) }
+        ensures spare { IfOk result (λ found. IfSome found (λ told.
+            told.1 ≡ spares thrice told.0)) }
+        ensures room { OnOk result (lacks_counter_to_abort self.old.number
+            self.old.state.holding (option_copied host.entry) ≡ false) }
+        ensures full { IfErr result (λ fault. fault ≡ StepFault.ClockFull → lacks_counter_to_abort
+            self.old.number self.old.state.holding (option_copied host.entry) ≡ true) }
+        ensures memory { IfErr result (λ fault. fault ≢ StepFault.HistoryFull) }
+        ensures err { OnErr result (self.new ≡ self.old) }
+    {
+        let Ok(found) = self.next_abort(host) else {
+            return Err(StepFault::NoMemory);
+        };
+        let Some(abort) = found else {
+            return Ok(None);
+        };
+        let Some(counter) = self.next_counter() else {
+            return Err(StepFault::ClockFull);
+        };
+        note_text(abort.session.id());
+        self.note_number();
+        let Ok(spare) = spare_aborts(&abort, thrice) else {
+            return Err(StepFault::NoMemory);
+        };
+        if self.add_abort(&abort.session, counter).is_err() {
+            return Err(StepFault::NoMemory);
+        }
+        Ok(Some((abort, spare)))
+    }
+
+    /// The abort that is due for a host, any where none is given.
+    fn next_abort(&self, host: Option<&[u8]>) -> Result<Option<AbortOut>, AllocError>
+        ensures { IfOk result (λ abort. option_map abort_view abort
+            ≡ option_map (abort_of (view self.now.state.holding.facts))
+            (abandoned_session self.now.number (view self.now.state.holding.facts)
+            (option_copied host.entry))) }
+    {
+        next_abort(&self.held, self.number, host)
+    }
+
+    /// Adds the operation of an abort, or changes nothing.
+    fn add_abort(&mut self, session: &AfSid, counter: u64) -> Result<(), AllocError>
+        requires later { length self.old.state.log < counter }
+        requires formed { is_operation (operation_on_call
+            self.old.number counter session.now (facts.Aborted ∷ [])) ≡ true }
+        ensures ok { OnOk result (self.new ≡ with_made self.old (Some (operation_on_call
+            self.old.number counter session.now (facts.Aborted ∷ [])))) }
+        ensures err { OnErr result (self.new ≡ self.old) }
+    {
+        let mut facts = Vec::new(self.alloc);
+        facts.push(AfFact::Aborted)?;
+        let facts = SessionFacts::Af(session.try_copy()?, facts);
+        self.add(Operation::with_stamp(counter, self.number, 0, facts))
+    }
+}
