@@ -2,14 +2,15 @@
 use Rattle.std.proofs.Common.{◌≡◌, ℕ, true, false, List, [], ◌∷◌, ◌++◌, slice_get, slice_set, Option, Some, None, Ok, Err, refl, sym, ap, ◌∙◌}
 use Rattle.pcrf_model.specs.Operations.{Operation}
 use Rattle.pcrf_model.specs.Requests.{RequestValue}
-use Rattle.pcrf_model.specs.Replies.{PushValue, ReplyValue, Pushed}
+use Rattle.pcrf_model.specs.Replies.{PushValue, AbortValue, ReplyValue, Pushed, Aborted}
 use Rattle.pcrf_model.specs.Pushing.{lacks_counter}
+use Rattle.pcrf_model.specs.Aborting.{lacks_counter_to_abort}
 use Rattle.pcrf_model.specs.Tables.{Tables}
 use Rattle.pcrf_model.specs.Letters.{LetterBody, LetterValue}
 use Rattle.pcrf_model.specs.Cursors.{ask, ack_letter, ack_of}
-use Rattle.pcrf_model.specs.Worlds.{ServeAt, PushAt, Letter, Merge, Ack, Restart, Replied, PushedOut, Lettered, Merged, Restarted, ClockFull, NoMemory, Gives, SiteView, WorldView, ByCursors, asked_body}
-use Rattle.pcrf_model.specs.Seen.{view_made, view_served, view_pushed, view_merged, view_in_part, view_again, view_letter, view_ack, see_change, see_change_by, world_view_after}
-use Rattle.site_machine.specs.Sites.{with_made, serve_outcome, push_outcome_at}
+use Rattle.pcrf_model.specs.Worlds.{ServeAt, PushAt, AbortAt, Letter, Merge, Ack, Restart, Replied, PushedOut, AbortedOut, Lettered, Merged, Restarted, ClockFull, NoMemory, Gives, SiteView, WorldView, ByCursors, asked_body}
+use Rattle.pcrf_model.specs.Seen.{view_made, view_served, view_pushed, view_aborted, view_merged, view_in_part, view_again, view_letter, view_ack, see_change, see_change_by, world_view_after}
+use Rattle.site_machine.specs.Sites.{with_made, serve_outcome, push_outcome_at, abort_outcome_at}
 use Rattle.pcrf_world.specs.Members.{seen_of, with_site, started_again}
 use Rattle.pcrf_world.specs.Values.{setting}
 use Rattle.peer_cursors.specs.Writing.{letter_made}
@@ -39,6 +40,18 @@ module _ (g : Tables) (ms : List Member) (ls : List LetterValue) (i : ℕ) (m : 
       let none : lacks_counter g m.site.number m.site.state.holding name ≡ true = ap (λ (t : Tables). lacks_counter t m.site.number m.site.state.holding name) (sym is) ∙ full in
       rw (seen_at ms i m at, none) refl
 
+module _ (g : Tables) (ms : List Member) (ls : List LetterValue) (i : ℕ) (m : Member) (at : slice_get ms i ≡ Some m) where
+  -- which session it aborted
+  pub aborted_gives : (name : Option (List ℕ)) (a : Option AbortValue) → Aborted a ≡ (abort_outcome_at m.site name).reply → lacks_counter_to_abort m.site.number m.site.state.holding name ≡ false
+      → Gives (setting g) (world_of ms ls) (AbortAt i name) (Ok (AbortedOut a))
+  aborted_gives name a so room =
+      let reply : (view_aborted name (seen_of m)).reply ≡ Aborted a = sym so in
+      rw (seen_at ms i m at, room, reply) refl
+
+  -- that no counter is left
+  pub full_to_abort : (name : Option (List ℕ)) → lacks_counter_to_abort m.site.number m.site.state.holding name ≡ true → Gives (setting g) (world_of ms ls) (AbortAt i name) (Err ClockFull)
+  full_to_abort name full = rw (seen_at ms i m at, full) refl
+
 -- ---- each event, at a site of a world
 
 -- with an operation that the site made, it is seen with that operation
@@ -62,6 +75,10 @@ module _ (g : Tables) (ms : List Member) (ls : List LetterValue) (i : ℕ) (m : 
   -- it started again
   pub restarted_at : (epoch : ℕ) → world_of (slice_set ms i (started_again m)) ls ≡ world_view_after (setting g) (world_of ms ls) (Restart i) (Ok (Restarted epoch))
   restarted_at epoch = changes view_again (started_again m) refl
+
+  -- it aborted a session
+  pub aborted_at : (name : Option (List ℕ)) (a : Option AbortValue) → world_of (slice_set ms i (with_site m (with_made m.site (abort_outcome_at m.site name).added))) ls ≡ world_view_after (setting g) (world_of ms ls) (AbortAt i name) (Ok (AbortedOut a))
+  aborted_at name a = changes (λ (x : SiteView). view_made (view_aborted name x).added x) (with_site m (with_made m.site (abort_outcome_at m.site name).added)) (seen_made m (abort_outcome_at m.site name).added)
 
   module _ (is : m.site.tables ≡ g) where
     -- it served a request

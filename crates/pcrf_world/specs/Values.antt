@@ -6,6 +6,7 @@ use Rattle.pcrf_model.specs.Tables.{Tables}
 use Rattle.pcrf_model.specs.Worlds as model
 use Rattle.pcrf_model.specs.Worlds.{WorldView, Setting, by_cursors, WorldAnswer}
 use Rattle.reply_values.specs.Replies.{push_view}
+use Rattle.rx_profile.specs.Aborts.{abort_view}
 use Rattle.site_machine.specs.Values.{request_value, reply_value}
 use Rattle.pcrf_world.specs.declared.world.WorldEvent.{WorldEvent}
 use Rattle.pcrf_world.specs.declared.world.WorldEvent.TheVariants as event
@@ -27,6 +28,7 @@ setting t = by_cursors t delta_limit
 abbrev pub event_value : WorldEvent → model.WorldEvent
 event_value (event.Serve i q) = model.ServeAt i (request_value q)
 event_value (event.Push i name) = model.PushAt i name
+event_value (event.Abort i name) = model.AbortAt i name
 event_value (event.Letter i j) = model.Letter i j
 event_value (event.Merge j k) = model.Merge j k
 event_value (event.Ack j i) = model.Ack j i
@@ -36,6 +38,7 @@ event_value (event.Restart i) = model.Restart i
 abbrev pub outcome_value : WorldOutcome → model.WorldOutcome
 outcome_value (outcome.Replied r) = model.Replied (reply_value r)
 outcome_value (outcome.Pushed push) = model.PushedOut (option_map push_view push)
+outcome_value (outcome.Aborted abort) = model.AbortedOut (option_map abort_view abort)
 outcome_value (outcome.Lettered k) = model.Lettered k
 outcome_value outcome.Merged = model.Merged
 outcome_value (outcome.Restarted e) = model.Restarted e

@@ -1,4 +1,4 @@
-//! A world of sites, which serve requests, push, make letters and take them.
+//! A world of sites, which serve requests, push, abort sessions, make letters and take them.
 ghost use Rattle.std.specs.Prelude.{◌≡◌, ◌<◌, ◌≤◌, slice_get, IfOk, option_map};
 ghost use Rattle.std.specs.Option.{option_copied};
 ghost use Rattle.pcrf_model.specs.CursorLaws.{LeavesNoGap, MakersAreTaken, PeersTook};
@@ -14,6 +14,7 @@ use pcrf_values::{DefaultQuality, DiameterIdentity};
 use peer_cursors::Cursors;
 use peer_exchange::Letter;
 use reply_values::{GxReply, PushOut};
+use rx_profile::AbortOut;
 use site_machine::{Reply, Request, Site, StepFault};
 use std::alloc::{AllocError, Global};
 use std::marker::Model;
@@ -26,6 +27,9 @@ pub enum WorldEvent {
     Serve(usize, Request),
     /// A site pushes what a gateway of this host, of any where none is given, was not told.
     Push(usize, Option<DiameterIdentity>),
+    /// A site asks the application function of a session to which no gateway's session is bound any more to end it: one of
+    /// this host, of any where none is given (TS 29.214, 4.4.6.1).
+    Abort(usize, Option<DiameterIdentity>),
     /// The first site makes a letter for the second: all that it holds, or, where it knows what the second took of it, the
     /// operations that it made itself since.
     Letter(usize, usize),
@@ -44,6 +48,8 @@ pub enum WorldOutcome {
     Replied(Reply),
     /// What was pushed; nothing where nothing was due.
     Pushed(Option<PushOut>),
+    /// Which session was aborted; nothing where none was to be.
+    Aborted(Option<AbortOut>),
     /// The number of the new letter.
     Lettered(usize),
     /// The letter was taken.
@@ -159,6 +165,7 @@ impl World {
         match event {
             WorldEvent::Serve(i, request) => self.serve(*i, request),
             WorldEvent::Push(i, host) => self.push_at(*i, host),
+            WorldEvent::Abort(i, host) => self.abort_at(*i, host),
             WorldEvent::Letter(i, j) => self.make_letter(*i, *j),
             WorldEvent::Merge(j, k) => self.take_letter(*j, *k),
             WorldEvent::Ack(j, i) => self.acknowledge(*j, *i),
@@ -197,6 +204,28 @@ impl World {
         let member = &mut self.sites[i];
         match member.site.push(name) {
             Ok(push) => Ok(WorldOutcome::Pushed(push)),
+            Err(StepFault::ClockFull) => Err(WorldFault::ClockFull),
+            Err(StepFault::NoMemory) => Err(WorldFault::NoMemory { taken: 0 }),
+            Err(StepFault::HistoryFull) => unreachable!(),
+        }
+    }
+
+    /// Has a site abort a session.
+    fn abort_at(
+        &mut self,
+        i: usize,
+        host: &Option<DiameterIdentity>,
+    ) -> Result<WorldOutcome, WorldFault>
+        ensures { HappensIn self.old self.new
+            (event_value (WorldEvent.Abort i host.now)) (answer_value result) }
+    {
+        if i >= self.sites.len() {
+            return Err(WorldFault::NoSuchSite);
+        }
+        let name = host.as_ref().map(|host| host.as_slice());
+        let member = &mut self.sites[i];
+        match member.site.abort(name) {
+            Ok(abort) => Ok(WorldOutcome::Aborted(abort)),
             Err(StepFault::ClockFull) => Err(WorldFault::ClockFull),
             Err(StepFault::NoMemory) => Err(WorldFault::NoMemory { taken: 0 }),
             Err(StepFault::HistoryFull) => unreachable!(),

@@ -14,7 +14,8 @@ use Rattle.pcrf_model.specs.Replies.{ReplyValue, OnGx, Rejected, Refused, Outcom
 use Rattle.pcrf_model.specs.Refusals.{ccr_refusal, aar_refusal, str_refusal}
 use Rattle.pcrf_model.specs.Serving.{serve, serve_ccr, serve_aar, serve_str, accepted_ccr, description_outcome, session_end_outcome, provision_outcome, refusal_or}
 use Rattle.pcrf_model.specs.Pushing.{push, due_session, push_outcome, nothing_pushed}
-use Rattle.pcrf_model.specs.Steps.{SiteState, SiteEvent, MayReply, Serve, Push, Ops, Whole, AskOwn, AskWhole}
+use Rattle.pcrf_model.specs.Aborting.{abort, abandoned_session, abort_outcome, nothing_aborted}
+use Rattle.pcrf_model.specs.Steps.{SiteState, SiteEvent, MayReply, Serve, Push, Ops, Whole, AskOwn, AskWhole, Abort}
 use Rattle.site_machine.specs.declared.event.Reply.{Reply}
 use Rattle.site_machine.specs.declared.fault.StepFault.{StepFault}
 use Rattle.site_machine.specs.Values.{reply_value}
@@ -64,7 +65,15 @@ module _ (past most : ℕ) (t : Tables) (i : ℕ) (h : Holding) where
   unfolding push
   push_tells name = one_told (view h.facts) (due_session t i (view h.facts) name)
 
--- A reply to a request or a push tells nothing of it, and one to whoever asks tells how many there are.
+  one_abort_told : (v : View) (s : Option Session) → TellsPast past (unwrap_or (option_map (abort_outcome i h v) s) nothing_aborted).reply
+  one_abort_told v None = tt
+  one_abort_told v (Some s) = tt
+
+  abort_tells : (name : Option (List ℕ)) → TellsPast past (abort i h name).reply
+  unfolding abort
+  abort_tells name = one_abort_told (view h.facts) (abandoned_session i (view h.facts) name)
+
+-- A reply to a request, a push or an abort tells nothing of it, and one to whoever asks tells how many there are.
 pub told_past : (past most : ℕ) (t : Tables) (i : ℕ) (s : SiteState) (e : SiteEvent) (r : ReplyValue) → past < length s.log → MayReply most t i s e r → TellsPast past r
 told_past past most t i s (Serve q) r lt may = subst (TellsPast past) (sym may) (serve_tells past most t i s.holding q)
 told_past past most t i s (Push name) r lt may = subst (TellsPast past) (sym may.1) (push_tells past most t i s.holding name)
@@ -72,6 +81,7 @@ told_past past most t i s (Ops operations) r lt may = subst (TellsPast past) (sy
 told_past past most t i s (Whole holding) r lt may = subst (TellsPast past) (sym may) tt
 told_past past most t i s (AskOwn from) r lt may = subst (TellsPast past) (sym may) lt
 told_past past most t i s AskWhole r lt may = subst (TellsPast past) (sym may) lt
+told_past past most t i s (Abort name) r lt may = subst (TellsPast past) (sym may.1) (abort_tells past most t i s.holding name)
 
 -- who waits doesn't have to wait longer though an entry can be added, so there are more
 grown : (full fits : Bool) → (full ≡ true → ⊥) → not full && fits ≡ false → fits ≡ false
