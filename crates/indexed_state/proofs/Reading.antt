@@ -3,6 +3,8 @@ use Rattle.std.proofs.Common.{◌≡◌, ℕ, false, List, [], Option, Some, Non
 use Rattle.std.specs.Net.Addr.{ipv4_octets}
 use Rattle.std.specs.declared.net.ipv4_addr.Ipv4Addr.{Ipv4Addr}
 use Rattle.ranked.specs.Sets.{In}
+use Rattle.ranked.specs.declared.tag.Tag.{Tag}
+use Rattle.fact_records.specs.SessionValues.{entry_by}
 use Rattle.ranked.proofs.Plain.{clash, none_some, some_same}
 use Rattle.pcrf_values.specs.RuleValues.{RuleValue}
 use Rattle.pcrf_facts.specs.Facts.{Fact}
@@ -25,7 +27,7 @@ pub address_shown : (facts : List SessionFact) (s : Session) (known : List Fact)
 address_shown facts s known o k e = value_shown facts s known address o k e
 
 -- what is mapped is there where it was
-still_there : {A B : Type 0} (f : A → B) (o : Option A) → is_some o ≡ is_some (option_map f o)
+pub still_there : {A B : Type 0} (f : A → B) (o : Option A) → is_some o ≡ is_some (option_map f o)
 still_there f None = refl
 still_there f (Some x) = refl
 
@@ -103,3 +105,8 @@ module _ (old new : RulesValue) (u w : WaitingValue) (all : Unsettled new w) whe
   -- and so do those that are listed under an address
   pub all_listed : (v : View) (index : IndexValue) (at : Option Ipv4Addr) → ListedWait v index w at
   all_listed v index at = record { each = λ a s e k m. record { there = λ some name h. clash w.all all.waits some } }
+
+-- what is read as an entry is there where it was
+pub some_entry : {T : Type 0} (made : T → Value) (o : Option (Tag × T)) → is_some o ≡ is_some (entry_by made o)
+some_entry made None = refl
+some_entry made (Some e) = refl

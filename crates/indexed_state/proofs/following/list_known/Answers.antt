@@ -24,4 +24,4 @@ returns-in-Ok-clause-covers c = λ listed before after is differs covers.
     let facts = sym (ap (λ o. record_facts (option_copied o)) c.in-Some.is) ∙ is in
     placed_covered before after c.args.id.now index differs
     (covers_grow (view before) c.args.index.now index c.cover_gateway.ensures.grows covers)
-    (subst (λ (fs : List Fact). ListsGateway index c.args.id.now fs) facts c.in-Ok.ensures)
+    (subst (λ (fs : List Fact). ListsGateway index c.args.id.now fs) facts c.in-Ok.ensures.lists)
