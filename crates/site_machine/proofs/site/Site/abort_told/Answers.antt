@@ -9,7 +9,7 @@ use Rattle.site_machine.specs.Facts.{operation_on_call}
 use Rattle.site_machine.specs.Sites.{SiteValue, with_made}
 use Rattle.site_machine.proofs.Aborts.{nothing_is, nothing_lacks, something_is, something_lacks}
 use Rattle.site_machine.proofs.Formed.{stamped, aborted_formed}
-use Rattle.site_machine.proofs.aborting.Site.abort_told.Goals as goal
+use Rattle.site_machine.proofs.site.Site.abort_told.Goals as goal
 
 pub returns-in_default-found-clause-abort : goal.returns-in_default-found-clause-abort
 returns-in_default-found-clause-abort c =
