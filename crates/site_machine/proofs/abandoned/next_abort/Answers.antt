@@ -1,10 +1,8 @@
-use Rattle.std.proofs.Common.{◌≡◌, IfOk, Option, option_map, subst, sym, ap, ◌∙◌}
+use Rattle.std.proofs.Common.{◌≡◌, IfOk, Option, option_map, subst, ap, ◌∙◌}
 use Rattle.std.specs.Option.{option_copied}
-use Rattle.pcrf_model.specs.Aborting.{abandoned_session, abort_of}
 use Rattle.pcrf_model.specs.Holdings.{Holding, facts_on}
 use Rattle.pcrf_model.specs.Replies.{AbortValue}
 use Rattle.pcrf_model.specs.Sessions.{af}
-use Rattle.pcrf_model.specs.Views.{view}
 use Rattle.rx_profile.specs.Aborts.{abort_view}
 use Rattle.site_machine.proofs.AbandonedRecord.{aborted_is}
 use Rattle.site_machine.proofs.abandoned.next_abort.Goals as goal
