@@ -1,8 +1,8 @@
 -- What a site aborts.
-use Rattle.std.proofs.Common.{◌≡◌, ℕ, ◌+◌, Bool, false, List, [], ◌∷◌, Option, Some, None, refl, sym, ap, ◌∙◌, option_map}
-use Rattle.ranked.proofs.Plain.{none_some, some_same, clash}
+use Rattle.std.proofs.Common.{◌≡◌, ℕ, ◌+◌, false, List, [], ◌∷◌, Option, Some, None, refl, sym, ap, ◌∙◌, option_map}
+use Rattle.ranked.proofs.Plain.{none_some, some_same}
 use Rattle.pcrf_facts.specs.Facts as facts
-use Rattle.pcrf_model.specs.Sessions.{Kind, Gx, Af, Session, af, is_gx}
+use Rattle.pcrf_model.specs.Sessions.{Session, af}
 use Rattle.pcrf_model.specs.Holdings.{Holding}
 use Rattle.pcrf_model.specs.Views.{View, view}
 use Rattle.pcrf_model.specs.Replies.{AbortValue, Aborted}

@@ -1,6 +1,6 @@
 -- The operations that a site makes are of the form, and so is what it puts back.
 use Rattle.std.proofs.lemmas.Bool.Decides.{nat_tests}
-use Rattle.std.proofs.Common.{◌≡◌, ℕ, ◌<◌, ◌≤◌, true, false, List, [], ◌∷◌, ◌++◌, map, Some, refl, sym, ap, ◌∙◌, subst, nat_lt, length, arith}
+use Rattle.std.proofs.Common.{◌≡◌, ℕ, ◌<◌, ◌≤◌, true, false, List, [], ◌∷◌, ◌++◌, map, refl, sym, ap, ◌∙◌, subst, nat_lt, length, arith}
 use Rattle.std.specs.List.{list_all}
 use Rattle.ranked.specs.Ascending.{ascending}
 use Rattle.ranked.specs.Sets.{Distinct}

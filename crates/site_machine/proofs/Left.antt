@@ -20,7 +20,7 @@ use Rattle.pcrf_model.specs.Rules.{rules}
 use Rattle.pcrf_model.specs.Differences.{rule_name_of}
 use Rattle.pcrf_model.specs.Requests.{CcrValue}
 use Rattle.pcrf_model.specs.Refusals.{first_cause, ccr_causes, ccr_refusal}
-use Rattle.pcrf_model.specs.Making.{ccr_fields, next_tag}
+use Rattle.pcrf_model.specs.Making.{next_tag}
 use Rattle.pcrf_model.specs.Serving.{provision_outcome, with_added}
 use Rattle.pcrf_model.specs.Pushing.{due_session, push}
 use Rattle.pcrf_model.specs.Laws.{TellsTheFirst}

@@ -1,17 +1,15 @@
 -- What a site pushes.
-use Rattle.std.proofs.Common.{◌≡◌, ℕ, ◌+◌, ◌&&◌, true, false, List, Option, Some, None, refl, sym, ap, ◌∙◌, option_map, is_some}
+use Rattle.std.proofs.Common.{◌≡◌, ℕ, ◌+◌, true, false, List, Option, Some, None, refl, sym, ap, ◌∙◌, option_map}
 use Rattle.std.specs.Cmp.{first_so}
 use Rattle.ranked.proofs.Plain.{none_some, some_same}
-use Rattle.pcrf_values.specs.RuleValues.{DeltaValue}
 use Rattle.pcrf_values.specs.Limits.{delta_limit}
 use Rattle.pcrf_model.specs.Serving.{delta_of}
 use Rattle.pcrf_model.specs.Sessions.{Session, gx, is_gx}
 use Rattle.pcrf_model.specs.Holdings.{Holding}
 use Rattle.pcrf_model.specs.Views.{View, view}
-use Rattle.pcrf_model.specs.Live.{is_live}
 use Rattle.pcrf_model.specs.Tables.{Tables}
-use Rattle.pcrf_model.specs.Replies.{PushValue, Pushed, Outcome}
-use Rattle.pcrf_model.specs.Pushing.{due_session, push, lacks_counter, push_outcome}
+use Rattle.pcrf_model.specs.Replies.{PushValue, Pushed}
+use Rattle.pcrf_model.specs.Pushing.{due_session, push, lacks_counter}
 use Rattle.pcrf_model.specs.Refusals.{is_clock_full}
 use Rattle.site_machine.specs.Sites.{SiteValue}
 use Rattle.pcrf_model.proofs.BindLaws.{gx_is}

@@ -1,5 +1,5 @@
 -- What a site holds after fields are set, once more, or not at all.
-use Rattle.std.proofs.Common.{◌≡◌, ℕ, max, Bool, true, false, not, List, [], ◌++◌, ◌↔◌, inl, inr, refl, sym, ap, ◌∙◌, subst, arith, filter}
+use Rattle.std.proofs.Common.{◌≡◌, max, Bool, true, false, not, List, [], ◌++◌, ◌↔◌, inl, inr, refl, sym, ap, ◌∙◌, subst, arith, filter}
 use Rattle.std.specs.Ordering.{is_eq}
 use Rattle.ranked.specs.Ascending.{ascending, Rises}
 use Rattle.ranked.specs.Sets.{In, Same}
@@ -9,7 +9,7 @@ use Rattle.ranked.proofs.OrderLaws.{eq_is, eq_itself}
 use Rattle.ranked.proofs.SetLaws.{In-left, In-right, In-cases, top_of}
 use Rattle.pcrf_facts.specs.Facts.{Fact}
 use Rattle.pcrf_model.specs.Sessions.{Session, session_cmp}
-use Rattle.pcrf_model.specs.Holdings.{Holding, SessionFact, session_fact_cmp, is_shaded_there_by, under, facts_on, kept_facts, kept_of, union, with_facts_of}
+use Rattle.pcrf_model.specs.Holdings.{Holding, SessionFact, session_fact_cmp, is_shaded_there_by, under, facts_on, kept_facts, kept_of, with_facts_of}
 use Rattle.pcrf_model.specs.Operations.{Operation, with_operation}
 use Rattle.pcrf_model.proofs.HoldingLaws.{session_ranked, session_fact_ranked, there_irr, there_trans, same_session, kept_facts-In, In-kept_facts, sorted-In, sorted-Same, In-facts_on, facts_on-In, In-under, under-In, replaces_one}
 use Rattle.pcrf_model.proofs.UnionLaws.{kept_of-union}

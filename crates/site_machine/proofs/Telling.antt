@@ -8,7 +8,7 @@ use Rattle.ranked.proofs.Plain.{clash}
 use Rattle.ranked.proofs.SetLaws.{In-right}
 use Rattle.pcrf_values.specs.Limits.{session_id_limit}
 use Rattle.pcrf_values.specs.RuleValues.{DeltaValue}
-use Rattle.pcrf_facts.specs.Facts.{Fact, End, Removed, Field, fact_cmp, is_shaded_by}
+use Rattle.pcrf_facts.specs.Facts.{Fact, End, Removed, Aborted, Field, fact_cmp, is_shaded_by}
 use Rattle.pcrf_facts.specs.Held.{kept_list, join_of, kept_set}
 use Rattle.pcrf_facts.proofs.JoinedLaws.{kept-In, In-kept, sorted-In, sorted-Same, joined-held}
 use Rattle.pcrf_model.specs.Holdings.{Holding, facts_on, kept_of}
@@ -86,6 +86,7 @@ some_weaker (Some x) P Q h i = h x i
 is_the_end : (f : Fact) → is_shaded_by f End ≡ false → f ≡ End
 is_the_end End h = refl
 is_the_end (Removed r) h = clash true refl h
+is_the_end Aborted h = clash true refl h
 is_the_end (Field p t v) h = clash true refl h
 
 -- with the end nothing else is kept

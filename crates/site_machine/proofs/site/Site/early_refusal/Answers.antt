@@ -1,4 +1,4 @@
-use Rattle.std.proofs.Common.{◌≡◌, false, not, ◌&&◌, List, Some, ap, sym, ◌∙◌}
+use Rattle.std.proofs.Common.{not, ◌&&◌, List, Some, ap, sym, ◌∙◌}
 use Rattle.std.specs.List.{list_any}
 use Rattle.pcrf_facts.specs.Facts.{Fact}
 use Rattle.pcrf_facts.specs.Held.{is_ended}

@@ -1,26 +1,22 @@
 use Rattle.std.proofs.Common.{◌≡◌, ℕ, true, List, [], ◌∷◌, ◌++◌, map, Some, refl, sym, ap, ◌∙◌, subst}
-use Rattle.ranked.specs.Ascending.{ascending}
-use Rattle.ranked.specs.Sets.{In, Distinct}
-use Rattle.ranked.specs.declared.tag.Tag.{Tag}
+use Rattle.ranked.specs.Sets.{Distinct}
 use Rattle.ranked.proofs.SetLaws.{In-left}
 use Rattle.pcrf_values.specs.RuleValues.{DeltaValue}
-use Rattle.pcrf_facts.specs.Facts.{Fact, fact_cmp}
+use Rattle.pcrf_facts.specs.Facts.{Fact}
 use Rattle.pcrf_values.specs.Limits.{delta_limit}
 use Rattle.pcrf_model.specs.Sessions.{gx}
-use Rattle.pcrf_model.specs.Holdings.{Holding, facts_on, kept_of}
+use Rattle.pcrf_model.specs.Holdings.{facts_on, kept_of}
 use Rattle.pcrf_model.specs.Operations.{Operation, with_operation}
 use Rattle.pcrf_model.specs.Views.{View, view}
 use Rattle.pcrf_model.specs.Rules.{rules}
 use Rattle.pcrf_model.specs.Differences.{rule_name_of}
 use Rattle.pcrf_model.specs.Forms.{are_up_to}
-use Rattle.pcrf_model.specs.Making.{told_facts}
 use Rattle.pcrf_model.specs.Replies.{Outcome}
 use Rattle.pcrf_model.specs.Serving.{delta_of}
 use Rattle.site_machine.specs.Sites.{SiteValue}
 use Rattle.gx_profile.specs.Requests.{ccr_view}
 use Rattle.site_join.specs.States.{record_facts}
 use Rattle.site_machine.specs.Facts.{operation_made, operation_told}
-use Rattle.fact_making.specs.Gateway.{made_facts}
 use Rattle.site_machine.specs.Replies.{told_reply}
 use Rattle.site_machine.specs.Sites.{with_made, with_one, with_record}
 use Rattle.site_machine.proofs.Replies.{provisioned_is, host_is_made}

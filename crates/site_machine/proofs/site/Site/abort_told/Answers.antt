@@ -1,4 +1,4 @@
-use Rattle.std.proofs.Common.{rules, ◌≡◌, ℕ, true, [], ◌∷◌, Some, Option, ap, sym, ◌∙◌, option_map, arith}
+use Rattle.std.proofs.Common.{rules, ◌≡◌, ℕ, true, [], ◌∷◌, Some, ap, sym, ◌∙◌, option_map, arith}
 use Rattle.std.specs.Option.{option_copied}
 use Rattle.pcrf_values.specs.Limits.{session_id_limit}
 use Rattle.pcrf_facts.specs.Facts as facts
@@ -6,10 +6,10 @@ use Rattle.pcrf_model.specs.Forms.{is_text}
 use Rattle.pcrf_model.specs.Replies.{Outcome}
 use Rattle.rx_profile.specs.Aborts.{abort_view}
 use Rattle.site_machine.specs.Facts.{operation_on_call}
-use Rattle.site_machine.specs.Sites.{SiteValue, with_made}
+use Rattle.site_machine.specs.Sites.{with_made}
 use Rattle.site_machine.proofs.Aborts.{nothing_is, nothing_lacks, something_is, something_lacks}
 use Rattle.site_machine.proofs.Formed.{stamped, aborted_formed}
-use Rattle.site_machine.proofs.aborting.Site.abort_told.Goals as goal
+use Rattle.site_machine.proofs.site.Site.abort_told.Goals as goal
 
 pub returns-in_default-found-clause-abort : goal.returns-in_default-found-clause-abort
 returns-in_default-found-clause-abort c =
