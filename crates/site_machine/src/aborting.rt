@@ -90,8 +90,8 @@ impl Site {
     /// The abort that is due for a host, any where none is given.
     fn next_abort(&mut self, host: Option<&[u8]>) -> Result<Option<AbortOut>, AllocError>
         ensures abort { IfOk result (λ abort. option_map abort_view abort
-            ≡ option_map (abort_of (view self.old.state.holding.facts))
-            (abandoned_session self.old.number (view self.old.state.holding.facts)
+            ≡ option_map (abort_of (view self.new.state.holding.facts))
+            (abandoned_session self.new.number (view self.new.state.holding.facts)
             (option_copied host.entry))) }
         ensures same { self.new ≡ self.old }
     {
