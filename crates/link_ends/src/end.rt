@@ -85,7 +85,7 @@ impl From<StepFault> for LinkEnd {
     ghost from_gives = { λ fault end. end ≡ end_of_step fault };
 
     /// How a site that takes no event ends a connection that can't go on without it. Of what peers ask for and send nothing
-    /// needs a counter: a clock at its end is met at pushes alone, which end no connection.
+    /// needs a counter: a clock at its end is met at pushes and aborts alone, which end no connection.
     fn from(fault: StepFault) -> LinkEnd {
         match fault {
             StepFault::HistoryFull | StepFault::ClockFull => LinkEnd::HistoryFull,

@@ -56,9 +56,11 @@ impl Heading {
                 state,
                 log_length: self.at,
             }),
-            Event::Serve(_) | Event::Push(_) | Event::AskOwn(_) | Event::AskWhole => {
-                unreachable!()
-            }
+            Event::Serve(_)
+            | Event::Push(_)
+            | Event::Abort(_)
+            | Event::AskOwn(_)
+            | Event::AskWhole => { unreachable!() }
         };
         let Some(letter) = Letter::of(self.edition, self.site, self.epoch, body) else {
             unreachable!()
