@@ -69,6 +69,7 @@ impl Console {
             Line::Sites(n) => self.start_world(*n, out),
             Line::Message(i, bytes) => self.give(*i, bytes.as_slice(), out),
             Line::Push(i) => self.happen(WorldEvent::Push(*i, None), out),
+            Line::Abort(i) => self.happen(WorldEvent::Abort(*i, None), out),
             Line::Letter(i, j) => self.happen(WorldEvent::Letter(*i, *j), out),
             Line::Merge(j, k) => self.happen(WorldEvent::Merge(*j, *k), out),
             Line::Ack(j, i) => self.happen(WorldEvent::Ack(*j, *i), out),
@@ -99,7 +100,7 @@ impl Console {
         put
     }
 
-    /// Has a push, or a letter made or taken.
+    /// Has a push or an abort, or a letter made or taken.
     fn happen(&mut self, event: WorldEvent, out: &mut String) -> Result<(), Unobeyed> {
         let happened = match &mut self.world {
             Some(world) => step(world, &event, out),

@@ -24,6 +24,8 @@ pub(crate) enum Line {
     Message(Named, Vec<u8>),
     /// A site pushes what is due.
     Push(Named),
+    /// A site aborts a session.
+    Abort(Named),
     /// A site makes a letter for a peer.
     Letter(Named, Named),
     /// A site takes a letter.
@@ -112,6 +114,7 @@ fn read_words(alloc: Global, first: &str, further: Further<'_>) -> Result<Line, 
             Ok(Line::Message(number(site)?, bytes(alloc, hex)?))
         }
         "push" => Ok(Line::Push(one_number(further)?)),
+        "abort" => Ok(Line::Abort(one_number(further)?)),
         "letter" => {
             let (site, peer) = two_numbers(further)?;
             Ok(Line::Letter(site, peer))

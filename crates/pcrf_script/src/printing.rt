@@ -3,6 +3,7 @@ use gx_profile::PushOut;
 use operator_view::put_text;
 use pcrf_values::Rule;
 use pcrf_world::{WorldFault, WorldOutcome};
+use rx_profile::AbortOut;
 use std::alloc::AllocError;
 use std::fmt::Write as _;
 
@@ -26,6 +27,7 @@ pub(crate) fn put_outcome(
     match answer {
         Ok(WorldOutcome::Replied(_) | WorldOutcome::Restarted(_)) => Ok(()),
         Ok(WorldOutcome::Pushed(push)) => put_push(out, push.as_ref()),
+        Ok(WorldOutcome::Aborted(abort)) => put_abort(out, abort.as_ref()),
         Ok(WorldOutcome::Lettered(k)) => writeln!(out, "letter {k}"),
         Ok(WorldOutcome::Merged) => out.push_str("merged\n"),
         Err(WorldFault::NoSuchSite) => out.push_str("refused NoSuchSite\n"),
@@ -56,6 +58,16 @@ fn put_installed(out: &mut String, rules: &[Rule]) -> Result<(), AllocError> {
         out.push_str(" +")?;
         put_text(out, rule.name().as_slice())?;
     }
+    out.push_str("\n")
+}
+
+/// The session that a site aborted.
+fn put_abort(out: &mut String, abort: Option<&AbortOut>) -> Result<(), AllocError> {
+    let Some(abort) = abort else {
+        return out.push_str("none\n");
+    };
+    out.push_str("abort ")?;
+    put_text(out, abort.session.as_slice())?;
     out.push_str("\n")
 }
 

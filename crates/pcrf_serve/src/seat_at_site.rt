@@ -60,9 +60,12 @@ fn request_of(event: Event) -> Request
 {
     match event {
         Event::Serve(request) => request,
-        Event::Push(_) | Event::Ops(_) | Event::Whole(_) | Event::AskOwn(_) | Event::AskWhole => {
-            unreachable!()
-        }
+        Event::Push(_)
+        | Event::Ops(_)
+        | Event::Whole(_)
+        | Event::AskOwn(_)
+        | Event::AskWhole
+        | Event::Abort(_) => { unreachable!() }
     }
 }
 

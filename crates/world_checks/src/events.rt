@@ -35,6 +35,7 @@ pub fn event_of(alloc: Global, line: &str) -> Option<WorldEvent> {
     match first {
         "msg" => served(alloc, one, last.unwrap_or("")),
         "push" => Some(WorldEvent::Push(one, None)),
+        "abort" => Some(WorldEvent::Abort(one, None)),
         "letter" => Some(WorldEvent::Letter(one, number(last))),
         "merge" => Some(WorldEvent::Merge(one, number(last))),
         "ack" => Some(WorldEvent::Ack(one, number(last))),
