@@ -71,13 +71,7 @@ impl IndexedState {
             site,
         );
         gather(self.alloc, &self.state, &mut self.aborts)?;
-        next_abort(
-            &self.state,
-            &self.index,
-            &mut self.aborts,
-            self.site,
-            host,
-        )
+        next_abort(&self.state, &self.index, &mut self.aborts, self.site, host)
     }
 }
 

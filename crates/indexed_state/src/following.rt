@@ -10,8 +10,8 @@ ghost use Rattle.session_index.specs.Index.{Covers, Grows};
 ghost use Rattle.site_join.specs.States.{record_facts};
 ghost use Rattle.indexed_state.specs.Indexed.{Agree, Unsettled};
 
-use crate::forgetting::{forget_gateway, forget_stood};
 use crate::aborting::wait_lost;
+use crate::forgetting::{forget_gateway, forget_stood};
 use crate::reached::gateway_reached_in;
 use crate::unsettling::{unsettle, unsettle_all, wait_gateway};
 use gx_records::GxRec;

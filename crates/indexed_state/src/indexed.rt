@@ -399,7 +399,10 @@ fn waits_at(of: u8, waiting: &Waiting, site: u8, host: &DiameterIdentity) -> boo
 }
 
 /// The host that is given, as a name under which sessions wait: none where none is given, or no name has these bytes.
-pub(crate) fn name_of(alloc: Global, host: Option<&[u8]>) -> Result<Option<DiameterIdentity>, AllocError>
+pub(crate) fn name_of(
+    alloc: Global,
+    host: Option<&[u8]>,
+) -> Result<Option<DiameterIdentity>, AllocError>
     ensures { IfOk result (λ name. IfSome name (λ n. option_copied host.entry ≡ Some n)) }
 {
     let Some(bytes) = host else {

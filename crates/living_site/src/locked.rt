@@ -130,12 +130,7 @@ impl<L: Roll> LivingSite<L> {
     /// Whether a session of a host may be to be asked to abort, once the lock is free. Where it answers false none was at the site
     /// that a history had led to in which the seat has just a receipt for each of its entries: so after all that the seat did.
     /// It makes no entry, and wakes nobody.
-    pub fn is_aborting<R: Wait>(
-        &self,
-        rt: &R,
-        seat: &mut Seat<L>,
-        host: &DiameterIdentity,
-    ) -> bool
+    pub fn is_aborting<R: Wait>(&self, rt: &R, seat: &mut Seat<L>, host: &DiameterIdentity) -> bool
         ensures none { result ≡ false
             → FindsNoneAbandoned (IsFound L.seats L.opening) seat.old host.now }
         ensures same { seat.new ≡ seat.old }

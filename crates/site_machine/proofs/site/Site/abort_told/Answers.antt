@@ -40,7 +40,7 @@ returns-in_default-next_counter-clause-full c =
     let name = option_copied c.args.host in
     let some = sym (ap (option_map abort_view) c.in-Some.is) ∙ c.in-Ok.ensures.abort in
     λ _. ap (λ (x : SiteValue). lacks_counter_to_abort x.number x.state.holding name) (sym c.in-Ok.ensures.same)
-        ∙ something_lacks s name (abort_view c.in-Some.abort) some ∙ c.next_counter.ensures.full c.in_default-next_counter.is
+    ∙ something_lacks s name (abort_view c.in-Some.abort) some ∙ c.next_counter.ensures.full c.in_default-next_counter.is
 
 pub returns-clause-abort : goal.returns-clause-abort
 returns-clause-abort c =
