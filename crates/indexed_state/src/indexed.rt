@@ -217,7 +217,8 @@ impl IndexedState {
     }
 
     /// The gateway's session to which an application function's session is bound, `None` where it is bound to none (TS 29.213,
-    /// 5.2). Its time grows with the number of gateways' sessions that are listed under its address.
+    /// 5.2). Its time grows with the number of gateways' sessions that are listed under its address, or of those that were given
+    /// a prefix where it shows a prefix alone.
     pub fn bind(&self, session: &AfSid) -> Option<&GxSid>
         ensures { option_map gx (option_copied result)
             ≡ bind (view self.now.holding.facts) (af session.now) }
