@@ -23,7 +23,7 @@ pub enum FrameFault {
 /// first.
 #[derive(Clone, Copy, Debug, PartialEq, Eq, Error)]
 pub enum LetterFault {
-    #[error("the letter's version is not 1")]
+    #[error("the letter's version is not 1, 2 or 3")]
     BadVersion,
     /// The sender has operator tables of another edition.
     #[error("the letter is of another edition of the operator tables")]
