@@ -360,7 +360,7 @@ const ANSWERS: Sends = &[&[
 #[test]
 fn answers_of_a_peer_are_passed_over(rt: HostRuntime) {
     let outcome = "Closed 1: 257=2001 280=2001\nClosed 0:\nClosed 0:\n\
-        4 entries, 4 told, clock 0, 0 reached\ngw r 2001\ngw;1;1 refused 5012\n\
+        6 entries, 6 told, clock 0, 0 reached\ngw r 2001\ngw;1;1 refused 5012\n\
         gw;1;1 refused 5065\n";
     check(&rt, rt.alloc(), plain([ANSWERS, QUIET, QUIET], outcome));
 }
@@ -386,9 +386,9 @@ const EXCHANGED: Sends = &[&[EXCHANGE]];
 
 #[test]
 fn a_gateway_is_reached_before_it_has_its_answer(rt: HostRuntime) {
-    // Each of the two requests makes an entry, and each a push behind it.
+    // Each of the two requests makes an entry, and each a push and a question for aborts behind it.
     let outcome = "Closed 1: 257=2001\nClosed 1: 280=2001\nClosed 0:\n\
-        4 entries, 4 told, clock 0, 0 reached\ngw r 2001\n";
+        6 entries, 6 told, clock 0, 0 reached\ngw r 2001\n";
     let known = plain([EXCHANGED, WATCHED, QUIET], outcome);
     let text = text_of(&rt, rt.alloc(), known, &AtFirstWrite::start(&rt));
     assert_eq!(rt; text.as_str(), outcome);
