@@ -5,7 +5,7 @@ use Rattle.std.specs.Ordering.{is_eq}
 use Rattle.std.specs.List.{list_all}
 use Rattle.ranked.specs.Sets.{In}
 use Rattle.ranked.proofs.SetLaws.{In-cases, filter-In}
-use Rattle.pcrf_facts.specs.Facts.{Fact, End, Removed, Field}
+use Rattle.pcrf_facts.specs.Facts.{Fact, End, Removed, Field, Aborted}
 use Rattle.pcrf_model.specs.Sessions.{Session, session_cmp}
 use Rattle.pcrf_model.specs.Holdings.{SessionFact, Holding, under, facts_on, with_facts_of}
 use Rattle.pcrf_model.specs.Forms.{is_holding, is_up_to, are_up_to}
@@ -19,6 +19,7 @@ use Rattle.site_join.specs.States.{record_facts}
 up_to_later : (m n : ℕ) (f : Fact) → m ≤ n → is_up_to m f ≡ true → is_up_to n f ≡ true
 up_to_later m n End l h = h
 up_to_later m n (Removed r) l h = h
+up_to_later m n Aborted l h = h
 up_to_later m n (Field p t x) l h = let low = passes_le t.counter m h in le_passes t.counter n (omega (arith, l, low))
 
 -- so are the facts that are held
