@@ -28,7 +28,7 @@ const WITH_ADDRESS: u8 = 16;
 
 /// Which operations are drawn.
 #[derive(Clone, Copy, PartialEq, Eq)]
-enum Drawn {
+enum OperationKind {
     /// By addresses alone.
     Addresses,
     /// By addresses, by prefixes and by both.
@@ -85,9 +85,9 @@ fn drawn_of(
     rt: &(impl AllocGlobal + Abort),
     draws: &mut Draws,
     counter: u64,
-    kind: Drawn,
+    kind: OperationKind,
 ) -> Operation {
-    if kind == Drawn::Addresses {
+    if kind == OperationKind::Addresses {
         return drawn(rt, draws, counter, CALLS);
     }
     if draws.below(3) == 0 {
@@ -170,7 +170,7 @@ fn take_drawn(
     draws: &mut Draws,
     held: &mut IndexedState,
     most: u64,
-    kind: Drawn,
+    kind: OperationKind,
     counts: &mut Counts,
 ) {
     for counter in 1..most {
@@ -188,7 +188,7 @@ fn take_drawn(
 }
 
 /// What so many operations of a kind reach that are drawn from a seed.
-fn counts_of(rt: &(impl AllocGlobal + Abort), seed: u64, most: u64, kind: Drawn) -> Counts {
+fn counts_of(rt: &(impl AllocGlobal + Abort), seed: u64, most: u64, kind: OperationKind) -> Counts {
     let mut draws = Draws::of(seed);
     let mut counts = Counts::default();
     let tables = telephony(rt.alloc()).expect(rt, "tables");
@@ -202,7 +202,7 @@ fn counts_of(rt: &(impl AllocGlobal + Abort), seed: u64, most: u64, kind: Drawn)
 /// The numbers below say that the draws reach bindings, sessions by subscriber, rules and pushes.
 #[test]
 fn three_thousand_operations_leave_what_the_passes_say(rt: HostRuntime) {
-    let counts = counts_of(&rt, 1, 3_001, Drawn::Addresses);
+    let counts = counts_of(&rt, 1, 3_001, OperationKind::Addresses);
     assert!(rt; counts.bound >= 10_000, "{counts:?}");
     assert!(rt; counts.subscribed >= 400, "{counts:?}");
     assert!(rt; counts.rules >= 10_000, "{counts:?}");
@@ -212,7 +212,7 @@ fn three_thousand_operations_leave_what_the_passes_say(rt: HostRuntime) {
 /// So do these of sessions and calls that have prefixes.
 #[test]
 fn four_hundred_operations_with_prefixes_leave_what_the_passes_say(rt: HostRuntime) {
-    let counts = counts_of(&rt, 2, 401, Drawn::Prefixes);
+    let counts = counts_of(&rt, 2, 401, OperationKind::Prefixes);
     assert!(rt; counts.bound >= 5_000, "{counts:?}");
     assert!(rt; counts.subscribed >= 5_000, "{counts:?}");
     assert!(rt; counts.rules >= 5_000, "{counts:?}");
