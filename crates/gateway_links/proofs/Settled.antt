@@ -1,5 +1,5 @@
 -- What a seat gains by demands on a host, and that nothing is to be asked of the host at the end of them.
-use Rattle.std.proofs.Common.{◌≡◌, ℕ, List, false, inl, inr, sym, subst, ◌∙◌}
+use Rattle.std.proofs.Common.{◌≡◌, ℕ, List, Result, Ok, Err, IfOk, false, inl, inr, sym, subst, ◌∙◌}
 use Rattle.link_ends.specs.Steps.{SiteEvent}
 use Rattle.link_ends.specs.Books.{SeatValue}
 use Rattle.link_ends.specs.Earlier.{Adds}
@@ -34,3 +34,8 @@ told_nothing Found demand host event reply t is asked replied none = inl (reply,
 -- a look that finds nothing
 pub found_nothing : (Found : SeatValue → SiteValue → Type 0) (demand : Demand) (host : List ℕ) (s t : SeatValue) → t ≡ s → FindsNone Found demand s host → NothingWasDue Found demand host t
 found_nothing Found demand host s t same nothing = inr (subst (λ (w : SeatValue). FindsNone Found demand w host) (sym same) nothing)
+
+-- what holds of each answer holds of the one that is given, if one is
+pub of_each : {A E : Type 0} (P : A → Type 0) (r : Result A E) → ((a : A) → P a) → IfOk r P
+of_each P (Ok a) f = f a
+of_each P (Err e) f = tt

@@ -1,5 +1,5 @@
 //! What a site asks of the hosts that can be reached: pushes to gateways, and aborts at application functions.
-ghost use Rattle.std.specs.Prelude.{◌≡◌, ◌+◌, false, IfNone, IfOk, option_map};
+ghost use Rattle.std.specs.Prelude.{◌≡◌, ◌↔◌, ◌+◌, false, IfNone, IfOk, IsTrue, option_map};
 ghost use Rattle.dia_codec.specs.Written.{written_spelling};
 ghost use Rattle.gateway_links.specs.Due.{FindsNone, NothingWasDue, WasAsked};
 ghost use Rattle.gateway_links.specs.Requests.{WasReplied, asks, identifier_at, last_request, request_saying};
@@ -269,6 +269,13 @@ fn push_demand<R: Threads + Wait + Sync, S: SharedSite, W: Write + Drop>(
     pushed
 }
 
+/// Nothing was left to ask.
+fn is_all(pushed: Pushed) -> bool
+    ensures { IsTrue result ↔ (pushed ≡ Pushed.All) }
+{
+    matches!(pushed, Pushed::All)
+}
+
 /// Pushes to a host, by its half: first what its gateway is to be told, and then what its application function is to end.
 fn push_gateway<R: Threads + Wait + Sync, S: SharedSite, W: Write + Drop>(
     rt: &R,
@@ -286,7 +293,7 @@ fn push_gateway<R: Threads + Wait + Sync, S: SharedSite, W: Write + Drop>(
         → NothingWasDue S.found demands.Abort gateway.now.host (S.seen seat.new)) }
 {
     let told = push_demand(rt, alloc, site, seat, gateway, Demand::Rules, outgoing)?;
-    if told != Pushed::All {
+    if !is_all(told) {
         return Ok(told);
     }
     push_demand(rt, alloc, site, seat, gateway, Demand::Abort, outgoing)

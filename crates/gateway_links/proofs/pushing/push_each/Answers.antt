@@ -20,3 +20,15 @@ returns-in-Some-false-clause-adds g c =
 pub returns-in-None-2-clause-adds : goal.returns-in-None-2-clause-adds
 returns-in-None-2-clause-adds g c =
     pushed_on c.args.demand c.args.host.now (event_value c.args.event.now) _ _ _ _ c.requires c.loop.invariant (ap g.S.SharedSite.seen c.is_wanted.ensures.same) c.push_once.ensures.adds
+
+pub returns-in-Err-HistoryFull-clause-adds : goal.returns-in-Err-HistoryFull-clause-adds
+returns-in-Err-HistoryFull-clause-adds g c =
+    pushed_on c.args.demand c.args.host.now (event_value c.args.event.now) _ _ _ _ c.requires c.loop.invariant (ap g.S.SharedSite.seen c.is_wanted.ensures.same) c.push_once.ensures.adds
+
+pub returns-in-Err-ClockFull-clause-adds : goal.returns-in-Err-ClockFull-clause-adds
+returns-in-Err-ClockFull-clause-adds g c =
+    pushed_on c.args.demand c.args.host.now (event_value c.args.event.now) _ _ _ _ c.requires c.loop.invariant (ap g.S.SharedSite.seen c.is_wanted.ensures.same) c.push_once.ensures.adds
+
+pub returns-in-Err-NoMemory-clause-adds : goal.returns-in-Err-NoMemory-clause-adds
+returns-in-Err-NoMemory-clause-adds g c =
+    pushed_on c.args.demand c.args.host.now (event_value c.args.event.now) _ _ _ _ c.requires c.loop.invariant (ap g.S.SharedSite.seen c.is_wanted.ensures.same) c.push_once.ensures.adds
