@@ -5,6 +5,8 @@ mod operator_tables;
 mod run;
 mod server;
 mod socket_server;
+mod stamped;
+mod staying;
 mod told;
 mod words;
 

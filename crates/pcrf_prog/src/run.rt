@@ -1,13 +1,13 @@
 //! A run of the program over words, a reader and writers that are handed in.
 use crate::operator_tables::{self, TablesFault};
-use crate::server::{Start, serve, start_of};
+use crate::server::{Start, serve, start_of, stay};
 use crate::socket_server::ServerFault;
+use crate::stamped::Stamped;
 use crate::told::{tell_line, tell_tables};
 use crate::words::{Asked, ServeWords, read_words};
 use clap::Error;
 use clap::error::ErrorKind;
 use dia_codec::Counted;
-use log::sink::Console;
 use log::{LevelFilter, Log, Logged};
 use op_tables::Tables;
 use pcrf_script::{ScriptEnd, ScriptRun, run_told};
@@ -15,6 +15,7 @@ use std::alloc::Global;
 use std::env;
 use std::io::{self, Eprint, Read, Write};
 use std::net::{Net, TcpListener, TcpStream};
+use std::random::RandomSource;
 use std::rt::{Env, Files};
 use std::sync::Wait;
 use std::thread::Threads;
@@ -45,6 +46,7 @@ pub trait Host: Files
     + Threads
     + Wait
     + Clock
+    + RandomSource
     + Sync {}
 
 impl<
@@ -54,6 +56,7 @@ impl<
         + Threads
         + Wait
         + Clock
+        + RandomSource
         + Sync,
 > Host for H {}
 
@@ -62,15 +65,15 @@ pub fn words<R: Env + AllocGlobal>(rt: &R) -> io::Result<Vec<String>> {
     Ok(env::args(rt)?.collect(rt.alloc())?)
 }
 
-/// How much an operator is told on standard error beside faults: nothing, or what the environment asks for. A text that names no
-/// level asks for all.
-fn level<R: Env + AllocGlobal>(rt: &R) -> LevelFilter {
+/// How much an operator is told on standard error beside faults: what the environment asks for, or else as much as that. A text that
+/// names no level asks for all.
+fn level_or<R: Env + AllocGlobal>(rt: &R, otherwise: LevelFilter) -> LevelFilter {
     match env::var(rt, "PCRF_LOG") {
         Ok(text) => text
             .as_str()
             .parse::<LevelFilter>()
             .unwrap_or(LevelFilter::Info),
-        Err(_) => LevelFilter::Off,
+        Err(_) => otherwise,
     }
 }
 
@@ -174,6 +177,12 @@ fn run_started<H: Host, G: Log + Sync, W: Write + Drop, F: Write>(
         Ok(tables) => tables,
         Err(why) => return refused_tables(log, faults, why),
     };
+    if let Some(staying) = words.stay {
+        return match stay(rt, rt.alloc(), words, staying, start, tables, log) {
+            Ok(()) => 0,
+            Err(why) => refused_server(faults, why),
+        };
+    }
     match serve(rt, rt.alloc(), words, start, tables, log) {
         Ok(entries) => settled(writer, faults, entries),
         Err(why) => refused_server(faults, why),
@@ -211,49 +220,59 @@ fn run_script_with<G: Log, R: Read + Drop, W: Write + Drop, F: Write>(
 }
 
 /// Does what the words ask for, and answers the status.
-fn run_words<H: Host, G: Log + Sync, R: Read + Drop, W: Write + Drop, F: Write>(
+fn run_asked<H: Host, G: Log + Sync, R: Read + Drop, W: Write + Drop, F: Write>(
     rt: &H,
     log: &G,
-    words: &[String],
+    asked: Asked<'_>,
     reader: R,
     writer: W,
     faults: &mut F,
 ) -> u8 {
-    match read_words(rt.alloc(), words) {
-        Ok(Asked::World(file)) => {
+    match asked {
+        Asked::Held => {
+            let tables = operator_tables::held(rt.alloc());
+            run_script_with(rt.alloc(), log, tables, reader, writer, faults)
+        }
+        Asked::World(file) => {
             let tables = operator_tables::of_file(rt, file);
             run_script_with(rt.alloc(), log, tables, reader, writer, faults)
         }
-        Ok(Asked::Serve(serve)) => run_server(rt, log, &serve, writer, faults),
-        Err(error) => refused_words(faults, &error),
+        Asked::Serve(serve) => run_server(rt, log, &serve, writer, faults),
     }
 }
 
-/// Runs the program, and answers its exit status. Faults are found in the order words, tables, sockets, run. The log is told what
-/// happens at a server, where tables are at fault, and why a line of a script is refused.
-pub fn run<H: Host, G: Log + Sync, R: Read + Drop, W: Write + Drop, F: Write + Drop>(
-    rt: &H,
-    log: &G,
-    words: &[String],
-    reader: R,
-    writer: W,
-    mut faults: F,
-) -> u8 {
-    if words.len() > 1 {
-        return run_words(rt, log, words, reader, writer, &mut faults);
+/// Whether a server is asked for that stays.
+fn is_staying(asked: &Asked<'_>) -> bool {
+    match asked {
+        Asked::Serve(words) => words.stay.is_some(),
+        Asked::Held | Asked::World(_) => false,
     }
-    let tables = operator_tables::held(rt.alloc());
-    run_script_with(rt.alloc(), log, tables, reader, writer, &mut faults)
 }
 
-/// Runs the program with a log on standard error, as the environment asks for it, and answers its exit status.
+/// How much an operator is told where nobody says: of a server that stays all, of any other run nothing but faults.
+fn level_of(is_staying: bool) -> LevelFilter {
+    match is_staying {
+        true => LevelFilter::Info,
+        false => LevelFilter::Off,
+    }
+}
+
+/// Runs the program with a log on standard error, as the environment asks for it, and answers its exit status. Faults are found in
+/// the order words, tables, sockets, run. The log is told what happens at a server, where tables are at fault, and why a line of a
+/// script is refused; its lines have the time where a server stays.
 pub fn run_logged<H: Host + Env + Eprint, R: Read + Drop, W: Write + Drop, F: Write + Drop>(
     rt: &H,
     words: &[String],
     reader: R,
     writer: W,
-    faults: F,
+    mut faults: F,
 ) -> u8 {
-    let log = Logged::new(rt, level(rt), Console(rt));
-    run(rt, &log, words, reader, writer, faults)
+    let asked = match read_words(rt.alloc(), words) {
+        Ok(asked) => asked,
+        Err(error) => return refused_words(&mut faults, &error),
+    };
+    let is_timed = is_staying(&asked);
+    let level = level_or(rt, level_of(is_timed));
+    let log = Logged::new(rt, level, Stamped { rt, is_timed });
+    run_asked(rt, &log, asked, reader, writer, &mut faults)
 }

@@ -1,6 +1,7 @@
 //! A run that serves.
 use crate::socket_server::{Addresses, SeatPlan, ServerFault, Settings, SiteEpoch, run_server};
-use crate::words::{Names, ServeWords};
+use crate::staying::{Machine, StaySettings, run_staying};
+use crate::words::{Names, ServeWords, StayWords};
 use dia_base::Identity;
 use log::Log;
 use op_tables::Tables;
@@ -83,4 +84,28 @@ pub fn serve<
         },
     };
     run_server(rt, alloc, identity, tables, &settings, log)
+}
+
+/// Serves as one that stays. The log is told what happens meanwhile.
+pub fn stay<M: Machine, G: Log + Sync>(
+    rt: &M,
+    alloc: Global,
+    words: &ServeWords<'_>,
+    stay: StayWords,
+    start: Start,
+    tables: Tables,
+    log: &G,
+) -> Result<(), ServerFault> {
+    let Start {
+        identity,
+        place,
+        plan,
+    } = start;
+    let settings = StaySettings {
+        place,
+        connections: plan.connections,
+        watchdog: stay.watchdog,
+        listen: words.listen,
+    };
+    run_staying(rt, alloc, identity, tables, &settings, log)
 }

@@ -1,0 +1,20 @@
+//! A site that stays: connections come and go, each seat serves one behind the other, and it ends by a signal alone.
+
+mod accepting;
+mod answers;
+mod cause;
+mod chairs;
+mod desk;
+mod frames;
+mod hall;
+mod journal;
+mod machine;
+mod own;
+mod post;
+mod serving;
+mod sockets;
+mod watching;
+mod working;
+
+pub use machine::Machine;
+pub use serving::{StaySettings, run_staying};

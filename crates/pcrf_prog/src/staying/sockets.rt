@@ -1,0 +1,43 @@
+//! The sockets of a server that stays.
+use crate::socket_server::{ServerFault, prepare};
+use crate::staying::journal::{tell_no_address, tell_unbound};
+use libc::net::{SO_KEEPALIVE, SOL_SOCKET, setsockopt};
+use log::Log;
+use std::fd::AsRawFd;
+use std::io::{self, ErrorKind};
+use std::net::{Net, SocketAddrV4, TcpListener, TcpStream};
+
+/// Binds an address. Where it can't the log is told why.
+pub fn bind<R: Net<Listener = TcpListener, Stream = TcpStream>, G: Log>(
+    rt: &R,
+    text: &str,
+    log: &G,
+) -> Result<TcpListener, ServerFault> {
+    let Ok(address) = text.parse::<SocketAddrV4>() else {
+        tell_no_address(log, text);
+        return Err(ServerFault::Network);
+    };
+    match TcpListener::bind(rt, address) {
+        Ok(listener) => Ok(listener),
+        Err(error) => {
+            tell_unbound(log, text, &error);
+            Err(ServerFault::Network)
+        }
+    }
+}
+
+/// Has the system ask now and then whether the other end is there (RFC 9293, 3.8.4).
+fn keep_alive(stream: &TcpStream) -> io::Result<()> {
+    let mut value = [0u8; 16];
+    value[..4].copy_from_slice(&1i32.to_ne_bytes());
+    if unsafe { setsockopt(stream.as_raw_fd(), SOL_SOCKET, SO_KEEPALIVE, &value, 4) } < 0 {
+        return Err(io::Error::from(ErrorKind::Other));
+    }
+    Ok(())
+}
+
+/// Small messages are sent at once, a write doesn't wait for ever, and the system keeps the connection alive.
+pub fn ready(stream: &TcpStream) -> io::Result<()> {
+    prepare(stream)?;
+    keep_alive(stream)
+}
