@@ -3,9 +3,9 @@ use crate::socket_server::{ServerFault, prepare};
 use crate::staying::journal::{tell_no_address, tell_unbound};
 use libc::net::{SO_KEEPALIVE, SOL_SOCKET, setsockopt};
 use log::Log;
-use std::fd::AsRawFd;
 use std::io::{self, ErrorKind};
 use std::net::{Net, SocketAddrV4, TcpListener, TcpStream};
+use std::os::fd::AsRawFd;
 
 /// Binds an address. Where it can't the log is told why.
 pub fn bind<R: Net<Listener = TcpListener, Stream = TcpStream>, G: Log>(

@@ -70,7 +70,7 @@ fn halves<'r, M: Machine>(
     Ok(Halves { reader, half, post })
 }
 
-/// Serves one connection to its end, until all is written.
+/// Serves one connection to its end, until all is written. The seat is free before its end is told.
 fn serve_arrived<'s, 'r, S: SharedSite, M: Machine, G: Log>(
     rt: &'s M,
     all: &'s Shared<'s, 'r, S, M, G>,
@@ -92,10 +92,12 @@ fn serve_arrived<'s, 'r, S: SharedSite, M: Machine, G: Log>(
             tell_connected(all.log, number, address);
             let (seat, end) = serve_connection(rt, &all.server, seat, reader, half);
             desk.wait(rt);
+            all.furniture.hall.free(rt);
             tell_ended(all.log, number, address, end, post.cause(rt));
             seat
         }
         Err(_) => {
+            all.furniture.hall.free(rt);
             tell_no_memory(all.log, address);
             seat
         }
@@ -114,6 +116,5 @@ pub fn work<'s, 'r, S: SharedSite, M: Machine, G: Log>(
     for _ in rt.forever() {
         let arrived = hall.next(rt);
         seat = serve_arrived(rt, all, seat, desk, arrived);
-        hall.free(rt);
     }
 }
