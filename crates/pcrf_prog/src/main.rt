@@ -1,6 +1,8 @@
 //! The program `pcrf`.
 #![tactic(auto)]
 
+mod files;
+mod kept_files;
 mod operator_tables;
 mod run;
 mod server;

@@ -1,16 +1,18 @@
 //! A run of the program over words, a reader and writers that are handed in.
+use crate::kept_files::{FileFault, next_epoch, secret_of_file};
 use crate::operator_tables::{self, TablesFault};
 use crate::server::{Start, serve, start_of, stay};
 use crate::socket_server::ServerFault;
 use crate::stamped::Stamped;
 use crate::told::{tell_line, tell_tables};
-use crate::words::{Asked, ServeWords, read_words};
+use crate::words::{Asked, ServeWords, StayWords, read_words};
 use clap::Error;
 use clap::error::ErrorKind;
 use dia_codec::Counted;
 use log::{LevelFilter, Log, Logged};
 use op_tables::Tables;
 use pcrf_script::{ScriptEnd, ScriptRun, run_told};
+use sealed_links::Key;
 use std::alloc::Global;
 use std::env;
 use std::io::{self, Eprint, Read, Write};
@@ -38,6 +40,9 @@ const UNSETTLED: u8 = 5;
 
 /// The status where memory ran out.
 const NO_MEMORY: u8 = 6;
+
+/// The status where the secret or the epoch of a server can't be had of its file.
+const KEPT_FILES: u8 = 7;
 
 /// What a run needs of its machine.
 pub trait Host: Files
@@ -164,6 +169,51 @@ fn settled<W: Write + Drop, F: Write>(mut writer: W, faults: &mut F, entries: us
     0
 }
 
+/// Tells why a file of a site can't be used, and answers the status.
+fn refused_file<F: Write>(faults: &mut F, why: FileFault) -> u8 {
+    let _ = writeln!(faults, "pcrf: {why}");
+    match why {
+        FileFault::NoMemory => NO_MEMORY,
+        _ => KEPT_FILES,
+    }
+}
+
+/// The secret that the words name, if they name one.
+fn secret_of<H: Host>(rt: &H, words: StayWords<'_>) -> Result<Option<Key>, FileFault> {
+    match words.secret {
+        Some(path) => Ok(Some(secret_of_file(rt, path)?)),
+        None => Ok(None),
+    }
+}
+
+/// The epoch that the words say, or the next one of the file that they name.
+fn epoch_of<H: Host>(rt: &H, words: &ServeWords<'_>) -> Result<u16, FileFault> {
+    match words.stay.and_then(|stay| stay.epoch_file) {
+        Some(path) => next_epoch(rt, path),
+        None => Ok(words.epoch),
+    }
+}
+
+/// Serves as one that stays, and answers the status.
+fn run_staying<H: Host, G: Log + Sync, F: Write>(
+    rt: &H,
+    log: &G,
+    words: &ServeWords<'_>,
+    staying: StayWords<'_>,
+    start: Start,
+    tables: Tables,
+    faults: &mut F,
+) -> u8 {
+    let secret = match secret_of(rt, staying) {
+        Ok(secret) => secret,
+        Err(why) => return refused_file(faults, why),
+    };
+    match stay(rt, rt.alloc(), words, staying, secret, start, tables, log) {
+        Ok(()) => 0,
+        Err(why) => refused_server(faults, why),
+    }
+}
+
 /// Serves with the tables of the words, and answers the status.
 fn run_started<H: Host, G: Log + Sync, W: Write + Drop, F: Write>(
     rt: &H,
@@ -178,10 +228,7 @@ fn run_started<H: Host, G: Log + Sync, W: Write + Drop, F: Write>(
         Err(why) => return refused_tables(log, faults, why),
     };
     if let Some(staying) = words.stay {
-        return match stay(rt, rt.alloc(), words, staying, start, tables, log) {
-            Ok(()) => 0,
-            Err(why) => refused_server(faults, why),
-        };
+        return run_staying(rt, log, words, staying, start, tables, faults);
     }
     match serve(rt, rt.alloc(), words, start, tables, log) {
         Ok(entries) => settled(writer, faults, entries),
@@ -197,7 +244,11 @@ fn run_server<H: Host, G: Log + Sync, W: Write + Drop, F: Write>(
     writer: W,
     faults: &mut F,
 ) -> u8 {
-    match start_of(rt.alloc(), words) {
+    let epoch = match epoch_of(rt, words) {
+        Ok(epoch) => epoch,
+        Err(why) => return refused_file(faults, why),
+    };
+    match start_of(rt.alloc(), words, epoch) {
         Ok(Some(start)) => run_started(rt, log, words, start, writer, faults),
         Ok(None) => fault(faults, "pcrf: command line\n", COMMAND_LINE),
         Err(_) => fault(faults, "pcrf: no memory\n", NO_MEMORY),

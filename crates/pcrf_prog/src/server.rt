@@ -6,6 +6,7 @@ use dia_base::Identity;
 use log::Log;
 use op_tables::Tables;
 use pcrf_values::DiameterIdentity;
+use sealed_links::Key;
 use std::alloc::{AllocError, Global};
 use std::net::{Ipv4Addr, Net, TcpListener, TcpStream};
 use std::sync::Wait;
@@ -38,9 +39,13 @@ fn identity_of(alloc: Global, names: Names<'_>) -> Result<Option<Identity>, Allo
     }))
 }
 
-/// What the words ask for; `None` where they ask for more seats than there are, or for names that can't be.
-pub fn start_of(alloc: Global, words: &ServeWords<'_>) -> Result<Option<Start>, AllocError> {
-    let Some(place) = SiteEpoch::of(words.site, words.epoch) else {
+/// What the words ask for in that epoch; `None` where they ask for more seats than there are, or for names that can't be.
+pub fn start_of(
+    alloc: Global,
+    words: &ServeWords<'_>,
+    epoch: u16,
+) -> Result<Option<Start>, AllocError> {
+    let Some(place) = SiteEpoch::of(words.site, epoch) else {
         return Ok(None);
     };
     let Some(plan) = SeatPlan::of(words.connections as usize, words.peers.len()) else {
@@ -91,7 +96,8 @@ pub fn stay<M: Machine, G: Log + Sync>(
     rt: &M,
     alloc: Global,
     words: &ServeWords<'_>,
-    stay: StayWords,
+    stay: StayWords<'_>,
+    secret: Option<Key>,
     start: Start,
     tables: Tables,
     log: &G,
@@ -105,7 +111,13 @@ pub fn stay<M: Machine, G: Log + Sync>(
         place,
         connections: plan.connections,
         watchdog: stay.watchdog,
-        listen: words.listen,
+        wait: stay.wait,
+        secret,
+        addresses: Addresses {
+            listen: words.listen,
+            exchange: words.exchange,
+            peers: words.peers.as_slice(),
+        },
     };
     run_staying(rt, alloc, identity, tables, &settings, log)
 }

@@ -16,6 +16,12 @@ const WATCHDOGS: (i64, i64) = (6, 3601);
 /// After how many seconds it is, where nobody says.
 const WATCHDOG: u16 = 30;
 
+/// One more second than a server may wait before it serves.
+const WAITS: i64 = 3601;
+
+/// How many it waits, where nobody says.
+const WAIT: u16 = 10;
+
 /// What a run is asked to do.
 #[derive(Drop)]
 pub enum Asked<'a> {
@@ -29,16 +35,22 @@ pub enum Asked<'a> {
 
 /// The words of a server that stays.
 #[derive(Clone, Copy)]
-pub struct StayWords {
+pub struct StayWords<'a> {
     /// After how many seconds without a byte a peer is asked whether it is there.
     pub watchdog: u16,
+    /// How many seconds it waits at most before it serves, until a peer site told it all.
+    pub wait: u16,
+    /// The file that says how often the site has started, in place of its epoch.
+    pub epoch_file: Option<&'a str>,
+    /// The file of the secret that all sites have.
+    pub secret: Option<&'a str>,
 }
 
 /// The words of a server, whose numbers are in their ranges.
 #[derive(Drop)]
 pub struct ServeWords<'a> {
     /// Those of one that stays, if it is to.
-    pub stay: Option<StayWords>,
+    pub stay: Option<StayWords<'a>>,
     /// The site's number.
     pub site: u8,
     /// The epoch that it begins.
@@ -96,14 +108,14 @@ fn with_numbers<'a>(alloc: Global, serve: Command<'a>) -> Result<Command<'a>, Al
         u8
     ).range(..SITES));
     let serve = serve.arg(site)?;
-    let epoch = option(
+    let epoch = choice(
         alloc,
         "epoch",
         "E",
         "How often the site has started, from 1",
     )
-    .value_parser(value_parser!(u16).range(1..));
-    let serve = serve.arg(epoch)?;
+    .required_unless_present("epoch-file")?;
+    let serve = serve.arg(epoch.value_parser(value_parser!(u16).range(1..)))?;
     let connections = option(
         alloc,
         "connections",
@@ -136,7 +148,38 @@ fn with_stay<'a>(alloc: Global, serve: Command<'a>) -> Result<Command<'a>, Alloc
         "After how many seconds without a byte a peer is asked whether it is there, 6 to 3600, with --stay; 30 by default",
     )
     .requires_arg("stay")?;
-    serve.arg(watchdog.value_parser(value_parser!(u16).range(WATCHDOGS.0..WATCHDOGS.1)))
+    let watchdog = watchdog.value_parser(value_parser!(u16).range(WATCHDOGS.0..WATCHDOGS.1));
+    let serve = serve.arg(watchdog)?;
+    let wait = choice(
+        alloc,
+        "wait",
+        "SECONDS",
+        "How many seconds a site with peers waits at most before it serves, until one told it all, 0 to 3600, with --stay; 10 by default",
+    )
+    .requires_arg("stay")?;
+    let serve = serve.arg(wait.value_parser(value_parser!(u16).range(..WAITS)))?;
+    with_files(alloc, serve)
+}
+
+/// Adds the options of a server that stays which are files.
+fn with_files<'a>(alloc: Global, serve: Command<'a>) -> Result<Command<'a>, AllocError> {
+    let epoch = choice(
+        alloc,
+        "epoch-file",
+        "PATH",
+        "The file that says how often the site has started, in place of --epoch, with --stay; it then says one more",
+    )
+    .requires_arg("stay")?
+    .conflicts_with("epoch")?;
+    let serve = serve.arg(epoch)?;
+    let secret = choice(
+        alloc,
+        "secret",
+        "FILE",
+        "The file with the secret that all sites have, 32 bytes or more in hexadecimal digits, with --stay",
+    )
+    .requires_arg("stay")?;
+    serve.arg(secret)
 }
 
 /// Adds the options that are names and addresses.
@@ -197,12 +240,15 @@ fn peers_of<'a>(alloc: Global, matches: &ArgMatches<'a>) -> Result<Vec<&'a str>,
 }
 
 /// The words of a server that stays, if it is to.
-fn stay_words(matches: &ArgMatches<'_>) -> Option<StayWords> {
+fn stay_words<'a>(matches: &ArgMatches<'a>) -> Option<StayWords<'a>> {
     if !matches.get_flag("stay") {
         return None;
     }
     Some(StayWords {
         watchdog: matches.get_one::<u16>("watchdog").unwrap_or(WATCHDOG),
+        wait: matches.get_one::<u16>("wait").unwrap_or(WAIT),
+        epoch_file: matches.get_str("epoch-file"),
+        secret: matches.get_str("secret"),
     })
 }
 

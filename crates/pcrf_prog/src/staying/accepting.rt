@@ -2,6 +2,7 @@
 use crate::staying::hall::{Arrived, Hall};
 use crate::staying::journal::{tell_crowded, tell_no_memory, tell_unaccepted, tell_unbegun};
 use crate::staying::machine::Machine;
+use crate::staying::quiet::Quiet;
 use crate::staying::sockets::ready;
 use log::Log;
 use std::net::{SocketAddr, TcpListener, TcpStream};
@@ -14,28 +15,6 @@ const QUIET_SECONDS: u64 = 1;
 /// How many milliseconds a server waits before it accepts again where it couldn't.
 const PAUSE_MILLIS: u64 = 100;
 
-/// When something was told last.
-#[derive(Clone, Copy)]
-struct LastTold {
-    at: Option<Instant>,
-}
-
-impl LastTold {
-    /// Whether it may be told again; then it counts as told.
-    fn is_due<M: Machine>(&mut self, rt: &M) -> bool {
-        let Ok(now) = Instant::now(rt) else {
-            return true;
-        };
-        if let Some(at) = self.at {
-            if now.duration_since(at) < Duration::from_secs(QUIET_SECONDS) {
-                return false;
-            }
-        }
-        self.at = Some(now);
-        true
-    }
-}
-
 /// Accepts connections and lets them in, as long as the server runs.
 pub fn accept_all<M: Machine, G: Log>(
     rt: &M,
@@ -44,8 +23,8 @@ pub fn accept_all<M: Machine, G: Log>(
     listener: &TcpListener,
     log: &G,
 ) {
-    let mut crowded = LastTold { at: None };
-    let mut failed = LastTold { at: None };
+    let mut crowded = Quiet::of(QUIET_SECONDS);
+    let mut failed = Quiet::of(QUIET_SECONDS);
     for _ in rt.forever() {
         match listener.accept() {
             Ok((stream, address)) => {
@@ -62,7 +41,7 @@ pub fn accept_all<M: Machine, G: Log>(
 }
 
 /// A connection that arrived now, made ready.
-fn arrived<M: Machine>(rt: &M, stream: TcpStream, address: SocketAddr) -> io::Result<Arrived> {
+pub fn arrived<M: Machine>(rt: &M, stream: TcpStream, address: SocketAddr) -> io::Result<Arrived> {
     ready(&stream)?;
     Ok(Arrived {
         stream,
@@ -78,7 +57,7 @@ fn admit<M: Machine, G: Log>(
     seats: usize,
     stream: TcpStream,
     address: SocketAddr,
-    crowded: &mut LastTold,
+    crowded: &mut Quiet,
     log: &G,
 ) {
     let arrived = match arrived(rt, stream, address) {

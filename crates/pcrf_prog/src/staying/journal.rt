@@ -88,14 +88,14 @@ pub fn tell_unstaffed<G: Log>(log: &G, seat: usize) {
     warn!(log; target: TARGET, "no thread could be started for seat {seat}: it serves nobody");
 }
 
+/// No letters go to a peer site.
+pub fn tell_unlinked_peer<G: Log>(log: &G, peer: SocketAddr) {
+    warn!(log; target: TARGET, "no thread could be started for peer site {peer}: no letters go to it");
+}
+
 /// No memory was left for a connection.
 pub fn tell_no_memory<G: Log>(log: &G, peer: SocketAddr) {
     warn!(log; target: TARGET, "the connection from {peer} was closed: memory ran out");
-}
-
-/// The server has bound its address.
-pub fn tell_listens<G: Log>(log: &G, listen: SocketAddr) {
-    info!(log; target: TARGET, "listening at {listen}");
 }
 
 /// An address can't be bound, and why.

@@ -2,17 +2,18 @@
 ghost use Rattle.std.specs.Prelude.{◌≡◌, ◌≤◌};
 ghost use Rattle.living_site.specs.Sound.{AreNames};
 
-use crate::socket_server::{ServerFault, SiteEpoch};
+use crate::socket_server::{Addresses, ServerFault, SiteEpoch, tell_listens};
 use crate::staying::accepting::accept_all;
 use crate::staying::answers::KeptAnswers;
 use crate::staying::chairs::{Doors, chairs};
 use crate::staying::desk::{Desk, desks};
+use crate::staying::exchange::{Board, Exchange, Slot, accept_links, dial_on, take_links};
 use crate::staying::hall::Hall;
-use crate::staying::journal::{Journal, tell_listens, tell_no_start, tell_unstaffed};
+use crate::staying::journal::{Journal, tell_no_start, tell_unlinked_peer, tell_unstaffed};
 use crate::staying::machine::Machine;
 use crate::staying::own::Own;
 use crate::staying::post::Posting;
-use crate::staying::sockets::bind;
+use crate::staying::sockets::{address_of, bind};
 use crate::staying::working::{Furniture, Shared, work};
 use dia_base::Identity;
 use link_ends::SharedSite;
@@ -21,9 +22,10 @@ use log::Log;
 use op_tables::Tables;
 use pcrf_serve::{Gateways, Server, Site};
 use ranked::Ranked;
+use sealed_links::Key;
 use std::alloc::{AllocError, Global};
 use std::marker::Brand;
-use std::net::TcpListener;
+use std::net::{SocketAddr, SocketAddrV4, TcpListener};
 use std::thread::{self, Scope};
 use std::time::Duration;
 
@@ -36,8 +38,12 @@ pub struct StaySettings<'a> {
     pub connections: usize,
     /// After how many seconds without a byte a peer is asked whether it is there.
     pub watchdog: u16,
-    /// Where gateways and application functions connect: an IPv4 address, a colon and a port.
-    pub listen: &'a str,
+    /// How many seconds it waits at most before it serves, until a peer site told it all.
+    pub wait: u16,
+    /// The secret that all sites have, if they have one.
+    pub secret: Option<Key>,
+    /// Where it and its peer sites are.
+    pub addresses: Addresses<'a>,
 }
 
 /// The same names.
@@ -74,6 +80,58 @@ fn furnished<M: Machine, G: Log>(
     })
 }
 
+/// The sockets of a server that stays.
+#[derive(Drop)]
+struct Sockets {
+    /// Where gateways and application functions connect.
+    serving: TcpListener,
+    /// Where peer sites connect.
+    exchanging: TcpListener,
+}
+
+/// The seats of a server: of who serves, of who sends letters, of who asks for those how much there is, and of who takes letters.
+#[derive(Drop)]
+struct Seats<S: Drop> {
+    serving: Vec<S>,
+    sending: Vec<S>,
+    asking: Vec<S>,
+    taking: Vec<Slot<S>>,
+}
+
+/// How many seats there are for each peer site.
+const SEATS_OF_A_PEER: usize = 3;
+
+/// How many links may be open at once for each peer site, also before their first letters.
+const LINKS_OF_A_PEER: usize = 3;
+
+/// Each seat with what it is for.
+fn seated<S: SharedSite>(
+    alloc: Global,
+    site: &S,
+    all: Vec<S::Seat>,
+    connections: usize,
+) -> Result<Seats<S::Seat>, AllocError> {
+    let mut seats = Seats {
+        serving: Vec::new(alloc),
+        sending: Vec::new(alloc),
+        asking: Vec::new(alloc),
+        taking: Vec::new(alloc),
+    };
+    for seat in all {
+        let number = site.number_of(&seat);
+        if number < connections {
+            seats.serving.push(seat)?;
+            continue;
+        }
+        match (number - connections) % SEATS_OF_A_PEER {
+            0 => seats.sending.push(seat)?,
+            1 => seats.asking.push(seat)?,
+            _ => seats.taking.push(Slot::of(seat))?,
+        }
+    }
+    Ok(seats)
+}
+
 /// Starts the worker of a seat, and the writer beside it: whether both run.
 fn staff<'s, 'r, E, S: SharedSite + Sync + 's, M: Machine, G: Log + Sync>(
     rt: &'s M,
@@ -91,13 +149,12 @@ where
     scope.spawn(move || work(rt, all, seat, desk)).is_ok()
 }
 
-/// Starts all workers, and accepts connections as long as the server runs.
-fn stay<'s, 'r, E, S: SharedSite + Sync + 's, M: Machine, G: Log + Sync>(
+/// Starts the workers that serve.
+fn staff_all<'s, 'r, E, S: SharedSite + Sync + 's, M: Machine, G: Log + Sync>(
     rt: &'s M,
     scope: &Scope<'s, E>,
     all: &'s Shared<'s, 'r, S, M, G>,
     seats: Vec<S::Seat>,
-    listener: &TcpListener,
 )
 where
     S::Seat: Send,
@@ -113,20 +170,107 @@ where
             furniture.hall.lose(rt);
         }
     }
+}
+
+/// Starts the workers that send letters to peer sites.
+fn send_all<'s, 'r, E, S: SharedSite + Sync + 's, M: Machine, G: Log + Sync>(
+    rt: &'s M,
+    scope: &Scope<'s, E>,
+    all: &'s Shared<'s, 'r, S, M, G>,
+    sending: Vec<S::Seat>,
+    asking: Vec<S::Seat>,
+)
+where
+    S::Seat: Send,
+{
+    let (mut sending, mut asking) = (sending, asking);
+    for peer in &all.exchange.peers {
+        let address = SocketAddr::V4(*peer);
+        let (Some(seat), Some(probe)) = (sending.pop(), asking.pop()) else {
+            continue;
+        };
+        let begun = scope.spawn(move || dial_on(rt, all, seat, probe, address));
+        if begun.is_err() {
+            tell_unlinked_peer(all.log, address);
+        }
+    }
+}
+
+/// Starts the workers that take letters of peer sites, and who accepts links.
+fn take_all<'s, 'r, E, S: SharedSite + Sync + 's, M: Machine, G: Log + Sync>(
+    rt: &'s M,
+    scope: &Scope<'s, E>,
+    all: &'s Shared<'s, 'r, S, M, G>,
+    listener: &'s TcpListener,
+)
+where
+    S::Seat: Send,
+{
+    let exchange = all.exchange;
+    for _ in 0..LINKS_OF_A_PEER {
+        for _peer in &exchange.peers {
+            if scope.spawn(move || take_links(rt, all)).is_err() {
+                exchange.hall.lose(rt);
+            }
+        }
+    }
+    let _ = scope.spawn(move || accept_links(rt, all, listener));
+}
+
+/// Starts all workers, and accepts connections as long as the server runs: at once, or where there are peer sites once one told it all.
+fn stay<'s, 'r, E, S: SharedSite + Sync + 's, M: Machine, G: Log + Sync>(
+    rt: &'s M,
+    scope: &Scope<'s, E>,
+    all: &'s Shared<'s, 'r, S, M, G>,
+    seats: Seats<S::Seat>,
+    sockets: &'s Sockets,
+    wait: u16,
+)
+where
+    S::Seat: Send,
+{
+    let Seats {
+        serving,
+        sending,
+        asking,
+        taking: _,
+    } = seats;
+    staff_all(rt, scope, all, serving);
+    send_all(rt, scope, all, sending, asking);
+    take_all(rt, scope, all, &sockets.exchanging);
+    if !all.exchange.peers.is_empty() {
+        all.board.wait(rt, u64::from(wait));
+    }
+    if let (Ok(serving), Ok(exchanging)) = (
+        sockets.serving.local_addr(),
+        sockets.exchanging.local_addr(),
+    ) {
+        tell_listens(all.log, serving, exchanging);
+    }
+    let furniture = all.furniture;
     let count = furniture.desks.len();
-    accept_all(rt, &furniture.hall, count, listener, all.log);
+    accept_all(rt, &furniture.hall, count, &sockets.serving, all.log);
+}
+
+/// What a server that stays is told, and what it has made of that. Nothing of it changes.
+#[derive(Drop)]
+struct Premises {
+    furniture: Furniture,
+    exchange: Exchange,
+    sockets: Sockets,
+    wait: u16,
 }
 
 /// Serves with what all workers share.
 fn serve_shared<'r, S: SharedSite + Sync, M: Machine, G: Log + Sync>(
     rt: &'r M,
-    furniture: &'r Furniture,
+    premises: &'r Premises,
     site: &S,
     gateways: &Gateways<Posting<'r, M>, Journal<'r, G>>,
     doors: &Doors<'_>,
     repeats: &KeptAnswers<'r, M>,
-    seats: Vec<S::Seat>,
-    listener: &TcpListener,
+    board: &Board<S::Seat>,
+    seats: Seats<S::Seat>,
     log: &'r G,
 )
 where
@@ -135,9 +279,11 @@ where
     let all = Shared {
         rt,
         log,
-        furniture,
+        furniture: &premises.furniture,
+        exchange: &premises.exchange,
+        board,
         server: Server {
-            alloc: furniture.alloc,
+            alloc: premises.furniture.alloc,
             site,
             gateways,
             gate: doors,
@@ -145,32 +291,47 @@ where
         },
     };
     let shared = &all;
+    let (sockets, wait) = (&premises.sockets, premises.wait);
     thread::scope(
         thread::scope_env(),
         rt,
-        move |scope| stay(rt, scope, shared, seats, listener),
+        move |scope| stay(rt, scope, shared, seats, sockets, wait),
     )
 }
 
-/// Serves with seats that are furnished.
-fn serve_furnished<'r, S: SharedSite + Sync, M: Machine, G: Log + Sync>(
+/// Serves with all seats.
+fn serve_seated<'r, S: SharedSite + Sync, M: Machine, G: Log + Sync>(
     rt: &'r M,
-    furniture: &'r Furniture,
+    premises: &'r Premises,
     site: &S,
-    seats: Vec<S::Seat>,
-    listener: &TcpListener,
+    all: Vec<S::Seat>,
     log: &'r G,
-)
+) -> Result<(), AllocError>
 where
     S::Seat: Send,
 {
-    let chairs = furniture.chairs.as_slice();
-    let gateways = Gateways::observed(furniture.alloc, Journal { log, chairs });
-    let repeats = KeptAnswers::start(furniture.alloc, rt);
+    let alloc = premises.furniture.alloc;
+    let chairs = premises.furniture.chairs.as_slice();
+    let Seats {
+        serving,
+        sending,
+        asking,
+        taking,
+    } = seated(alloc, site, all, chairs.len())?;
+    let board = Board::start(taking);
+    let gateways = Gateways::observed(alloc, Journal { log, chairs });
+    let repeats = KeptAnswers::start(alloc, rt);
     let doors = Doors { chairs };
+    let seats = Seats {
+        serving,
+        sending,
+        asking,
+        taking: Vec::new(alloc),
+    };
     serve_shared(
-        rt, furniture, site, &gateways, &doors, &repeats, seats, listener, log,
-    )
+        rt, premises, site, &gateways, &doors, &repeats, &board, seats, log,
+    );
+    Ok(())
 }
 
 /// Serves at a site whose history stands in the proofs alone.
@@ -179,8 +340,7 @@ fn serve_living<L: Roll + Send + Sync, M: Machine, G: Log + Sync>(
     alloc: Global,
     roster: Roster,
     site: Site,
-    furniture: &Furniture,
-    listener: &TcpListener,
+    premises: &Premises,
     log: &G,
 ) -> Result<(), ServerFault>
     requires names { AreNames L.name_of L.seats roster.seats }
@@ -190,14 +350,46 @@ fn serve_living<L: Roll + Send + Sync, M: Machine, G: Log + Sync>(
     let Ok((site, seats, keeper)) = LivingSite::<L>::start(alloc, roster, site) else {
         return Err(ServerFault::NoMemory);
     };
-    serve_furnished(rt, furniture, &site, seats, listener, log);
+    let served = serve_seated(rt, premises, &site, seats, log);
     drop(keeper);
     drop(site);
-    Ok(())
+    Ok(served?)
 }
 
-/// Runs a server that stays: it binds its socket, and serves so many connections at once, one behind the other at each seat, as long as
-/// the process runs. The log is told what happens.
+/// The addresses of the peer sites.
+fn peers_of<G: Log>(
+    alloc: Global,
+    texts: &[&str],
+    log: &G,
+) -> Result<Vec<SocketAddrV4>, ServerFault> {
+    let mut peers = Vec::with_capacity(alloc, texts.len())?;
+    for text in texts {
+        peers.push(address_of(text, log)?)?;
+    }
+    Ok(peers)
+}
+
+/// What a server knows of the exchange with its peer sites.
+fn exchange_of<G: Log>(
+    alloc: Global,
+    edition: u32,
+    settings: &StaySettings<'_>,
+    log: &G,
+) -> Result<Exchange, ServerFault> {
+    let peers = peers_of(alloc, settings.addresses.peers, log)?;
+    let links = peers.len().saturating_mul(LINKS_OF_A_PEER);
+    Ok(Exchange {
+        alloc,
+        place: settings.place,
+        edition,
+        secret: settings.secret,
+        peers,
+        hall: Hall::start(alloc, links),
+    })
+}
+
+/// Runs a server that stays: it binds its sockets, serves so many connections at once, one behind the other at each seat, and exchanges
+/// letters with its peer sites, as long as the process runs. The log is told what happens.
 pub fn run_staying<M: Machine, G: Log + Sync>(
     rt: &M,
     alloc: Global,
@@ -206,10 +398,18 @@ pub fn run_staying<M: Machine, G: Log + Sync>(
     settings: &StaySettings<'_>,
     log: &G,
 ) -> Result<(), ServerFault> {
-    let listener = bind(rt, settings.listen, log)?;
-    let furniture = furnished(rt, alloc, &identity, settings, log)?;
-    tell_listens(log, listener.local_addr()?);
+    let exchange = exchange_of(alloc, tables.edition(), settings, log)?;
+    let seats = exchange.peers.len().saturating_mul(SEATS_OF_A_PEER);
+    let premises = Premises {
+        exchange,
+        sockets: Sockets {
+            serving: bind(rt, settings.addresses.listen, log)?,
+            exchanging: bind(rt, settings.addresses.exchange, log)?,
+        },
+        furniture: furnished(rt, alloc, &identity, settings, log)?,
+        wait: settings.wait,
+    };
     let site = Site::start(alloc, tables, identity, settings.place.number);
-    let roster = Roster::new(alloc, settings.connections)?;
-    serve_living::<Brand, M, G>(rt, alloc, roster, site, &furniture, &listener, log)
+    let roster = Roster::new(alloc, settings.connections.saturating_add(seats))?;
+    serve_living::<Brand, M, G>(rt, alloc, roster, site, &premises, log)
 }

@@ -7,17 +7,24 @@ use std::io::{self, ErrorKind};
 use std::net::{Net, SocketAddrV4, TcpListener, TcpStream};
 use std::os::fd::AsRawFd;
 
+/// The address of a text. Where it is none the log is told.
+pub fn address_of<G: Log>(text: &str, log: &G) -> Result<SocketAddrV4, ServerFault> {
+    match text.parse::<SocketAddrV4>() {
+        Ok(address) => Ok(address),
+        Err(_) => {
+            tell_no_address(log, text);
+            Err(ServerFault::Network)
+        }
+    }
+}
+
 /// Binds an address. Where it can't the log is told why.
 pub fn bind<R: Net<Listener = TcpListener, Stream = TcpStream>, G: Log>(
     rt: &R,
     text: &str,
     log: &G,
 ) -> Result<TcpListener, ServerFault> {
-    let Ok(address) = text.parse::<SocketAddrV4>() else {
-        tell_no_address(log, text);
-        return Err(ServerFault::Network);
-    };
-    match TcpListener::bind(rt, address) {
+    match TcpListener::bind(rt, address_of(text, log)?) {
         Ok(listener) => Ok(listener),
         Err(error) => {
             tell_unbound(log, text, &error);

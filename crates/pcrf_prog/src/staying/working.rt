@@ -3,6 +3,7 @@ use crate::socket_server::tell_connected;
 use crate::staying::answers::KeptAnswers;
 use crate::staying::chairs::{Chair, Doors};
 use crate::staying::desk::Desk;
+use crate::staying::exchange::{Board, Exchange};
 use crate::staying::hall::{Arrived, Hall};
 use crate::staying::journal::{Journal, tell_ended, tell_no_memory};
 use crate::staying::machine::Machine;
@@ -30,10 +31,12 @@ pub struct Furniture {
 
 /// What all workers of a server share. What their connections hold has a lifetime of its own.
 #[derive(Drop)]
-pub struct Shared<'s, 'r, S, M: Machine, G> {
+pub struct Shared<'s, 'r, S: SharedSite, M: Machine, G> {
     pub rt: &'r M,
     pub log: &'r G,
     pub furniture: &'r Furniture,
+    pub exchange: &'r Exchange,
+    pub board: &'s Board<S::Seat>,
     pub server: Server<'s, S, Posting<'r, M>, Journal<'r, G>, Doors<'s>, KeptAnswers<'r, M>>,
 }
 
