@@ -68,7 +68,7 @@ fn secret_of_text(alloc: Global, bytes: &[u8]) -> Result<Key, FileFault> {
 
 /// The secret of a file, in hexadecimal digits, of 32 bytes at least. Others mustn't be able to read it.
 pub fn secret_of_file<H: Files + AllocGlobal>(rt: &H, path: &str) -> Result<Key, FileFault> {
-    let Ok(told) = fs::metadata(rt, path) else {
+    let Ok(told) = rt.metadata(path) else {
         return Err(FileFault::SecretUnreadable);
     };
     if told.permissions().mode() & OTHERS_READ != 0 {

@@ -4,6 +4,7 @@ use crate::operator_tables::{self, TablesFault};
 use crate::server::{Start, serve, start_of, stay};
 use crate::socket_server::ServerFault;
 use crate::stamped::Stamped;
+use crate::staying::Console;
 use crate::told::{tell_line, tell_tables};
 use crate::words::{Asked, ServeWords, StayWords, read_words};
 use clap::Error;
@@ -195,32 +196,43 @@ fn epoch_of<H: Host>(rt: &H, words: &ServeWords<'_>) -> Result<u16, FileFault> {
 }
 
 /// Serves as one that stays, and answers the status.
-fn run_staying<H: Host, G: Log + Sync, F: Write>(
+fn run_staying<H: Host, G: Log + Sync, R: Read + Send + Drop, W: Write + Send + Drop, F: Write>(
     rt: &H,
     log: &G,
     words: &ServeWords<'_>,
     staying: StayWords<'_>,
     start: Start,
     tables: Tables,
+    console: Console<R, W>,
     faults: &mut F,
 ) -> u8 {
     let secret = match secret_of(rt, staying) {
         Ok(secret) => secret,
         Err(why) => return refused_file(faults, why),
     };
-    match stay(rt, rt.alloc(), words, staying, secret, start, tables, log) {
+    match stay(
+        rt,
+        rt.alloc(),
+        words,
+        staying,
+        secret,
+        start,
+        tables,
+        console,
+        log,
+    ) {
         Ok(()) => 0,
         Err(why) => refused_server(faults, why),
     }
 }
 
 /// Serves with the tables of the words, and answers the status.
-fn run_started<H: Host, G: Log + Sync, W: Write + Drop, F: Write>(
+fn run_started<H: Host, G: Log + Sync, R: Read + Send + Drop, W: Write + Send + Drop, F: Write>(
     rt: &H,
     log: &G,
     words: &ServeWords<'_>,
     start: Start,
-    writer: W,
+    console: Console<R, W>,
     faults: &mut F,
 ) -> u8 {
     let tables = match operator_tables::of_file(rt, words.tables) {
@@ -228,20 +240,20 @@ fn run_started<H: Host, G: Log + Sync, W: Write + Drop, F: Write>(
         Err(why) => return refused_tables(log, faults, why),
     };
     if let Some(staying) = words.stay {
-        return run_staying(rt, log, words, staying, start, tables, faults);
+        return run_staying(rt, log, words, staying, start, tables, console, faults);
     }
     match serve(rt, rt.alloc(), words, start, tables, log) {
-        Ok(entries) => settled(writer, faults, entries),
+        Ok(entries) => settled(console.writer, faults, entries),
         Err(why) => refused_server(faults, why),
     }
 }
 
 /// Runs a server, and answers the status.
-fn run_server<H: Host, G: Log + Sync, W: Write + Drop, F: Write>(
+fn run_server<H: Host, G: Log + Sync, R: Read + Send + Drop, W: Write + Send + Drop, F: Write>(
     rt: &H,
     log: &G,
     words: &ServeWords<'_>,
-    writer: W,
+    console: Console<R, W>,
     faults: &mut F,
 ) -> u8 {
     let epoch = match epoch_of(rt, words) {
@@ -249,7 +261,7 @@ fn run_server<H: Host, G: Log + Sync, W: Write + Drop, F: Write>(
         Err(why) => return refused_file(faults, why),
     };
     match start_of(rt.alloc(), words, epoch) {
-        Ok(Some(start)) => run_started(rt, log, words, start, writer, faults),
+        Ok(Some(start)) => run_started(rt, log, words, start, console, faults),
         Ok(None) => fault(faults, "pcrf: command line\n", COMMAND_LINE),
         Err(_) => fault(faults, "pcrf: no memory\n", NO_MEMORY),
     }
@@ -271,7 +283,7 @@ fn run_script_with<G: Log, R: Read + Drop, W: Write + Drop, F: Write>(
 }
 
 /// Does what the words ask for, and answers the status.
-fn run_asked<H: Host, G: Log + Sync, R: Read + Drop, W: Write + Drop, F: Write>(
+fn run_asked<H: Host, G: Log + Sync, R: Read + Send + Drop, W: Write + Send + Drop, F: Write>(
     rt: &H,
     log: &G,
     asked: Asked<'_>,
@@ -288,7 +300,7 @@ fn run_asked<H: Host, G: Log + Sync, R: Read + Drop, W: Write + Drop, F: Write>(
             let tables = operator_tables::of_file(rt, file);
             run_script_with(rt.alloc(), log, tables, reader, writer, faults)
         }
-        Asked::Serve(serve) => run_server(rt, log, &serve, writer, faults),
+        Asked::Serve(serve) => { run_server(rt, log, &serve, Console { reader, writer }, faults) }
     }
 }
 
@@ -311,13 +323,12 @@ fn level_of(is_staying: bool) -> LevelFilter {
 /// Runs the program with a log on standard error, as the environment asks for it, and answers its exit status. Faults are found in
 /// the order words, tables, sockets, run. The log is told what happens at a server, where tables are at fault, and why a line of a
 /// script is refused; its lines have the time where a server stays.
-pub fn run_logged<H: Host + Env + Eprint, R: Read + Drop, W: Write + Drop, F: Write + Drop>(
-    rt: &H,
-    words: &[String],
-    reader: R,
-    writer: W,
-    mut faults: F,
-) -> u8 {
+pub fn run_logged<
+    H: Host + Env + Eprint,
+    R: Read + Send + Drop,
+    W: Write + Send + Drop,
+    F: Write + Drop,
+>(rt: &H, words: &[String], reader: R, writer: W, mut faults: F) -> u8 {
     let asked = match read_words(rt.alloc(), words) {
         Ok(asked) => asked,
         Err(error) => return refused_words(&mut faults, &error),

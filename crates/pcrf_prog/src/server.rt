@@ -1,6 +1,6 @@
 //! A run that serves.
 use crate::socket_server::{Addresses, SeatPlan, ServerFault, Settings, SiteEpoch, run_server};
-use crate::staying::{Machine, StaySettings, run_staying};
+use crate::staying::{Console, Machine, StaySettings, run_staying};
 use crate::words::{Names, ServeWords, StayWords};
 use dia_base::Identity;
 use log::Log;
@@ -8,6 +8,7 @@ use op_tables::Tables;
 use pcrf_values::DiameterIdentity;
 use sealed_links::Key;
 use std::alloc::{AllocError, Global};
+use std::io::{Read, Write};
 use std::net::{Ipv4Addr, Net, TcpListener, TcpStream};
 use std::sync::Wait;
 use std::thread::Threads;
@@ -92,7 +93,7 @@ pub fn serve<
 }
 
 /// Serves as one that stays. The log is told what happens meanwhile.
-pub fn stay<M: Machine, G: Log + Sync>(
+pub fn stay<M: Machine, G: Log + Sync, R: Read + Send + Drop, W: Write + Send + Drop>(
     rt: &M,
     alloc: Global,
     words: &ServeWords<'_>,
@@ -100,6 +101,7 @@ pub fn stay<M: Machine, G: Log + Sync>(
     secret: Option<Key>,
     start: Start,
     tables: Tables,
+    console: Console<R, W>,
     log: &G,
 ) -> Result<(), ServerFault> {
     let Start {
@@ -119,5 +121,5 @@ pub fn stay<M: Machine, G: Log + Sync>(
             peers: words.peers.as_slice(),
         },
     };
-    run_staying(rt, alloc, identity, tables, &settings, log)
+    run_staying(rt, alloc, identity, tables, &settings, console, log)
 }

@@ -14,9 +14,11 @@ mod own;
 mod post;
 mod quiet;
 mod serving;
+mod showing;
 mod sockets;
 mod watching;
 mod working;
 
 pub use machine::Machine;
 pub use serving::{StaySettings, run_staying};
+pub use showing::Console;

@@ -88,6 +88,11 @@ pub fn tell_unstaffed<G: Log>(log: &G, seat: usize) {
     warn!(log; target: TARGET, "no thread could be started for seat {seat}: it serves nobody");
 }
 
+/// What the site holds could not be shown.
+pub fn tell_unshown<G: Log>(log: &G) {
+    warn!(log; target: TARGET, "what the site holds could not be shown");
+}
+
 /// No letters go to a peer site.
 pub fn tell_unlinked_peer<G: Log>(log: &G, peer: SocketAddr) {
     warn!(log; target: TARGET, "no thread could be started for peer site {peer}: no letters go to it");

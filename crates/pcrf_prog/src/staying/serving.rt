@@ -13,6 +13,7 @@ use crate::staying::journal::{Journal, tell_no_start, tell_unlinked_peer, tell_u
 use crate::staying::machine::Machine;
 use crate::staying::own::Own;
 use crate::staying::post::Posting;
+use crate::staying::showing::{Console, show_on};
 use crate::staying::sockets::{address_of, bind};
 use crate::staying::working::{Furniture, Shared, work};
 use dia_base::Identity;
@@ -24,6 +25,7 @@ use pcrf_serve::{Gateways, Server, Site};
 use ranked::Ranked;
 use sealed_links::Key;
 use std::alloc::{AllocError, Global};
+use std::io::{Read, Write};
 use std::marker::Brand;
 use std::net::{SocketAddr, SocketAddrV4, TcpListener};
 use std::thread::{self, Scope};
@@ -89,13 +91,27 @@ struct Sockets {
     exchanging: TcpListener,
 }
 
-/// The seats of a server: of who serves, of who sends letters, of who asks for those how much there is, and of who takes letters.
+/// The seats of a server: of who serves, of who sends letters, of who asks for those how much there is, of who takes letters, and of who
+/// shows what the site holds.
 #[derive(Drop)]
 struct Seats<S: Drop> {
     serving: Vec<S>,
     sending: Vec<S>,
     asking: Vec<S>,
     taking: Vec<Slot<S>>,
+    showing: Option<S>,
+}
+
+impl<S: Drop> Seats<S> {
+    /// Gives a seat to the exchange with peer sites.
+    fn give_to_peers(&mut self, seat: S, number: usize) -> Result<(), AllocError> {
+        match number % SEATS_OF_A_PEER {
+            0 => self.sending.push(seat)?,
+            1 => self.asking.push(seat)?,
+            _ => self.taking.push(Slot::of(seat))?,
+        }
+        Ok(())
+    }
 }
 
 /// How many seats there are for each peer site.
@@ -116,17 +132,16 @@ fn seated<S: SharedSite>(
         sending: Vec::new(alloc),
         asking: Vec::new(alloc),
         taking: Vec::new(alloc),
+        showing: None,
     };
     for seat in all {
         let number = site.number_of(&seat);
         if number < connections {
             seats.serving.push(seat)?;
-            continue;
-        }
-        match (number - connections) % SEATS_OF_A_PEER {
-            0 => seats.sending.push(seat)?,
-            1 => seats.asking.push(seat)?,
-            _ => seats.taking.push(Slot::of(seat))?,
+        } else if number == connections {
+            seats.showing = Some(seat);
+        } else {
+            seats.give_to_peers(seat, number - connections)?;
         }
     }
     Ok(seats)
@@ -218,13 +233,22 @@ where
 }
 
 /// Starts all workers, and accepts connections as long as the server runs: at once, or where there are peer sites once one told it all.
-fn stay<'s, 'r, E, S: SharedSite + Sync + 's, M: Machine, G: Log + Sync>(
+fn stay<
+    's,
+    'r,
+    E,
+    S: SharedSite + Sync + 's,
+    M: Machine,
+    G: Log + Sync,
+    R: Read + Send + Drop + 's,
+    W: Write + Send + Drop + 's,
+>(
     rt: &'s M,
     scope: &Scope<'s, E>,
     all: &'s Shared<'s, 'r, S, M, G>,
     seats: Seats<S::Seat>,
-    sockets: &'s Sockets,
-    wait: u16,
+    premises: &'s Premises,
+    console: Console<R, W>,
 )
 where
     S::Seat: Send,
@@ -234,7 +258,12 @@ where
         sending,
         asking,
         taking: _,
+        showing,
     } = seats;
+    let (sockets, wait, tables) = (&premises.sockets, premises.wait, &premises.tables);
+    if let Some(seat) = showing {
+        let _ = scope.spawn(move || show_on(rt, all, seat, tables, console));
+    }
     staff_all(rt, scope, all, serving);
     send_all(rt, scope, all, sending, asking);
     take_all(rt, scope, all, &sockets.exchanging);
@@ -258,11 +287,19 @@ struct Premises {
     furniture: Furniture,
     exchange: Exchange,
     sockets: Sockets,
+    tables: Tables,
     wait: u16,
 }
 
 /// Serves with what all workers share.
-fn serve_shared<'r, S: SharedSite + Sync, M: Machine, G: Log + Sync>(
+fn serve_shared<
+    'r,
+    S: SharedSite + Sync,
+    M: Machine,
+    G: Log + Sync,
+    R: Read + Send + Drop,
+    W: Write + Send + Drop,
+>(
     rt: &'r M,
     premises: &'r Premises,
     site: &S,
@@ -271,6 +308,7 @@ fn serve_shared<'r, S: SharedSite + Sync, M: Machine, G: Log + Sync>(
     repeats: &KeptAnswers<'r, M>,
     board: &Board<S::Seat>,
     seats: Seats<S::Seat>,
+    console: Console<R, W>,
     log: &'r G,
 )
 where
@@ -291,20 +329,27 @@ where
         },
     };
     let shared = &all;
-    let (sockets, wait) = (&premises.sockets, premises.wait);
     thread::scope(
         thread::scope_env(),
         rt,
-        move |scope| stay(rt, scope, shared, seats, sockets, wait),
+        move |scope| stay(rt, scope, shared, seats, premises, console),
     )
 }
 
 /// Serves with all seats.
-fn serve_seated<'r, S: SharedSite + Sync, M: Machine, G: Log + Sync>(
+fn serve_seated<
+    'r,
+    S: SharedSite + Sync,
+    M: Machine,
+    G: Log + Sync,
+    R: Read + Send + Drop,
+    W: Write + Send + Drop,
+>(
     rt: &'r M,
     premises: &'r Premises,
     site: &S,
     all: Vec<S::Seat>,
+    console: Console<R, W>,
     log: &'r G,
 ) -> Result<(), AllocError>
 where
@@ -317,6 +362,7 @@ where
         sending,
         asking,
         taking,
+        showing,
     } = seated(alloc, site, all, chairs.len())?;
     let board = Board::start(taking);
     let gateways = Gateways::observed(alloc, Journal { log, chairs });
@@ -327,20 +373,28 @@ where
         sending,
         asking,
         taking: Vec::new(alloc),
+        showing,
     };
     serve_shared(
-        rt, premises, site, &gateways, &doors, &repeats, &board, seats, log,
+        rt, premises, site, &gateways, &doors, &repeats, &board, seats, console, log,
     );
     Ok(())
 }
 
 /// Serves at a site whose history stands in the proofs alone.
-fn serve_living<L: Roll + Send + Sync, M: Machine, G: Log + Sync>(
+fn serve_living<
+    L: Roll + Send + Sync,
+    M: Machine,
+    G: Log + Sync,
+    R: Read + Send + Drop,
+    W: Write + Send + Drop,
+>(
     rt: &M,
     alloc: Global,
     roster: Roster,
     site: Site,
     premises: &Premises,
+    console: Console<R, W>,
     log: &G,
 ) -> Result<(), ServerFault>
     requires names { AreNames L.name_of L.seats roster.seats }
@@ -350,7 +404,7 @@ fn serve_living<L: Roll + Send + Sync, M: Machine, G: Log + Sync>(
     let Ok((site, seats, keeper)) = LivingSite::<L>::start(alloc, roster, site) else {
         return Err(ServerFault::NoMemory);
     };
-    let served = serve_seated(rt, premises, &site, seats, log);
+    let served = serve_seated(rt, premises, &site, seats, console, log);
     drop(keeper);
     drop(site);
     Ok(served?)
@@ -389,13 +443,15 @@ fn exchange_of<G: Log>(
 }
 
 /// Runs a server that stays: it binds its sockets, serves so many connections at once, one behind the other at each seat, and exchanges
-/// letters with its peer sites, as long as the process runs. The log is told what happens.
-pub fn run_staying<M: Machine, G: Log + Sync>(
+/// letters with its peer sites, as long as the process runs. On its console it shows what it holds, where a line asks for that. The log is told what
+/// happens.
+pub fn run_staying<M: Machine, G: Log + Sync, R: Read + Send + Drop, W: Write + Send + Drop>(
     rt: &M,
     alloc: Global,
     identity: Identity,
     tables: Tables,
     settings: &StaySettings<'_>,
+    console: Console<R, W>,
     log: &G,
 ) -> Result<(), ServerFault> {
     let exchange = exchange_of(alloc, tables.edition(), settings, log)?;
@@ -407,9 +463,13 @@ pub fn run_staying<M: Machine, G: Log + Sync>(
             exchanging: bind(rt, settings.addresses.exchange, log)?,
         },
         furniture: furnished(rt, alloc, &identity, settings, log)?,
+        tables: tables.try_copy(alloc)?,
         wait: settings.wait,
     };
     let site = Site::start(alloc, tables, identity, settings.place.number);
-    let roster = Roster::new(alloc, settings.connections.saturating_add(seats))?;
-    serve_living::<Brand, M, G>(rt, alloc, roster, site, &premises, log)
+    let roster = Roster::new(
+        alloc,
+        settings.connections.saturating_add(1).saturating_add(seats),
+    )?;
+    serve_living::<Brand, M, G, R, W>(rt, alloc, roster, site, &premises, console, log)
 }

@@ -1,4 +1,6 @@
 //! A link as letters are exchanged over it: the heads of what comes are judged, and it is noted how far the letters tell that go.
+ghost use Rattle.std.specs.Prelude.{◌≤◌, length};
+
 use crate::staying::exchange::ends::Ends;
 use crate::staying::exchange::heads::{Expected, HeadFault, Heads, Sender};
 use crate::staying::exchange::line::Line;
@@ -116,13 +118,13 @@ impl<'r, C: Clock> Link<'r, C> {
         Ok(())
     }
 
-    /// Gives what came before.
-    fn give(&mut self, buf: &mut [u8]) -> usize {
+    /// Gives what came before, as much as there is room for.
+    fn give(&mut self, buf: &mut [u8]) -> usize
+        ensures { result ≤ length buf.new }
+    {
         let rest = self.begun.as_slice().get(self.given..).unwrap_or(&[]);
-        let count = rest.len().min(buf.len());
-        for (to, from) in buf.iter_mut().zip(rest) {
-            *to = *from;
-        }
+        let count = buf.len().min(rest.len());
+        buf[..count].copy_from_slice(&rest[..count]);
         self.given = self.given.saturating_add(count);
         count
     }
