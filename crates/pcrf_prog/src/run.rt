@@ -4,7 +4,7 @@ use crate::operator_tables::{self, TablesFault};
 use crate::server::{Start, serve, start_of, stay};
 use crate::socket_server::ServerFault;
 use crate::stamped::Stamped;
-use crate::staying::Console;
+use crate::staying::{Console, Input, Output};
 use crate::told::{tell_line, tell_tables};
 use crate::words::{Asked, ServeWords, StayWords, read_words};
 use clap::Error;
@@ -196,7 +196,7 @@ fn epoch_of<H: Host>(rt: &H, words: &ServeWords<'_>) -> Result<u16, FileFault> {
 }
 
 /// Serves as one that stays, and answers the status.
-fn run_staying<H: Host, G: Log + Sync, R: Read + Send + Drop, W: Write + Send + Drop, F: Write>(
+fn run_staying<H: Host, G: Log + Sync, R: Input, W: Output, F: Write>(
     rt: &H,
     log: &G,
     words: &ServeWords<'_>,
@@ -227,7 +227,7 @@ fn run_staying<H: Host, G: Log + Sync, R: Read + Send + Drop, W: Write + Send + 
 }
 
 /// Serves with the tables of the words, and answers the status.
-fn run_started<H: Host, G: Log + Sync, R: Read + Send + Drop, W: Write + Send + Drop, F: Write>(
+fn run_started<H: Host, G: Log + Sync, R: Input, W: Output, F: Write>(
     rt: &H,
     log: &G,
     words: &ServeWords<'_>,
@@ -249,7 +249,7 @@ fn run_started<H: Host, G: Log + Sync, R: Read + Send + Drop, W: Write + Send + 
 }
 
 /// Runs a server, and answers the status.
-fn run_server<H: Host, G: Log + Sync, R: Read + Send + Drop, W: Write + Send + Drop, F: Write>(
+fn run_server<H: Host, G: Log + Sync, R: Input, W: Output, F: Write>(
     rt: &H,
     log: &G,
     words: &ServeWords<'_>,
@@ -283,7 +283,7 @@ fn run_script_with<G: Log, R: Read + Drop, W: Write + Drop, F: Write>(
 }
 
 /// Does what the words ask for, and answers the status.
-fn run_asked<H: Host, G: Log + Sync, R: Read + Send + Drop, W: Write + Send + Drop, F: Write>(
+fn run_asked<H: Host, G: Log + Sync, R: Input, W: Output, F: Write>(
     rt: &H,
     log: &G,
     asked: Asked<'_>,
@@ -323,12 +323,13 @@ fn level_of(is_staying: bool) -> LevelFilter {
 /// Runs the program with a log on standard error, as the environment asks for it, and answers its exit status. Faults are found in
 /// the order words, tables, sockets, run. The log is told what happens at a server, where tables are at fault, and why a line of a
 /// script is refused; its lines have the time where a server stays.
-pub fn run_logged<
-    H: Host + Env + Eprint,
-    R: Read + Send + Drop,
-    W: Write + Send + Drop,
-    F: Write + Drop,
->(rt: &H, words: &[String], reader: R, writer: W, mut faults: F) -> u8 {
+pub fn run_logged<H: Host + Env + Eprint, R: Input, W: Output, F: Write + Drop>(
+    rt: &H,
+    words: &[String],
+    reader: R,
+    writer: W,
+    mut faults: F,
+) -> u8 {
     let asked = match read_words(rt.alloc(), words) {
         Ok(asked) => asked,
         Err(error) => return refused_words(&mut faults, &error),

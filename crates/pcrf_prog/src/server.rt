@@ -1,6 +1,6 @@
 //! A run that serves.
 use crate::socket_server::{Addresses, SeatPlan, ServerFault, Settings, SiteEpoch, run_server};
-use crate::staying::{Console, Machine, StaySettings, run_staying};
+use crate::staying::{Console, Input, Machine, Output, StaySettings, run_staying};
 use crate::words::{Names, ServeWords, StayWords};
 use dia_base::Identity;
 use log::Log;
@@ -8,7 +8,6 @@ use op_tables::Tables;
 use pcrf_values::DiameterIdentity;
 use sealed_links::Key;
 use std::alloc::{AllocError, Global};
-use std::io::{Read, Write};
 use std::net::{Ipv4Addr, Net, TcpListener, TcpStream};
 use std::sync::Wait;
 use std::thread::Threads;
@@ -93,7 +92,7 @@ pub fn serve<
 }
 
 /// Serves as one that stays. The log is told what happens meanwhile.
-pub fn stay<M: Machine, G: Log + Sync, R: Read + Send + Drop, W: Write + Send + Drop>(
+pub fn stay<M: Machine, G: Log + Sync, R: Input, W: Output>(
     rt: &M,
     alloc: Global,
     words: &ServeWords<'_>,

@@ -2,6 +2,7 @@
 
 mod accepting;
 mod answers;
+mod avps;
 mod cause;
 mod chairs;
 mod desk;
@@ -12,6 +13,7 @@ mod journal;
 mod machine;
 mod own;
 mod post;
+mod pushes;
 mod quiet;
 mod serving;
 mod showing;
@@ -21,4 +23,4 @@ mod working;
 
 pub use machine::Machine;
 pub use serving::{StaySettings, run_staying};
-pub use showing::Console;
+pub use showing::{Console, Input, Output};

@@ -1,4 +1,5 @@
 //! Answers that are kept for requests which are repeated.
+use crate::staying::avps::first_avp;
 use dia_codec::{HEADER_BYTES, Header, read_header};
 use kept_messages::{KeptMessage, KeptMessages, with_hop_id};
 use pcrf_serve::Repeats;
@@ -15,9 +16,6 @@ const KEPT_SECONDS: u64 = 240;
 /// The AVP Origin-Host (RFC 6733, 6.3).
 const ORIGIN_HOST: u32 = 264;
 
-/// How many bytes the header of an AVP without a vendor has (RFC 6733, 4.1).
-const AVP_BYTES: u32 = 8;
-
 /// The application of the base protocol, whose messages make no event that counts (RFC 6733, 2.4).
 const BASE: u32 = 0;
 
@@ -28,25 +26,15 @@ pub struct KeptAnswers<'r, C> {
     kept: Mutex<KeptMessages>,
 }
 
-/// The number at a place.
-fn number_at(bytes: &[u8], place: usize) -> Option<u32> {
-    let four = bytes.get(place..)?.first_chunk::<4>()?;
-    Some(u32::from_be_bytes(*four))
-}
-
 /// The value of the first Origin-Host of a message.
 fn origin_host(message: &[u8]) -> Option<&[u8]> {
     let mut rest = message.get(HEADER_BYTES..)?;
     for _ in 0..message.len() {
-        let length = number_at(rest, 4)? & 0x00ff_ffff;
-        if length < AVP_BYTES {
-            return None;
+        let avp = first_avp(rest)?;
+        if !avp.has_vendor && avp.code == ORIGIN_HOST {
+            return Some(avp.value);
         }
-        if number_at(rest, 0)? == ORIGIN_HOST {
-            return rest.get(8..length as usize);
-        }
-        let padded = length.saturating_add(3) & !3;
-        rest = rest.get(padded as usize..)?;
+        rest = avp.rest;
     }
     None
 }

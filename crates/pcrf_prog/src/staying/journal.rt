@@ -1,7 +1,8 @@
 //! What an operator is told of a server that stays: a line for each thing, if anybody listens.
-use crate::socket_server::{Ending, tell_exchanged, tell_refused_push, tell_unreached};
+use crate::socket_server::{Ending, Printable, tell_exchanged, tell_refused_push, tell_unreached};
 use crate::staying::cause::Cause;
 use crate::staying::chairs::Chair;
+use crate::staying::pushes::SentPushes;
 use dia_base::Origin;
 use dia_base::codes::results::SUCCESS;
 use log::{Log, error, info, warn};
@@ -9,18 +10,21 @@ use pcrf_serve::{LinkEnd, Observer};
 use pcrf_values::{DiameterIdentity, GxSid};
 use std::io;
 use std::net::SocketAddr;
+use std::sync::Wait;
 
 /// What stands before each line as its target.
 const TARGET: &str = "pcrf";
 
 /// Tells what happens at connections, and notes whose capabilities exchange was accepted.
 #[derive(Drop)]
-pub struct Journal<'r, G> {
+pub struct Journal<'r, M, G> {
+    pub(crate) rt: &'r M,
     pub(crate) log: &'r G,
     pub(crate) chairs: &'r [Chair],
+    pub(crate) sent: &'r SentPushes,
 }
 
-impl<G: Log> Observer for Journal<'_, G> {
+impl<M: Wait, G: Log> Observer for Journal<'_, M, G> {
     fn exchanged(&self, connection: usize, peer: &Origin, code: u32) {
         if let Some(chair) = self.chairs.get(connection) {
             chair.exchanged(code == SUCCESS);
@@ -28,12 +32,28 @@ impl<G: Log> Observer for Journal<'_, G> {
         tell_exchanged(self.log, &peer.host, &peer.realm, code);
     }
 
-    fn push_refused(&self, _hop_id: u32, session: &GxSid, code: Option<u32>) {
-        tell_refused_push(self.log, session, code);
+    fn push_refused(&self, hop_id: u32, session: &GxSid, code: Option<u32>) {
+        match self.sent.names(self.rt, hop_id) {
+            Some(names) => tell_refused_rules(self.log, session, names.as_str(), code),
+            None => tell_refused_push(self.log, session, code),
+        }
     }
 
     fn unreached(&self, host: &DiameterIdentity) {
         tell_unreached(self.log, host);
+    }
+}
+
+/// A gateway didn't do what a push asks for of these rules. The site counts them as told all the same.
+fn tell_refused_rules<G: Log>(log: &G, session: &GxSid, names: &str, code: Option<u32>) {
+    let session = Printable(session.as_slice());
+    match code {
+        Some(code) => {
+            warn!(log; target: TARGET, "the re-authorisation of {session} with {names} was answered by {code}; these rules stand as told all the same");
+        }
+        None => {
+            warn!(log; target: TARGET, "the re-authorisation of {session} with {names} was answered without a code; these rules stand as told all the same");
+        }
     }
 }
 

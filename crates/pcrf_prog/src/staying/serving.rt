@@ -13,7 +13,9 @@ use crate::staying::journal::{Journal, tell_no_start, tell_unlinked_peer, tell_u
 use crate::staying::machine::Machine;
 use crate::staying::own::Own;
 use crate::staying::post::Posting;
-use crate::staying::showing::{Console, show_on};
+use crate::staying::pushes::SentPushes;
+use crate::staying::quiet::Quiet;
+use crate::staying::showing::{Console, Input, Output, show_on};
 use crate::staying::sockets::{address_of, bind};
 use crate::staying::working::{Furniture, Shared, work};
 use dia_base::Identity;
@@ -25,9 +27,9 @@ use pcrf_serve::{Gateways, Server, Site};
 use ranked::Ranked;
 use sealed_links::Key;
 use std::alloc::{AllocError, Global};
-use std::io::{Read, Write};
 use std::marker::Brand;
 use std::net::{SocketAddr, SocketAddrV4, TcpListener};
+use std::sync::Mutex;
 use std::thread::{self, Scope};
 use std::time::Duration;
 
@@ -79,6 +81,7 @@ fn furnished<M: Machine, G: Log>(
         hall: Hall::start(alloc, settings.connections),
         desks: desks(alloc, settings.connections)?,
         chairs: chairs(alloc, settings.connections)?,
+        sent: SentPushes::start(alloc),
     })
 }
 
@@ -91,24 +94,27 @@ struct Sockets {
     exchanging: TcpListener,
 }
 
-/// The seats of a server: of who serves, of who sends letters, of who asks for those how much there is, of who takes letters, and of who
-/// shows what the site holds.
+/// Seats of a server: of who serves, of who sends letters, of who asks for those how much there is, and of who shows what the site holds.
 #[derive(Drop)]
 struct Seats<S: Drop> {
     serving: Vec<S>,
     sending: Vec<S>,
     asking: Vec<S>,
-    taking: Vec<Slot<S>>,
     showing: Option<S>,
 }
 
 impl<S: Drop> Seats<S> {
-    /// Gives a seat to the exchange with peer sites.
-    fn give_to_peers(&mut self, seat: S, number: usize) -> Result<(), AllocError> {
+    /// Gives a seat to the exchange with peer sites, some to who takes letters.
+    fn give(
+        &mut self,
+        seat: S,
+        number: usize,
+        taking: &mut Vec<Slot<S>>,
+    ) -> Result<(), AllocError> {
         match number % SEATS_OF_A_PEER {
             0 => self.sending.push(seat)?,
             1 => self.asking.push(seat)?,
-            _ => self.taking.push(Slot::of(seat))?,
+            _ => taking.push(Slot::of(seat))?,
         }
         Ok(())
     }
@@ -120,18 +126,23 @@ const SEATS_OF_A_PEER: usize = 3;
 /// How many links may be open at once for each peer site, also before their first letters.
 const LINKS_OF_A_PEER: usize = 3;
 
-/// Each seat with what it is for.
+/// For how many seconds it isn't told again that a link was closed before its first letter, and that sites disagree.
+const CLOSED_SECONDS: u64 = 1;
+
+const DISAGREED_SECONDS: u64 = 60;
+
+/// Each seat with what it is for, those apart at which letters are taken.
 fn seated<S: SharedSite>(
     alloc: Global,
     site: &S,
     all: Vec<S::Seat>,
     connections: usize,
-) -> Result<Seats<S::Seat>, AllocError> {
+) -> Result<(Seats<S::Seat>, Vec<Slot<S::Seat>>), AllocError> {
+    let mut taking = Vec::new(alloc);
     let mut seats = Seats {
         serving: Vec::new(alloc),
         sending: Vec::new(alloc),
         asking: Vec::new(alloc),
-        taking: Vec::new(alloc),
         showing: None,
     };
     for seat in all {
@@ -141,10 +152,10 @@ fn seated<S: SharedSite>(
         } else if number == connections {
             seats.showing = Some(seat);
         } else {
-            seats.give_to_peers(seat, number - connections)?;
+            seats.give(seat, number - connections, &mut taking)?;
         }
     }
-    Ok(seats)
+    Ok((seats, taking))
 }
 
 /// Starts the worker of a seat, and the writer beside it: whether both run.
@@ -232,7 +243,28 @@ where
     let _ = scope.spawn(move || accept_links(rt, all, listener));
 }
 
-/// Starts all workers, and accepts connections as long as the server runs: at once, or where there are peer sites once one told it all.
+/// Accepts connections as long as the server runs: at once, or where there are peer sites once one told it all.
+fn serve_all<'s, 'r, S: SharedSite, M: Machine, G: Log>(
+    rt: &'s M,
+    all: &'s Shared<'s, 'r, S, M, G>,
+    premises: &'s Premises,
+) {
+    if !all.exchange.peers.is_empty() {
+        all.board.wait(rt, u64::from(premises.wait));
+    }
+    let Sockets {
+        serving,
+        exchanging,
+    } = &premises.sockets;
+    if let (Ok(listen), Ok(exchange)) = (serving.local_addr(), exchanging.local_addr()) {
+        tell_listens(all.log, listen, exchange);
+    }
+    let furniture = all.furniture;
+    let count = furniture.desks.len();
+    accept_all(rt, &furniture.hall, count, serving, all.log);
+}
+
+/// Starts all workers, and serves as long as the server runs.
 fn stay<
     's,
     'r,
@@ -240,8 +272,8 @@ fn stay<
     S: SharedSite + Sync + 's,
     M: Machine,
     G: Log + Sync,
-    R: Read + Send + Drop + 's,
-    W: Write + Send + Drop + 's,
+    R: Input + 's,
+    W: Output + 's,
 >(
     rt: &'s M,
     scope: &Scope<'s, E>,
@@ -257,28 +289,16 @@ where
         serving,
         sending,
         asking,
-        taking: _,
         showing,
     } = seats;
-    let (sockets, wait, tables) = (&premises.sockets, premises.wait, &premises.tables);
     if let Some(seat) = showing {
+        let tables = &premises.tables;
         let _ = scope.spawn(move || show_on(rt, all, seat, tables, console));
     }
     staff_all(rt, scope, all, serving);
     send_all(rt, scope, all, sending, asking);
-    take_all(rt, scope, all, &sockets.exchanging);
-    if !all.exchange.peers.is_empty() {
-        all.board.wait(rt, u64::from(wait));
-    }
-    if let (Ok(serving), Ok(exchanging)) = (
-        sockets.serving.local_addr(),
-        sockets.exchanging.local_addr(),
-    ) {
-        tell_listens(all.log, serving, exchanging);
-    }
-    let furniture = all.furniture;
-    let count = furniture.desks.len();
-    accept_all(rt, &furniture.hall, count, &sockets.serving, all.log);
+    take_all(rt, scope, all, &premises.sockets.exchanging);
+    serve_all(rt, all, premises);
 }
 
 /// What a server that stays is told, and what it has made of that. Nothing of it changes.
@@ -292,19 +312,12 @@ struct Premises {
 }
 
 /// Serves with what all workers share.
-fn serve_shared<
-    'r,
-    S: SharedSite + Sync,
-    M: Machine,
-    G: Log + Sync,
-    R: Read + Send + Drop,
-    W: Write + Send + Drop,
->(
+fn serve_shared<'r, S: SharedSite + Sync, M: Machine, G: Log + Sync, R: Input, W: Output>(
     rt: &'r M,
     premises: &'r Premises,
     site: &S,
-    gateways: &Gateways<Posting<'r, M>, Journal<'r, G>>,
-    doors: &Doors<'_>,
+    gateways: &Gateways<Posting<'r, M>, Journal<'r, M, G>>,
+    doors: &Doors<'r>,
     repeats: &KeptAnswers<'r, M>,
     board: &Board<S::Seat>,
     seats: Seats<S::Seat>,
@@ -337,14 +350,7 @@ where
 }
 
 /// Serves with all seats.
-fn serve_seated<
-    'r,
-    S: SharedSite + Sync,
-    M: Machine,
-    G: Log + Sync,
-    R: Read + Send + Drop,
-    W: Write + Send + Drop,
->(
+fn serve_seated<'r, S: SharedSite + Sync, M: Machine, G: Log + Sync, R: Input, W: Output>(
     rt: &'r M,
     premises: &'r Premises,
     site: &S,
@@ -357,24 +363,18 @@ where
 {
     let alloc = premises.furniture.alloc;
     let chairs = premises.furniture.chairs.as_slice();
-    let Seats {
-        serving,
-        sending,
-        asking,
-        taking,
-        showing,
-    } = seated(alloc, site, all, chairs.len())?;
+    let (seats, taking) = seated(alloc, site, all, chairs.len())?;
     let board = Board::start(taking);
-    let gateways = Gateways::observed(alloc, Journal { log, chairs });
+    let sent = &premises.furniture.sent;
+    let journal = Journal {
+        rt,
+        log,
+        chairs,
+        sent,
+    };
+    let gateways = Gateways::observed(alloc, journal);
     let repeats = KeptAnswers::start(alloc, rt);
     let doors = Doors { chairs };
-    let seats = Seats {
-        serving,
-        sending,
-        asking,
-        taking: Vec::new(alloc),
-        showing,
-    };
     serve_shared(
         rt, premises, site, &gateways, &doors, &repeats, &board, seats, console, log,
     );
@@ -382,13 +382,7 @@ where
 }
 
 /// Serves at a site whose history stands in the proofs alone.
-fn serve_living<
-    L: Roll + Send + Sync,
-    M: Machine,
-    G: Log + Sync,
-    R: Read + Send + Drop,
-    W: Write + Send + Drop,
->(
+fn serve_living<L: Roll + Send + Sync, M: Machine, G: Log + Sync, R: Input, W: Output>(
     rt: &M,
     alloc: Global,
     roster: Roster,
@@ -439,13 +433,15 @@ fn exchange_of<G: Log>(
         secret: settings.secret,
         peers,
         hall: Hall::start(alloc, links),
+        closed: Mutex::new(Quiet::of(CLOSED_SECONDS)),
+        disagreed: Mutex::new(Quiet::of(DISAGREED_SECONDS)),
     })
 }
 
 /// Runs a server that stays: it binds its sockets, serves so many connections at once, one behind the other at each seat, and exchanges
 /// letters with its peer sites, as long as the process runs. On its console it shows what it holds, where a line asks for that. The log is told what
 /// happens.
-pub fn run_staying<M: Machine, G: Log + Sync, R: Read + Send + Drop, W: Write + Send + Drop>(
+pub fn run_staying<M: Machine, G: Log + Sync, R: Input, W: Output>(
     rt: &M,
     alloc: Global,
     identity: Identity,

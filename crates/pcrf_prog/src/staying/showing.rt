@@ -18,6 +18,16 @@ const LINE_BYTES: usize = 16;
 /// How many bytes are read at once.
 const PIECE_BYTES: usize = 256;
 
+/// What a site can be asked by, in a thread of its own.
+pub trait Input: Read + Send + Drop {}
+
+impl<R: Read + Send + Drop> Input for R {}
+
+/// What it can answer on.
+pub trait Output: Write + Send + Drop {}
+
+impl<W: Write + Send + Drop> Output for W {}
+
 /// What a site is asked by, and answers on.
 #[derive(Drop)]
 pub struct Console<R, W> {

@@ -9,6 +9,7 @@ use crate::staying::journal::{Journal, tell_ended, tell_no_memory};
 use crate::staying::machine::Machine;
 use crate::staying::own::Own;
 use crate::staying::post::{Post, Posting};
+use crate::staying::pushes::SentPushes;
 use crate::staying::watching::Watched;
 use gateway_links::Half;
 use link_ends::SharedSite;
@@ -27,6 +28,7 @@ pub struct Furniture {
     pub hall: Hall,
     pub desks: Vec<Desk>,
     pub chairs: Vec<Chair>,
+    pub sent: SentPushes,
 }
 
 /// What all workers of a server share. What their connections hold has a lifetime of its own.
@@ -37,7 +39,7 @@ pub struct Shared<'s, 'r, S: SharedSite, M: Machine, G> {
     pub furniture: &'r Furniture,
     pub exchange: &'r Exchange,
     pub board: &'s Board<S::Seat>,
-    pub server: Server<'s, S, Posting<'r, M>, Journal<'r, G>, Doors<'s>, KeptAnswers<'r, M>>,
+    pub server: Server<'s, S, Posting<'r, M>, Journal<'r, M, G>, Doors<'r>, KeptAnswers<'r, M>>,
 }
 
 /// The two halves of a connection, and its post.
@@ -66,6 +68,7 @@ fn halves<'r, M: Machine>(
         rt,
         Posting {
             rt,
+            sent: &furniture.sent,
             post: Arc::try_clone(&post)?,
         },
     );

@@ -1,15 +1,13 @@
 //! A peer site is dialled, and dialled again, as long as the server runs.
 use crate::staying::exchange::growing::Growing;
-use crate::staying::exchange::journal::{
-    tell_dialled, tell_sending_ended, tell_unreachable, tell_unsealed,
-};
+use crate::staying::exchange::journal::{tell_sending_ended, tell_unreachable, tell_unsealed};
 use crate::staying::exchange::line::Line;
 use crate::staying::exchange::link::Link;
 use crate::staying::machine::Machine;
 use crate::staying::quiet::Quiet;
 use crate::staying::sockets::ready;
 use crate::staying::working::Shared;
-use link_ends::SharedSite;
+use link_ends::{LinkEnd, SharedSite};
 use log::Log;
 use peer_links::{Cursors, Role, exchange_with};
 use sealed_links::Side;
@@ -51,7 +49,7 @@ fn dialled<M: Machine>(rt: &M, alloc: Global, peer: SocketAddr) -> io::Result<Ar
     }
 }
 
-/// Sends letters over a link until it ends, and tells how many were acknowledged.
+/// Sends letters over a link until it ends so: how many were acknowledged.
 fn send<'s, 'r, S: SharedSite, M: Machine, G: Log>(
     rt: &'s M,
     all: &'s Shared<'s, 'r, S, M, G>,
@@ -60,7 +58,7 @@ fn send<'s, 'r, S: SharedSite, M: Machine, G: Log>(
     line: Arc<Line>,
     link: Link<'r, M>,
     peer: SocketAddr,
-) -> u64 {
+) -> (u64, LinkEnd) {
     let place = all.exchange.place;
     let mut cursors = Cursors::start(place.number, place.epoch);
     let growing = Growing {
@@ -85,12 +83,10 @@ fn send<'s, 'r, S: SharedSite, M: Machine, G: Log>(
         LETTERS,
         &growing,
     );
-    let letters = growing.letters.load(Ordering::SeqCst);
-    tell_sending_ended(all.log, peer, end, letters);
-    letters
+    (growing.letters.load(Ordering::SeqCst), end)
 }
 
-/// Opens a line and sends letters over it, and tells how many were acknowledged.
+/// Opens a line and sends letters over it: how many were acknowledged. That one ended isn't told too often where there were none.
 fn exchange<'s, 'r, S: SharedSite, M: Machine, G: Log>(
     rt: &'s M,
     all: &'s Shared<'s, 'r, S, M, G>,
@@ -98,18 +94,23 @@ fn exchange<'s, 'r, S: SharedSite, M: Machine, G: Log>(
     probe: &Mutex<S::Seat>,
     line: Arc<Line>,
     peer: SocketAddr,
+    quiet: &mut Quiet,
 ) -> u64 {
-    match all.exchange.link(all.rt, &line, Side::Dialler) {
-        Ok(link) => {
-            tell_dialled(all.log, peer);
-            let _ = line.open(Some(Duration::from_secs(ACKNOWLEDGE_SECONDS)));
-            send(rt, all, seat, probe, line, link, peer)
-        }
+    let link = match all.exchange.link(all.rt, &line, Side::Dialler) {
+        Ok(link) => link,
         Err(fault) => {
-            tell_unsealed(all.log, peer, fault);
-            0
+            if quiet.is_due(rt) {
+                tell_unsealed(all.log, peer, fault);
+            }
+            return 0;
         }
+    };
+    let _ = line.open(Some(Duration::from_secs(ACKNOWLEDGE_SECONDS)));
+    let (letters, end) = send(rt, all, seat, probe, line, link, peer);
+    if letters > 0 || quiet.is_due(rt) {
+        tell_sending_ended(all.log, peer, end, letters);
     }
+    letters
 }
 
 /// Sends a peer site letters, and dials it again whenever a link has ended, as long as the server runs.
@@ -126,7 +127,7 @@ pub fn dial_on<'s, 'r, S: SharedSite, M: Machine, G: Log>(
     let mut pause = FIRST_PAUSE;
     for _ in rt.forever() {
         let letters = match dialled(rt, all.exchange.alloc, peer) {
-            Ok(line) => exchange(rt, all, &mut seat, &probe, line, peer),
+            Ok(line) => exchange(rt, all, &mut seat, &probe, line, peer, &mut quiet),
             Err(error) => {
                 if quiet.is_due(rt) {
                     tell_unreachable(all.log, peer, &error);

@@ -10,11 +10,6 @@ use std::net::SocketAddr;
 /// What stands before each line as its target.
 const TARGET: &str = "pcrf";
 
-/// A peer site was dialled.
-pub fn tell_dialled<G: Log>(log: &G, peer: SocketAddr) {
-    info!(log; target: TARGET, "peer site {peer} was dialled");
-}
-
 /// A peer site can't be reached, and is dialled again.
 pub fn tell_unreachable<G: Log>(log: &G, peer: SocketAddr, why: &io::Error) {
     warn!(log; target: TARGET, "peer site {peer} can't be reached, and is dialled again: {why}");

@@ -71,6 +71,16 @@ pub enum Unlinked {
     Lost(ErrorKind),
 }
 
+impl Unlinked {
+    /// Whether the sites don't agree on what an operator gives them.
+    pub fn is_disagreement(self) -> bool {
+        matches!(
+            self,
+            Unlinked::Head(HeadFault::Version(_) | HeadFault::Edition(_) | HeadFault::OwnNumber)
+        )
+    }
+}
+
 impl<'r, C: Clock> Link<'r, C> {
     /// Over these directions of a line.
     pub fn of(

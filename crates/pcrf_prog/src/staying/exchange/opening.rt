@@ -5,6 +5,7 @@ use crate::staying::exchange::heads::Expected;
 use crate::staying::exchange::line::{Line, Timely};
 use crate::staying::exchange::link::Link;
 use crate::staying::hall::Hall;
+use crate::staying::quiet::Quiet;
 use sealed_links::{
     CHALLENGE_BYTES, Course, Greeting, Key, SealFault, SealedReader, SealedWriter, Side,
     prove_dialling, prove_listening,
@@ -12,7 +13,7 @@ use sealed_links::{
 use std::alloc::Global;
 use std::net::SocketAddrV4;
 use std::random::RandomSource;
-use std::sync::Arc;
+use std::sync::{Arc, Mutex};
 use std::time::Clock;
 
 /// What a server knows of the exchange with its peer sites.
@@ -29,6 +30,10 @@ pub struct Exchange {
     pub peers: Vec<SocketAddrV4>,
     /// Where links wait that were accepted.
     pub hall: Hall,
+    /// When it was told last that a link was closed before its first letter.
+    pub closed: Mutex<Quiet>,
+    /// When it was told last that sites disagree.
+    pub disagreed: Mutex<Quiet>,
 }
 
 impl Exchange {

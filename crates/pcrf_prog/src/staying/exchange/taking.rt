@@ -110,7 +110,9 @@ fn take_claimed<'s, 'r, S: SharedSite, M: Machine, G: Log>(
     peer: SocketAddr,
 ) {
     if let Some(before) = claim.later {
-        tell_earlier(all.log, sender.site, sender.epoch, before);
+        if all.exchange.disagreed.lock(rt).is_due(rt) {
+            tell_earlier(all.log, sender.site, sender.epoch, before);
+        }
     }
     if let Some(taken) = all.board.take(rt, claim) {
         let mut seat = taken;
@@ -130,14 +132,22 @@ fn take_line<'s, 'r, S: SharedSite, M: Machine, G: Log>(
     let mut link = match all.exchange.link(all.rt, &line, Side::Listener) {
         Ok(link) => link,
         Err(fault) => {
-            tell_unsealed(all.log, peer, fault);
+            if all.exchange.closed.lock(rt).is_due(rt) {
+                tell_unsealed(all.log, peer, fault);
+            }
             return Ok(());
         }
     };
     let sender = match link.first_sender() {
         Ok(sender) => sender,
         Err(why) => {
-            tell_unlinked(all.log, peer, why);
+            let quiet = match why.is_disagreement() {
+                true => &all.exchange.disagreed,
+                false => &all.exchange.closed,
+            };
+            if quiet.lock(rt).is_due(rt) {
+                tell_unlinked(all.log, peer, why);
+            }
             return Ok(());
         }
     };
