@@ -51,7 +51,7 @@ struct Halves<'r, M: Machine> {
 }
 
 /// The halves of a connection. The writer beside the worker has its post then.
-fn halves<'r, M: Machine>(
+fn make_halves<'r, M: Machine>(
     rt: &'r M,
     furniture: &'r Furniture,
     desk: &Desk,
@@ -93,7 +93,7 @@ fn serve_arrived<'s, 'r, S: SharedSite, M: Machine, G: Log>(
     if let Some(chair) = all.furniture.chairs.get(number) {
         chair.clear();
     }
-    match halves(all.rt, all.furniture, desk, stream, since) {
+    match make_halves(all.rt, all.furniture, desk, stream, since) {
         Ok(Halves { reader, half, post }) => {
             tell_connected(all.log, number, address);
             let (seat, end) = serve_connection(rt, &all.server, seat, reader, half);
