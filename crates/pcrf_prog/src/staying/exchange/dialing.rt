@@ -29,7 +29,8 @@ const ANSWER_SECONDS: u64 = 5;
 
 const ACKNOWLEDGE_SECONDS: u64 = 30;
 
-/// For how many seconds it isn't told again that a peer site can't be reached, and how many letters it acknowledged.
+/// For how many seconds it isn't told again that a peer site can't be reached or that a link with it ended behind no letter, and how many
+/// letters it acknowledged.
 const UNREACHABLE_SECONDS: u64 = 60;
 
 const LETTERS_SECONDS: u64 = 10;
@@ -123,13 +124,14 @@ pub fn dial_on<'s, 'r, S: SharedSite, M: Machine, G: Log>(
 ) {
     let mut seat = seat;
     let probe = Mutex::new(probe);
-    let mut quiet = Quiet::of(UNREACHABLE_SECONDS);
+    let mut unreached = Quiet::of(UNREACHABLE_SECONDS);
+    let mut ended = Quiet::of(UNREACHABLE_SECONDS);
     let mut pause = FIRST_PAUSE;
     for _ in rt.forever() {
         let letters = match dialled(rt, all.exchange.alloc, peer) {
-            Ok(line) => exchange(rt, all, &mut seat, &probe, line, peer, &mut quiet),
+            Ok(line) => exchange(rt, all, &mut seat, &probe, line, peer, &mut ended),
             Err(error) => {
-                if quiet.is_due(rt) {
+                if unreached.is_due(rt) {
                     tell_unreachable(all.log, peer, &error);
                 }
                 0
@@ -137,7 +139,8 @@ pub fn dial_on<'s, 'r, S: SharedSite, M: Machine, G: Log>(
         };
         if letters > 0 {
             pause = FIRST_PAUSE;
-            quiet = Quiet::of(UNREACHABLE_SECONDS);
+            unreached = Quiet::of(UNREACHABLE_SECONDS);
+            ended = Quiet::of(UNREACHABLE_SECONDS);
         }
         thread::sleep(rt, Duration::from_millis(pause));
         pause = pause.saturating_mul(2).min(LAST_PAUSE);
