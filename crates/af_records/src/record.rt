@@ -181,14 +181,8 @@ impl AfRec {
             ≡ entry_shown self.now (OfSession f) }
     {
         match self.facts.at(&position_of_field(number)) {
-            None => None,
-            Some(AfFact::End) => None,
-            Some(AfFact::ComponentRemoved(_)) => None,
-            Some(AfFact::FlowRemoved(_, _)) => None,
-            Some(AfFact::Aborted) => None,
             Some(AfFact::Session(tag, value)) => Some((*tag, value)),
-            Some(AfFact::Component(_, _, _)) => None,
-            Some(AfFact::Flow(_, _, _, _)) => None,
+            _ => None,
         }
     }
 
@@ -200,14 +194,8 @@ impl AfRec {
             ≡ entry_shown self.now (OfComponent component f) }
     {
         match self.facts.at(&component_position(component, number)) {
-            None => None,
-            Some(AfFact::End) => None,
-            Some(AfFact::ComponentRemoved(_)) => None,
-            Some(AfFact::FlowRemoved(_, _)) => None,
-            Some(AfFact::Aborted) => None,
-            Some(AfFact::Session(_, _)) => None,
             Some(AfFact::Component(_, tag, value)) => Some((*tag, value)),
-            Some(AfFact::Flow(_, _, _, _)) => None,
+            _ => None,
         }
     }
 
@@ -219,14 +207,8 @@ impl AfRec {
             ≡ entry_shown self.now (OfFlow component flow f) }
     {
         match self.facts.at(&flow_position(component, flow, number)) {
-            None => None,
-            Some(AfFact::End) => None,
-            Some(AfFact::ComponentRemoved(_)) => None,
-            Some(AfFact::FlowRemoved(_, _)) => None,
-            Some(AfFact::Aborted) => None,
-            Some(AfFact::Session(_, _)) => None,
-            Some(AfFact::Component(_, _, _)) => None,
             Some(AfFact::Flow(_, _, tag, value)) => Some((*tag, value)),
+            _ => None,
         }
     }
 
@@ -235,9 +217,7 @@ impl AfRec {
         ensures { entry_by address_value (option_map (λ e. (e.0, e.1.now)) result)
             ≡ entry_shown self.now places.address }
     {
-        let Some((tag, value)) = self.field(1) else {
-            return None;
-        };
+        let (tag, value) = self.field(1)?;
         match value {
             SessionValue::Address(address) => Some((tag, address)),
             _ => None,
@@ -249,9 +229,7 @@ impl AfRec {
         ensures { entry_by Text (option_map (λ e. (e.0, e.1.now)) result)
             ≡ entry_shown self.now places.apn }
     {
-        let Some((tag, value)) = self.field(2) else {
-            return None;
-        };
+        let (tag, value) = self.field(2)?;
         match value {
             SessionValue::Apn(apn) => Some((tag, apn)),
             _ => None,
@@ -263,9 +241,7 @@ impl AfRec {
         ensures { entry_by values.Subscribers (option_map (λ e. (e.0, e.1.now)) result)
             ≡ entry_shown self.now places.subscribers }
     {
-        let Some((tag, value)) = self.field(3) else {
-            return None;
-        };
+        let (tag, value) = self.field(3)?;
         match value {
             SessionValue::Subscribers(subscribers) => Some((tag, subscribers)),
             _ => None,
@@ -277,9 +253,7 @@ impl AfRec {
         ensures { entry_by Text (option_map (λ e. (e.0, e.1.now)) result)
             ≡ entry_shown self.now places.host }
     {
-        let Some((tag, value)) = self.field(4) else {
-            return None;
-        };
+        let (tag, value) = self.field(4)?;
         match value {
             SessionValue::Host(host) => Some((tag, host)),
             _ => None,
@@ -291,9 +265,7 @@ impl AfRec {
         ensures { entry_by Text (option_map (λ e. (e.0, e.1.now)) result)
             ≡ entry_shown self.now places.realm }
     {
-        let Some((tag, value)) = self.field(5) else {
-            return None;
-        };
+        let (tag, value) = self.field(5)?;
         match value {
             SessionValue::Realm(realm) => Some((tag, realm)),
             _ => None,
@@ -305,9 +277,7 @@ impl AfRec {
         ensures { entry_by Number (option_map (λ e. (e.0, e.1.now)) result)
             ≡ entry_shown self.now places.last }
     {
-        let Some((tag, value)) = self.field(6) else {
-            return None;
-        };
+        let (tag, value) = self.field(6)?;
         match value {
             SessionValue::Last(last) => Some((tag, last)),
             _ => None,
@@ -319,9 +289,7 @@ impl AfRec {
         ensures { entry_by values.Prefix (option_map (λ e. (e.0, e.1.now)) result)
             ≡ entry_shown self.now places.prefix }
     {
-        let Some((tag, value)) = self.field(7) else {
-            return None;
-        };
+        let (tag, value) = self.field(7)?;
         match value {
             SessionValue::Prefix(prefix) => Some((tag, prefix)),
             _ => None,
@@ -333,9 +301,7 @@ impl AfRec {
         ensures { entry_by Number (option_map (λ e. (e.0, e.1.now)) result)
             ≡ entry_shown self.now (OfComponent component places.MediaType) }
     {
-        let Some((tag, value)) = self.component_field(component, 1) else {
-            return None;
-        };
+        let (tag, value) = self.component_field(component, 1)?;
         match value {
             ComponentValue::MediaType(kind) => Some((tag, kind)),
             _ => None,
@@ -347,9 +313,7 @@ impl AfRec {
         ensures { entry_by Number (option_map (λ e. (e.0, e.1.now)) result)
             ≡ entry_shown self.now (OfComponent component places.ComponentStatus) }
     {
-        let Some((tag, value)) = self.component_field(component, 2) else {
-            return None;
-        };
+        let (tag, value) = self.component_field(component, 2)?;
         match value {
             ComponentValue::Status(status) => Some((tag, status)),
             _ => None,
@@ -361,9 +325,7 @@ impl AfRec {
         ensures { entry_by Number (option_map (λ e. (e.0, e.1.now)) result)
             ≡ entry_shown self.now (OfComponent component places.ComponentRateUp) }
     {
-        let Some((tag, value)) = self.component_field(component, 3) else {
-            return None;
-        };
+        let (tag, value) = self.component_field(component, 3)?;
         match value {
             ComponentValue::RateUp(rate) => Some((tag, rate)),
             _ => None,
@@ -375,9 +337,7 @@ impl AfRec {
         ensures { entry_by Number (option_map (λ e. (e.0, e.1.now)) result)
             ≡ entry_shown self.now (OfComponent component places.ComponentRateDown) }
     {
-        let Some((tag, value)) = self.component_field(component, 4) else {
-            return None;
-        };
+        let (tag, value) = self.component_field(component, 4)?;
         match value {
             ComponentValue::RateDown(rate) => Some((tag, rate)),
             _ => None,
@@ -389,9 +349,7 @@ impl AfRec {
         ensures { entry_by values.Filters (option_map (λ e. (e.0, e.1.now)) result)
             ≡ entry_shown self.now (OfFlow component flow places.FlowDescriptions) }
     {
-        let Some((tag, value)) = self.flow_field(component, flow, 1) else {
-            return None;
-        };
+        let (tag, value) = self.flow_field(component, flow, 1)?;
         match value {
             FlowValue::Descriptions(filters) => Some((tag, filters)),
             _ => None,
@@ -403,9 +361,7 @@ impl AfRec {
         ensures { entry_by Number (option_map (λ e. (e.0, e.1.now)) result)
             ≡ entry_shown self.now (OfFlow component flow places.FlowUsage) }
     {
-        let Some((tag, value)) = self.flow_field(component, flow, 2) else {
-            return None;
-        };
+        let (tag, value) = self.flow_field(component, flow, 2)?;
         match value {
             FlowValue::Usage(usage) => Some((tag, usage)),
             _ => None,
@@ -421,9 +377,7 @@ impl AfRec {
         ensures { entry_by Number (option_map (λ e. (e.0, e.1.now)) result)
             ≡ entry_shown self.now (OfFlow component flow places.FlowStatus) }
     {
-        let Some((tag, value)) = self.flow_field(component, flow, 3) else {
-            return None;
-        };
+        let (tag, value) = self.flow_field(component, flow, 3)?;
         match value {
             FlowValue::Status(status) => Some((tag, status)),
             _ => None,
@@ -435,9 +389,7 @@ impl AfRec {
         ensures { entry_by Number (option_map (λ e. (e.0, e.1.now)) result)
             ≡ entry_shown self.now (OfFlow component flow places.FlowRateUp) }
     {
-        let Some((tag, value)) = self.flow_field(component, flow, 4) else {
-            return None;
-        };
+        let (tag, value) = self.flow_field(component, flow, 4)?;
         match value {
             FlowValue::RateUp(rate) => Some((tag, rate)),
             _ => None,
@@ -449,9 +401,7 @@ impl AfRec {
         ensures { entry_by Number (option_map (λ e. (e.0, e.1.now)) result)
             ≡ entry_shown self.now (OfFlow component flow places.FlowRateDown) }
     {
-        let Some((tag, value)) = self.flow_field(component, flow, 5) else {
-            return None;
-        };
+        let (tag, value) = self.flow_field(component, flow, 5)?;
         match value {
             FlowValue::RateDown(rate) => Some((tag, rate)),
             _ => None,

@@ -170,10 +170,8 @@ impl GxRec {
             ≡ entry_shown self.now (OfSession f) }
     {
         match self.facts.at(&position_of_field(number)) {
-            None => None,
-            Some(GxFact::End) => None,
             Some(GxFact::Field(tag, value)) => Some((*tag, value)),
-            Some(GxFact::Told(_, _, _)) => None,
+            _ => None,
         }
     }
 
@@ -191,9 +189,7 @@ impl GxRec {
         ensures { entry_by address_value (option_map (λ e. (e.0, e.1.now)) result)
             ≡ entry_shown self.now places.address }
     {
-        let Some((tag, value)) = self.field(1) else {
-            return None;
-        };
+        let (tag, value) = self.field(1)?;
         match value {
             SessionValue::Address(address) => Some((tag, address)),
             _ => None,
@@ -205,9 +201,7 @@ impl GxRec {
         ensures { entry_by Text (option_map (λ e. (e.0, e.1.now)) result)
             ≡ entry_shown self.now places.apn }
     {
-        let Some((tag, value)) = self.field(2) else {
-            return None;
-        };
+        let (tag, value) = self.field(2)?;
         match value {
             SessionValue::Apn(apn) => Some((tag, apn)),
             _ => None,
@@ -219,9 +213,7 @@ impl GxRec {
         ensures { entry_by values.Subscribers (option_map (λ e. (e.0, e.1.now)) result)
             ≡ entry_shown self.now places.subscribers }
     {
-        let Some((tag, value)) = self.field(3) else {
-            return None;
-        };
+        let (tag, value) = self.field(3)?;
         match value {
             SessionValue::Subscribers(subscribers) => Some((tag, subscribers)),
             _ => None,
@@ -233,9 +225,7 @@ impl GxRec {
         ensures { entry_by Text (option_map (λ e. (e.0, e.1.now)) result)
             ≡ entry_shown self.now places.host }
     {
-        let Some((tag, value)) = self.field(4) else {
-            return None;
-        };
+        let (tag, value) = self.field(4)?;
         match value {
             SessionValue::Host(host) => Some((tag, host)),
             _ => None,
@@ -247,9 +237,7 @@ impl GxRec {
         ensures { entry_by Text (option_map (λ e. (e.0, e.1.now)) result)
             ≡ entry_shown self.now places.realm }
     {
-        let Some((tag, value)) = self.field(5) else {
-            return None;
-        };
+        let (tag, value) = self.field(5)?;
         match value {
             SessionValue::Realm(realm) => Some((tag, realm)),
             _ => None,
@@ -261,9 +249,7 @@ impl GxRec {
         ensures { entry_by Number (option_map (λ e. (e.0, e.1.now)) result)
             ≡ entry_shown self.now places.last }
     {
-        let Some((tag, value)) = self.field(6) else {
-            return None;
-        };
+        let (tag, value) = self.field(6)?;
         match value {
             SessionValue::Last(last) => Some((tag, last)),
             _ => None,
@@ -275,9 +261,7 @@ impl GxRec {
         ensures { entry_by values.Prefix (option_map (λ e. (e.0, e.1.now)) result)
             ≡ entry_shown self.now places.prefix }
     {
-        let Some((tag, value)) = self.field(7) else {
-            return None;
-        };
+        let (tag, value) = self.field(7)?;
         match value {
             SessionValue::Prefix(prefix) => Some((tag, prefix)),
             _ => None,
