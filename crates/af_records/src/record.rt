@@ -181,8 +181,14 @@ impl AfRec {
             ≡ entry_shown self.now (OfSession f) }
     {
         match self.facts.at(&position_of_field(number)) {
+            None => None,
+            Some(AfFact::End) => None,
+            Some(AfFact::ComponentRemoved(_)) => None,
+            Some(AfFact::FlowRemoved(_, _)) => None,
+            Some(AfFact::Aborted) => None,
             Some(AfFact::Session(tag, value)) => Some((*tag, value)),
-            _ => None,
+            Some(AfFact::Component(_, _, _)) => None,
+            Some(AfFact::Flow(_, _, _, _)) => None,
         }
     }
 
@@ -194,8 +200,14 @@ impl AfRec {
             ≡ entry_shown self.now (OfComponent component f) }
     {
         match self.facts.at(&component_position(component, number)) {
+            None => None,
+            Some(AfFact::End) => None,
+            Some(AfFact::ComponentRemoved(_)) => None,
+            Some(AfFact::FlowRemoved(_, _)) => None,
+            Some(AfFact::Aborted) => None,
+            Some(AfFact::Session(_, _)) => None,
             Some(AfFact::Component(_, tag, value)) => Some((*tag, value)),
-            _ => None,
+            Some(AfFact::Flow(_, _, _, _)) => None,
         }
     }
 
@@ -207,8 +219,14 @@ impl AfRec {
             ≡ entry_shown self.now (OfFlow component flow f) }
     {
         match self.facts.at(&flow_position(component, flow, number)) {
+            None => None,
+            Some(AfFact::End) => None,
+            Some(AfFact::ComponentRemoved(_)) => None,
+            Some(AfFact::FlowRemoved(_, _)) => None,
+            Some(AfFact::Aborted) => None,
+            Some(AfFact::Session(_, _)) => None,
+            Some(AfFact::Component(_, _, _)) => None,
             Some(AfFact::Flow(_, _, tag, value)) => Some((*tag, value)),
-            _ => None,
         }
     }
 
@@ -217,7 +235,9 @@ impl AfRec {
         ensures { entry_by address_value (option_map (λ e. (e.0, e.1.now)) result)
             ≡ entry_shown self.now places.address }
     {
-        let (tag, value) = self.field(1)?;
+        let Some((tag, value)) = self.field(1) else {
+            return None;
+        };
         match value {
             SessionValue::Address(address) => Some((tag, address)),
             _ => None,
@@ -229,7 +249,9 @@ impl AfRec {
         ensures { entry_by Text (option_map (λ e. (e.0, e.1.now)) result)
             ≡ entry_shown self.now places.apn }
     {
-        let (tag, value) = self.field(2)?;
+        let Some((tag, value)) = self.field(2) else {
+            return None;
+        };
         match value {
             SessionValue::Apn(apn) => Some((tag, apn)),
             _ => None,
@@ -241,7 +263,9 @@ impl AfRec {
         ensures { entry_by values.Subscribers (option_map (λ e. (e.0, e.1.now)) result)
             ≡ entry_shown self.now places.subscribers }
     {
-        let (tag, value) = self.field(3)?;
+        let Some((tag, value)) = self.field(3) else {
+            return None;
+        };
         match value {
             SessionValue::Subscribers(subscribers) => Some((tag, subscribers)),
             _ => None,
@@ -253,7 +277,9 @@ impl AfRec {
         ensures { entry_by Text (option_map (λ e. (e.0, e.1.now)) result)
             ≡ entry_shown self.now places.host }
     {
-        let (tag, value) = self.field(4)?;
+        let Some((tag, value)) = self.field(4) else {
+            return None;
+        };
         match value {
             SessionValue::Host(host) => Some((tag, host)),
             _ => None,
@@ -265,7 +291,9 @@ impl AfRec {
         ensures { entry_by Text (option_map (λ e. (e.0, e.1.now)) result)
             ≡ entry_shown self.now places.realm }
     {
-        let (tag, value) = self.field(5)?;
+        let Some((tag, value)) = self.field(5) else {
+            return None;
+        };
         match value {
             SessionValue::Realm(realm) => Some((tag, realm)),
             _ => None,
@@ -277,7 +305,9 @@ impl AfRec {
         ensures { entry_by Number (option_map (λ e. (e.0, e.1.now)) result)
             ≡ entry_shown self.now places.last }
     {
-        let (tag, value) = self.field(6)?;
+        let Some((tag, value)) = self.field(6) else {
+            return None;
+        };
         match value {
             SessionValue::Last(last) => Some((tag, last)),
             _ => None,
@@ -289,7 +319,9 @@ impl AfRec {
         ensures { entry_by values.Prefix (option_map (λ e. (e.0, e.1.now)) result)
             ≡ entry_shown self.now places.prefix }
     {
-        let (tag, value) = self.field(7)?;
+        let Some((tag, value)) = self.field(7) else {
+            return None;
+        };
         match value {
             SessionValue::Prefix(prefix) => Some((tag, prefix)),
             _ => None,
@@ -301,7 +333,9 @@ impl AfRec {
         ensures { entry_by Number (option_map (λ e. (e.0, e.1.now)) result)
             ≡ entry_shown self.now (OfComponent component places.MediaType) }
     {
-        let (tag, value) = self.component_field(component, 1)?;
+        let Some((tag, value)) = self.component_field(component, 1) else {
+            return None;
+        };
         match value {
             ComponentValue::MediaType(kind) => Some((tag, kind)),
             _ => None,
@@ -313,7 +347,9 @@ impl AfRec {
         ensures { entry_by Number (option_map (λ e. (e.0, e.1.now)) result)
             ≡ entry_shown self.now (OfComponent component places.ComponentStatus) }
     {
-        let (tag, value) = self.component_field(component, 2)?;
+        let Some((tag, value)) = self.component_field(component, 2) else {
+            return None;
+        };
         match value {
             ComponentValue::Status(status) => Some((tag, status)),
             _ => None,
@@ -325,7 +361,9 @@ impl AfRec {
         ensures { entry_by Number (option_map (λ e. (e.0, e.1.now)) result)
             ≡ entry_shown self.now (OfComponent component places.ComponentRateUp) }
     {
-        let (tag, value) = self.component_field(component, 3)?;
+        let Some((tag, value)) = self.component_field(component, 3) else {
+            return None;
+        };
         match value {
             ComponentValue::RateUp(rate) => Some((tag, rate)),
             _ => None,
@@ -337,7 +375,9 @@ impl AfRec {
         ensures { entry_by Number (option_map (λ e. (e.0, e.1.now)) result)
             ≡ entry_shown self.now (OfComponent component places.ComponentRateDown) }
     {
-        let (tag, value) = self.component_field(component, 4)?;
+        let Some((tag, value)) = self.component_field(component, 4) else {
+            return None;
+        };
         match value {
             ComponentValue::RateDown(rate) => Some((tag, rate)),
             _ => None,
@@ -349,7 +389,9 @@ impl AfRec {
         ensures { entry_by values.Filters (option_map (λ e. (e.0, e.1.now)) result)
             ≡ entry_shown self.now (OfFlow component flow places.FlowDescriptions) }
     {
-        let (tag, value) = self.flow_field(component, flow, 1)?;
+        let Some((tag, value)) = self.flow_field(component, flow, 1) else {
+            return None;
+        };
         match value {
             FlowValue::Descriptions(filters) => Some((tag, filters)),
             _ => None,
@@ -361,7 +403,9 @@ impl AfRec {
         ensures { entry_by Number (option_map (λ e. (e.0, e.1.now)) result)
             ≡ entry_shown self.now (OfFlow component flow places.FlowUsage) }
     {
-        let (tag, value) = self.flow_field(component, flow, 2)?;
+        let Some((tag, value)) = self.flow_field(component, flow, 2) else {
+            return None;
+        };
         match value {
             FlowValue::Usage(usage) => Some((tag, usage)),
             _ => None,
@@ -377,7 +421,9 @@ impl AfRec {
         ensures { entry_by Number (option_map (λ e. (e.0, e.1.now)) result)
             ≡ entry_shown self.now (OfFlow component flow places.FlowStatus) }
     {
-        let (tag, value) = self.flow_field(component, flow, 3)?;
+        let Some((tag, value)) = self.flow_field(component, flow, 3) else {
+            return None;
+        };
         match value {
             FlowValue::Status(status) => Some((tag, status)),
             _ => None,
@@ -389,7 +435,9 @@ impl AfRec {
         ensures { entry_by Number (option_map (λ e. (e.0, e.1.now)) result)
             ≡ entry_shown self.now (OfFlow component flow places.FlowRateUp) }
     {
-        let (tag, value) = self.flow_field(component, flow, 4)?;
+        let Some((tag, value)) = self.flow_field(component, flow, 4) else {
+            return None;
+        };
         match value {
             FlowValue::RateUp(rate) => Some((tag, rate)),
             _ => None,
@@ -401,7 +449,9 @@ impl AfRec {
         ensures { entry_by Number (option_map (λ e. (e.0, e.1.now)) result)
             ≡ entry_shown self.now (OfFlow component flow places.FlowRateDown) }
     {
-        let (tag, value) = self.flow_field(component, flow, 5)?;
+        let Some((tag, value)) = self.flow_field(component, flow, 5) else {
+            return None;
+        };
         match value {
             FlowValue::RateDown(rate) => Some((tag, rate)),
             _ => None,

@@ -170,8 +170,10 @@ impl GxRec {
             ≡ entry_shown self.now (OfSession f) }
     {
         match self.facts.at(&position_of_field(number)) {
+            None => None,
+            Some(GxFact::End) => None,
             Some(GxFact::Field(tag, value)) => Some((*tag, value)),
-            _ => None,
+            Some(GxFact::Told(_, _, _)) => None,
         }
     }
 
@@ -189,7 +191,9 @@ impl GxRec {
         ensures { entry_by address_value (option_map (λ e. (e.0, e.1.now)) result)
             ≡ entry_shown self.now places.address }
     {
-        let (tag, value) = self.field(1)?;
+        let Some((tag, value)) = self.field(1) else {
+            return None;
+        };
         match value {
             SessionValue::Address(address) => Some((tag, address)),
             _ => None,
@@ -201,7 +205,9 @@ impl GxRec {
         ensures { entry_by Text (option_map (λ e. (e.0, e.1.now)) result)
             ≡ entry_shown self.now places.apn }
     {
-        let (tag, value) = self.field(2)?;
+        let Some((tag, value)) = self.field(2) else {
+            return None;
+        };
         match value {
             SessionValue::Apn(apn) => Some((tag, apn)),
             _ => None,
@@ -213,7 +219,9 @@ impl GxRec {
         ensures { entry_by values.Subscribers (option_map (λ e. (e.0, e.1.now)) result)
             ≡ entry_shown self.now places.subscribers }
     {
-        let (tag, value) = self.field(3)?;
+        let Some((tag, value)) = self.field(3) else {
+            return None;
+        };
         match value {
             SessionValue::Subscribers(subscribers) => Some((tag, subscribers)),
             _ => None,
@@ -225,7 +233,9 @@ impl GxRec {
         ensures { entry_by Text (option_map (λ e. (e.0, e.1.now)) result)
             ≡ entry_shown self.now places.host }
     {
-        let (tag, value) = self.field(4)?;
+        let Some((tag, value)) = self.field(4) else {
+            return None;
+        };
         match value {
             SessionValue::Host(host) => Some((tag, host)),
             _ => None,
@@ -237,7 +247,9 @@ impl GxRec {
         ensures { entry_by Text (option_map (λ e. (e.0, e.1.now)) result)
             ≡ entry_shown self.now places.realm }
     {
-        let (tag, value) = self.field(5)?;
+        let Some((tag, value)) = self.field(5) else {
+            return None;
+        };
         match value {
             SessionValue::Realm(realm) => Some((tag, realm)),
             _ => None,
@@ -249,7 +261,9 @@ impl GxRec {
         ensures { entry_by Number (option_map (λ e. (e.0, e.1.now)) result)
             ≡ entry_shown self.now places.last }
     {
-        let (tag, value) = self.field(6)?;
+        let Some((tag, value)) = self.field(6) else {
+            return None;
+        };
         match value {
             SessionValue::Last(last) => Some((tag, last)),
             _ => None,
@@ -261,7 +275,9 @@ impl GxRec {
         ensures { entry_by values.Prefix (option_map (λ e. (e.0, e.1.now)) result)
             ≡ entry_shown self.now places.prefix }
     {
-        let (tag, value) = self.field(7)?;
+        let Some((tag, value)) = self.field(7) else {
+            return None;
+        };
         match value {
             SessionValue::Prefix(prefix) => Some((tag, prefix)),
             _ => None,
