@@ -9,8 +9,9 @@ ghost use Rattle.site_machine.specs.Values.{event_value, reply_value, event_lack
 ghost use Rattle.site_book.specs.Books.{new_seats, with_receipt};
 ghost use Rattle.site_book.specs.Gains.{HoldsAll};
 ghost use Rattle.site_book.specs.Settling.{EachOnce, Settles};
-ghost use Rattle.living_site.specs.Calls.{GainsBeginning, IsAnswered};
+ghost use Rattle.living_site.specs.Calls.{GainsBeginning};
 ghost use Rattle.living_site.specs.Deeds.{ChronicleValue, LeadsTo, OfSeats, IsAccountOf, as_book, beginnings, calls, counted_to, epoch_of, new_chronicle, times_begun, with_call, with_beginning};
+ghost use Rattle.living_site.specs.Epochs.{IsAnswered};
 ghost use Rattle.living_site.specs.Sound.{AreNames, AreSeatNotes};
 
 use crate::anew::begun_anew;

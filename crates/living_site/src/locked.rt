@@ -7,8 +7,9 @@ ghost use Rattle.site_book.specs.Gains.{HoldsAll};
 ghost use Rattle.site_book.specs.Settling.{EachOnce, Settles};
 ghost use Rattle.site_lock.specs.Calls.{FindsNoneAbandoned, FindsNothingDue, GainsReceipt, TellsPast};
 ghost use Rattle.site_lock.specs.Locked.{beside};
-ghost use Rattle.living_site.specs.Calls.{GainsBeginning, HasBegun, IfBegun, IfTold, IsAccount, IsAnswered, IsFound};
+ghost use Rattle.living_site.specs.Calls.{GainsBeginning, IsAccount, IsFound};
 ghost use Rattle.living_site.specs.Deeds.{IsAccountOf, LeadsTo, OfSeats, as_book, beginnings, calls, epoch_of};
+ghost use Rattle.living_site.specs.Epochs.{HasBegun, IfBegun, IfTold, IsAnswered};
 ghost use Rattle.living_site.specs.Sound.{AreNames};
 
 use crate::anew::names_of;

@@ -8,7 +8,8 @@ use std::sync::Wait;
 use std::thread::Threads;
 
 impl<L: Roll> SharedSite for LivingSite<L> {
-    ghost use Rattle.living_site.specs.Calls.{HasBegun, IsAnswered, IsFound};
+    ghost use Rattle.living_site.specs.Calls.{IsFound};
+    ghost use Rattle.living_site.specs.Epochs.{HasBegun, IsAnswered};
 
     type Seat = Seat<L>;
 

@@ -4,8 +4,8 @@ ghost use Rattle.std.specs.Thread.{IsSync};
 ghost use Rattle.site_machine.specs.Sites.{SiteValue};
 ghost use Rattle.site_machine.specs.Values.{event_value, reply_value};
 ghost use Rattle.site_book.specs.Books.{SeatValue};
-ghost use Rattle.living_site.specs.Calls.{IfBegun, IfTold};
 ghost use Rattle.living_site.specs.Deeds.{counted_to, last_place};
+ghost use Rattle.living_site.specs.Epochs.{IfBegun, IfTold};
 ghost use Rattle.site_lock.specs.Calls.{FindsNoneAbandoned, FindsNothingDue, GainsReceipt, TellsPast};
 ghost use Rattle.site_lock.specs.Locked.{LockedValue};
 
