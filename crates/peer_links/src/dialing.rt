@@ -301,7 +301,7 @@ pub(crate) fn send_letters<T: Threads + Wait + Sync, A: SharedSite, P, G: Gate, 
         turns,
     )?;
     // A site is in no more epochs than these.
-    for _epoch in 0..LAST_EPOCH {
+    for _ in 0..LAST_EPOCH {
         let Some(from) = next else { break };
         next = go_on(rt, link, seat, cursors, letters, from, turns)?;
     }
