@@ -11,7 +11,7 @@ ghost use Rattle.site_book.specs.Gains.{HoldsAll};
 ghost use Rattle.site_book.specs.Settling.{EachOnce, Settles};
 ghost use Rattle.living_site.specs.Calls.{GainsBeginning};
 ghost use Rattle.living_site.specs.Deeds.{ChronicleValue, LeadsTo, OfSeats, IsAccountOf, as_book, beginnings, calls, counted_to, epoch_of, new_chronicle, times_begun, with_call, with_beginning};
-ghost use Rattle.living_site.specs.Epochs.{IsAnswered};
+ghost use Rattle.living_site.specs.Epochs.{HasBegun, IsAnswered};
 ghost use Rattle.living_site.specs.Sound.{AreNames, AreSeatNotes};
 
 use crate::anew::begun_anew;
@@ -134,6 +134,19 @@ impl<L: Roll> Chronicle<L> {
         ensures { result ≡ times_begun self.now.history }
     {
         self.times
+    }
+
+    /// How often the site began anew, as a seat finds it: a history has so many new beginnings in which the seat has just a receipt
+    /// for each of its entries. It changes nothing.
+    pub fn begun_beside(&mut self, seat: &mut Seat<L>) -> u16
+        ensures times { result ≡ times_begun self.old.history }
+        ensures found { HasBegun L.seats L.opening seat.old result }
+        ensures same { self.new ≡ self.old }
+        ensures seat { seat.new ≡ seat.old }
+    {
+        self.audit(seat);
+        let _ = self.site();
+        self.begun()
     }
 
     /// Whether the site made no more operations itself than so many since it last began anew: who waits for more of them has to

@@ -1,5 +1,5 @@
 //! A site under one lock, whose history stands in the proofs alone.
-ghost use Rattle.std.specs.Prelude.{◌≡◌, ◌≢◌, false, [], length, All, Ok, Err, IfOk, IfErr, OnOk, OnErr};
+ghost use Rattle.std.specs.Prelude.{◌≡◌, ◌≢◌, false, [], length, All, Err, IfOk, IfErr, OnOk, OnErr};
 ghost use Rattle.pcrf_values.specs.Limits.{last_epoch};
 ghost use Rattle.site_machine.specs.Values.{event_value, reply_value};
 ghost use Rattle.site_book.specs.Books.{new_seats};
@@ -65,17 +65,6 @@ fn renew_after<L: Roll>(
     };
     if let (Event::Whole(_), Reply::Done) = (event, &dated.reply) {
         let _ = chronicle.renew(rt);
-    }
-}
-
-/// The reply alone.
-fn reply_of(told: Result<Dated, StepFault>) -> Result<Reply, StepFault>
-    ensures reply { IfOk told (λ dated. result ≡ Ok dated.reply) }
-    ensures fault { IfErr told (λ fault. result ≡ Err fault) }
-{
-    match told {
-        Ok(dated) => Ok(dated.reply),
-        Err(fault) => Err(fault),
     }
 }
 
@@ -173,7 +162,10 @@ impl<L: Roll> LivingSite<L> {
         ensures room { IfErr result (λ fault. fault ≢ StepFault.HistoryFull) }
         ensures err { OnErr result (seat.new ≡ seat.old) }
     {
-        reply_of(self.call_dated(rt, seat, event))
+        match self.call_dated(rt, seat, event) {
+            Ok(dated) => Ok(dated.reply),
+            Err(fault) => Err(fault),
+        }
     }
 
     /// What `call` does, and how often the site had begun anew when it replied: a history that leads to just this call has so many
@@ -237,7 +229,10 @@ impl<L: Roll> LivingSite<L> {
         let told = chronicle.step_dated(seat, event);
         renew_after(rt, &mut chronicle, event, &told);
         self.grown.notify_all();
-        reply_of(told)
+        match told {
+            Ok(dated) => Ok(dated.reply),
+            Err(fault) => Err(fault),
+        }
     }
 
     /// What `call` does, once the site has made more operations itself than so many since it began anew for so many times. Who
@@ -266,10 +261,8 @@ impl<L: Roll> LivingSite<L> {
             self.chronicle.lock(rt),
             |chronicle| chronicle.is_short_since(past, begun),
         );
-        let now = chronicle.begun();
+        let now = chronicle.begun_beside(seat);
         if now != begun {
-            chronicle.audit(seat);
-            let _ = chronicle.site();
             return Ok(Grown::BegunAnew(now));
         }
         let told = chronicle.step_dated(seat, event);
