@@ -3,7 +3,7 @@ use Rattle.ranked.specs.Sets.{In}
 use Rattle.pcrf_model.specs.Sessions.{af}
 use Rattle.pcrf_model.specs.Views.{view}
 use Rattle.waiting_sessions.specs.Waits.{Keeps, WaitsIfDue}
-use Rattle.waiting_aborts.proofs.waiters.wait_at.Given as goal
+use Rattle.waiting_aborts.proofs.waiters.wait_each.Given as goal
 
 -- all that waited wait, and those so far
 abbrev pub invariant-loop-id : goal.invariant-loop-id
