@@ -31,7 +31,7 @@ use Rattle.session_lists.specs.Lists.{ids_at, ids_or_none}
 use Rattle.session_index.specs.Index.{ByNetwork, IndexValue, Covers, listed_at, listed_in}
 use Rattle.session_index.specs.Networks.{network_of, spans_networks}
 use Rattle.session_index.proofs.Indexed.{prefixes_met}
-use Rattle.session_index.proofs.Networks.{one_network}
+use Rattle.session_index.proofs.CoveredNetworks.{one_network}
 use Rattle.pcc_rules.specs.FlowsAlone.{AreLow, AreLowWhereBound, rules_of_flows, rules_of_sessions}
 use Rattle.pcc_rules.specs.Listed.{AddsCalled, AddsRules, record_of, records_of}
 use Rattle.pcc_rules.specs.Listing.{keyed}

@@ -22,7 +22,7 @@ use Rattle.pcrf_model.proofs.BindLaws.{candidate_ranked, matched, of_gx, live_as
 use Rattle.pcrf_model.proofs.NeighbourLaws.{how_they_meet, live_by_prefix}
 use Rattle.session_index.specs.Index.{IndexValue, Covers, AreAskedFor, IsFoundFor, IsFoundIn, listed_at, listed_in, matches_listed}
 use Rattle.session_index.specs.Networks.{all_networks, network_of, spans_networks}
-use Rattle.session_index.proofs.Networks.{covers_in_its_network}
+use Rattle.session_index.proofs.CoveredNetworks.{covers_in_its_network}
 use Rattle.bind_index.specs.Matches.{best_from, match_of}
 use Rattle.bind_index.proofs.Alike.{HasRecord, of_gateway, candidate_known, match_is}
 

@@ -1,4 +1,4 @@
-pub mod Networks
+pub mod CoveredNetworks
 pub mod Indexed
 pub mod Covering
 pub mod Covered

@@ -28,7 +28,7 @@ use Rattle.pcrf_model.proofs.NeighbourLaws.{SaysTheSame, how_they_meet, live_by_
 use Rattle.pcrf_model.proofs.RuleNames.{listed_ranked}
 use Rattle.session_index.specs.Neighbours.{HasPrefix, NeighboursAlone, NeverCover}
 use Rattle.session_index.proofs.Indexed.{prefixes_met}
-use Rattle.session_index.proofs.Networks.{either_covers}
+use Rattle.session_index.proofs.CoveredNetworks.{either_covers}
 
 -- ---- sessions of which both views say the same
 

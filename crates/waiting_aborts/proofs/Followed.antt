@@ -18,7 +18,7 @@ use Rattle.pcrf_model.proofs.NeighbourLaws.{how_they_meet}
 use Rattle.session_index.specs.Index.{IndexValue, Covers, listed_at, listed_in}
 use Rattle.session_index.specs.Networks.{network_of, spans_networks}
 use Rattle.session_index.proofs.Indexed.{prefixes_met}
-use Rattle.session_index.proofs.Networks.{one_network}
+use Rattle.session_index.proofs.CoveredNetworks.{one_network}
 use Rattle.waiting_sessions.specs.Waits.{WaitingValue, waiting_of, Keeps, WaitsIfDue}
 use Rattle.waiting_aborts.specs.Abandoned.{AbandonedWait, ListedCallsWait, NetworkCallsWait, EachCallWaits}
 use Rattle.waiting_aborts.proofs.Parts.{of_call, at_host}

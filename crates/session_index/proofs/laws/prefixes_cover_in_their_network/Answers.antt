@@ -1,4 +1,4 @@
-use Rattle.session_index.proofs.Networks.{covers_in_its_network}
+use Rattle.session_index.proofs.CoveredNetworks.{covers_in_its_network}
 use Rattle.session_index.proofs.laws.prefixes_cover_in_their_network.Goals as goal
 
 pub returns : goal.returns

@@ -1,7 +1,7 @@
 use Rattle.std.proofs.Common.{Some, None, option_map, sym, ap, ◌∙◌}
 use Rattle.bind_index.specs.Matches.{match_value}
 use Rattle.session_index.proofs.Indexed.{found_in_all, found_in_both}
-use Rattle.session_index.proofs.Networks.{network_of_all}
+use Rattle.session_index.proofs.CoveredNetworks.{network_of_all}
 use Rattle.session_index.proofs.index.Index.greatest_by.Goals as goal
 
 pub returns-then-spans_networks : goal.returns-then-spans_networks
