@@ -7,7 +7,7 @@ ghost use Rattle.indexed_state.specs.Indexed.{IsUnsettled, TouchesAt, TouchesBy,
 ghost use Rattle.waiting_sessions.specs.Waits.{Keeps, WaitsIfDue};
 
 use crate::reached::Reached;
-use exact_values::same_address;
+use exact_values::{same, same_address};
 use kept_rules::Rules;
 use pcrf_values::{GxSid, Ipv6Prefix};
 use session_index::{Index, all_networks, network_of, spans_networks};
@@ -93,17 +93,22 @@ pub(crate) fn unsettle_both(
 fn is_same(before: Reached, after: Reached) -> bool
     ensures { result ≡ true → before ≡ after }
 {
-    same_address(before.address, after.address) && same_prefix(before.prefix, after.prefix)
+    if !same_address(before.address, after.address) {
+        return false;
+    }
+    same_prefix(before.prefix, after.prefix)
 }
 
 /// The prefixes are the same, or there are none.
 fn same_prefix(before: Option<Ipv6Prefix>, after: Option<Ipv6Prefix>) -> bool
     ensures { result ≡ true → before ≡ after }
 {
-    match (before, after) {
-        (Some(one), Some(other)) => one == other,
-        (None, None) => true,
-        _ => false,
+    let Some(one) = before else {
+        return after.is_none();
+    };
+    match after {
+        Some(other) => same(&one, &other),
+        None => false,
     }
 }
 
