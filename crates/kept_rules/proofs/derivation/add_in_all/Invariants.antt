@@ -10,5 +10,5 @@ use Rattle.kept_rules.proofs.derivation.add_in_all.Given as goal
 abbrev pub invariant-loop-calls : goal.invariant-loop-calls
 invariant-loop-calls l = record {
   so_far : Covers (view l.state.facts) l.index → SessionsSoFar l.tables (view l.state.facts) (gx l.session) l.fn.found.items l.found.items
-      (records_of l.state.facts (without_address l.state.facts (all_ids l.calls-iterator))) (records_of l.state.facts (without_address l.state.facts (all_ids l.initial.calls-iterator)));
+      (records_of l.state.facts (without_address l.state.facts (all_ids l.calls-iterator))) (records_of l.state.facts (without_address l.state.facts (all_ids l.fn.index.call_networks)));
 }
