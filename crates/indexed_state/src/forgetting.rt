@@ -25,12 +25,7 @@ use std::net::Ipv4Addr;
 
 /// Takes the session of these facts out from under the address and the network that it showed, where it shows these no longer:
 /// the session is ended, or moved to others.
-pub(crate) fn forget_moved(
-    index: &mut Index,
-    facts: &SessionFacts,
-    before: Reached,
-    after: Reached,
-)
+pub(crate) fn forget_moved(index: &mut Index, facts: &SessionFacts, before: Reached, after: Reached)
     ensures { (v : View) → IsReached v (session_of facts.now) after
         → Covers v index.old → Covers v index.new }
 {
@@ -98,12 +93,7 @@ pub(crate) fn forget_call(index: &mut Index, id: &AfSid, before: Reached, after:
 }
 
 /// Takes an application function's session out from under an address that it shows no longer.
-fn forget_call_at(
-    index: &mut Index,
-    id: &AfSid,
-    before: Option<Ipv4Addr>,
-    after: Option<Ipv4Addr>,
-)
+fn forget_call_at(index: &mut Index, id: &AfSid, before: Option<Ipv4Addr>, after: Option<Ipv4Addr>)
     ensures { (v : View) → IsAddressOf v (af id.now) after
         → Covers v index.old → Covers v index.new }
 {

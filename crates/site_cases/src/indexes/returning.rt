@@ -143,7 +143,11 @@ fn give_prefixes(
         let given = prefix(rt, number.saturating_add(turn) % PREFIXES);
         take(rt, held, prefixed(rt, number, at(counter, further), given));
         let asked = prefix(rt, number.saturating_add(turn).saturating_add(4) % PREFIXES);
-        take(rt, held, call_within(rt, number, at(counter, further), asked));
+        take(
+            rt,
+            held,
+            call_within(rt, number, at(counter, further), asked),
+        );
     }
 }
 
