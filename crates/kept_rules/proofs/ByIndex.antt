@@ -123,12 +123,13 @@ module _ (t : Tables) (facts : List SessionFact) (s : Session) (all_before befor
 -- the calls without an address among some and among others are those among both
 unaddressed_both : (facts : List SessionFact) (xs ys : List (List ℕ)) → without_address facts (xs ++ ys) ≡ without_address facts xs ++ without_address facts ys
 unaddressed_both facts [] ys = refl
-unaddressed_both facts (x ∷ xs) ys = by (has_address facts x)
+unaddressed_both facts (x ∷ xs) ys = by (has_address facts x) (unaddressed_both facts xs ys)
   where
-    by : (b : Bool) → cond (not b) (x ∷ without_address facts (xs ++ ys)) (without_address facts (xs ++ ys))
+    by : (b : Bool) → without_address facts (xs ++ ys) ≡ without_address facts xs ++ without_address facts ys
+        → cond (not b) (x ∷ without_address facts (xs ++ ys)) (without_address facts (xs ++ ys))
         ≡ cond (not b) (x ∷ without_address facts xs) (without_address facts xs) ++ without_address facts ys
-    by true = unaddressed_both facts xs ys
-    by false = ap (λ (l : List (List ℕ)). x ∷ l) (unaddressed_both facts xs ys)
+    by true rest = rest
+    by false rest = ap (λ (l : List (List ℕ)). x ∷ l) rest
 
 -- after the calls of one more network the rules go on with those of the others
 pub network_added : (t : Tables) (facts : List SessionFact) (s : Session) (all_before before now : Keyed) (ids left all : List (List ℕ))
@@ -145,11 +146,11 @@ network_added t facts s all_before before now ids left all one h =
 -- what is listed under a network is among those of all
 in_all : (lists : ByNetwork) (n : Ipv6Prefix) (id : List ℕ) → In id (ids_at prefix_cmp lists n) → In id (all_ids lists)
 in_all [] n id m = absurd m
-in_all (e ∷ es) n id m = by (is_eq (prefix_cmp n e.0)) m
+in_all (e ∷ es) n id m = by (is_eq (prefix_cmp n e.0)) (in_all es n id) m
   where
-    by : (b : Bool) → In id (ids_or_none (cond b (Some e.1) (lookup (is_at (prefix_cmp n)) es))) → In id (e.1 ++ all_ids es)
-    by true k = In-left id e.1 (all_ids es) k
-    by false k = In-right id e.1 (all_ids es) (in_all es n id k)
+    by : (b : Bool) → (In id (ids_at prefix_cmp es n) → In id (all_ids es)) → In id (ids_or_none (cond b (Some e.1) (lookup (is_at (prefix_cmp n)) es))) → In id (e.1 ++ all_ids es)
+    by true rest k = In-left id e.1 (all_ids es) k
+    by false rest k = In-right id e.1 (all_ids es) (rest k)
 
 -- ---- sessions that are bound
 
