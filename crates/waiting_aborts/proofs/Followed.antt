@@ -90,7 +90,7 @@ module _ (i : ℕ) (xs ys : List SessionFact) (d : Session) (u w : WaitingValue)
     what f (Some a) x e = (a, refl, some_same (f a) x e)
 
     -- the prefix of a value
-    prefix_in : Value → Ipv6Prefix
+    abbrev prefix_in : Value → Ipv6Prefix
     prefix_in (Prefix p) = p
     prefix_in x = (0, [])
 
