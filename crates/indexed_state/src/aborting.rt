@@ -87,17 +87,17 @@ pub(crate) fn wait_calls(
     index: &Index,
     aborts: &mut WaitingCalls,
     facts: &SessionFacts,
-    before: Reached,
+    before: &Reached,
 )
     ensures keeps { Keeps aborts.old aborts.new }
     ensures own { is_gx (session_of facts.now).kind ≡ false
         → WaitsIfDue (view state.now.facts) aborts.new (session_of facts.now) }
     ensures near { is_gx (session_of facts.now).kind ≡ true
-        → ListedCallsWait (view state.now.facts) index.now aborts.new before.address }
+        → ListedCallsWait (view state.now.facts) index.now aborts.new before.now.address }
     ensures near_by { is_gx (session_of facts.now).kind ≡ true
-        → (p : Ipv6Prefix) → before.prefix ≡ Some p
+        → (p : Ipv6Prefix) → before.now.prefix ≡ Some p
         → NetworkCallsWait (view state.now.facts) index.now aborts.new (network_of p) }
-    ensures all { is_gx (session_of facts.now).kind ≡ true → spans before.prefix ≡ true
+    ensures all { is_gx (session_of facts.now).kind ≡ true → spans before.now.prefix ≡ true
         → aborts.new.all ≡ true }
 {
     match facts {
@@ -113,13 +113,13 @@ pub(crate) fn wait_lost(
     state: &State,
     index: &Index,
     aborts: &mut WaitingCalls,
-    before: Reached,
+    before: &Reached,
 )
     ensures keeps { Keeps aborts.old aborts.new }
-    ensures near { ListedCallsWait (view state.now.facts) index.now aborts.new before.address }
-    ensures near_by { (p : Ipv6Prefix) → before.prefix ≡ Some p
+    ensures near { ListedCallsWait (view state.now.facts) index.now aborts.new before.now.address }
+    ensures near_by { (p : Ipv6Prefix) → before.now.prefix ≡ Some p
         → NetworkCallsWait (view state.now.facts) index.now aborts.new (network_of p) }
-    ensures all { spans before.prefix ≡ true → aborts.new.all ≡ true }
+    ensures all { spans before.now.prefix ≡ true → aborts.new.all ≡ true }
 {
     if spans(before.prefix) {
         *aborts = WaitingCalls::start(alloc);

@@ -53,9 +53,9 @@ pub(crate) fn follow(
     let before = gateway_reached_in(stood.as_ref());
     let after = gateway_reached_in(known);
     wait_gateway(state, waiting, id, after.address);
-    unsettle_gateway(alloc, state, index, rules, waiting, before, after);
-    wait_lost(alloc, state, index, aborts, before);
-    forget_gateway(index, id, before, after);
+    unsettle_gateway(alloc, state, index, rules, waiting, &before, &after);
+    wait_lost(alloc, state, index, aborts, &before);
+    forget_gateway(index, id, &before, &after);
     forget_stood(index, id, stood.as_ref(), known);
 }
 

@@ -25,8 +25,13 @@ use std::net::Ipv4Addr;
 
 /// Takes the session of these facts out from under the address and the network that it showed, where it shows these no longer:
 /// the session is ended, or moved to others.
-pub(crate) fn forget_moved(index: &mut Index, facts: &SessionFacts, before: Reached, after: Reached)
-    ensures { (v : View) → IsReached v (session_of facts.now) after
+pub(crate) fn forget_moved(
+    index: &mut Index,
+    facts: &SessionFacts,
+    before: &Reached,
+    after: &Reached,
+)
+    ensures { (v : View) → IsReached v (session_of facts.now) after.now
         → Covers v index.old → Covers v index.new }
 {
     match facts {
@@ -36,8 +41,8 @@ pub(crate) fn forget_moved(index: &mut Index, facts: &SessionFacts, before: Reac
 }
 
 /// So with a gateway's session.
-pub(crate) fn forget_gateway(index: &mut Index, id: &GxSid, before: Reached, after: Reached)
-    ensures { (v : View) → IsReached v (gx id.now) after
+pub(crate) fn forget_gateway(index: &mut Index, id: &GxSid, before: &Reached, after: &Reached)
+    ensures { (v : View) → IsReached v (gx id.now) after.now
         → Covers v index.old → Covers v index.new }
 {
     forget_gateway_at(index, id, before.address, after.address);
@@ -84,8 +89,8 @@ fn forget_gateway_by(
 }
 
 /// And with an application function's.
-pub(crate) fn forget_call(index: &mut Index, id: &AfSid, before: Reached, after: Reached)
-    ensures { (v : View) → IsReached v (af id.now) after
+pub(crate) fn forget_call(index: &mut Index, id: &AfSid, before: &Reached, after: &Reached)
+    ensures { (v : View) → IsReached v (af id.now) after.now
         → Covers v index.old → Covers v index.new }
 {
     forget_call_at(index, id, before.address, after.address);

@@ -152,8 +152,8 @@ impl IndexedState {
             &mut self.rules,
             &mut self.waiting,
             facts,
-            before,
-            after,
+            &before,
+            &after,
         );
         wait_calls(
             self.alloc,
@@ -161,9 +161,9 @@ impl IndexedState {
             &self.index,
             &mut self.aborts,
             facts,
-            before,
+            &before,
         );
-        forget_moved(&mut self.index, facts, before, after);
+        forget_moved(&mut self.index, facts, &before, &after);
         forget_given(&mut self.index, &self.state, facts, shown.as_slice());
         Ok(())
     }

@@ -54,17 +54,17 @@ impl IndexedState {
             &self.index,
             &mut self.rules,
             &mut self.waiting,
-            before,
-            after,
+            &before,
+            &after,
         );
         wait_lost(
             self.alloc,
             &self.state,
             &self.index,
             &mut self.aborts,
-            before,
+            &before,
         );
-        forget_gateway(&mut self.index, id, before, after);
+        forget_gateway(&mut self.index, id, &before, &after);
         forget_stood(&mut self.index, id, stood.as_ref(), self.state.gx(id));
         Ok(())
     }
@@ -122,11 +122,11 @@ impl IndexedState {
             &self.index,
             &mut self.rules,
             &mut self.waiting,
-            before,
-            after,
+            &before,
+            &after,
         );
         wait_call(&self.state, &mut self.aborts, id);
-        forget_call(&mut self.index, id, before, after);
+        forget_call(&mut self.index, id, &before, &after);
         Ok(())
     }
 }

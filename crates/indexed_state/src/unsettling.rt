@@ -24,15 +24,15 @@ pub(crate) fn unsettle(
     rules: &mut Rules,
     waiting: &mut Waiting,
     facts: &SessionFacts,
-    before: Reached,
-    after: Reached,
+    before: &Reached,
+    after: &Reached,
 )
-    ensures before { IsUnsettled (view state.now.facts) index.now before
+    ensures before { IsUnsettled (view state.now.facts) index.now before.now
         rules.old rules.new waiting.old waiting.new }
-    ensures after { IsUnsettled (view state.now.facts) index.now after
+    ensures after { IsUnsettled (view state.now.facts) index.now after.now
         rules.old rules.new waiting.old waiting.new }
     ensures all { is_gx (session_of facts.now).kind ≡ true
-        → (spans before.prefix || spans after.prefix) ≡ true
+        → (spans before.now.prefix || spans after.now.prefix) ≡ true
         → Unsettled rules.new waiting.new }
 {
     match facts {
@@ -51,14 +51,14 @@ pub(crate) fn unsettle_gateway(
     index: &Index,
     rules: &mut Rules,
     waiting: &mut Waiting,
-    before: Reached,
-    after: Reached,
+    before: &Reached,
+    after: &Reached,
 )
-    ensures before { IsUnsettled (view state.now.facts) index.now before
+    ensures before { IsUnsettled (view state.now.facts) index.now before.now
         rules.old rules.new waiting.old waiting.new }
-    ensures after { IsUnsettled (view state.now.facts) index.now after
+    ensures after { IsUnsettled (view state.now.facts) index.now after.now
         rules.old rules.new waiting.old waiting.new }
-    ensures all { (spans before.prefix || spans after.prefix) ≡ true
+    ensures all { (spans before.now.prefix || spans after.now.prefix) ≡ true
         → Unsettled rules.new waiting.new }
 {
     if spans(before.prefix) || spans(after.prefix) {
@@ -74,12 +74,12 @@ pub(crate) fn unsettle_both(
     index: &Index,
     rules: &mut Rules,
     waiting: &mut Waiting,
-    before: Reached,
-    after: Reached,
+    before: &Reached,
+    after: &Reached,
 )
-    ensures before { IsUnsettled (view state.now.facts) index.now before
+    ensures before { IsUnsettled (view state.now.facts) index.now before.now
         rules.old rules.new waiting.old waiting.new }
-    ensures after { IsUnsettled (view state.now.facts) index.now after
+    ensures after { IsUnsettled (view state.now.facts) index.now after.now
         rules.old rules.new waiting.old waiting.new }
 {
     unsettle_near(state, index, rules, waiting, before);
@@ -90,8 +90,8 @@ pub(crate) fn unsettle_both(
 }
 
 /// Users are reached at the same address and by the same prefix.
-fn is_same(before: Reached, after: Reached) -> bool
-    ensures { result ≡ true → before ≡ after }
+fn is_same(before: &Reached, after: &Reached) -> bool
+    ensures { result ≡ true → before.now ≡ after.now }
 {
     if !same_address(before.address, after.address) {
         return false;
@@ -136,9 +136,9 @@ fn unsettle_near(
     index: &Index,
     rules: &mut Rules,
     waiting: &mut Waiting,
-    reached: Reached,
+    reached: &Reached,
 )
-    ensures { IsUnsettled (view state.now.facts) index.now reached
+    ensures { IsUnsettled (view state.now.facts) index.now reached.now
         rules.old rules.new waiting.old waiting.new }
 {
     touch_at(rules, index, reached.address);

@@ -15,7 +15,7 @@ pub returns-clause-keeps : goal.returns-clause-keeps
 returns-clause-keeps c = keeps_through c.args.aborts.now c.wait_at.new.waiting c.wait_in.new.waiting c.wait_at.ensures.keeps c.wait_in.ensures.keeps
 
 pub returns-clause-near : goal.returns-clause-near
-returns-clause-near c = calls_on (view c.args.state.now.facts) c.args.index.now c.wait_at.new.waiting c.wait_in.new.waiting c.args.before.address c.wait_in.ensures.keeps c.wait_at.ensures.waits
+returns-clause-near c = calls_on (view c.args.state.now.facts) c.args.index.now c.wait_at.new.waiting c.wait_in.new.waiting c.args.before.now.address c.wait_in.ensures.keeps c.wait_at.ensures.waits
 
 pub returns-clause-near_by : goal.returns-clause-near_by
 returns-clause-near_by c = λ p e.
