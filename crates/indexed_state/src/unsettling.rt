@@ -103,12 +103,10 @@ fn is_same(before: &Reached, after: &Reached) -> bool
 fn same_prefix(before: Option<Ipv6Prefix>, after: Option<Ipv6Prefix>) -> bool
     ensures { result ≡ true → before ≡ after }
 {
-    let Some(one) = before else {
-        return after.is_none();
-    };
-    match after {
-        Some(other) => same(&one, &other),
-        None => false,
+    match (before, after) {
+        (Some(one), Some(other)) => same(&one, &other),
+        (None, None) => true,
+        _ => false,
     }
 }
 
