@@ -1,5 +1,5 @@
 -- Who is due after one session changed, where it is known whose rules can have changed.
-use Rattle.std.proofs.Common.{◌≡◌, ℕ, true, not, ◌&&◌, List, ◌⊎◌, Option, Some, inl, inr, sym, ◌∙◌, subst}
+use Rattle.std.proofs.Common.{◌≡◌, ℕ, true, not, ◌&&◌, List, ◌⊎◌, Option, Some, None, inl, inr, refl, sym, ◌∙◌, subst}
 use Rattle.std.specs.Cmp.{first_so}
 use Rattle.ranked.specs.Ascending.{Rises}
 use Rattle.ranked.proofs.AscendingLaws.{ascending-ascending, same_ascending}
@@ -11,13 +11,12 @@ use Rattle.pcrf_model.specs.Views.{View, view}
 use Rattle.pcrf_model.specs.Tables.{Tables}
 use Rattle.pcrf_model.specs.Rules.{rules}
 use Rattle.pcrf_model.specs.Differences.{told_cmp, told_rules_of, difference, is_empty}
-use Rattle.pcrf_model.specs.Pushing.{is_home, is_due}
+use Rattle.pcrf_model.specs.Pushing.{is_home, is_due, is_of_host}
 use Rattle.pcrf_model.specs.Laws.{DifferInOne}
 use Rattle.pcrf_model.specs.Waiting.{Waiting, AllDueWait, may_be_due, Stay, MayWait}
 use Rattle.pcrf_model.proofs.DifferenceLaws.{told_ranked}
 use Rattle.pcrf_model.proofs.ToldLaws.{told_is_told, told-shows, In-told}
 use Rattle.pcrf_model.proofs.NeighbourLaws.{SaysTheSame, only, said, same_life, shown_there}
-use Rattle.waiting_aborts.proofs.Changes.{same_host}
 
 -- where both say the same of a session, what its gateway was told is the same
 same_told : (xs ys : List SessionFact) (s : Session) → SaysTheSame (view xs) (view ys) s → told_rules_of (view xs) s ≡ told_rules_of (view ys) s
@@ -28,6 +27,11 @@ same_told xs ys s h = same_ascending told_cmp told_ranked (told_rules_of (view x
   where
     rises : (facts : List SessionFact) → Rises told_cmp (told_rules_of (view facts) s)
     rises facts = subst (λ (us : List ToldRule). Rises told_cmp us) (told_is_told facts s).in_order (ascending-ascending told_cmp told_ranked (told_rules_of (view facts) s))
+
+-- and its host is the one that is asked for in both, or in neither
+same_host : (v w : View) (s : Session) → SaysTheSame v w s → (name : Option (List ℕ)) → is_of_host v name s ≡ is_of_host w name s
+same_host v w s h None = refl
+same_host v w s h (Some name) = λ j. is_of_host (only (shown_there v w s h j) (h.ended j)) (Some name) s
 
 -- and where it keeps its rules it is due as before
 stays_due : (t : Tables) (i : ℕ) (xs ys : List SessionFact) (name : Option (List ℕ)) (s : Session) → SaysTheSame (view xs) (view ys) s → rules t (view xs) s ≡ rules t (view ys) s

@@ -1,8 +1,13 @@
 -- Which gateways' sessions are near where a user is reached, and what of them is stale and waits.
 use Rattle.std.proofs.Common.{◌≡◌, ℕ, Bool, true, false, ◌||◌, List, [], ◌⊎◌, Option, Some, None, inl, inr, refl, sym, ap, ◌∙◌, subst, option_map}
+use Rattle.std.specs.List.{list_any}
+use Rattle.std.specs.Ordering.{is_eq}
 use Rattle.std.specs.declared.net.ipv4_addr.Ipv4Addr.{Ipv4Addr}
+use Rattle.ranked.specs.Orders.{text_cmp}
 use Rattle.ranked.specs.Sets.{In}
+use Rattle.ranked.proofs.OrderLaws.{text_ranked, eq_is, eq_itself}
 use Rattle.ranked.proofs.Plain.{clash, none_some, some_same}
+use Rattle.ranked.proofs.SetLaws.{In-any, any-In}
 use Rattle.pcrf_values.specs.Prefixes.{Ipv6Prefix}
 use Rattle.pcrf_values.specs.RuleValues.{RuleValue}
 use Rattle.pcrf_facts.specs.Values.{Value, Prefix}
@@ -12,7 +17,6 @@ use Rattle.session_index.specs.Forgetting.{ShowsNetwork}
 use Rattle.session_index.specs.Index.{IndexValue, listed_at, listed_in}
 use Rattle.session_index.specs.Networks.{all_networks, network_of}
 use Rattle.kept_rules.specs.Kept.{RulesValue, kept_at, AreStale}
-use Rattle.kept_rules.proofs.Stale.{among_or_not}
 use Rattle.waiting_aborts.specs.Abandoned.{ListedCallsWait}
 use Rattle.waiting_sessions.specs.Waits.{WaitingValue, Keeps, ListedWait, NetworkWaits, WaitsIfDue}
 use Rattle.waiting_sessions.proofs.Waited.{keeps_through, waits_on}
@@ -33,13 +37,23 @@ shown_prefix o p h = let m = mapped Prefix o (Prefix p) h in m.1 ∙ ap Some (ap
 pub not_in : (v : View) (s : Session) (after : Option Ipv6Prefix) (n : Ipv6Prefix) → IsPrefixOf v s after → ((p : Ipv6Prefix) → after ≡ Some p → network_of p ≡ n → ⊥) → ¬ ShowsNetwork v s n
 not_in v s after n is other w = other w.0 (shown_prefix after w.0 (is ∙ w.1)) w.2
 
+-- a Session-Id is among others, or it isn't
+among_or_not : (x : List ℕ) (xs : List (List ℕ)) → In x xs ⊎ ¬ In x xs
+among_or_not x xs = by (list_any (λ y. is_eq (text_cmp x y)) xs) refl
+  where
+    by : (b : Bool) → list_any (λ y. is_eq (text_cmp x y)) xs ≡ b → In x xs ⊎ ¬ In x xs
+    by true e =
+        let w = any-In (λ y. is_eq (text_cmp x y)) xs e in
+        inl (subst (λ (y : List ℕ). In y xs) (sym (eq_is text_ranked x w.0 w.2)) w.1)
+    by false e = inr (λ i. clash _ (In-any (λ y. is_eq (text_cmp x y)) x xs i (eq_itself text_ranked x)) e)
+
 module _ (index : IndexValue) (r : Reached) (id : List ℕ) where
   -- what is near by the address
-  at : Type 0
+  abbrev at : Type 0
   at = (a : Ipv4Addr) × (r.address ≡ Some a) × In id (listed_at index Gx a)
 
   -- and by the prefix
-  by : Type 0
+  abbrev by : Type 0
   by = (p : Ipv6Prefix) × (r.prefix ≡ Some p) × (In id (listed_in index Gx (network_of p)) ⊎ In id (listed_in index Gx all_networks))
 
   by_address : (o : Option Ipv4Addr) → r.address ≡ o → at ⊎ (at → ⊥)
@@ -187,5 +201,5 @@ both_wait v index u w p m n is own g k h = record {
 -- ---- calls
 
 -- those that are listed under an address go on waiting
-pub calls_on : (v : View) (index : IndexValue) (u w : WaitingValue) (at : Option Ipv4Addr) → Keeps u w → ListedCallsWait v index u at → ListedCallsWait v index w at
-calls_on v index u w at k h = record { each = λ a id e m. waits_on v u w _ k (h.each a id e m) }
+pub calls_on : (v : View) (index : IndexValue) (u w : WaitingValue) (address : Option Ipv4Addr) → Keeps u w → ListedCallsWait v index u address → ListedCallsWait v index w address
+calls_on v index u w address k h = record { each = λ a id e m. waits_on v u w _ k (h.each a id e m) }
