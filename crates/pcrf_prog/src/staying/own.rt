@@ -1,0 +1,57 @@
+//! What a site says of itself on its own account.
+use base_profile::write_dwr;
+use dia_base::Identity;
+use gateway_links::first_end_id;
+use std::alloc::{AllocError, Global};
+use std::io;
+use std::random::RandomSource;
+use std::sync::atomic::{AtomicU64, Ordering};
+use std::time::{Clock, Duration};
+
+/// How many identifiers there are (RFC 6733, 3).
+const IDENTIFIERS: u64 = 1 << 32;
+
+/// The names of a site, and the identifiers of its requests.
+#[derive(Drop)]
+pub struct Own {
+    /// Its names.
+    pub identity: Identity,
+    /// For how long nothing comes from a peer before it is asked whether it is there.
+    pub watchdog: Duration,
+    /// From where the End-to-End Identifiers of its re-authorisation requests count up.
+    pub first_end_id: u32,
+    /// How many watchdogs it sent. Their identifiers count down, from below those.
+    watchdogs: AtomicU64,
+}
+
+/// From where the End-to-End Identifiers of a site count that starts now: no start within an hour has them (RFC 6733, 3).
+fn first_now<R: Clock + RandomSource>(rt: &R) -> io::Result<u32> {
+    let seconds = rt.since_1970()?.as_secs();
+    let mut bytes = [0u8; 4];
+    rt.fill_bytes(&mut bytes)?;
+    Ok(first_end_id(seconds, u32::from_be_bytes(bytes)))
+}
+
+impl Own {
+    /// Of a site that starts now.
+    pub fn start<R: Clock + RandomSource>(
+        rt: &R,
+        identity: Identity,
+        watchdog: Duration,
+    ) -> io::Result<Own> {
+        Ok(Own {
+            identity,
+            watchdog,
+            first_end_id: first_now(rt)?,
+            watchdogs: AtomicU64::new(0),
+        })
+    }
+
+    /// The bytes of a Device-Watchdog-Request, with identifiers that no other request of the site has.
+    pub fn next_watchdog(&self, alloc: Global) -> Result<Vec<u8>, AllocError> {
+        let count = (self.watchdogs.fetch_add(1, Ordering::SeqCst) % IDENTIFIERS) as u32;
+        let hop_id = u32::MAX - count;
+        let end_id = self.first_end_id.wrapping_sub(count).wrapping_sub(1);
+        write_dwr(alloc, &self.identity, hop_id, end_id)
+    }
+}
