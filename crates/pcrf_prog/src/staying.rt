@@ -2,23 +2,13 @@
 
 mod accepting;
 mod answers;
-mod avps;
-mod cause;
 mod chairs;
-mod desk;
 mod exchange;
-mod frames;
-mod hall;
 mod journal;
 mod machine;
-mod own;
-mod post;
-mod pushes;
-mod quiet;
 mod serving;
 mod showing;
 mod sockets;
-mod watching;
 mod working;
 
 pub use machine::Machine;

@@ -1,6 +1,5 @@
 //! What an operator is told of a server: a line for each thing, if anybody listens.
 use crate::socket_server::ending::Ending;
-use crate::socket_server::printable::Printable;
 use dia_base::Origin;
 use dia_base::codes::results::SUCCESS;
 use log::{Log, error, info, warn};
@@ -8,6 +7,7 @@ use pcrf_serve::{LinkEnd, Observer};
 use pcrf_values::{DiameterIdentity, GxSid};
 use std::net::SocketAddr;
 use std::sync::atomic::{AtomicBool, Ordering};
+use watched_links::Printable;
 
 /// What stands before each line as its target.
 const TARGET: &str = "pcrf";

@@ -1,13 +1,12 @@
 //! Connections are accepted for ever, and those closed for which there is no seat.
-use crate::staying::hall::{Arrived, Hall};
 use crate::staying::journal::{tell_crowded, tell_no_memory, tell_unaccepted, tell_unbegun};
 use crate::staying::machine::Machine;
-use crate::staying::quiet::Quiet;
 use crate::staying::sockets::ready;
 use log::Log;
 use std::net::{SocketAddr, TcpListener, TcpStream};
 use std::time::{Duration, Instant};
 use std::{io, thread};
+use watched_links::{Arrived, Hall, Quiet};
 
 /// For how many seconds a line of one kind isn't told again.
 const QUIET_SECONDS: u64 = 1;

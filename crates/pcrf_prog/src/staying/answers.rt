@@ -1,11 +1,11 @@
 //! Answers that are kept for requests which are repeated.
-use crate::staying::avps::first_avp;
 use dia_codec::{HEADER_BYTES, Header, read_header};
 use kept_messages::{KeptMessage, KeptMessages, with_hop_id};
 use pcrf_serve::Repeats;
 use std::alloc::{AllocError, Global};
 use std::sync::{Mutex, Wait};
 use std::time::Clock;
+use watched_links::first_avp;
 
 /// How much room answers have: 64 MiB.
 const ROOM: u32 = 1 << 26;

@@ -1,8 +1,6 @@
 //! What an operator is told of a server that stays: a line for each thing, if anybody listens.
-use crate::socket_server::{Ending, Printable, tell_exchanged, tell_refused_push, tell_unreached};
-use crate::staying::cause::Cause;
+use crate::socket_server::{Ending, tell_exchanged, tell_refused_push, tell_unreached};
 use crate::staying::chairs::Chair;
-use crate::staying::pushes::SentPushes;
 use dia_base::Origin;
 use dia_base::codes::results::SUCCESS;
 use log::{Log, error, info, warn};
@@ -11,6 +9,7 @@ use pcrf_values::{DiameterIdentity, GxSid};
 use std::io;
 use std::net::SocketAddr;
 use std::sync::Wait;
+use watched_links::{Cause, Printable, SentPushes};
 
 /// What stands before each line as its target.
 const TARGET: &str = "pcrf";

@@ -6,32 +6,31 @@ use crate::socket_server::{Addresses, ServerFault, SiteEpoch, tell_listens};
 use crate::staying::accepting::accept_all;
 use crate::staying::answers::KeptAnswers;
 use crate::staying::chairs::{Doors, chairs};
-use crate::staying::desk::{Desk, desks};
-use crate::staying::exchange::{Board, Exchange, Slot, accept_links, dial_on, take_links};
-use crate::staying::hall::Hall;
+use crate::staying::exchange::{Exchange, accept_links, dial_on, take_links};
 use crate::staying::journal::{Journal, tell_no_start, tell_unlinked_peer, tell_unstaffed};
 use crate::staying::machine::Machine;
-use crate::staying::own::Own;
-use crate::staying::post::Posting;
-use crate::staying::pushes::SentPushes;
-use crate::staying::quiet::Quiet;
 use crate::staying::showing::{Console, Input, Output, show_on};
 use crate::staying::sockets::{address_of, bind};
 use crate::staying::working::{Furniture, Shared, work};
 use dia_base::Identity;
+use gateway_links::first_end_id;
 use link_ends::SharedSite;
 use living_site::{LivingSite, Roll, Roster};
 use log::Log;
 use op_tables::Tables;
 use pcrf_serve::{Gateways, Server, Site};
+use peer_lines::{Board, Expected, Opening, Slot};
 use ranked::Ranked;
 use sealed_links::Key;
 use std::alloc::{AllocError, Global};
+use std::io;
 use std::marker::Brand;
 use std::net::{SocketAddr, SocketAddrV4, TcpListener};
+use std::random::RandomSource;
 use std::sync::Mutex;
 use std::thread::{self, Scope};
-use std::time::Duration;
+use std::time::{Clock, Duration};
+use watched_links::{Desk, Hall, Own, Posting, Quiet, SentPushes, desks};
 
 /// What a server that stays is told beside its names and tables.
 #[derive(Clone, Copy)]
@@ -59,6 +58,14 @@ fn copied(identity: &Identity) -> Result<Identity, AllocError> {
     })
 }
 
+/// From where the End-to-End Identifiers of a site count that starts now: no start within an hour has them (RFC 6733, 3).
+fn first_now<R: Clock + RandomSource>(rt: &R) -> io::Result<u32> {
+    let seconds = rt.since_1970()?.as_secs();
+    let mut bytes = [0u8; 4];
+    rt.fill_bytes(&mut bytes)?;
+    Ok(first_end_id(seconds, u32::from_be_bytes(bytes)))
+}
+
 /// What the seats have beside their site.
 fn furnished<M: Machine, G: Log>(
     rt: &M,
@@ -68,8 +75,8 @@ fn furnished<M: Machine, G: Log>(
     log: &G,
 ) -> Result<Furniture, ServerFault> {
     let watchdog = Duration::from_secs(u64::from(settings.watchdog));
-    let own = match Own::start(rt, copied(identity)?, watchdog) {
-        Ok(own) => own,
+    let first = match first_now(rt) {
+        Ok(first) => first,
         Err(error) => {
             tell_no_start(log, &error);
             return Err(ServerFault::Network);
@@ -77,7 +84,7 @@ fn furnished<M: Machine, G: Log>(
     };
     Ok(Furniture {
         alloc,
-        own,
+        own: Own::start(copied(identity)?, watchdog, first),
         hall: Hall::start(alloc, settings.connections),
         desks: desks(alloc, settings.connections)?,
         chairs: chairs(alloc, settings.connections)?,
@@ -427,10 +434,15 @@ fn exchange_of<G: Log>(
     let peers = peers_of(alloc, settings.addresses.peers, log)?;
     let links = peers.len().saturating_mul(LINKS_OF_A_PEER);
     Ok(Exchange {
-        alloc,
         place: settings.place,
-        edition,
-        secret: settings.secret,
+        opening: Opening {
+            alloc,
+            expected: Expected {
+                edition,
+                number: settings.place.number,
+            },
+            secret: settings.secret,
+        },
         peers,
         hall: Hall::start(alloc, links),
         closed: Mutex::new(Quiet::of(CLOSED_SECONDS)),

@@ -2,23 +2,19 @@
 use crate::socket_server::tell_connected;
 use crate::staying::answers::KeptAnswers;
 use crate::staying::chairs::{Chair, Doors};
-use crate::staying::desk::Desk;
-use crate::staying::exchange::{Board, Exchange};
-use crate::staying::hall::{Arrived, Hall};
+use crate::staying::exchange::Exchange;
 use crate::staying::journal::{Journal, tell_ended, tell_no_memory};
 use crate::staying::machine::Machine;
-use crate::staying::own::Own;
-use crate::staying::post::{Post, Posting};
-use crate::staying::pushes::SentPushes;
-use crate::staying::watching::Watched;
 use gateway_links::Half;
 use link_ends::SharedSite;
 use log::Log;
 use pcrf_serve::{Server, serve_connection};
+use peer_lines::Board;
 use std::alloc::{AllocError, Global};
 use std::net::TcpStream;
 use std::sync::Arc;
 use std::time::Instant;
+use watched_links::{Arrived, Desk, Hall, Own, Post, Posting, SentPushes, Watched};
 
 /// What the seats of a server have beside its site.
 #[derive(Drop)]

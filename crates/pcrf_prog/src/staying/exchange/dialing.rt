@@ -1,14 +1,12 @@
 //! A peer site is dialled, and dialled again, as long as the server runs.
 use crate::staying::exchange::growing::Growing;
 use crate::staying::exchange::journal::{tell_sending_ended, tell_unreachable, tell_unsealed};
-use crate::staying::exchange::line::Line;
-use crate::staying::exchange::link::Link;
 use crate::staying::machine::Machine;
-use crate::staying::quiet::Quiet;
 use crate::staying::sockets::ready;
 use crate::staying::working::Shared;
 use link_ends::{LinkEnd, SharedSite};
 use log::Log;
+use peer_lines::{Line, Link};
 use peer_links::{Cursors, Role, exchange_with};
 use sealed_links::Side;
 use std::alloc::Global;
@@ -18,6 +16,7 @@ use std::sync::atomic::{AtomicU64, Ordering};
 use std::sync::{Arc, Mutex};
 use std::thread;
 use std::time::{Duration, Instant};
+use watched_links::Quiet;
 
 /// How many milliseconds a server waits before it dials again, at first and at most.
 const FIRST_PAUSE: u64 = 100;
@@ -97,7 +96,7 @@ fn exchange<'s, 'r, S: SharedSite, M: Machine, G: Log>(
     peer: SocketAddr,
     quiet: &mut Quiet,
 ) -> u64 {
-    let link = match all.exchange.link(all.rt, &line, Side::Dialler) {
+    let link = match all.exchange.opening.link(all.rt, &line, Side::Dialler) {
         Ok(link) => link,
         Err(fault) => {
             if quiet.is_due(rt) {
@@ -128,7 +127,7 @@ pub fn dial_on<'s, 'r, S: SharedSite, M: Machine, G: Log>(
     let mut ended = Quiet::of(UNREACHABLE_SECONDS);
     let mut pause = FIRST_PAUSE;
     for _ in rt.forever() {
-        let letters = match dialled(rt, all.exchange.alloc, peer) {
+        let letters = match dialled(rt, all.server.alloc, peer) {
             Ok(line) => exchange(rt, all, &mut seat, &probe, line, peer, &mut ended),
             Err(error) => {
                 if unreached.is_due(rt) {

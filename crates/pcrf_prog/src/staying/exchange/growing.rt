@@ -1,15 +1,15 @@
 //! What lets letters to a peer site go: each as soon as the site made something that wasn't told, as long as the other end is there.
 use crate::staying::exchange::journal::{tell_all_sent, tell_sent};
-use crate::staying::exchange::line::Line;
 use crate::staying::machine::Machine;
-use crate::staying::quiet::Quiet;
 use link_ends::{Event, Gate, Reply, SharedSite};
 use log::Log;
+use peer_lines::Line;
 use std::net::SocketAddr;
 use std::sync::atomic::{AtomicU64, Ordering};
 use std::sync::{Arc, Mutex};
 use std::thread;
 use std::time::Duration;
+use watched_links::Quiet;
 
 /// How many milliseconds lie between two looks at what the site made.
 const PAUSE_MILLIS: u64 = 2;

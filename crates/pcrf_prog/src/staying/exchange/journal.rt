@@ -1,8 +1,8 @@
 //! What an operator is told of the exchange with peer sites.
 use crate::socket_server::Ending;
-use crate::staying::exchange::link::Unlinked;
 use log::{Log, debug, info, warn};
 use pcrf_serve::LinkEnd;
+use peer_lines::Unlinked;
 use sealed_links::SealFault;
 use std::io::{self, ErrorKind};
 use std::net::SocketAddr;

@@ -1,20 +1,15 @@
 //! Links of peer sites are accepted for ever, and the letters taken that come over them.
 use crate::staying::accepting::arrived;
-use crate::staying::exchange::board::{Board, Claim};
-use crate::staying::exchange::heads::Sender;
 use crate::staying::exchange::journal::{
     tell_all_taken, tell_earlier, tell_stranger, tell_surplus, tell_taken, tell_taking,
     tell_taking_ended, tell_too_many, tell_unlinked, tell_unsealed,
 };
-use crate::staying::exchange::line::Line;
-use crate::staying::exchange::link::Link;
-use crate::staying::hall::Arrived;
 use crate::staying::journal::{tell_no_memory, tell_unaccepted, tell_unbegun};
 use crate::staying::machine::Machine;
-use crate::staying::quiet::Quiet;
 use crate::staying::working::Shared;
 use link_ends::{Gate, SharedSite};
 use log::Log;
+use peer_lines::{Board, Claim, Line, Link, Sender};
 use peer_links::{Cursors, Role, exchange_with};
 use sealed_links::Side;
 use std::alloc::AllocError;
@@ -23,6 +18,7 @@ use std::sync::atomic::{AtomicU64, Ordering};
 use std::sync::{Arc, Mutex};
 use std::thread;
 use std::time::Duration;
+use watched_links::{Arrived, Quiet};
 
 /// How many letters one link has at most.
 const LETTERS: u32 = u32::MAX;
@@ -129,7 +125,7 @@ fn take_line<'s, 'r, S: SharedSite, M: Machine, G: Log>(
     line: Arc<Line>,
     peer: SocketAddr,
 ) -> Result<(), AllocError> {
-    let mut link = match all.exchange.link(all.rt, &line, Side::Listener) {
+    let mut link = match all.exchange.opening.link(all.rt, &line, Side::Listener) {
         Ok(link) => link,
         Err(fault) => {
             if all.exchange.closed.lock(rt).is_due(rt) {
@@ -171,7 +167,7 @@ pub fn take_links<'s, 'r, S: SharedSite, M: Machine, G: Log>(
             address,
             since,
         } = exchange.hall.next(rt);
-        let is_made = match Arc::new(exchange.alloc, Line::of(stream, since)) {
+        let is_made = match Arc::new(all.server.alloc, Line::of(stream, since)) {
             Ok(line) => take_line(rt, all, line, address).is_ok(),
             Err(_) => false,
         };

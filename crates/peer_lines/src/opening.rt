@@ -1,50 +1,28 @@
 //! A link is opened: both ends prove that they have the secret, where there is one.
-use crate::socket_server::SiteEpoch;
-use crate::staying::exchange::ends::Ends;
-use crate::staying::exchange::heads::Expected;
-use crate::staying::exchange::line::{Line, Timely};
-use crate::staying::exchange::link::Link;
-use crate::staying::hall::Hall;
-use crate::staying::quiet::Quiet;
+use crate::ends::Ends;
+use crate::heads::Expected;
+use crate::line::{Line, Timely};
+use crate::link::Link;
 use sealed_links::{
     CHALLENGE_BYTES, Course, Greeting, Key, SealFault, SealedReader, SealedWriter, Side,
     prove_dialling, prove_listening,
 };
 use std::alloc::Global;
-use std::net::SocketAddrV4;
 use std::random::RandomSource;
-use std::sync::{Arc, Mutex};
+use std::sync::Arc;
 use std::time::Clock;
 
-/// What a server knows of the exchange with its peer sites.
-#[derive(Drop)]
-pub struct Exchange {
+/// How links of a site are opened.
+#[derive(Clone, Copy)]
+pub struct Opening {
     pub alloc: Global,
-    /// Which site it is.
-    pub place: SiteEpoch,
-    /// The edition of its operator tables.
-    pub edition: u32,
+    /// What letters are judged by.
+    pub expected: Expected,
     /// The secret that all sites have, if they have one.
     pub secret: Option<Key>,
-    /// Where peer sites take letters.
-    pub peers: Vec<SocketAddrV4>,
-    /// Where links wait that were accepted.
-    pub hall: Hall,
-    /// When it was told last that a link was closed before its first letter.
-    pub closed: Mutex<Quiet>,
-    /// When it was told last that sites disagree.
-    pub disagreed: Mutex<Quiet>,
 }
 
-impl Exchange {
-    /// What letters are judged by.
-    fn expected(&self) -> Expected {
-        Expected {
-            edition: self.edition,
-            number: self.place.number,
-        }
-    }
-
+impl Opening {
     /// What this end says first.
     fn greeting<R: RandomSource>(&self, rt: &R) -> Result<Greeting, SealFault> {
         let mut challenge = [0u8; CHALLENGE_BYTES];
@@ -52,7 +30,7 @@ impl Exchange {
             return Err(SealFault::ReadFailed);
         }
         Ok(Greeting {
-            site: self.place.number,
+            site: self.expected.number,
             challenge,
         })
     }
@@ -100,6 +78,6 @@ impl Exchange {
             }),
         };
         let line = Arc::try_clone(line)?;
-        Ok(Link::of(self.alloc, ends, line, self.expected()))
+        Ok(Link::of(self.alloc, ends, line, self.expected))
     }
 }

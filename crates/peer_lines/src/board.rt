@@ -1,6 +1,6 @@
 //! The seats at which letters of peer sites are taken, one for each site, and the link of each.
-use crate::staying::exchange::heads::Sender;
-use crate::staying::exchange::line::Line;
+use crate::heads::Sender;
+use crate::line::Line;
 use std::alloc::AllocError;
 use std::sync::{Arc, Condvar, CondvarTimeouts, Mutex, Wait};
 use std::time::{Clock, Duration};

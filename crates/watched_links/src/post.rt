@@ -1,7 +1,7 @@
 //! Bytes that wait to be written to one connection, and who writes them: its worker before it reads on, or a writer beside it while the
 //! worker waits for bytes. So nobody else waits for a peer that doesn't read.
-use crate::staying::cause::Cause;
-use crate::staying::pushes::SentPushes;
+use crate::cause::Cause;
+use crate::pushes::SentPushes;
 use outbox::{Outbox, PutFault};
 use std::alloc::Global;
 use std::io::{self, ErrorKind, Write};
@@ -201,9 +201,9 @@ impl Post {
 
 /// The writing half of a connection: what is written is left at its post. Once it is dropped the connection ends.
 pub struct Posting<'r, R: Wait> {
-    pub(crate) rt: &'r R,
-    pub(crate) sent: &'r SentPushes,
-    pub(crate) post: Arc<Post>,
+    pub rt: &'r R,
+    pub sent: &'r SentPushes,
+    pub post: Arc<Post>,
 }
 
 impl<R: Wait> Drop for Posting<'_, R> {

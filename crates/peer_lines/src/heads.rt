@@ -12,8 +12,8 @@ const LENGTH_BYTES: usize = 4;
 /// The most that a length says.
 const MOST: usize = 1 << 30;
 
-/// The version of letters.
-const VERSION: u8 = 1;
+/// The last version of letters that is read.
+const VERSION: u8 = 3;
 
 /// The last kind of letter.
 const LAST_KIND: u8 = 3;
@@ -23,7 +23,7 @@ const LAST_KIND: u8 = 3;
 pub enum HeadFault {
     #[error("it sent what is no letter")]
     NoLetter,
-    #[error("its letters are of version {0}, and those of this site of version 1: run the same program at all sites")]
+    #[error("its letters are of version {0}, and this site reads those of versions 1 to 3: run the same program at all sites")]
     Version(u8),
     #[error("its operator tables are of edition {0}: run all sites with the same tables")]
     Edition(u32),
@@ -62,7 +62,7 @@ fn judge_head(head: &[u8; HEAD_BYTES], expected: Expected) -> Result<Sender, Hea
     if length < HEAD_BYTES - LENGTH_BYTES || length > MOST {
         return Err(HeadFault::NoLetter);
     }
-    if head[4] != VERSION {
+    if head[4] == 0 || head[4] > VERSION {
         return Err(HeadFault::Version(head[4]));
     }
     let edition = u32::from_be_bytes([head[5], head[6], head[7], head[8]]);

@@ -1,5 +1,5 @@
 //! The writer beside the worker of each seat.
-use crate::staying::post::Post;
+use crate::post::Post;
 use std::alloc::{AllocError, Global};
 use std::mem::replace;
 use std::sync::{Arc, Condvar, Mutex, Wait};

@@ -2,10 +2,10 @@
 //! host than that of the first, and some byte now and then.
 ghost use Rattle.std.specs.Io.{ReadsAtMost};
 
-use crate::staying::cause::Cause;
-use crate::staying::frames::{Found, Frames, is_exchange};
-use crate::staying::own::Own;
-use crate::staying::post::Post;
+use crate::cause::Cause;
+use crate::frames::{Found, Frames, is_exchange};
+use crate::own::Own;
+use crate::post::Post;
 use base_profile::read_base;
 use dia_codec::{Header, read_message};
 use pcrf_values::DiameterIdentity;

@@ -1,5 +1,5 @@
 //! The two directions of a link, sealed or not.
-use crate::staying::exchange::line::Timely;
+use crate::line::Timely;
 use sealed_links::{SealedReader, SealedWriter};
 use std::io::{self, Read, Write};
 use std::time::Clock;

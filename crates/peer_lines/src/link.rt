@@ -1,9 +1,9 @@
 //! A link as letters are exchanged over it: the heads of what comes are judged, and it is noted how far the letters tell that go.
 ghost use Rattle.std.specs.Prelude.{◌≤◌, length};
 
-use crate::staying::exchange::ends::Ends;
-use crate::staying::exchange::heads::{Expected, HeadFault, Heads, Sender};
-use crate::staying::exchange::line::Line;
+use crate::ends::Ends;
+use crate::heads::{Expected, HeadFault, Heads, Sender};
+use crate::line::Line;
 use std::alloc::Global;
 use std::io::{self, ErrorKind, Read, Write};
 use std::sync::Arc;

@@ -1,7 +1,7 @@
 //! Re-authorisation requests that went out, kept for a while, so that an operator can be told which rules one was about that a gateway
 //! refused.
-use crate::socket_server::Printable;
-use crate::staying::avps::first_avp;
+use crate::avps::first_avp;
+use crate::printable::Printable;
 use dia_codec::{HEADER_BYTES, read_header};
 use kept_messages::{KeptMessage, KeptMessages};
 use std::alloc::{AllocError, Global};

@@ -1,12 +1,9 @@
 //! What a site says of itself on its own account.
 use base_profile::write_dwr;
 use dia_base::Identity;
-use gateway_links::first_end_id;
 use std::alloc::{AllocError, Global};
-use std::io;
-use std::random::RandomSource;
 use std::sync::atomic::{AtomicU64, Ordering};
-use std::time::{Clock, Duration};
+use std::time::Duration;
 
 /// How many identifiers there are (RFC 6733, 3).
 const IDENTIFIERS: u64 = 1 << 32;
@@ -24,27 +21,15 @@ pub struct Own {
     watchdogs: AtomicU64,
 }
 
-/// From where the End-to-End Identifiers of a site count that starts now: no start within an hour has them (RFC 6733, 3).
-fn first_now<R: Clock + RandomSource>(rt: &R) -> io::Result<u32> {
-    let seconds = rt.since_1970()?.as_secs();
-    let mut bytes = [0u8; 4];
-    rt.fill_bytes(&mut bytes)?;
-    Ok(first_end_id(seconds, u32::from_be_bytes(bytes)))
-}
-
 impl Own {
-    /// Of a site that starts now.
-    pub fn start<R: Clock + RandomSource>(
-        rt: &R,
-        identity: Identity,
-        watchdog: Duration,
-    ) -> io::Result<Own> {
-        Ok(Own {
+    /// Of a site that sent nothing yet.
+    pub fn start(identity: Identity, watchdog: Duration, first_end_id: u32) -> Own {
+        Own {
             identity,
             watchdog,
-            first_end_id: first_now(rt)?,
+            first_end_id,
             watchdogs: AtomicU64::new(0),
-        })
+        }
     }
 
     /// The bytes of a Device-Watchdog-Request, with identifiers that no other request of the site has.
