@@ -62,6 +62,15 @@ pub struct Link<'r, C: Clock> {
     is_writing: bool,
 }
 
+/// Copies as many of the first bytes as there is room for, and tells how many.
+fn copy_front(buf: &mut [u8], bytes: &[u8]) -> usize
+    ensures { result ≤ length buf.new }
+{
+    let count = buf.len().min(bytes.len());
+    buf[..count].copy_from_slice(&bytes[..count]);
+    count
+}
+
 /// Why a link was closed.
 #[derive(Clone, Copy, Debug, PartialEq, Eq)]
 pub enum Unlinked {
@@ -132,9 +141,10 @@ impl<'r, C: Clock> Link<'r, C> {
     fn give(&mut self, buf: &mut [u8]) -> usize
         ensures { result ≤ length buf.new }
     {
-        let rest = self.begun.as_slice().get(self.given..).unwrap_or(&[]);
-        let count = buf.len().min(rest.len());
-        buf[..count].copy_from_slice(&rest[..count]);
+        let Some(rest) = self.begun.as_slice().get(self.given..) else {
+            return 0;
+        };
+        let count = copy_front(buf, rest);
         self.given = self.given.saturating_add(count);
         count
     }
