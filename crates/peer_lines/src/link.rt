@@ -92,7 +92,7 @@ impl Unlinked {
 
 impl<'r, C: Clock> Link<'r, C> {
     /// Over these directions of a line.
-    pub fn of(
+    pub(crate) fn of(
         alloc: Global,
         ends: Ends<'r, C>,
         line: Arc<Line>,

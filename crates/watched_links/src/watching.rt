@@ -40,7 +40,8 @@ pub struct Watched<'b, 'r, R> {
 fn exchanging_host(alloc: Global, frame: &[u8]) -> Option<DiameterIdentity> {
     let message = read_message(alloc, frame).ok()?;
     let request = read_base(alloc, &message).ok()?;
-    Some(request.origin.host)
+    let origin = request.origin;
+    Some(origin.host)
 }
 
 /// What ends a connection.
