@@ -9,7 +9,7 @@ use std::{io, thread};
 use watched_links::{Arrived, Hall, Quiet};
 
 /// For how many seconds a line of one kind isn't told again.
-const QUIET_SECONDS: u64 = 1;
+pub const QUIET_SECONDS: u64 = 1;
 
 /// How many milliseconds a server waits before it accepts again where it couldn't.
 const PAUSE_MILLIS: u64 = 100;
@@ -29,14 +29,17 @@ pub fn accept_all<M: Machine, G: Log>(
             Ok((stream, address)) => {
                 admit(rt, hall, seats, stream, address, &mut crowded, log);
             }
-            Err(error) => {
-                if failed.is_due(rt) {
-                    tell_unaccepted(log, &error);
-                }
-                thread::sleep(rt, Duration::from_millis(PAUSE_MILLIS));
-            }
+            Err(error) => rest(rt, &error, &mut failed, log),
         }
     }
+}
+
+/// Tells that no connection could be accepted, not too often, and waits a moment.
+pub fn rest<M: Machine, G: Log>(rt: &M, error: &io::Error, failed: &mut Quiet, log: &G) {
+    if failed.is_due(rt) {
+        tell_unaccepted(log, error);
+    }
+    thread::sleep(rt, Duration::from_millis(PAUSE_MILLIS));
 }
 
 /// A connection that arrived now, made ready.

@@ -1,6 +1,7 @@
 //! A peer site is dialled, and dialled again, as long as the server runs.
 use crate::staying::exchange::growing::Growing;
 use crate::staying::exchange::journal::{tell_sending_ended, tell_unreachable, tell_unsealed};
+use crate::staying::exchange::peers::{LETTERS, LETTERS_SECONDS};
 use crate::staying::machine::Machine;
 use crate::staying::sockets::ready;
 use crate::staying::working::Shared;
@@ -28,14 +29,8 @@ const ANSWER_SECONDS: u64 = 5;
 
 const ACKNOWLEDGE_SECONDS: u64 = 30;
 
-/// For how many seconds it isn't told again that a peer site can't be reached or that a link with it ended behind no letter, and how many
-/// letters it acknowledged.
+/// For how many seconds it isn't told again that a peer site can't be reached or that a link with it ended behind no letter.
 const UNREACHABLE_SECONDS: u64 = 60;
-
-const LETTERS_SECONDS: u64 = 10;
-
-/// How many letters one link has at most.
-const LETTERS: u32 = u32::MAX;
 
 /// A line to a peer site.
 fn dialled<M: Machine>(rt: &M, alloc: Global, peer: SocketAddr) -> io::Result<Arc<Line>> {

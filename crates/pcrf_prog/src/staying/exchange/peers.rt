@@ -5,6 +5,12 @@ use std::net::SocketAddrV4;
 use std::sync::Mutex;
 use watched_links::{Hall, Quiet};
 
+/// How many letters one link has at most.
+pub const LETTERS: u32 = u32::MAX;
+
+/// For how many seconds it isn't told again how many letters a link had.
+pub const LETTERS_SECONDS: u64 = 10;
+
 /// What a server knows of the exchange with its peer sites.
 #[derive(Drop)]
 pub struct Exchange {

@@ -1,10 +1,11 @@
 //! Links of peer sites are accepted for ever, and the letters taken that come over them.
-use crate::staying::accepting::arrived;
+use crate::staying::accepting::{QUIET_SECONDS, arrived, rest};
 use crate::staying::exchange::journal::{
     tell_all_taken, tell_earlier, tell_stranger, tell_surplus, tell_taken, tell_taking,
     tell_taking_ended, tell_too_many, tell_unlinked, tell_unsealed,
 };
-use crate::staying::journal::{tell_no_memory, tell_unaccepted, tell_unbegun};
+use crate::staying::exchange::peers::{LETTERS, LETTERS_SECONDS};
+use crate::staying::journal::{tell_no_memory, tell_unbegun};
 use crate::staying::machine::Machine;
 use crate::staying::working::Shared;
 use link_ends::{Gate, SharedSite};
@@ -16,20 +17,7 @@ use std::alloc::AllocError;
 use std::net::{IpAddr, SocketAddr, TcpListener, TcpStream};
 use std::sync::atomic::{AtomicU64, Ordering};
 use std::sync::{Arc, Mutex};
-use std::thread;
-use std::time::Duration;
 use watched_links::{Arrived, Quiet};
-
-/// How many letters one link has at most.
-const LETTERS: u32 = u32::MAX;
-
-/// For how many seconds a line of one kind isn't told again.
-const QUIET_SECONDS: u64 = 1;
-
-const LETTERS_SECONDS: u64 = 10;
-
-/// How many milliseconds a server waits before it accepts again where it couldn't.
-const PAUSE_MILLIS: u64 = 100;
 
 /// Lets each letter of a peer site in, and counts them.
 #[derive(Drop)]
@@ -231,12 +219,7 @@ pub fn accept_links<'s, 'r, S: SharedSite, M: Machine, G: Log>(
     for _ in rt.forever() {
         match listener.accept() {
             Ok((stream, address)) => admit(rt, all, stream, address, &mut quiet),
-            Err(error) => {
-                if failed.is_due(rt) {
-                    tell_unaccepted(all.log, &error);
-                }
-                thread::sleep(rt, Duration::from_millis(PAUSE_MILLIS));
-            }
+            Err(error) => rest(rt, &error, &mut failed, all.log),
         }
     }
 }
