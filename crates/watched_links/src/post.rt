@@ -2,6 +2,7 @@
 //! worker waits for bytes. So nobody else waits for a peer that doesn't read.
 use crate::cause::Cause;
 use crate::pushes::SentPushes;
+use dia_codec::read_header;
 use outbox::{Outbox, PutFault};
 use std::alloc::Global;
 use std::io::{self, ErrorKind, Write};
@@ -15,6 +16,10 @@ const MOST: u32 = 1 << 20;
 #[derive(Drop)]
 struct Waiting {
     outbox: Outbox,
+    /// Requests that were left before the first answer, behind which they come.
+    early: Outbox,
+    /// An answer was left.
+    is_answered: bool,
     /// The worker will write what waits before it reads on.
     is_awake: bool,
     /// What was taken is being written.
@@ -27,7 +32,30 @@ struct Waiting {
     cause: Option<Cause>,
 }
 
+/// Whether bytes begin with a request.
+fn is_request(bytes: &[u8]) -> bool {
+    match bytes.first_chunk() {
+        Some(head) => read_header(head).flags.request,
+        None => false,
+    }
+}
+
 impl Waiting {
+    /// Puts bytes behind those that wait. Whoever has a host asked for something may be quicker than the answer by which the host is reached:
+    /// a request waits for the first answer.
+    fn put(&mut self, alloc: Global, bytes: &[u8]) -> Result<(), PutFault> {
+        if self.is_answered {
+            return self.outbox.put(bytes);
+        }
+        if is_request(bytes) {
+            return self.early.put(bytes);
+        }
+        self.outbox.put(bytes)?;
+        self.is_answered = true;
+        let early = self.early.take(alloc);
+        self.outbox.put(early.as_slice())
+    }
+
     /// Whether there is something to do for the writer beside the worker.
     fn is_due(&self) -> bool {
         if self.is_busy {
@@ -80,6 +108,8 @@ impl Post {
             stream,
             waiting: Mutex::new(Waiting {
                 outbox: Outbox::with_room(alloc, MOST),
+                early: Outbox::with_room(alloc, MOST),
+                is_answered: false,
                 is_awake: true,
                 is_busy: false,
                 is_closing: false,
@@ -131,7 +161,7 @@ impl Post {
         if waiting.is_broken || waiting.is_closing {
             return Err(PutFault::Full);
         }
-        waiting.outbox.put(bytes)
+        waiting.put(self.alloc, bytes)
     }
 
     /// Writes what waits, as its worker, who waits for bytes then. False where nothing more can be written.

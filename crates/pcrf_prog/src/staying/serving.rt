@@ -319,14 +319,14 @@ struct Premises {
 }
 
 /// Serves with what all workers share.
-fn serve_shared<'r, S: SharedSite + Sync, M: Machine, G: Log + Sync, R: Input, W: Output>(
+fn serve_shared<'s, 'r, S: SharedSite + Sync, M: Machine, G: Log + Sync, R: Input, W: Output>(
     rt: &'r M,
     premises: &'r Premises,
-    site: &S,
-    gateways: &Gateways<Posting<'r, M>, Journal<'r, M, G>>,
-    doors: &Doors<'r>,
-    repeats: &KeptAnswers<'r, M>,
-    board: &Board<S::Seat>,
+    site: &'s S,
+    gateways: &'s Gateways<Posting<'r, M>, Journal<'r, M, G>>,
+    doors: &'s Doors<'r>,
+    repeats: &'s KeptAnswers<'r, M>,
+    board: &'s Board<S::Seat>,
     seats: Seats<S::Seat>,
     console: Console<R, W>,
     log: &'r G,
@@ -389,14 +389,14 @@ where
 }
 
 /// Serves at a site whose history stands in the proofs alone.
-fn serve_living<L: Roll + Send + Sync, M: Machine, G: Log + Sync, R: Input, W: Output>(
-    rt: &M,
+fn serve_living<'r, L: Roll + Send + Sync, M: Machine, G: Log + Sync, R: Input, W: Output>(
+    rt: &'r M,
     alloc: Global,
     roster: Roster,
     site: Site,
-    premises: &Premises,
+    premises: &'r Premises,
     console: Console<R, W>,
-    log: &G,
+    log: &'r G,
 ) -> Result<(), ServerFault>
     requires names { AreNames L.name_of L.seats roster.seats }
     requires keeper { roster.keeper ≡ L.keeper }
