@@ -82,12 +82,15 @@ fn furnished<M: Machine, G: Log>(
             return Err(ServerFault::Network);
         }
     };
+    let own = Own::start(copied(identity)?, watchdog, first);
+    let desks = desks(alloc, settings.connections)?;
+    let chairs = chairs(alloc, settings.connections)?;
     Ok(Furniture {
         alloc,
-        own: Own::start(copied(identity)?, watchdog, first),
+        own,
         hall: Hall::start(alloc, settings.connections),
-        desks: desks(alloc, settings.connections)?,
-        chairs: chairs(alloc, settings.connections)?,
+        desks,
+        chairs,
         sent: SentPushes::start(alloc),
     })
 }
@@ -298,9 +301,12 @@ where
         asking,
         showing,
     } = seats;
-    if let Some(seat) = showing {
-        let tables = &premises.tables;
-        let _ = scope.spawn(move || show_on(rt, all, seat, tables, console));
+    match showing {
+        Some(seat) => {
+            let tables = &premises.tables;
+            let _ = scope.spawn(move || show_on(rt, all, seat, tables, console));
+        }
+        None => drop(console),
     }
     staff_all(rt, scope, all, serving);
     send_all(rt, scope, all, sending, asking);
@@ -464,14 +470,18 @@ pub fn run_staying<M: Machine, G: Log + Sync, R: Input, W: Output>(
 ) -> Result<(), ServerFault> {
     let exchange = exchange_of(alloc, tables.edition(), settings, log)?;
     let seats = exchange.peers.len().saturating_mul(SEATS_OF_A_PEER);
+    let serving = bind(rt, settings.addresses.listen, log)?;
+    let exchanging = bind(rt, settings.addresses.exchange, log)?;
+    let furniture = furnished(rt, alloc, &identity, settings, log)?;
+    let shown = tables.try_copy(alloc)?;
     let premises = Premises {
         exchange,
         sockets: Sockets {
-            serving: bind(rt, settings.addresses.listen, log)?,
-            exchanging: bind(rt, settings.addresses.exchange, log)?,
+            serving,
+            exchanging,
         },
-        furniture: furnished(rt, alloc, &identity, settings, log)?,
-        tables: tables.try_copy(alloc)?,
+        furniture,
+        tables: shown,
         wait: settings.wait,
     };
     let site = Site::start(alloc, tables, identity, settings.place.number);

@@ -43,7 +43,10 @@ fn shown<S: SharedSite, M: Machine>(
     seat: &mut S::Seat,
     tables: &Tables,
 ) -> Result<Option<String>, AllocError> {
-    let Ok(Reply::Copy(state, _)) = site.call_alone(rt, seat, &Event::AskWhole) else {
+    let event = Event::AskWhole;
+    let called = site.call_alone(rt, seat, &event);
+    drop(event);
+    let Ok(Reply::Copy(state, _)) = called else {
         return Ok(None);
     };
     let value = value(alloc, tables, &state)?;

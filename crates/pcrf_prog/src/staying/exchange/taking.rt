@@ -98,12 +98,13 @@ fn take_claimed<'s, 'r, S: SharedSite, M: Machine, G: Log>(
             tell_earlier(all.log, sender.site, sender.epoch, before);
         }
     }
-    if let Some(taken) = all.board.take(rt, claim) {
-        let mut seat = taken;
-        tell_taking(all.log, sender.site, sender.epoch, peer);
-        take(rt, all, &mut seat, link, sender, peer);
-        all.board.give_back(rt, claim, seat);
-    }
+    let Some(taken) = all.board.take(rt, claim) else {
+        return;
+    };
+    let mut seat = taken;
+    tell_taking(all.log, sender.site, sender.epoch, peer);
+    take(rt, all, &mut seat, link, sender, peer);
+    all.board.give_back(rt, claim, seat);
 }
 
 /// Takes the letters of a link whose line is there.
@@ -138,7 +139,10 @@ fn take_line<'s, 'r, S: SharedSite, M: Machine, G: Log>(
     let _ = line.open(None);
     match all.board.claim(rt, sender, &line)? {
         Some(claim) => take_claimed(rt, all, claim, link, sender, peer),
-        None => tell_surplus(all.log, sender.site, peer),
+        None => {
+            drop(link);
+            tell_surplus(all.log, sender.site, peer);
+        }
     }
     Ok(())
 }
