@@ -1,14 +1,13 @@
 //! What lets letters to a peer site go: each as soon as the site made something that wasn't told, as long as the other end is there.
 use crate::staying::exchange::journal::{tell_all_sent, tell_sent};
-use crate::staying::machine::Machine;
 use link_ends::{Event, Gate, Reply, SharedSite};
 use log::Log;
 use peer_lines::Line;
 use std::net::SocketAddr;
 use std::sync::atomic::{AtomicU64, Ordering};
-use std::sync::{Arc, Mutex};
+use std::sync::{Arc, Mutex, Wait};
 use std::thread;
-use std::time::Duration;
+use std::time::{Clock, Duration};
 use watched_links::Quiet;
 
 /// How many milliseconds lie between two looks at what the site made.
@@ -34,28 +33,26 @@ pub struct Growing<'b, 'r, S: SharedSite, M, G> {
     pub(crate) quiet: Mutex<Quiet>,
 }
 
-impl<S: SharedSite, M: Machine, G: Log> Growing<'_, '_, S, M, G> {
-    /// Whether the site made more than was told. Where memory is refused that is found at the letter.
-    fn has_grown(&self) -> bool {
-        let mut probe = self.probe.lock(self.rt);
-        match self
-            .site
-            .call_alone(self.rt, &mut *probe, &Event::AskOwn(FAR))
-        {
-            Ok(Reply::Own(_, made)) => made > self.line.told(),
-            _ => true,
-        }
+/// Whether a site made more operations than so many. Where memory is refused that is found at the letter.
+fn has_grown<R: Wait, S: SharedSite>(rt: &R, site: &S, probe: &Mutex<S::Seat>, told: u64) -> bool {
+    let event = Event::AskOwn(FAR);
+    let mut seat = probe.lock(rt);
+    let called = site.call_alone(rt, &mut *seat, &event);
+    drop(event);
+    match called {
+        Ok(Reply::Own(_, made)) => made > told,
+        _ => true,
     }
 }
 
-impl<S: SharedSite, M: Machine, G: Log> Gate for Growing<'_, '_, S, M, G> {
+impl<S: SharedSite, M: Wait + Clock, G: Log> Gate for Growing<'_, '_, S, M, G> {
     fn enter(&self, _connection: usize, message: u64) -> bool {
         if message == 0 {
             return true;
         }
         let mut looks: u64 = 0;
         for _ in self.rt.forever() {
-            if self.has_grown() {
+            if has_grown(self.rt, self.site, self.probe, self.line.told()) {
                 break;
             }
             if looks % LOOKS == 0 && self.line.is_gone() {
