@@ -13,8 +13,10 @@ use std::alloc::{AllocError, Global};
 use std::io::Print;
 use world_checks::same_sites;
 
-/// What some calls are of.
+/// What some calls are of, and how many these are.
 const SESSIONS: &str = "three sessions";
+
+const COUNT: usize = 3;
 
 /// A state is that of a line.
 fn is_state(given: &Given, word: &str, state: &State) -> Option<bool> {
@@ -102,6 +104,5 @@ pub fn try_sessions<R: Host>(rt: &R, given: &Given) -> Option<bool> {
         judge(rt, is_named(name, site.kept_rules().get(id)));
     }
     let other = loaded(given)?;
-    let count = ids.split(' ').count();
-    Some(found.len() == count && lists.len() == count && same_sites(&site, &other, &[])?)
+    Some(found.len() == COUNT && lists.len() == COUNT && same_sites(&site, &other, &[])?)
 }
