@@ -40,6 +40,16 @@ def initial_at(place, at):
     return credit(1, place, user)
 
 
+def network_of(place):
+    return bytes([0x20, 0x01, 0x0D, 0xB8]) + place.to_bytes(4, "big")
+
+
+def initial_prefixed(place):
+    """That of a session with the prefix of a network, and no address."""
+    user = [subscriber(1, f"00101{place:010}"), avp(97, bytes([0, 64]) + network_of(place)), avp(30, "ims")]
+    return credit(1, place, user)
+
+
 def update(place):
     return credit(2, place)
 
@@ -48,11 +58,20 @@ def termination(place):
     return credit(3, place)
 
 
-def call(place):
+def call_of(place, user):
     """An AA request of one flow of audio with two filters."""
     audio = messages.component(1, [messages.flow(1, [IN, OUT])], media=0)
     named = [avp(263, f"{APPLICATION};1876543210;{place}"), avp(258, RX), avp(264, APPLICATION), avp(296, REALM)]
-    return message(0xC0, 265, RX, named + [avp(8, address_of(place)), audio], 1, 1)
+    return message(0xC0, 265, RX, named + [user, audio], 1, 1)
+
+
+def call(place):
+    return call_of(place, avp(8, address_of(place)))
+
+
+def call_prefixed(place):
+    """That of a user at one address of the session's network, given as a prefix of all bits."""
+    return call_of(place, avp(97, bytes([0, 128]) + network_of(place) + (5).to_bytes(8, "big")))
 
 
 def call_end(place):
@@ -144,11 +163,11 @@ def taken(operations, name="-", into="state", at_once=True):
         print("take", into, name)
 
 
-def called(sessions):
+def called(sessions, attach=initial, ask=call):
     """Each of so many sessions attaches and has a call, and its gateway is told its rules."""
     print("site")
-    asked(initial, range(sessions))
-    asked(call, range(sessions))
+    asked(attach, range(sessions))
+    asked(ask, range(sessions))
     print(f"push {GATEWAY} {sessions} due -")
     print(f"push {GATEWAY} 1 none -")
 
@@ -176,11 +195,20 @@ def streams(sessions, timed=100):
 
 def streams_called(sessions, timed=100):
     """Requests of sessions that attached before are spread over all of them."""
-    called(sessions)
+    streams_of("streams_called", sessions, timed, initial, call)
+
+
+def streams_prefixed(sessions, timed=100):
+    """So, where sessions have the prefix of a network each, calls that of an address in it, and nobody an IPv4 address."""
+    streams_of("streams_prefixed", sessions, timed, initial_prefixed, call_prefixed)
+
+
+def streams_of(measure, sessions, timed, attach, ask):
+    called(sessions, attach, ask)
     step = max(sessions // 1000, 1)
-    requests("streams_called", sessions, timed, [
-        (watchdog, 0, 1, "watchdog"), (update, 0, step, "update"), (initial, sessions, 1, "initial request"),
-        (call, sessions, 1, "AA request"), (call_end, sessions // 4, step, "session termination request"),
+    requests(measure, sessions, timed, [
+        (watchdog, 0, 1, "watchdog"), (update, 0, step, "update"), (attach, sessions, 1, "initial request"),
+        (ask, sessions, 1, "AA request"), (call_end, sessions // 4, step, "session termination request"),
         (termination, sessions // 2, step, "termination")])
 
 
@@ -346,7 +374,7 @@ def points(count):
 
 
 MEASURES = {made.__name__: made for made in (
-    streams, streams_called, come_and_go, pushes, whole, whole_state_kept, whole_site_kept, states, states_kept, renew, records, records_kept, rx,
+    streams, streams_called, streams_prefixed, come_and_go, pushes, whole, whole_state_kept, whole_site_kept, states, states_kept, renew, records, records_kept, rx,
     rx_kept, book, book_updates_kept, book_bare_kept, book_pushes_kept, tables, points)} | {"letters": carried}
 
 

@@ -13,27 +13,33 @@ use Rattle.pcrf_values.specs.Prefixes.{Ipv6Prefix}
 use Rattle.pcrf_facts.specs.Values.{Value, Entry, Subscriber, Subscribers, Prefix}
 use Rattle.pcrf_facts.proofs.ShownLaws.{members_show_the_same}
 use Rattle.pcrf_model.specs.Holdings.{Holding, SessionFact, facts_on, kept_of, with_facts_of}
-use Rattle.pcrf_model.specs.Laws.{DifferInOne, HasAddress, ShowsNoPrefix, NeverMeet}
+use Rattle.pcrf_model.specs.Laws.{DifferInOne, HasAddress, NeverMeet}
 use Rattle.pcrf_model.specs.Operations.{Operation, with_operation}
 use Rattle.pcrf_model.specs.Sessions.{Kind, Gx, Af, Session, gx, is_gx, session_cmp}
 use Rattle.pcrf_model.specs.Tables.{Tables}
 use Rattle.pcrf_model.specs.Views.{View, view, value}
-use Rattle.pcrf_model.specs.Waiting.{NeighboursWait}
+use Rattle.pcrf_model.specs.Rules.{rules}
+use Rattle.pcrf_model.specs.Waiting.{MayWait}
 use Rattle.pcrf_model.proofs.HoldingLaws.{session_ranked, replaces_one}
-use Rattle.pcrf_model.proofs.NeighbourLaws.{others_keep}
+use Rattle.pcrf_model.proofs.NeighbourLaws.{which}
 use Rattle.pcrf_model.proofs.TakingLaws.{taking_changes_one}
-use Rattle.pcrf_model.proofs.WaitingLaws.{neighbours_enough}
-use Rattle.session_index.specs.Index.{IndexValue, listed_at, listed_of, with_prefix, Covers, Grows, ListsFacts, ListsAddress, ListsPrefix, ListsSubscribers, ListsGateway, ListedUnder}
+use Rattle.session_index.specs.Index.{IndexValue, listed_at, listed_in, listed_of, Covers, Grows, ListsFacts, ListsAddress, ListsPrefix, ListsSubscribers, ListsGateway, ListedUnder}
+use Rattle.session_index.specs.Neighbours.{HasPrefix, NeverCover}
+use Rattle.session_index.specs.Networks.{all_networks, network_of}
 use Rattle.session_index.proofs.Covered.{covers_grow, covers_taken}
+use Rattle.session_index.proofs.CoveredNetworks.{covers_in_its_network, one_network}
+use Rattle.session_index.proofs.Neighbours.{neighbours_alone}
 use Rattle.kept_rules.specs.Kept.{RulesValue, kept_at, AreKept}
 use Rattle.kept_rules.proofs.Keeping.{none_kept}
-use Rattle.waiting_sessions.specs.Waits.{WaitingValue, waiting_of, DueWait, Keeps, WaitsIfDue, ListedWait}
+use Rattle.waiting_sessions.specs.Waits.{WaitingValue, waiting_of, DueWait, Keeps, WaitsIfDue}
 use Rattle.waiting_sessions.proofs.Waited.{may_wait}
-use Rattle.waiting_aborts.specs.Abandoned.{AbandonedWait, ListedCallsWait}
+use Rattle.waiting_aborts.specs.Abandoned.{AbandonedWait, ListedCallsWait, NetworkCallsWait}
 use Rattle.waiting_aborts.proofs.Followed.{call_followed, gateway_followed}
-use Rattle.indexed_state.specs.Indexed.{Agree, address_value, IsReached, TouchesAt, Unsettled}
+use Rattle.indexed_state.specs.Indexed.{Agree, address_value, IsNear, IsReached, Unsettled, spans}
 use Rattle.indexed_state.specs.declared.reached.Reached.{Reached}
-use Rattle.indexed_state.proofs.Reading.{mapped, none_there}
+use Rattle.indexed_state.proofs.Near.{near_or_not, shown_prefix}
+use Rattle.indexed_state.proofs.DueByRules.{by_rules}
+use Rattle.indexed_state.proofs.Reading.{mapped}
 
 -- a session of a gateway is of that kind
 of_kind : (k : Kind) → is_gx k ≡ true → k ≡ Gx
@@ -88,8 +94,8 @@ covers_nothing index = record {
 
 -- ---- one session that changed
 
--- the holdings before and after, the session, the index before what it shows was listed and after, the lists of rules at first and as they went stale at
--- both addresses, who waited and who waits for a push and for an abort, and where the user of the session is reached before and after
+-- the holdings before and after, the session, the index before what it shows was listed and after, the lists of rules at first and as they went stale,
+-- who waited and who waits for a push and for an abort, and where the user of the session is reached before and after
 module _ (t : Tables) (i : ℕ) (h k : Holding) (d : Session) (old new : IndexValue) (first third : RulesValue) (u w x y : WaitingValue) (before after : Reached) where
   -- what the code did
   pub record Followed : Type 0 where
@@ -101,18 +107,20 @@ module _ (t : Tables) (i : ℕ) (h k : Holding) (d : Session) (old new : IndexVa
     pub grows : Grows old new
     pub was_at : IsReached (view h.facts) d before
     pub is_at : IsReached (view k.facts) d after
-    pub touched_before : TouchesAt first third new before.address
-    pub touched_after : TouchesAt first third new after.address
+    pub gone_before : (id : List ℕ) → IsNear new before id → kept_at third id ≡ None
+    pub gone_after : (id : List ℕ) → IsNear new after id → kept_at third id ≡ None
+    pub same : (id : List ℕ) (rs : List RuleValue) → kept_at third id ≡ Some rs → kept_at first id ≡ Some rs
     pub keeps : Keeps u w
     pub own : after.address ≡ None → is_gx d.kind ≡ true → WaitsIfDue (view k.facts) w d
-    pub near_before : ListedWait (view k.facts) new w before.address
-    pub near_after : ListedWait (view k.facts) new w after.address
-    pub all : (before.by_prefix || after.by_prefix) ≡ true → Unsettled third w
+    pub near_before : (id : List ℕ) → IsNear new before id → WaitsIfDue (view k.facts) w (gx id)
+    pub near_after : (id : List ℕ) → IsNear new after id → WaitsIfDue (view k.facts) w (gx id)
+    pub all : is_gx d.kind ≡ true → (spans before.prefix || spans after.prefix) ≡ true → Unsettled third w
     pub abandoned : AbandonedWait i (view h.facts) x
     pub go_on : Keeps x y
     pub own_call : is_gx d.kind ≡ false → WaitsIfDue (view k.facts) y d
     pub near_calls : is_gx d.kind ≡ true → ListedCallsWait (view k.facts) new y before.address
-    pub all_calls : is_gx d.kind ≡ true → before.by_prefix ≡ true → y.all ≡ true
+    pub network_calls : is_gx d.kind ≡ true → (p : Ipv6Prefix) → before.prefix ≡ Some p → NetworkCallsWait (view k.facts) new y (network_of p)
+    pub all_calls : is_gx d.kind ≡ true → spans before.prefix ≡ true → y.all ≡ true
 
   module _ (z : Followed) where
     -- a session that has the address is listed under it
@@ -120,56 +128,90 @@ module _ (t : Tables) (i : ℕ) (h k : Holding) (d : Session) (old new : IndexVa
     listed s a (inl e) = z.grows.addresses s.kind a s.id (z.covers.addresses s a e)
     listed s a (inr e) = z.covered.addresses s a e
 
-    -- an address by its value
-    by_value : (s : Session) (x : Value) (a : Ipv4Addr) → address_value a ≡ x → HasAddress (view h.facts) (view k.facts) s x → HasAddress (view h.facts) (view k.facts) s (address_value a)
-    by_value s x a e y = subst (λ (q : Value). HasAddress (view h.facts) (view k.facts) s q) (sym e) y
+    -- and one that has the prefix under its network
+    listed_by : (s : Session) (p : Ipv6Prefix) → HasPrefix (view h.facts) (view k.facts) s p → In s.id (listed_in new s.kind (network_of p))
+    listed_by s p (inl e) = z.grows.prefixes s.kind (network_of p) s.id (z.covers.prefixes s p e)
+    listed_by s p (inr e) = z.covered.prefixes s p e
 
-    -- a session whose list isn't stale shows no address that the operation's session shows
-    apart : (id : List ℕ) (rs : List RuleValue) → kept_at third id ≡ Some rs → NeverMeet (view h.facts) (view k.facts) d (gx id)
-    apart id rs e = record { apart = by }
-      where
-        by : (x : Value) → HasAddress (view h.facts) (view k.facts) d x → HasAddress (view h.facts) (view k.facts) (gx id) x → ⊥
-        by x (inl f) y =
-            let m = mapped address_value before.address x (z.was_at.at_address ∙ f) in
-            none_some rs (sym (z.touched_before.gone m.0 m.1 id (listed (gx id) m.0 (by_value (gx id) x m.0 m.2 y))) ∙ e)
-        by x (inr f) y =
-            let m = mapped address_value after.address x (z.is_at.at_address ∙ f) in
-            none_some rs (sym (z.touched_after.gone m.0 m.1 id (listed (gx id) m.0 (by_value (gx id) x m.0 m.2 y))) ∙ e)
+    -- where it neither is near where the user was reached nor where it is, and no prefix of a gateway's session spans networks
+    module _ (id : List ℕ) (not_before : IsNear new before id → ⊥) (not_after : IsNear new after id → ⊥)
+        (none : is_gx d.kind ≡ true → (spans before.prefix ≡ false) × (spans after.prefix ≡ false)) where
+      -- it shows no address of the session that changed
+      apart : NeverMeet (view h.facts) (view k.facts) d (gx id)
+      apart = record { apart = by }
+        where
+          its : (a : Ipv4Addr) (q : Value) → address_value a ≡ q → HasAddress (view h.facts) (view k.facts) (gx id) q → In id (listed_at new Gx a)
+          its a q e n = listed (gx id) a (subst (λ (o : Value). HasAddress (view h.facts) (view k.facts) (gx id) o) (sym e) n)
 
-    -- it shows a prefix before or after, or never does
-    by_prefix : (Unsettled third w) ⊎ ShowsNoPrefix (view h.facts) (view k.facts) d
-    by_prefix = elim (split (before.by_prefix || after.by_prefix)) [
-      | inl p ↦ inl (z.all p)
-      | inr n ↦ inr (record {
-        before = none_there (value (view h.facts) d prefix) (sym (or_not_left before.by_prefix after.by_prefix n) ∙ z.was_at.at_prefix);
-        after = none_there (value (view k.facts) d prefix) (sym (or_not_right before.by_prefix after.by_prefix n) ∙ z.is_at.at_prefix);
-      })
+          by : (q : Value) → HasAddress (view h.facts) (view k.facts) d q → HasAddress (view h.facts) (view k.facts) (gx id) q → ⊥
+          by q (inl f) n = let m = mapped address_value before.address q (z.was_at.at_address ∙ f) in not_before (inl (m.0, m.1, its m.0 q m.2 n))
+          by q (inr f) n = let m = mapped address_value after.address q (z.is_at.at_address ∙ f) in not_after (inl (m.0, m.1, its m.0 q m.2 n))
+
+      -- what is near by a prefix
+      near_by : (r : Reached) (p q : Ipv6Prefix) → r.prefix ≡ Some p → HasPrefix (view h.facts) (view k.facts) (gx id) q
+          → (network_of q ≡ all_networks) ⊎ (network_of q ≡ network_of p) → IsNear new r id
+      near_by r p q e n (inl f) = inr (p, e, inr (subst (λ (o : Ipv6Prefix). In id (listed_in new Gx o)) f (listed_by (gx id) q n)))
+      near_by r p q e n (inr f) = inr (p, e, inl (subst (λ (o : Ipv6Prefix). In id (listed_in new Gx o)) f (listed_by (gx id) q n)))
+
+      -- where it is reached by a prefix
+      at_prefix : (p : Ipv6Prefix) → HasPrefix (view h.facts) (view k.facts) d p → (before.prefix ≡ Some p) ⊎ (after.prefix ≡ Some p)
+      at_prefix p (inl f) = inl (shown_prefix before.prefix p (z.was_at.at_prefix ∙ f))
+      at_prefix p (inr f) = inr (shown_prefix after.prefix p (z.is_at.at_prefix ∙ f))
+
+      -- its prefixes neither cover those of the session that changed, nor are they covered by them
+      never : NeverCover (view h.facts) (view k.facts) d (gx id)
+      never = record {
+        over = λ p q m n c. elim (at_prefix p m) [
+          | inl e ↦ not_before (near_by before p q e n (covers_in_its_network q p c))
+          | inr e ↦ not_after (near_by after p q e n (covers_in_its_network q p c))
+        ];
+        under = λ g p q m n c. elim (at_prefix p m) [
+          | inl e ↦ not_before (near_by before p q e n (inr (sym (one_network p q c (sym (ap spans e) ∙ (none g).0)))))
+          | inr e ↦ not_after (near_by after p q e n (inr (sym (one_network p q c (sym (ap spans e) ∙ (none g).1)))))
+        ];
+        itself = λ e. record {
+          before = no_prefix_then before (view h.facts) z.was_at (λ p f. not_before (near_by before p p f (inl (its e p before (view h.facts) z.was_at f)) (inr refl)));
+          after = no_prefix_then after (view k.facts) z.is_at (λ p f. not_after (near_by after p p f (inr (its e p after (view k.facts) z.is_at f)) (inr refl)));
+        };
+      }
+        where
+          -- the session itself shows what it is reached by
+          its : gx id ≡ d → (p : Ipv6Prefix) (r : Reached) (v : View) → IsReached v d r → r.prefix ≡ Some p → value v (gx id) prefix ≡ Some (Prefix p)
+          its e p r v at f = ap (λ (s : Session). value v s prefix) e ∙ sym at.at_prefix ∙ ap (option_map Prefix) f
+
+          no_prefix_then : (r : Reached) (v : View) → IsReached v d r → ((p : Ipv6Prefix) → r.prefix ≡ Some p → ⊥) → value v d prefix ≡ None
+          no_prefix_then r v at n = by r.prefix refl
+            where
+              by : (o : Option Ipv6Prefix) → r.prefix ≡ o → value v d prefix ≡ None
+              by None e = sym at.at_prefix ∙ ap (option_map Prefix) e
+              by (Some p) e = absurd (n p e)
+
+      -- so it keeps its rules
+      stays : rules t (view h.facts) (gx id) ≡ rules t (view k.facts) (gx id)
+      stays = neighbours_alone t h.facts k.facts d (gx id) z.differs apart never
+
+    -- all is unsettled, or no prefix of a gateway's session spans networks
+    far : (Unsettled third w) ⊎ (is_gx d.kind ≡ true → (spans before.prefix ≡ false) × (spans after.prefix ≡ false))
+    far = elim (split (is_gx d.kind)) [
+      | inr c ↦ inr (λ g. clash (is_gx d.kind) g c)
+      | inl g ↦ elim (split (spans before.prefix || spans after.prefix)) [
+        | inl p ↦ inl (z.all g p)
+        | inr n ↦ inr (λ _. (or_not_left (spans before.prefix) (spans after.prefix) n, or_not_right (spans before.prefix) (spans after.prefix) n))
+      ]
     ]
 
-    -- so its list is still its own, or none is kept
+    -- so each list is still its session's own, or none is kept
     pub lists_kept : AreKept t (view k.facts) third
-    lists_kept = elim by_prefix [
+    lists_kept = elim far [
       | inl all ↦ none_kept t (view k.facts) third all.stale
       | inr none ↦ record {
-        each = λ id rs e. z.kept.each id rs (z.touched_before.same id rs e) ∙ others_keep t h.facts k.facts d (gx id) z.differs none (apart id rs e);
-        apart = λ id rs e. z.kept.apart id rs (z.touched_before.same id rs e);
+        each = λ id rs e. z.kept.each id rs (z.same id rs e)
+            ∙ stays id (λ n. none_some rs (sym (z.gone_before id n) ∙ e)) (λ n. none_some rs (sym (z.gone_after id n) ∙ e)) none;
+        apart = λ id rs e. z.kept.apart id rs (z.same id rs e);
       }
     ]
 
-    -- a session at an address waits, where the address is one that the operation's session has
-    at_address : (s : Session) (a : Ipv4Addr) (at : Option Ipv4Addr) → ListedWait (view k.facts) new w at → at ≡ Some a
-        → HasAddress (view h.facts) (view k.facts) s (address_value a) → is_gx s.kind ≡ true → WaitsIfDue (view k.facts) w s
-    at_address s a at l e x g = let kind = of_kind s.kind g in l.each a s e kind (subst (λ (m : Kind). In s.id (listed_at new m a)) kind (listed s a x))
-
-    -- the neighbours wait
-    near : w.all ≡ false → NeighboursWait i (view h.facts) (view k.facts) d (waiting_of w)
-    near all = record { met = λ s x f y. may_wait i (view k.facts) w s all (λ g. by s x f y g) }
-      where
-        by : (s : Session) (x : Value) → HasAddress (view h.facts) (view k.facts) d x → HasAddress (view h.facts) (view k.facts) s x → is_gx s.kind ≡ true → WaitsIfDue (view k.facts) w s
-        by s x (inl f) y g = let m = mapped address_value before.address x (z.was_at.at_address ∙ f) in at_address s m.0 before.address z.near_before m.1 (by_value s x m.0 m.2 y) g
-        by s x (inr f) y g = let m = mapped address_value after.address x (z.is_at.at_address ∙ f) in at_address s m.0 after.address z.near_after m.1 (by_value s x m.0 m.2 y) g
-
-    -- and so does the session itself, which is listed under the address that it shows
+    -- and so does the session itself wait, which is listed under the address that it shows
     own_waits : is_gx d.kind ≡ true → WaitsIfDue (view k.facts) w d
     own_waits g = by after.address refl
       where
@@ -177,16 +219,38 @@ module _ (t : Tables) (i : ℕ) (h k : Holding) (d : Session) (old new : IndexVa
         by None e = z.own e g
         by (Some a) e =
             let kind = of_kind d.kind g in
-            z.near_after.each a d e kind (subst (λ (m : Kind). In d.id (listed_at new m a)) kind
-            (z.covered.addresses d a (sym z.is_at.at_address ∙ ap (option_map address_value) e)))
+            let named : gx d.id ≡ d = λ j. record { kind = sym kind j; id = d.id } in
+            let here : In d.id (listed_at new Gx a) = subst (λ (m : Kind). In d.id (listed_at new m a)) kind
+            (z.covered.addresses d a (sym z.is_at.at_address ∙ ap (option_map address_value) e)) in
+            subst (λ (s : Session). WaitsIfDue (view k.facts) w s) named (z.near_after d.id (inl (a, e, here)))
 
-    -- and all that are due wait
+    -- who isn't the session itself waits, or keeps its rules
+    waits_or_stays : w.all ≡ false → (is_gx d.kind ≡ true → (spans before.prefix ≡ false) × (spans after.prefix ≡ false))
+        → (s : Session) → MayWait i (view k.facts) (waiting_of w) s ⊎ ((s ≡ d → ⊥) × (rules t (view h.facts) s ≡ rules t (view k.facts) s))
+    waits_or_stays some none s = elim (split (is_gx s.kind)) [
+      | inr c ↦ inl (may_wait i (view k.facts) w s some (λ g. clash (is_gx s.kind) g c))
+      | inl g ↦ elim (which d s) [
+        | inl e ↦ inl (subst (λ (r : Session). MayWait i (view k.facts) (waiting_of w) r) (sym e) (may_wait i (view k.facts) w d some own_waits))
+        | inr n ↦
+            let kind = of_kind s.kind g in
+            let named : gx s.id ≡ s = λ j. record { kind = sym kind j; id = s.id } in
+            elim (near_or_not new before s.id) [
+              | inl m ↦ inl (may_wait i (view k.facts) w s some (λ _. subst (λ (r : Session). WaitsIfDue (view k.facts) w r) named (z.near_before s.id m)))
+              | inr b ↦ elim (near_or_not new after s.id) [
+                | inl m ↦ inl (may_wait i (view k.facts) w s some (λ _. subst (λ (r : Session). WaitsIfDue (view k.facts) w r) named (z.near_after s.id m)))
+                | inr c ↦ inr (n, subst (λ (r : Session). rules t (view h.facts) r ≡ rules t (view k.facts) r) named (stays s.id b c none))
+              ]
+            ]
+      ]
+    ]
+
+    -- so all that are due wait
     pub due_wait : DueWait t i (view k.facts) w
-    due_wait = elim by_prefix [
+    due_wait = elim far [
       | inl all ↦ all_wait t i (view k.facts) w all.waits
       | inr none ↦ record {
-        listed = λ some. neighbours_enough t i h.facts k.facts d (waiting_of u) (waiting_of w) z.differs
-            (z.due.listed (z.keeps.some some)) (z.keeps.stay some) (may_wait i (view k.facts) w d some own_waits) none (near some);
+        listed = λ some. by_rules t i h.facts k.facts d (waiting_of u) (waiting_of w) z.differs
+            (z.due.listed (z.keeps.some some)) (z.keeps.stay some) (waits_or_stays some none);
       }
     ]
 
@@ -194,11 +258,11 @@ module _ (t : Tables) (i : ℕ) (h k : Holding) (d : Session) (old new : IndexVa
     pub calls_wait : AbandonedWait i (view k.facts) y
     calls_wait = elim (split (is_gx d.kind)) [
       | inr c ↦ call_followed i h.facts k.facts d x y z.differs z.go_on z.abandoned c (z.own_call c)
-      | inl g ↦ elim (split before.by_prefix) [
+      | inl g ↦ elim (split (spans before.prefix)) [
         | inl p ↦ all_calls_wait i (view k.facts) y (z.all_calls g p)
         | inr n ↦ gateway_followed i h.facts k.facts d x y z.differs z.go_on z.abandoned g
-            (none_there (value (view h.facts) d prefix) (sym n ∙ z.was_at.at_prefix))
             new (covers_grow (view h.facts) old new z.grows z.covers) before.address z.was_at.at_address (z.near_calls g)
+            before.prefix z.was_at.at_prefix (λ p e. (sym (ap spans e) ∙ n, z.network_calls g p e))
       ]
     ]
 
@@ -235,8 +299,8 @@ module _ (xs ys : List SessionFact) (id : List ℕ) (index : IndexValue) (differ
   unfolding view
   own_address a l e = l.listed a e
 
-  -- with those that were given a prefix, if it shows one
-  own_prefix : (p : Ipv6Prefix) → ListsPrefix index (gx id) (facts_on ys (gx id)) → value (view ys) (gx id) prefix ≡ Some (Prefix p) → In id (with_prefix index Gx)
+  -- under the network of the prefix that it shows
+  own_prefix : (p : Ipv6Prefix) → ListsPrefix index (gx id) (facts_on ys (gx id)) → value (view ys) (gx id) prefix ≡ Some (Prefix p) → In id (listed_in index Gx (network_of p))
   unfolding view
   own_prefix p l e = l.listed p e
 
@@ -260,10 +324,10 @@ module _ (xs ys : List SessionFact) (id : List ℕ) (index : IndexValue) (differ
           (own_address a lists.address (subst (λ (r : Session). value (view ys) r address ≡ Some (address_value a)) same e))
       by s a e false q = covers.addresses s a (as_before s address (λ n. clash _ (ap (λ (r : Session). is_eq (session_cmp r (gx id))) n ∙ eq_itself session_ranked (gx id)) q) ∙ e)
 
-      at_prefix : (s : Session) (p : Ipv6Prefix) → value (view ys) s prefix ≡ Some (Prefix p) → (b : Bool) → is_eq (session_cmp s (gx id)) ≡ b → In s.id (with_prefix index s.kind)
+      at_prefix : (s : Session) (p : Ipv6Prefix) → value (view ys) s prefix ≡ Some (Prefix p) → (b : Bool) → is_eq (session_cmp s (gx id)) ≡ b → In s.id (listed_in index s.kind (network_of p))
       at_prefix s p e true q =
           let same = eq_is session_ranked s (gx id) q in
-          subst (λ (r : Session). In r.id (with_prefix index r.kind)) (sym same)
+          subst (λ (r : Session). In r.id (listed_in index r.kind (network_of p))) (sym same)
           (own_prefix p lists.prefix (subst (λ (r : Session). value (view ys) r prefix ≡ Some (Prefix p)) same e))
       at_prefix s p e false q = covers.prefixes s p (as_before s prefix (λ n. clash _ (ap (λ (r : Session). is_eq (session_cmp r (gx id))) n ∙ eq_itself session_ranked (gx id)) q) ∙ e)
 

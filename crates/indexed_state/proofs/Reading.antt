@@ -1,12 +1,9 @@
 -- What the code reads of where users are reached, and what is stale, unlisted and waits at addresses.
-use Rattle.std.proofs.Common.{◌≡◌, ℕ, false, List, [], Option, Some, None, is_some, refl, sym, ap, ◌∙◌, subst, option_map}
+use Rattle.std.proofs.Common.{◌≡◌, ℕ, List, [], Option, Some, None, refl, sym, ap, ◌∙◌, subst, option_map}
 use Rattle.std.specs.Net.Addr.{ipv4_octets}
 use Rattle.std.specs.declared.net.ipv4_addr.Ipv4Addr.{Ipv4Addr}
 use Rattle.ranked.specs.Sets.{In}
-use Rattle.ranked.specs.declared.tag.Tag.{Tag}
-use Rattle.fact_records.specs.SessionValues.{entry_by}
-use Rattle.ranked.proofs.Plain.{clash, none_some, some_same}
-use Rattle.pcrf_values.specs.RuleValues.{RuleValue}
+use Rattle.ranked.proofs.Plain.{none_some, some_same}
 use Rattle.pcrf_facts.specs.Facts.{Fact}
 use Rattle.pcrf_facts.specs.Held.{entry_shown}
 use Rattle.pcrf_facts.specs.Places.{address, prefix}
@@ -16,30 +13,19 @@ use Rattle.pcrf_model.specs.Sessions.{Session, Gx}
 use Rattle.pcrf_model.specs.Views.{View, view, value}
 use Rattle.session_index.specs.Forgetting.{ShowsAddress}
 use Rattle.session_index.specs.Index.{IndexValue, listed_at}
-use Rattle.kept_rules.specs.Kept.{RulesValue, kept_at, AreStale}
+use Rattle.kept_rules.specs.Kept.{RulesValue, AreStale}
 use Rattle.waiting_sessions.proofs.Reading.{value_shown}
-use Rattle.waiting_sessions.specs.Waits.{WaitingValue, Keeps, ListedWait}
-use Rattle.indexed_state.specs.Indexed.{address_value, IsAddressOf, TouchesAt, Unsettled}
+use Rattle.indexed_state.specs.Indexed.{address_value, IsAddressOf, TouchesAt}
 
 -- what a record shows as its address is what the view has
 pub address_shown : (facts : List SessionFact) (s : Session) (known : List Fact) (o : Option Entry) → known ≡ facts_on facts s → o ≡ entry_shown known address
     → option_map (λ (e : Entry). e.1) o ≡ value (view facts) s address
 address_shown facts s known o k e = value_shown facts s known address o k e
 
--- what is mapped is there where it was
-pub still_there : {A B : Type 0} (f : A → B) (o : Option A) → is_some o ≡ is_some (option_map f o)
-still_there f None = refl
-still_there f (Some x) = refl
-
--- a record shows a prefix where the view has one
+-- and so is what it shows as its prefix
 pub prefix_shown : (facts : List SessionFact) (s : Session) (known : List Fact) (o : Option Entry) → known ≡ facts_on facts s → o ≡ entry_shown known prefix
-    → is_some o ≡ is_some (value (view facts) s prefix)
-prefix_shown facts s known o k e = still_there (λ (d : Entry). d.1) o ∙ ap is_some (value_shown facts s known prefix o k e)
-
--- what isn't there is none
-pub none_there : {A : Type 0} (o : Option A) → false ≡ is_some o → o ≡ None
-none_there None h = refl
-none_there (Some x) h = clash false (h) refl
+    → option_map (λ (e : Entry). e.1) o ≡ value (view facts) s prefix
+prefix_shown facts s known o k e = value_shown facts s known prefix o k e
 
 -- what is mapped from something was there
 pub mapped : {A B : Type 0} (f : A → B) (o : Option A) (y : B) → option_map f o ≡ Some y → (x : A) × (o ≡ Some x) × (f x ≡ y)
@@ -72,41 +58,9 @@ touched before after index a h = record {
   same = λ id rs e. sym (h.others id (λ m. none_some rs (sym (h.gone id m) ∙ e))) ∙ e;
 }
 
--- lists that were stale at one address stay so
-pub touched_then : (x y z : RulesValue) (index : IndexValue) (a b : Option Ipv4Addr) → TouchesAt x y index a → TouchesAt y z index b → TouchesAt x z index a
-touched_then x y z index a b g h = record { gone = λ at e id m. by id at e m (kept_at z id) refl; same = λ id rs e. g.same id rs (h.same id rs e) }
-  where
-    by : (id : List ℕ) (at : Ipv4Addr) → a ≡ Some at → In id (listed_at index Gx at) → (o : Option (List RuleValue)) → kept_at z id ≡ o → kept_at z id ≡ None
-    by id at e m None f = f
-    by id at e m (Some rs) f = none_some rs (sym (g.gone at e id m) ∙ h.same id rs f)
-
--- and so are those at the next
-pub touched_since : (x y z : RulesValue) (index : IndexValue) (a b : Option Ipv4Addr) → TouchesAt x y index a → TouchesAt y z index b → TouchesAt x z index b
-touched_since x y z index a b g h = record { gone = h.gone; same = λ id rs e. g.same id rs (h.same id rs e) }
-
 -- addresses with the same octets are the same, where they are given
 pub octets_same : (a b : Option Ipv4Addr) → option_map ipv4_octets a ≡ option_map ipv4_octets b → a ≡ b
 octets_same None None e = refl
 octets_same None (Some b) e = none_some _ e
 octets_same (Some a) None e = none_some _ (sym e)
 octets_same (Some a) (Some b) e = let octets : ipv4_octets a ≡ ipv4_octets b = some_same _ _ e in ap Some (λ j. record { octets = octets j })
-
--- ---- where no list is kept and all wait
-
-module _ (old new : RulesValue) (u w : WaitingValue) (all : Unsettled new w) where
-  -- the lists at an address are stale
-  pub stale_at : (index : IndexValue) (at : Option Ipv4Addr) → TouchesAt old new index at
-  stale_at index at = record { gone = λ a e id m. all.stale id; same = λ id rs e. none_some rs (sym (all.stale id) ∙ e) }
-
-  -- who waited waits
-  pub all_keeps : Keeps u w
-  all_keeps = record { some = λ a. clash w.all all.waits a; stay = λ a. clash w.all all.waits a }
-
-  -- and so do those that are listed under an address
-  pub all_listed : (v : View) (index : IndexValue) (at : Option Ipv4Addr) → ListedWait v index w at
-  all_listed v index at = record { each = λ a s e k m. record { there = λ some name h. clash w.all all.waits some } }
-
--- what is read as an entry is there where it was
-pub some_entry : {T : Type 0} (made : T → Value) (o : Option (Tag × T)) → is_some o ≡ is_some (entry_by made o)
-some_entry made None = refl
-some_entry made (Some e) = refl

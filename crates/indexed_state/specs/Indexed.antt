@@ -1,21 +1,23 @@
 -- What is seen of an indexed state, and when its parts agree.
-use Rattle.std.specs.Prelude.{◌≡◌, ℕ, Bool, true, false, List, Option, Some, None, is_some}
+use Rattle.std.specs.Prelude.{◌≡◌, ◌⊎◌, ℕ, Bool, true, false, List, Option, Some, None}
 use Rattle.std.proofs.Common.{option_map}
 use Rattle.std.specs.Net.Addr.{ipv4_octets}
 use Rattle.std.specs.declared.net.ipv4_addr.Ipv4Addr.{Ipv4Addr}
 use Rattle.ranked.specs.Sets.{In}
+use Rattle.pcrf_values.specs.Prefixes.{Ipv6Prefix}
 use Rattle.pcrf_values.specs.RuleValues.{RuleValue}
 use Rattle.pcrf_facts.specs.Facts.{Fact, Field}
 use Rattle.pcrf_facts.specs.Held.{kept_list, join_of}
 use Rattle.pcrf_facts.specs.Places.{OfRuleName, address, prefix}
-use Rattle.pcrf_facts.specs.Values.{Value, Address}
+use Rattle.pcrf_facts.specs.Values.{Value, Address, Prefix}
 use Rattle.pcrf_model.specs.Holdings.{Holding, facts_on}
-use Rattle.pcrf_model.specs.Sessions.{Session, Gx}
+use Rattle.pcrf_model.specs.Sessions.{Session, Gx, gx}
 use Rattle.pcrf_model.specs.Tables.{Tables}
 use Rattle.pcrf_model.specs.Views.{View, view, value}
-use Rattle.session_index.specs.Index.{IndexValue, Covers, listed_at}
+use Rattle.session_index.specs.Index.{IndexValue, Covers, listed_at, listed_in}
+use Rattle.session_index.specs.Networks.{all_networks, network_of, spans_networks}
 use Rattle.kept_rules.specs.Kept.{RulesValue, kept_at, AreKept}
-use Rattle.waiting_sessions.specs.Waits.{WaitingValue, DueWait}
+use Rattle.waiting_sessions.specs.Waits.{WaitingValue, DueWait, Keeps, WaitsIfDue}
 use Rattle.waiting_aborts.specs.Abandoned.{AbandonedWait}
 use Rattle.indexed_state.specs.declared.reached.Reached.{Reached}
 
@@ -44,20 +46,51 @@ address_value a = Address (ipv4_octets a)
 abbrev pub IsAddressOf : View → Session → Option Ipv4Addr → Type 0
 IsAddressOf v s a = option_map address_value a ≡ value v s address
 
+-- it is what the session shows as its prefix
+abbrev pub IsPrefixOf : View → Session → Option Ipv6Prefix → Type 0
+IsPrefixOf v s p = option_map Prefix p ≡ value v s prefix
+
 -- where the user of the session is reached is what it shows
 pub record IsReached (v : View) (s : Session) (r : Reached) : Type 0 where
   pub at_address : IsAddressOf v s r.address
-  pub at_prefix : r.by_prefix ≡ is_some (value v s prefix)
+  pub at_prefix : IsPrefixOf v s r.prefix
 
 -- no list of rules is kept, and all sessions wait
 pub record Unsettled (lists : RulesValue) (w : WaitingValue) : Type 0 where
   pub stale : (id : List ℕ) → kept_at lists id ≡ None
   pub waits : w.all ≡ true
 
--- the lists of rules are stale of the gateways' sessions that are listed under the address, and no list is another
+-- there is a prefix, and it spans networks
+abbrev pub spans : Option Ipv6Prefix → Bool
+spans None = false
+spans (Some p) = spans_networks p
+
+-- the gateway's session is listed under the address, or under the network of the prefix, or with those that span networks where there is a prefix
+abbrev pub IsNear : IndexValue → Reached → List ℕ → Type 0
+IsNear index r id =
+    ((a : Ipv4Addr) × (r.address ≡ Some a) × In id (listed_at index Gx a))
+    ⊎ ((p : Ipv6Prefix) × (r.prefix ≡ Some p) × (In id (listed_in index Gx (network_of p)) ⊎ In id (listed_in index Gx all_networks)))
+
+-- no list of rules is another, and those of the gateways' sessions that are listed under the address are stale
 pub record TouchesAt (before after : RulesValue) (index : IndexValue) (at : Option Ipv4Addr) : Type 0 where
   pub gone : (a : Ipv4Addr) → at ≡ Some a → (id : List ℕ) → In id (listed_at index Gx a) → kept_at after id ≡ None
   pub same : (id : List ℕ) (rs : List RuleValue) → kept_at after id ≡ Some rs → kept_at before id ≡ Some rs
+
+-- so are those of the sessions of the prefix's network, and of those that span networks
+pub record TouchesBy (before after : RulesValue) (index : IndexValue) (by : Option Ipv6Prefix) : Type 0 where
+  pub gone : (p : Ipv6Prefix) → by ≡ Some p → (id : List ℕ) → In id (listed_in index Gx (network_of p)) ⊎ In id (listed_in index Gx all_networks) → kept_at after id ≡ None
+  pub same : (id : List ℕ) (rs : List RuleValue) → kept_at after id ≡ Some rs → kept_at before id ≡ Some rs
+
+-- these wait too
+pub record WaitsBy (v : View) (index : IndexValue) (w : WaitingValue) (by : Option Ipv6Prefix) : Type 0 where
+  pub each : (p : Ipv6Prefix) → by ≡ Some p → (id : List ℕ) → In id (listed_in index Gx (network_of p)) ⊎ In id (listed_in index Gx all_networks) → WaitsIfDue v w (gx id)
+
+-- the lists of rules of those that are near are stale, and they wait; no list is another, and who waited waits
+pub record IsUnsettled (v : View) (index : IndexValue) (r : Reached) (before after : RulesValue) (u w : WaitingValue) : Type 0 where
+  pub gone : (id : List ℕ) → IsNear index r id → kept_at after id ≡ None
+  pub same : (id : List ℕ) (rs : List RuleValue) → kept_at after id ≡ Some rs → kept_at before id ≡ Some rs
+  pub keeps : Keeps u w
+  pub waits : (id : List ℕ) → IsNear index r id → WaitsIfDue v w (gx id)
 
 -- the fact tells a gateway something of a rule
 abbrev pub tells : Fact → Bool

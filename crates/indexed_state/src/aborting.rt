@@ -4,20 +4,24 @@ ghost use Rattle.std.specs.Option.{option_copied};
 ghost use Rattle.pcrf_model.specs.Aborting.{abandoned_session, abort_of};
 ghost use Rattle.pcrf_model.specs.Sessions.{is_gx};
 ghost use Rattle.pcrf_model.specs.Views.{view};
+ghost use Rattle.pcrf_values.specs.Prefixes.{Ipv6Prefix};
+ghost use Rattle.session_index.specs.Networks.{network_of};
+ghost use Rattle.indexed_state.specs.Indexed.{spans};
 ghost use Rattle.rx_profile.specs.Aborts.{abort_view};
 ghost use Rattle.site_join.specs.States.{session_of};
 ghost use Rattle.waiting_sessions.specs.Waits.{Keeps, WaitsIfDue};
-ghost use Rattle.waiting_aborts.specs.Abandoned.{ListedCallsWait};
+ghost use Rattle.waiting_aborts.specs.Abandoned.{ListedCallsWait, NetworkCallsWait};
 
 use crate::indexed::{IndexedState, name_of, wait_for};
 use crate::reached::Reached;
+use crate::unsettling::spans;
 use crate::whole::make_whole;
 use pcrf_values::DiameterIdentity;
 use rx_profile::AbortOut;
-use session_index::Index;
+use session_index::{Index, network_of};
 use site_join::{SessionFacts, State};
 use std::alloc::{AllocError, Global};
-use waiting_aborts::{WaitingCalls, first_abort, gather, next_abort, wait_at, wait_one};
+use waiting_aborts::{WaitingCalls, first_abort, gather, next_abort, wait_at, wait_in, wait_one};
 
 impl IndexedState {
     /// The abort that a site has to ask for: of the live sessions of application functions that say who their client is, are
@@ -83,14 +87,17 @@ pub(crate) fn wait_calls(
     index: &Index,
     aborts: &mut WaitingCalls,
     facts: &SessionFacts,
-    before: Reached,
+    before: &Reached,
 )
     ensures keeps { Keeps aborts.old aborts.new }
     ensures own { is_gx (session_of facts.now).kind ≡ false
         → WaitsIfDue (view state.now.facts) aborts.new (session_of facts.now) }
     ensures near { is_gx (session_of facts.now).kind ≡ true
-        → ListedCallsWait (view state.now.facts) index.now aborts.new before.address }
-    ensures all { is_gx (session_of facts.now).kind ≡ true → before.by_prefix ≡ true
+        → ListedCallsWait (view state.now.facts) index.now aborts.new before.now.address }
+    ensures near_by { is_gx (session_of facts.now).kind ≡ true
+        → (p : Ipv6Prefix) → before.now.prefix ≡ Some p
+        → NetworkCallsWait (view state.now.facts) index.now aborts.new (network_of p) }
+    ensures all { is_gx (session_of facts.now).kind ≡ true → spans before.now.prefix ≡ true
         → aborts.new.all ≡ true }
 {
     match facts {
@@ -99,22 +106,28 @@ pub(crate) fn wait_calls(
     }
 }
 
-/// Has those calls wait that may lose a gateway's session that was reached so: those listed under its address, and all where it
-/// showed a prefix.
+/// Has those calls wait that may lose a gateway's session that was reached so: those listed under its address and under the
+/// network of its prefix, and all where that spans networks.
 pub(crate) fn wait_lost(
     alloc: Global,
     state: &State,
     index: &Index,
     aborts: &mut WaitingCalls,
-    before: Reached,
+    before: &Reached,
 )
     ensures keeps { Keeps aborts.old aborts.new }
-    ensures near { ListedCallsWait (view state.now.facts) index.now aborts.new before.address }
-    ensures all { before.by_prefix ≡ true → aborts.new.all ≡ true }
+    ensures near { ListedCallsWait (view state.now.facts) index.now aborts.new before.now.address }
+    ensures near_by { (p : Ipv6Prefix) → before.now.prefix ≡ Some p
+        → NetworkCallsWait (view state.now.facts) index.now aborts.new (network_of p) }
+    ensures all { spans before.now.prefix ≡ true → aborts.new.all ≡ true }
 {
-    if before.by_prefix {
+    if spans(before.prefix) {
         *aborts = WaitingCalls::start(alloc);
         return;
     }
     wait_at(state, index, aborts, before.address);
+    let Some(prefix) = before.prefix else {
+        return;
+    };
+    wait_in(state, index, aborts, &network_of(&prefix));
 }

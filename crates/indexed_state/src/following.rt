@@ -13,7 +13,7 @@ ghost use Rattle.indexed_state.specs.Indexed.{Agree, Unsettled};
 use crate::aborting::wait_lost;
 use crate::forgetting::{forget_gateway, forget_stood};
 use crate::reached::gateway_reached_in;
-use crate::unsettling::{unsettle, unsettle_all, wait_gateway};
+use crate::unsettling::{unsettle_all, unsettle_gateway, wait_gateway};
 use gx_records::GxRec;
 use kept_rules::Rules;
 use pcrf_values::GxSid;
@@ -53,9 +53,9 @@ pub(crate) fn follow(
     let before = gateway_reached_in(stood.as_ref());
     let after = gateway_reached_in(known);
     wait_gateway(state, waiting, id, after.address);
-    unsettle(alloc, state, index, rules, waiting, before, after);
-    wait_lost(alloc, state, index, aborts, before);
-    forget_gateway(index, id, before.address, after.address);
+    unsettle_gateway(alloc, state, index, rules, waiting, &before, &after);
+    wait_lost(alloc, state, index, aborts, &before);
+    forget_gateway(index, id, &before, &after);
     forget_stood(index, id, stood.as_ref(), known);
 }
 

@@ -6,30 +6,32 @@ ghost use Rattle.std.specs.Option.{option_copied};
 ghost use Rattle.pcrf_model.specs.Holdings.{SessionFact, facts_on};
 ghost use Rattle.pcrf_model.specs.Sessions.{gx, af};
 ghost use Rattle.pcrf_model.specs.Views.{View, view};
+ghost use Rattle.pcrf_values.specs.Prefixes.{Ipv6Prefix as PrefixValue};
 ghost use Rattle.session_index.specs.Index.{Covers};
 ghost use Rattle.site_join.specs.States.{record_facts, session_of};
-ghost use Rattle.indexed_state.specs.Indexed.{IsAddressOf};
+ghost use Rattle.session_index.specs.Networks.{network_of};
+ghost use Rattle.indexed_state.specs.Indexed.{IsAddressOf, IsPrefixOf, IsReached};
 
-use crate::reached::{address_in, call_address_in};
+use crate::reached::{Reached, address_in, call_address_in, call_prefix_in, prefix_in};
 use af_records::{AfFact, AfRec};
 use fact_records::SessionValue;
 use gx_records::{GxFact, GxRec};
-use pcrf_values::{AfSid, GxSid, Subscriber};
+use pcrf_values::{AfSid, GxSid, Ipv6Prefix, Subscriber};
 use ranked::Ranked;
-use session_index::Index;
+use session_index::{Index, network_of};
 use site_join::{SessionFacts, State};
 use std::alloc::{AllocError, Global};
 use std::net::Ipv4Addr;
 
-/// Takes the session of these facts out from under the address that it showed, where it shows it no longer: the session is
-/// ended, or moved to another address.
+/// Takes the session of these facts out from under the address and the network that it showed, where it shows these no longer:
+/// the session is ended, or moved to others.
 pub(crate) fn forget_moved(
     index: &mut Index,
     facts: &SessionFacts,
-    before: Option<Ipv4Addr>,
-    after: Option<Ipv4Addr>,
+    before: &Reached,
+    after: &Reached,
 )
-    ensures { (v : View) → IsAddressOf v (session_of facts.now) after
+    ensures { (v : View) → IsReached v (session_of facts.now) after.now
         → Covers v index.old → Covers v index.new }
 {
     match facts {
@@ -39,7 +41,16 @@ pub(crate) fn forget_moved(
 }
 
 /// So with a gateway's session.
-pub(crate) fn forget_gateway(
+pub(crate) fn forget_gateway(index: &mut Index, id: &GxSid, before: &Reached, after: &Reached)
+    ensures { (v : View) → IsReached v (gx id.now) after.now
+        → Covers v index.old → Covers v index.new }
+{
+    forget_gateway_at(index, id, before.address, after.address);
+    forget_gateway_by(index, id, before.prefix, after.prefix);
+}
+
+/// Takes a gateway's session out from under an address that it shows no longer.
+fn forget_gateway_at(
     index: &mut Index,
     id: &GxSid,
     before: Option<Ipv4Addr>,
@@ -57,13 +68,37 @@ pub(crate) fn forget_gateway(
     index.forget_gateway_at(address, id);
 }
 
-/// And with an application function's.
-pub(crate) fn forget_call(
+/// And out from under the network of a prefix that it shows no longer.
+fn forget_gateway_by(
     index: &mut Index,
-    id: &AfSid,
-    before: Option<Ipv4Addr>,
-    after: Option<Ipv4Addr>,
+    id: &GxSid,
+    before: Option<Ipv6Prefix>,
+    after: Option<Ipv6Prefix>,
 )
+    ensures { (v : View) → IsPrefixOf v (gx id.now) after
+        → Covers v index.old → Covers v index.new }
+{
+    let Some(prefix) = before else {
+        return;
+    };
+    let network = network_of(&prefix);
+    if is_in(after, &network) {
+        return;
+    }
+    index.forget_gateway_in(&network, id);
+}
+
+/// And with an application function's.
+pub(crate) fn forget_call(index: &mut Index, id: &AfSid, before: &Reached, after: &Reached)
+    ensures { (v : View) → IsReached v (af id.now) after.now
+        → Covers v index.old → Covers v index.new }
+{
+    forget_call_at(index, id, before.address, after.address);
+    forget_call_by(index, id, before.prefix, after.prefix);
+}
+
+/// Takes an application function's session out from under an address that it shows no longer.
+fn forget_call_at(index: &mut Index, id: &AfSid, before: Option<Ipv4Addr>, after: Option<Ipv4Addr>)
     ensures { (v : View) → IsAddressOf v (af id.now) after
         → Covers v index.old → Covers v index.new }
 {
@@ -74,6 +109,36 @@ pub(crate) fn forget_call(
         return;
     }
     index.forget_call_at(address, id);
+}
+
+/// And out from under the network of a prefix that it shows no longer.
+fn forget_call_by(
+    index: &mut Index,
+    id: &AfSid,
+    before: Option<Ipv6Prefix>,
+    after: Option<Ipv6Prefix>,
+)
+    ensures { (v : View) → IsPrefixOf v (af id.now) after
+        → Covers v index.old → Covers v index.new }
+{
+    let Some(prefix) = before else {
+        return;
+    };
+    let network = network_of(&prefix);
+    if is_in(after, &network) {
+        return;
+    }
+    index.forget_call_in(&network, id);
+}
+
+/// The prefix that is shown is of this network.
+fn is_in(shown: Option<Ipv6Prefix>, network: &Ipv6Prefix) -> bool
+    ensures { (p : PrefixValue) → shown ≡ Some p → network_of p ≡ network.now → result ≡ true }
+{
+    match shown {
+        Some(prefix) => network_of(&prefix).cmp(network).is_eq(),
+        None => false,
+    }
 }
 
 /// The address that is shown is this one.
@@ -122,24 +187,14 @@ fn subscribers_in(alloc: Global, known: Option<&GxRec>) -> Result<Vec<Subscriber
     Subscriber::try_copy_slice(alloc, subscribers.as_slice())
 }
 
-/// Takes a gateway's session out of those that were given a prefix, if the record that is known now shows none, and out from
-/// under the subscribers that the one that stood shows and this one doesn't.
+/// Takes a gateway's session out from under the subscribers that the record that stood shows and the one that is known now
+/// doesn't.
 pub(crate) fn forget_stood(
     index: &mut Index,
     id: &GxSid,
     stood: Option<&GxRec>,
     known: Option<&GxRec>,
 )
-    ensures { (facts : List SessionFact)
-        → record_facts (option_copied known.entry) ≡ facts_on facts (gx id.now)
-        → Covers (view facts) index.old → Covers (view facts) index.new }
-{
-    index.forget_gateway_prefix(id, known);
-    forget_subscribers(index, id, stood, known);
-}
-
-/// Takes it out from under these subscribers.
-fn forget_subscribers(index: &mut Index, id: &GxSid, stood: Option<&GxRec>, known: Option<&GxRec>)
     ensures { (facts : List SessionFact)
         → record_facts (option_copied known.entry) ≡ facts_on facts (gx id.now)
         → Covers (view facts) index.old → Covers (view facts) index.new }
@@ -153,8 +208,8 @@ fn forget_subscribers(index: &mut Index, id: &GxSid, stood: Option<&GxRec>, know
     index.forget_unshown(id, subscribers.as_slice(), known);
 }
 
-/// Takes the session of these facts out from under what they give it, from under these subscribers, and out of those that were
-/// given a prefix, where the state doesn't show that of it.
+/// Takes the session of these facts out from under what they give it and from under these subscribers, where the state doesn't
+/// show that of it.
 pub(crate) fn forget_given(
     index: &mut Index,
     state: &State,
@@ -167,12 +222,10 @@ pub(crate) fn forget_given(
         SessionFacts::Gx(id, facts) => {
             let known = state.gx(id);
             index.forget_unshown(id, subscribers, known);
-            index.forget_gateway_prefix(id, known);
             forget_given_gateway(index, id, facts.as_slice(), known);
         }
         SessionFacts::Af(id, facts) => {
             let known = state.af(id);
-            index.forget_call_prefix(id, known);
             forget_given_call(index, id, facts.as_slice(), known);
         }
     }
@@ -197,7 +250,10 @@ fn forget_gateway_fact(index: &mut Index, id: &GxSid, fact: &GxFact, known: Opti
 {
     match fact {
         GxFact::Field(_, SessionValue::Address(address)) => {
-            forget_gateway(index, id, Some(*address), address_in(known));
+            forget_gateway_at(index, id, Some(*address), address_in(known));
+        }
+        GxFact::Field(_, SessionValue::Prefix(prefix)) => {
+            forget_gateway_by(index, id, Some(*prefix), prefix_in(known));
         }
         GxFact::Field(_, SessionValue::Subscribers(subscribers)) => {
             index.forget_unshown(id, subscribers.as_slice(), known);
@@ -225,7 +281,10 @@ fn forget_call_fact(index: &mut Index, id: &AfSid, fact: &AfFact, known: Option<
 {
     match fact {
         AfFact::Session(_, SessionValue::Address(address)) => {
-            forget_call(index, id, Some(*address), call_address_in(known));
+            forget_call_at(index, id, Some(*address), call_address_in(known));
+        }
+        AfFact::Session(_, SessionValue::Prefix(prefix)) => {
+            forget_call_by(index, id, Some(*prefix), call_prefix_in(known));
         }
         _ => {}
     }

@@ -128,8 +128,9 @@ impl IndexedState {
     }
 
     /// Takes an operation, wherever it was made, once or again; a refusal changes nothing. Its time grows with the number of
-    /// gateways' sessions that are listed under the addresses that the operation's session shows before and after. If it shows a
-    /// prefix before or after, all rules are derived anew when they are next asked for, and all sessions wait.
+    /// gateways' sessions that are listed under the addresses and the networks of the prefixes that the operation's session
+    /// shows before and after, and where it shows a prefix of those whose prefix has fewer than 64 bits. If it is of a gateway
+    /// and shows such a prefix, all rules are derived anew when they are next asked for, and all sessions wait.
     pub fn take(&mut self, operation: &Operation) -> Result<(), AllocError>
         ensures ok { OnOk result (self.new ≡ with_holding self.old
             (kept_of (with_operation self.old.holding operation.now))) }
@@ -150,8 +151,9 @@ impl IndexedState {
             &self.index,
             &mut self.rules,
             &mut self.waiting,
-            before,
-            after,
+            facts,
+            &before,
+            &after,
         );
         wait_calls(
             self.alloc,
@@ -159,9 +161,9 @@ impl IndexedState {
             &self.index,
             &mut self.aborts,
             facts,
-            before,
+            &before,
         );
-        forget_moved(&mut self.index, facts, before.address, after.address);
+        forget_moved(&mut self.index, facts, &before, &after);
         forget_given(&mut self.index, &self.state, facts, shown.as_slice());
         Ok(())
     }
@@ -217,8 +219,8 @@ impl IndexedState {
     }
 
     /// The gateway's session to which an application function's session is bound, `None` where it is bound to none (TS 29.213,
-    /// 5.2). Its time grows with the number of gateways' sessions that are listed under its address, or of those that were given
-    /// a prefix where it shows a prefix alone.
+    /// 5.2). Its time grows with the number of gateways' sessions that are listed under its address, or where it shows a prefix
+    /// alone of those whose prefix is of its network or has fewer than 64 bits.
     pub fn bind(&self, session: &AfSid) -> Option<&GxSid>
         ensures { option_map gx (option_copied result)
             ≡ bind (view self.now.holding.facts) (af session.now) }

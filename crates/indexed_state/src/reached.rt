@@ -1,16 +1,15 @@
 //! Where sessions show that their users are reached: at an address, by a prefix, or by both.
-ghost use Rattle.std.specs.Prelude.{◌≡◌, ℕ, List, is_some};
+ghost use Rattle.std.specs.Prelude.{◌≡◌, ℕ, List};
 ghost use Rattle.std.specs.Option.{option_copied};
-ghost use Rattle.pcrf_facts.specs.Places as places;
 ghost use Rattle.pcrf_model.specs.Holdings.{SessionFact, facts_on};
 ghost use Rattle.pcrf_model.specs.Sessions.{gx, af};
-ghost use Rattle.pcrf_model.specs.Views.{value, view};
+ghost use Rattle.pcrf_model.specs.Views.{view};
 ghost use Rattle.site_join.specs.States.{record_facts, session_of};
-ghost use Rattle.indexed_state.specs.Indexed.{IsAddressOf, IsReached};
+ghost use Rattle.indexed_state.specs.Indexed.{IsAddressOf, IsPrefixOf, IsReached};
 
 use af_records::AfRec;
 use gx_records::GxRec;
-use pcrf_values::{AfSid, GxSid};
+use pcrf_values::{AfSid, GxSid, Ipv6Prefix};
 use site_join::{SessionFacts, State};
 use std::net::Ipv4Addr;
 
@@ -19,8 +18,8 @@ use std::net::Ipv4Addr;
 pub(crate) struct Reached {
     /// The address that the session shows, if it shows one.
     pub(crate) address: Option<Ipv4Addr>,
-    /// It shows a prefix.
-    pub(crate) by_prefix: bool,
+    /// The prefix that it shows, if it shows one.
+    pub(crate) prefix: Option<Ipv6Prefix>,
 }
 
 /// Where the user of the session of these facts is reached.
@@ -48,7 +47,7 @@ pub(crate) fn gateway_reached_in(known: Option<&GxRec>) -> Reached
 {
     Reached {
         address: address_in(known),
-        by_prefix: shows_prefix(known),
+        prefix: prefix_in(known),
     }
 }
 
@@ -67,16 +66,19 @@ pub(crate) fn address_in(known: Option<&GxRec>) -> Option<Ipv4Addr>
     Some(*address)
 }
 
-/// Whether it shows a prefix.
-fn shows_prefix(known: Option<&GxRec>) -> bool
+/// The prefix that a gateway's session of this record shows, none where there is no record.
+pub(crate) fn prefix_in(known: Option<&GxRec>) -> Option<Ipv6Prefix>
     ensures { (facts : List SessionFact) (id : List ℕ)
         → record_facts (option_copied known.entry) ≡ facts_on facts (gx id)
-        → result ≡ is_some (value (view facts) (gx id) places.prefix) }
+        → IsPrefixOf (view facts) (gx id) result }
 {
     let Some(known) = known else {
-        return false;
+        return None;
     };
-    known.prefix().is_some()
+    let Some((_, prefix)) = known.prefix() else {
+        return None;
+    };
+    Some(*prefix)
 }
 
 /// Where the user of an application function's session is reached.
@@ -94,7 +96,7 @@ pub(crate) fn call_reached_in(known: Option<&AfRec>) -> Reached
 {
     Reached {
         address: call_address_in(known),
-        by_prefix: call_shows_prefix(known),
+        prefix: call_prefix_in(known),
     }
 }
 
@@ -113,14 +115,17 @@ pub(crate) fn call_address_in(known: Option<&AfRec>) -> Option<Ipv4Addr>
     Some(*address)
 }
 
-/// Whether it shows a prefix.
-fn call_shows_prefix(known: Option<&AfRec>) -> bool
+/// The prefix that an application function's session of this record shows, none where there is no record.
+pub(crate) fn call_prefix_in(known: Option<&AfRec>) -> Option<Ipv6Prefix>
     ensures { (facts : List SessionFact) (id : List ℕ)
         → record_facts (option_copied known.entry) ≡ facts_on facts (af id)
-        → result ≡ is_some (value (view facts) (af id) places.prefix) }
+        → IsPrefixOf (view facts) (af id) result }
 {
     let Some(known) = known else {
-        return false;
+        return None;
     };
-    known.prefix().is_some()
+    let Some((_, prefix)) = known.prefix() else {
+        return None;
+    };
+    Some(*prefix)
 }

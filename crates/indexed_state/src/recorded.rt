@@ -10,7 +10,7 @@ use crate::aborting::wait_lost;
 use crate::forgetting::{forget_call, forget_gateway, forget_stood};
 use crate::indexed::IndexedState;
 use crate::reached::{call_reached_in, gateway_reached_in};
-use crate::unsettling::{unsettle, wait_gateway};
+use crate::unsettling::{unsettle_both, unsettle_gateway, wait_gateway};
 use crate::whole::make_whole;
 use af_records::AfRec;
 use gx_records::GxRec;
@@ -48,23 +48,23 @@ impl IndexedState {
         let stood = self.state.put_gx(id, Some(known), clock)?;
         let before = gateway_reached_in(stood.as_ref());
         wait_gateway(&self.state, &mut self.waiting, id, after.address);
-        unsettle(
+        unsettle_gateway(
             self.alloc,
             &self.state,
             &self.index,
             &mut self.rules,
             &mut self.waiting,
-            before,
-            after,
+            &before,
+            &after,
         );
         wait_lost(
             self.alloc,
             &self.state,
             &self.index,
             &mut self.aborts,
-            before,
+            &before,
         );
-        forget_gateway(&mut self.index, id, before.address, after.address);
+        forget_gateway(&mut self.index, id, &before, &after);
         forget_stood(&mut self.index, id, stood.as_ref(), self.state.gx(id));
         Ok(())
     }
@@ -117,18 +117,16 @@ impl IndexedState {
         let clock = self.state.clock().max(operation.counter());
         let stood = self.state.put_af(id, Some(known), clock)?;
         let before = call_reached_in(stood.as_ref());
-        unsettle(
-            self.alloc,
+        unsettle_both(
             &self.state,
             &self.index,
             &mut self.rules,
             &mut self.waiting,
-            before,
-            after,
+            &before,
+            &after,
         );
         wait_call(&self.state, &mut self.aborts, id);
-        forget_call(&mut self.index, id, before.address, after.address);
-        self.index.forget_call_prefix(id, self.state.af(id));
+        forget_call(&mut self.index, id, &before, &after);
         Ok(())
     }
 }

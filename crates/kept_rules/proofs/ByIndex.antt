@@ -3,6 +3,8 @@ use Rattle.std.proofs.Common.{◌≡◌, ℕ, Bool, true, false, cond, not, List
 use Rattle.std.proofs.lemmas.Grind.{flat_map-append}
 use Rattle.std.proofs.lemmas.List.{map-append, append_assoc, append-nil}
 use Rattle.std.specs.Net.Addr.{ipv4_octets}
+use Rattle.std.specs.BTreeMap.{is_at}
+use Rattle.std.specs.Map.{lookup}
 use Rattle.std.specs.Ordering.{is_eq}
 use Rattle.std.specs.declared.net.ipv4_addr.Ipv4Addr.{Ipv4Addr}
 use Rattle.ranked.specs.Sets.{In}
@@ -10,12 +12,13 @@ use Rattle.ranked.specs.declared.tag.Tag.{Tag}
 use Rattle.ranked.proofs.OrderLaws.{eq_is}
 use Rattle.ranked.proofs.Plain.{clash, none_some, some_same}
 use Rattle.ranked.proofs.SetLaws.{In-cases, In-filter, In-left, In-map, In-right, map-In}
+use Rattle.pcrf_values.specs.Prefixes.{Ipv6Prefix, covers, prefix_cmp}
 use Rattle.pcrf_values.specs.RuleValues.{RuleValue}
 use Rattle.pcrf_facts.specs.Facts.{Fact}
 use Rattle.pcrf_facts.specs.FlowWords.{flows}
 use Rattle.pcrf_facts.specs.Held.{entry_shown}
 use Rattle.pcrf_facts.specs.Places.{Place, address, prefix}
-use Rattle.pcrf_facts.specs.Values.{Value, Address, Entry}
+use Rattle.pcrf_facts.specs.Values.{Value, Address, Entry, Prefix}
 use Rattle.pcrf_model.specs.Bindings.{bind, is_bound_to, matches}
 use Rattle.pcrf_model.specs.Holdings.{SessionFact, facts_on}
 use Rattle.pcrf_model.specs.Sessions.{Af, Session, session_cmp, gx, af}
@@ -24,13 +27,16 @@ use Rattle.pcrf_model.specs.Views.{View, view, value}
 use Rattle.pcrf_model.proofs.BindLaws.{bind-greatest}
 use Rattle.pcrf_model.proofs.HoldingLaws.{session_ranked}
 use Rattle.pcrf_model.proofs.NeighbourLaws.{shows_a_prefix, shows_the_address}
-use Rattle.session_index.specs.Index.{IndexValue, Covers, listed_at, with_prefix}
+use Rattle.session_lists.specs.Lists.{ids_at, ids_or_none}
+use Rattle.session_index.specs.Index.{ByNetwork, IndexValue, Covers, listed_at, listed_in}
+use Rattle.session_index.specs.Networks.{network_of, spans_networks}
 use Rattle.session_index.proofs.Indexed.{prefixes_met}
+use Rattle.session_index.proofs.CoveredNetworks.{one_network}
 use Rattle.pcc_rules.specs.FlowsAlone.{AreLow, AreLowWhereBound, rules_of_flows, rules_of_sessions}
 use Rattle.pcc_rules.specs.Listed.{AddsCalled, AddsRules, record_of, records_of}
 use Rattle.pcc_rules.specs.Listing.{keyed}
 use Rattle.pcc_rules.proofs.SoFar.{Keyed, SessionsSoFar}
-use Rattle.kept_rules.specs.Calls.{AddsBound, has_address, without_address}
+use Rattle.kept_rules.specs.Calls.{AddsBound, all_ids, has_address, without_address}
 
 -- ---- session by session
 
@@ -77,7 +83,15 @@ module _ (t : Tables) (v : View) (s : Session) where
     low = both_low es ds h.low k.low;
   }
 
-  -- and after those of one the rules go on with those of the others
+  -- and after those of some the rules go on with those of the others
+  pub some_added : (all_before before now : Keyed) (es ds all : List (List ℕ × List Fact)) → AddsRules t v s before now es
+      → SessionsSoFar t v s all_before before (es ++ ds) all → SessionsSoFar t v s all_before now ds all
+  some_added all_before before now es ds all some h = record {
+    items = ap (λ (xs : Keyed). xs ++ map keyed (rules_of_sessions t v s ds)) some.items ∙ both_items es ds before ∙ h.items;
+    low = λ l. h.low (both_low es ds some.low l);
+  }
+
+  -- so after those of one
   pub next_added : (all_before before now : Keyed) (e : List ℕ × List Fact) (es all : List (List ℕ × List Fact)) → AddsRules t v s before now (e ∷ [])
       → SessionsSoFar t v s all_before before (e ∷ es) all → SessionsSoFar t v s all_before now es all
   next_added all_before before now e es all one h = record {
@@ -105,6 +119,38 @@ module _ (t : Tables) (facts : List SessionFact) (s : Session) (all_before befor
   unaddressed_next a one h =
       next_added t (view facts) s all_before before now (record_of facts id) (records_of facts (without_address facts ids)) (records_of facts all) one
       (subst (λ (b : Bool). SessionsSoFar t (view facts) s all_before before (records_of facts (cond (not b) (id ∷ without_address facts ids) (without_address facts ids))) (records_of facts all)) a h)
+
+-- the calls without an address among some and among others are those among both
+unaddressed_both : (facts : List SessionFact) (xs ys : List (List ℕ)) → without_address facts (xs ++ ys) ≡ without_address facts xs ++ without_address facts ys
+unaddressed_both facts [] ys = refl
+unaddressed_both facts (x ∷ xs) ys = by (has_address facts x) (unaddressed_both facts xs ys)
+  where
+    by : (b : Bool) → without_address facts (xs ++ ys) ≡ without_address facts xs ++ without_address facts ys
+        → cond (not b) (x ∷ without_address facts (xs ++ ys)) (without_address facts (xs ++ ys))
+        ≡ cond (not b) (x ∷ without_address facts xs) (without_address facts xs) ++ without_address facts ys
+    by true rest = rest
+    by false rest = ap (λ (l : List (List ℕ)). x ∷ l) rest
+
+-- after the calls of one more network the rules go on with those of the others
+pub network_added : (t : Tables) (facts : List SessionFact) (s : Session) (all_before before now : Keyed) (ids left all : List (List ℕ))
+    → AddsRules t (view facts) s before now (records_of facts (without_address facts ids))
+    → SessionsSoFar t (view facts) s all_before before (records_of facts (without_address facts (ids ++ left))) (records_of facts all)
+    → SessionsSoFar t (view facts) s all_before now (records_of facts (without_address facts left)) (records_of facts all)
+network_added t facts s all_before before now ids left all one h =
+    some_added t (view facts) s all_before before now (records_of facts (without_address facts ids)) (records_of facts (without_address facts left)) (records_of facts all) one
+    (subst (λ (es : List (List ℕ × List Fact)). SessionsSoFar t (view facts) s all_before before es (records_of facts all))
+    (ap (records_of facts) (unaddressed_both facts ids left) ∙ map-append (record_of facts) (without_address facts ids) (without_address facts left)) h)
+
+-- ---- networks
+
+-- what is listed under a network is among those of all
+in_all : (lists : ByNetwork) (n : Ipv6Prefix) (id : List ℕ) → In id (ids_at prefix_cmp lists n) → In id (all_ids lists)
+in_all [] n id m = absurd m
+in_all (e ∷ es) n id m = by (is_eq (prefix_cmp n e.0)) (in_all es n id) m
+  where
+    by : (b : Bool) → (In id (ids_at prefix_cmp es n) → In id (all_ids es)) → In id (ids_or_none (cond b (Some e.1) (lookup (is_at (prefix_cmp n)) es))) → In id (e.1 ++ all_ids es)
+    by true rest k = In-left id e.1 (all_ids es) k
+    by false rest k = In-right id e.1 (all_ids es) (rest k)
 
 -- ---- sessions that are bound
 
@@ -221,22 +267,47 @@ module _ (t : Tables) (facts : List SessionFact) (id : List ℕ) (known : List F
       pub none_listed : (found : Keyed) → [] ≡ listed_at i Af at → AddsBound true t facts (gx id) found found
       none_listed found none = listed_added [] found found none (none_added t v (gx id) found)
 
-    -- a call that is bound and shows no address is listed with those that were given a prefix
-    listed_with_prefix : (a : List ℕ) → is_bound_to v (gx id) (af a) ≡ true → has_address facts a ≡ false → In a (with_prefix i Af)
-    listed_with_prefix a b h = let w = prefixes_met v (af a) (gx id) (bound_fits a b) (call_shows_none a h) in all.prefixes (af a) w.asked w.asks
-
-    -- so the rules of those of them that show no address are the rules of all such
-    pub prefixed_added : (ids : List (List ℕ)) (before now : Keyed) → ids ≡ with_prefix i Af → AddsRules t v (gx id) before now (records_of facts (without_address facts ids))
-        → AddsBound false t facts (gx id) before now
-    prefixed_added ids before now are h = record {
+    -- the rules of those of some calls that show no address are those of all such, where all that are bound are among them
+    pub unaddressed_added : (ids : List (List ℕ)) (before now : Keyed) → ((a : List ℕ) → is_bound_to v (gx id) (af a) ≡ true → has_address facts a ≡ false → In a ids)
+        → AddsRules t v (gx id) before now (records_of facts (without_address facts ids)) → AddsBound false t facts (gx id) before now
+    unaddressed_added ids before now are h = record {
       among = records_of facts (without_address facts ids);
       own = own_records (without_address facts ids);
       has = λ a b e.
-          In-map (record_of facts) a (without_address facts ids)
-          (In-filter (λ (x : List ℕ). not (has_address facts x)) a ids (subst (λ (l : List (List ℕ)). In a l) (sym are) (listed_with_prefix a b e)) (ap not e));
+          In-map (record_of facts) a (without_address facts ids) (In-filter (λ (x : List ℕ). not (has_address facts x)) a ids (are a b e) (ap not e));
       adds = h;
     }
 
-    -- none where there are none
-    pub none_prefixed : (found : Keyed) → [] ≡ with_prefix i Af → AddsBound false t facts (gx id) found found
-    none_prefixed found none = prefixed_added [] found found none (none_added t v (gx id) found)
+    -- a call that is bound and shows no address is listed under a network
+    in_networks : (a : List ℕ) → is_bound_to v (gx id) (af a) ≡ true → has_address facts a ≡ false → In a (all_ids i.call_networks)
+    in_networks a b h =
+        let w = prefixes_met v (af a) (gx id) (bound_fits a b) (call_shows_none a h) in
+        in_all i.call_networks (network_of w.asked) a (all.prefixes (af a) w.asked w.asks)
+
+    -- so the rules of those of all networks are the rules of all such
+    pub all_networks_added : (before now : Keyed) → AddsRules t v (gx id) before now (records_of facts (without_address facts (all_ids i.call_networks)))
+        → AddsBound false t facts (gx id) before now
+    all_networks_added before now h = unaddressed_added (all_ids i.call_networks) before now in_networks h
+
+    module _ (tag : Tag) (p : Ipv6Prefix) (shows : Some (tag, Prefix p) ≡ entry_shown known prefix) (one : spans_networks p ≡ false) where
+      -- where the session's prefix is of one network, it is listed under that
+      in_network : (a : List ℕ) → is_bound_to v (gx id) (af a) ≡ true → has_address facts a ≡ false → In a (listed_in i Af (network_of p))
+      in_network a b h =
+          let w = prefixes_met v (af a) (gx id) (bound_fits a b) (call_shows_none a h) in
+          let same : w.shown ≡ p = ap prefix_in (some_same (Prefix w.shown) (Prefix p) (sym w.shows ∙ sym (own_value prefix) ∙ sym (ap value_of shows))) in
+          let met : network_of p ≡ network_of w.asked = one_network p w.asked (subst (λ (q : Ipv6Prefix). covers q w.asked ≡ true) same w.covered) one in
+          subst (λ (n : Ipv6Prefix). In a (listed_in i Af n)) (sym met) (all.prefixes (af a) w.asked w.asks)
+        where
+          prefix_in : Value → Ipv6Prefix
+          prefix_in (Prefix q) = q
+          prefix_in x = (0, [])
+
+      -- so the rules of those that are listed there are the rules of all such
+      pub network_bound : (n : Ipv6Prefix) (ids : List (List ℕ)) (before now : Keyed) → n ≡ network_of p → ids ≡ listed_in i Af n
+          → AddsRules t v (gx id) before now (records_of facts (without_address facts ids)) → AddsBound false t facts (gx id) before now
+      network_bound n ids before now its_network are h = unaddressed_added ids before now
+          (λ a b e. subst (λ (l : List (List ℕ)). In a l) (sym (are ∙ ap (listed_in i Af) its_network)) (in_network a b e)) h
+
+      -- none where there are none
+      pub none_bound : (n : Ipv6Prefix) (found : Keyed) → n ≡ network_of p → [] ≡ listed_in i Af n → AddsBound false t facts (gx id) found found
+      none_bound n found its_network none = network_bound n [] found found its_network none (none_added t v (gx id) found)

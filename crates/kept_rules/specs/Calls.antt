@@ -1,5 +1,5 @@
 -- AF sessions by whether they show an address, and the rules of those that are bound.
-use Rattle.std.specs.Prelude.{◌≡◌, ℕ, Bool, true, not, List}
+use Rattle.std.specs.Prelude.{◌≡◌, ℕ, Bool, true, not, List, [], ◌∷◌, ◌++◌}
 use Rattle.std.specs.List.{filter}
 use Rattle.ranked.specs.Sets.{In}
 use Rattle.pcrf_values.specs.RuleValues.{RuleValue}
@@ -12,6 +12,7 @@ use Rattle.pcrf_model.specs.Holdings.{SessionFact, facts_on}
 use Rattle.pcrf_model.specs.Sessions.{Session, af}
 use Rattle.pcrf_model.specs.Tables.{Tables}
 use Rattle.pcrf_model.specs.Views.{view}
+use Rattle.session_index.specs.Index.{ByNetwork}
 use Rattle.site_join.specs.States.{Records}
 use Rattle.pcc_rules.specs.Listed.{AddsRules}
 
@@ -22,6 +23,11 @@ has_address facts id = shows_at (entry_shown (facts_on facts (af id))) address
 -- those of these AF sessions that show none
 abbrev pub without_address : List SessionFact → List (List ℕ) → List (List ℕ)
 without_address facts = filter (λ (id : List ℕ). not (has_address facts id))
+
+-- the sessions of all networks
+abbrev pub all_ids : ByNetwork → List (List ℕ)
+all_ids [] = []
+all_ids (e ∷ es) = e.1 ++ all_ids es
 
 -- To the rules that were found those of AF sessions are added that are bound to s: of all that show an address, or of all that show none.
 pub record AddsBound (by_address : Bool) (t : Tables) (facts : List SessionFact) (s : Session) (before after : List (ℕ × RuleValue)) : Type 0 where

@@ -12,21 +12,22 @@ ghost use Rattle.session_index.specs.Index.{Covers};
 ghost use Rattle.pcc_rules.specs.FlowsAlone.{AreLow, rules_of_flows};
 ghost use Rattle.pcc_rules.specs.Listing.{keyed};
 ghost use Rattle.pcc_rules.specs.Listed.{AddsCalled, AddsRules, records_of};
-ghost use Rattle.kept_rules.specs.Calls.{AddsBound, has_address, without_address};
+ghost use Rattle.kept_rules.specs.Calls.{AddsBound, all_ids, has_address, without_address};
 
 use gx_records::GxRec;
 use op_tables::Tables;
 use pcc_rules::{add_flows, in_order, operator_rules};
 use pcrf_values::{AfSid, GxSid, Rule};
-use session_index::Index;
+use session_index::{Index, network_of, spans_networks};
 use session_lists::SessionIds;
 use site_join::State;
 use std::alloc::{AllocError, Global};
 
 /// The PCC rules of a gateway's session as `derive` gives them, by an index that covers the state. Its time grows with the
 /// number of application functions' sessions that are listed under the session's address, times that of gateways' sessions
-/// listed there; and where the session has a prefix, with the number of application functions' sessions that were given one,
-/// and for those of them without an address times that of gateways' sessions that were given one.
+/// listed there; and where the session has a prefix, with the number of application functions' sessions that are listed under
+/// its network, or under all where it spans networks, and for those of them without an address times that of the gateways'
+/// sessions among which one is bound.
 pub fn derive_by(
     alloc: Global,
     tables: &Tables,
@@ -105,13 +106,36 @@ fn add_by_prefix(
         → Covers (view state.now.facts) index.now → AddsBound false tables.now
         state.now.facts (gx session.now) found.old.items found.new.items) }
 {
-    if gateway.prefix().is_none() {
+    let Some((_, prefix)) = gateway.prefix() else {
         return Ok(());
+    };
+    if spans_networks(prefix) {
+        return add_in_all(alloc, found, tables, state, index, session);
     }
-    let Some(calls) = index.calls_with_prefix() else {
+    let Some(calls) = index.calls_in(&network_of(prefix)) else {
         return Ok(());
     };
     add_unaddressed(alloc, found, tables, state, index, session, calls)
+}
+
+/// Adds the rules of those of all networks that show no address and are bound to the gateway's session.
+fn add_in_all(
+    alloc: Global,
+    found: &mut Vec<(u32, Rule)>,
+    tables: &Tables,
+    state: &State,
+    index: &Index,
+    session: &GxSid,
+) -> Result<(), AllocError>
+    ensures { OnOk result (Covers (view state.now.facts) index.now → AddsRules tables.now
+        (view state.now.facts) (gx session.now) found.old.items found.new.items
+        (records_of state.now.facts
+        (without_address state.now.facts (all_ids index.now.call_networks)))) }
+{
+    for (_, calls) in index.calls_by_network() {
+        add_unaddressed(alloc, found, tables, state, index, session, calls)?;
+    }
+    Ok(())
 }
 
 /// Adds the rules of those of the application functions' sessions that are bound to the gateway's session.

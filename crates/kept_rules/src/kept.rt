@@ -6,12 +6,12 @@ ghost use Rattle.pcrf_model.specs.Rules.{rules};
 ghost use Rattle.pcrf_model.specs.Sessions.{Gx, gx};
 ghost use Rattle.pcrf_model.specs.Views.{view};
 ghost use Rattle.ranked.specs.Orders.{text_cmp};
-ghost use Rattle.session_index.specs.Index.{Covers, listed_at};
+ghost use Rattle.session_index.specs.Index.{Covers, listed_at, listed_in};
 ghost use Rattle.kept_rules.specs.Kept.{AreKept, AreStale, kept_at};
 
 use crate::derivation::derive_by;
 use op_tables::Tables;
-use pcrf_values::{GxSid, Rule};
+use pcrf_values::{GxSid, Ipv6Prefix, Rule};
 use ranked::Ranked;
 use session_index::Index;
 use session_lists::SessionIds;
@@ -120,6 +120,17 @@ impl Rules {
         ensures { AreStale self.old self.new (listed_at index.now Gx address) }
     {
         let Some(sessions) = index.gateways_at(address) else {
+            return;
+        };
+        self.touch_each(sessions);
+    }
+
+    /// The rules of the gateways' sessions that are listed under a network are stale, and of no others. Its time grows with the
+    /// number of these.
+    pub fn touch_in(&mut self, index: &Index, network: &Ipv6Prefix)
+        ensures { AreStale self.old self.new (listed_in index.now Gx network.now) }
+    {
+        let Some(sessions) = index.gateways_in(network) else {
             return;
         };
         self.touch_each(sessions);

@@ -29,6 +29,7 @@ use Rattle.bind_index.specs.Listings.{Question, HasSubscriber, shows_asked, list
 use Rattle.session_lists.specs.Lists.{ids_at, without, without_id}
 use Rattle.session_index.specs.Forgetting.{SamePrefixed, ShowsAddress, ForgetsUnshown, shows_subscriber}
 use Rattle.session_index.specs.Index.{ByAddress, BySubscriber, IndexValue, Covers, address_cmp, asked_among, listed_at, listed_of}
+use Rattle.session_index.specs.Networks.{network_of}
 use Rattle.session_index.proofs.Forgotten.{among_or_not, left_out_once, prefixed_still, stays}
 
 -- ---- what is shown
@@ -195,7 +196,7 @@ pub unshown_forgotten : (i j : IndexValue) (id : List ℕ) (xs : List Subscriber
 unfolding view
 unshown_forgotten i j id xs facts f g c p h = record {
   addresses = λ s a e. at s.kind s.id a e;
-  prefixes = λ s q e. prefixed_still i j p s.kind s.id (h.prefixes s q e);
+  prefixes = λ s q e. prefixed_still i j p s.kind (network_of q) s.id (h.prefixes s q e);
   subscribed = λ n us x e m. under n us x e m (shows_subscriber (facts_on facts (gx id)) x) refl (h.subscribed n us x e m);
 }
   where

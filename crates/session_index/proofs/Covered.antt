@@ -11,7 +11,8 @@ use Rattle.pcrf_model.specs.Operations.{Operation}
 use Rattle.pcrf_model.specs.Sessions.{Session, gx}
 use Rattle.pcrf_model.specs.Views.{View, view, value}
 use Rattle.pcrf_model.proofs.TakingLaws.{union_shows, shows_a_fact}
-use Rattle.session_index.specs.Index.{IndexValue, listed_at, with_prefix, Covers, CoversUnions, CoversWithMore, Grows, ListsFacts}
+use Rattle.session_index.specs.Index.{IndexValue, listed_at, listed_in, Covers, CoversUnions, CoversWithMore, Grows, ListsFacts}
+use Rattle.session_index.specs.Networks.{network_of}
 
 -- the entry of a value that shows
 its_entry : (o : Option Entry) (x : Value) → option_map (λ (e : Entry). e.1) o ≡ Some x → (e : Entry) × (o ≡ Some e) × (e.1 ≡ x)
@@ -36,7 +37,7 @@ of_one h k s p x e =
 pub covers_grow : (v : View) (i j : IndexValue) → Grows i j → Covers v i → Covers v j
 covers_grow v i j g c = record {
   addresses = λ s a h. g.addresses s.kind a s.id (c.addresses s a h);
-  prefixes = λ s p h. g.prefixes s.kind s.id (c.prefixes s p h);
+  prefixes = λ s p h. g.prefixes s.kind (network_of p) s.id (c.prefixes s p h);
   subscribed = λ id xs x h m. g.subscribed x id (c.subscribed id xs x h m);
 }
 
@@ -59,7 +60,7 @@ covers_facts o i l = record {
   prefixes = λ s p h.
       let w = its_entry ((view (under o.session o.facts)).shows s prefix) (Prefix p) h in
       let f = shows_a_fact o.session s o.facts prefix w.0 w.1 in
-      subst (λ (r : Session). In r.id (with_prefix i r.kind)) (sym f.0)
+      subst (λ (r : Session). In r.id (listed_in i r.kind (network_of p))) (sym f.0)
       (l.prefixes w.0.0 p (subst (λ (x : Value). In (Field prefix w.0.0 x) o.facts) w.2 f.1));
   subscribed = λ id xs x h n.
       let w = its_entry ((view (under o.session o.facts)).shows (gx id) subscribers) (Subscribers xs) h in

@@ -15,13 +15,14 @@ use Rattle.ranked.proofs.SetLaws.{In-cases}
 use Rattle.pcrf_facts.specs.Facts.{Fact, Field}
 use Rattle.pcrf_facts.specs.Places.{address, prefix, subscribers}
 use Rattle.pcrf_facts.specs.Values.{Subscriber, Address, Subscribers, Prefix}
-use Rattle.pcrf_values.specs.Prefixes.{Ipv6Prefix}
+use Rattle.pcrf_values.specs.Prefixes.{Ipv6Prefix, prefix_cmp}
 use Rattle.pcrf_values.specs.Subscribers.{subscriber_cmp}
-use Rattle.pcrf_facts.proofs.FactLaws.{subscriber_ranked}
+use Rattle.pcrf_facts.proofs.FactLaws.{prefix_ranked, subscriber_ranked}
 use Rattle.pcrf_model.specs.Sessions.{Kind, Gx, Af, Session, gx}
 use Rattle.session_lists.specs.Lists.{ids_at, with_id}
 use Rattle.session_lists.proofs.IdLists.{place_has, place_keeps}
-use Rattle.session_index.specs.Index.{address_cmp, BySubscriber, ByAddress, IndexValue, listed_at, with_prefix, Grows, GrowsUnder, ListedUnder, ListsFacts}
+use Rattle.session_index.specs.Index.{address_cmp, BySubscriber, ByAddress, ByNetwork, IndexValue, listed_at, listed_in, Grows, GrowsUnder, ListedUnder, ListsFacts}
+use Rattle.session_index.specs.Networks.{all_networks, network_of}
 
 -- ---- one list that grows
 
@@ -43,13 +44,13 @@ module _ {K : Type 0} (cmp : K → K → Ordering) (before after : List (K × Li
 
 -- it grows from itself
 pub grows_itself : (i : IndexValue) → Grows i i
-grows_itself i = record { addresses = λ k a id h. h; prefixes = λ k id h. h; subscribed = λ x id h. h }
+grows_itself i = record { addresses = λ k a id h. h; prefixes = λ k n id h. h; subscribed = λ x id h. h }
 
 -- and goes on growing
 pub grows_through : (i j k : IndexValue) → Grows i j → Grows j k → Grows i k
 grows_through i j k g h = record {
   addresses = λ m a id x. h.addresses m a id (g.addresses m a id x);
-  prefixes = λ m id x. h.prefixes m id (g.prefixes m id x);
+  prefixes = λ m n id x. h.prefixes m n id (g.prefixes m n id x);
   subscribed = λ s id x. h.subscribed s id (g.subscribed s id x);
 }
 
@@ -86,7 +87,7 @@ under_added before after y id added = (record { each = list_grows subscriber_cmp
 pub facts_grow : (i j : IndexValue) (s : Session) (facts : List Fact) → Grows i j → ListsFacts i s facts → ListsFacts j s facts
 facts_grow i j s facts g h = record {
   addresses = λ t a m. g.addresses s.kind a s.id (h.addresses t a m);
-  prefixes = λ t p m. g.prefixes s.kind s.id (h.prefixes t p m);
+  prefixes = λ t p m. g.prefixes s.kind (network_of p) s.id (h.prefixes t p m);
   subscribed = λ id e t xs m. under_grows i.subscribed j.subscribed id xs (record { each = g.subscribed }) (h.subscribed id e t xs m);
 }
 
@@ -113,7 +114,7 @@ result_grows cmp before after key id (Err v) h e k x i = subst (λ l. In x l) (s
 
 -- with other lists of gateways' sessions
 pub gateways_grow : (now : IndexValue) (g : ByAddress) → ((a : Ipv4Addr) (x : List ℕ) → In x (ids_at address_cmp now.gateways a) → In x (ids_at address_cmp g a)) → Grows now (record now { gateways = g })
-gateways_grow now g h = record { addresses = by; prefixes = λ k id m. m; subscribed = λ x id m. m }
+gateways_grow now g h = record { addresses = by; prefixes = λ k n id m. m; subscribed = λ x id m. m }
   where
     by : (k : Kind) (a : Ipv4Addr) (id : List ℕ) → In id (listed_at now k a) → In id (listed_at (record now { gateways = g }) k a)
     by Gx a id m = h a id m
@@ -121,7 +122,7 @@ gateways_grow now g h = record { addresses = by; prefixes = λ k id m. m; subscr
 
 -- with other lists of calls
 pub calls_grow : (now : IndexValue) (g : ByAddress) → ((a : Ipv4Addr) (x : List ℕ) → In x (ids_at address_cmp now.calls a) → In x (ids_at address_cmp g a)) → Grows now (record now { calls = g })
-calls_grow now g h = record { addresses = by; prefixes = λ k id m. m; subscribed = λ x id m. m }
+calls_grow now g h = record { addresses = by; prefixes = λ k n id m. m; subscribed = λ x id m. m }
   where
     by : (k : Kind) (a : Ipv4Addr) (id : List ℕ) → In id (listed_at now k a) → In id (listed_at (record now { calls = g }) k a)
     by Gx a id m = m
@@ -129,33 +130,32 @@ calls_grow now g h = record { addresses = by; prefixes = λ k id m. m; subscribe
 
 -- with other lists by subscriber
 pub subscribed_grow : (now : IndexValue) (g : BySubscriber) → GrowsUnder now.subscribed g → Grows now (record now { subscribed = g })
-subscribed_grow now g h = record { addresses = λ k a id m. m; prefixes = λ k id m. m; subscribed = λ x id m. h.each x id m }
+subscribed_grow now g h = record { addresses = λ k a id m. m; prefixes = λ k n id m. m; subscribed = λ x id m. h.each x id m }
 
--- with another list of gateways' sessions that were given a prefix
-pub prefixed_gateways_grow : (now : IndexValue) (g : List (List ℕ)) → ((x : List ℕ) → In x now.prefixed_gateways → In x g) → Grows now (record now { prefixed_gateways = g })
-prefixed_gateways_grow now g h = record { addresses = λ k a id m. m; prefixes = by; subscribed = λ x id m. m }
+-- with other lists of gateways' sessions by network
+pub gateway_networks_grow : (now : IndexValue) (g : ByNetwork) → ((n : Ipv6Prefix) (x : List ℕ) → In x (ids_at prefix_cmp now.gateway_networks n) → In x (ids_at prefix_cmp g n)) → Grows now (record now { gateway_networks = g })
+gateway_networks_grow now g h = record { addresses = λ k a id m. m; prefixes = by; subscribed = λ x id m. m }
   where
-    by : (k : Kind) (id : List ℕ) → In id (with_prefix now k) → In id (with_prefix (record now { prefixed_gateways = g }) k)
-    by Gx id m = h id m
-    by Af id m = m
+    by : (k : Kind) (n : Ipv6Prefix) (id : List ℕ) → In id (listed_in now k n) → In id (listed_in (record now { gateway_networks = g }) k n)
+    by Gx n id m = h n id m
+    by Af n id m = m
 
--- with another list of calls that were given one
-pub prefixed_calls_grow : (now : IndexValue) (g : List (List ℕ)) → ((x : List ℕ) → In x now.prefixed_calls → In x g) → Grows now (record now { prefixed_calls = g })
-prefixed_calls_grow now g h = record { addresses = λ k a id m. m; prefixes = by; subscribed = λ x id m. m }
+-- with other lists of calls by network
+pub call_networks_grow : (now : IndexValue) (g : ByNetwork) → ((n : Ipv6Prefix) (x : List ℕ) → In x (ids_at prefix_cmp now.call_networks n) → In x (ids_at prefix_cmp g n)) → Grows now (record now { call_networks = g })
+call_networks_grow now g h = record { addresses = λ k a id m. m; prefixes = by; subscribed = λ x id m. m }
   where
-    by : (k : Kind) (id : List ℕ) → In id (with_prefix now k) → In id (with_prefix (record now { prefixed_calls = g }) k)
-    by Gx id m = m
-    by Af id m = h id m
+    by : (k : Kind) (n : Ipv6Prefix) (id : List ℕ) → In id (listed_in now k n) → In id (listed_in (record now { call_networks = g }) k n)
+    by Gx n id m = m
+    by Af n id m = h n id m
 
--- after a call that added one to a set, or nothing, what was there stays
-pub set_grows : {A E : Type 0} (before after : List (List ℕ)) (id : List ℕ) (r : Result A E) → OnOk r (after ≡ place text_cmp id before) → OnErr r (after ≡ before)
-    → (x : List ℕ) → In x before → In x after
-set_grows before after id (Ok v) h e x i = subst (λ l. In x l) (sym h) (place_keeps text_cmp text_ranked id x before i)
-set_grows before after id (Err v) h e x i = subst (λ l. In x l) (sym e) i
+-- a network is at itself
+pub network_itself : (n : Ipv6Prefix) → is_eq (prefix_cmp n n) ≡ true
+network_itself n = eq_itself prefix_ranked n
 
--- and the one that was added is there
-pub set_has : (before after : List (List ℕ)) (id : List ℕ) → after ≡ place text_cmp id before → In id after
-set_has before after id h = subst (λ l. In id l) (sym h) (place_has text_cmp text_ranked id before)
+-- the prefix of a fact that gives one
+abbrev prefix_in : Fact → Ipv6Prefix
+prefix_in (Field p t (Prefix q)) = q
+prefix_in f = all_networks
 
 -- the octets of a fact that gives an address
 abbrev octets_in : Fact → List ℕ
@@ -193,12 +193,16 @@ address_fact i s t a h = record {
     by u b (inr n) = absurd n
 
 -- by the fact of a prefix
-pub prefix_fact : (i : IndexValue) (s : Session) (t : Tag) (q : Ipv6Prefix) → In s.id (with_prefix i s.kind) → ListsFacts i s (Field prefix t (Prefix q) ∷ [])
+pub prefix_fact : (i : IndexValue) (s : Session) (t : Tag) (q : Ipv6Prefix) → In s.id (listed_in i s.kind (network_of q)) → ListsFacts i s (Field prefix t (Prefix q) ∷ [])
 prefix_fact i s t q h = record {
   addresses = λ u a m. elim m [ inl e ↦ clash true refl (ap gives_address e) | inr n ↦ absurd n ];
-  prefixes = λ u p m. h;
+  prefixes = by;
   subscribed = λ id e u xs m. elim m [ inl r ↦ clash true refl (ap gives_prefix (sym r)) | inr n ↦ absurd n ];
 }
+  where
+    by : (u : Tag) (p : Ipv6Prefix) → In (Field prefix u (Prefix p)) (Field prefix t (Prefix q) ∷ []) → In s.id (listed_in i s.kind (network_of p))
+    by u p (inl e) = subst (λ (x : Ipv6Prefix). In s.id (listed_in i s.kind (network_of x))) (sym (ap prefix_in e)) h
+    by u p (inr n) = absurd n
 
 -- by the fact of a gateway's session's subscribers
 pub subscribers_fact : (i : IndexValue) (id : List ℕ) (t : Tag) (xs : List Subscriber) → ListedUnder i.subscribed id xs → ListsFacts i (gx id) (Field subscribers t (Subscribers xs) ∷ [])

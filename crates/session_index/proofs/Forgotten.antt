@@ -1,30 +1,32 @@
 -- What an index still lists and covers once a session is forgotten.
-use Rattle.std.proofs.Common.{◌≡◌, ℕ, Bool, true, false, not, cond, List, [], ◌∷◌, ◌++◌, Option, Some, None, is_some, option_map, ◌⊎◌, ◌||◌, inl, inr, refl, sym, ap, ◌∙◌, subst, if◌then◌else◌}
+use Rattle.std.proofs.Common.{◌≡◌, ℕ, Bool, true, false, not, cond, List, [], ◌∷◌, ◌++◌, Option, Some, None, option_map, ◌⊎◌, ◌||◌, inl, inr, refl, sym, ap, ◌∙◌, subst, if◌then◌else◌}
 use Rattle.std.specs.List.{list_any}
 use Rattle.std.specs.Net.Addr.{ipv4_octets}
 use Rattle.std.specs.Ordering.{is_eq}
 use Rattle.std.specs.declared.net.ipv4_addr.Ipv4Addr.{Ipv4Addr}
+use Rattle.std.specs.declared.cmp.Ordering.{Ordering}
 use Rattle.ranked.specs.Orders.{text_cmp}
 use Rattle.ranked.specs.Sets.{In}
 use Rattle.ranked.specs.declared.tag.Tag.{Tag}
 use Rattle.ranked.proofs.OrderLaws.{text_ranked, eq_is, eq_itself}
 use Rattle.ranked.proofs.Plain.{clash, is_false, none_some, some_same}
 use Rattle.ranked.proofs.SetLaws.{In-filter, In-left, In-right, In-cases, In-any, any-In}
-use Rattle.pcrf_values.specs.Prefixes.{Ipv6Prefix}
+use Rattle.pcrf_values.specs.Prefixes.{Ipv6Prefix, prefix_cmp}
 use Rattle.pcrf_values.specs.Subscribers.{subscriber_cmp}
 use Rattle.pcrf_facts.specs.Facts.{Fact, End, Removed, Field, Aborted}
 use Rattle.pcrf_facts.specs.FlowWords.{value_at}
 use Rattle.pcrf_facts.specs.Held.{entry_shown, is_ended, is_gone, blocks}
 use Rattle.pcrf_facts.specs.Places.{Place, address, prefix, subscribers}
 use Rattle.pcrf_facts.specs.Values.{Value, Entry, Subscriber, Address, Subscribers, Prefix}
-use Rattle.pcrf_facts.proofs.FactLaws.{subscriber_ranked}
+use Rattle.pcrf_facts.proofs.FactLaws.{prefix_ranked, subscriber_ranked}
 use Rattle.pcrf_model.specs.Holdings.{SessionFact, facts_on}
 use Rattle.pcrf_model.specs.Sessions.{Kind, Gx, Af, Session, gx, af}
 use Rattle.pcrf_model.specs.Views.{View, view, value}
 use Rattle.session_lists.specs.Lists.{ids_at, without, without_id}
-use Rattle.session_index.specs.Index.{address_cmp, ByAddress, BySubscriber, IndexValue, listed_at, listed_of, with_prefix, Covers}
-use Rattle.session_index.specs.Forgetting.{SamePrefixed, SameKeyed, shows_prefix, ShowsAddress, EndedShowNothing, GivesAddress, ForgetsAddress, ForgetsEach, ForgetsSubscribers}
-use Rattle.session_index.proofs.Covering.{address_itself}
+use Rattle.session_index.specs.Index.{address_cmp, ByAddress, ByNetwork, BySubscriber, IndexValue, listed_at, listed_in, listed_of, Covers}
+use Rattle.session_index.specs.Networks.{all_networks, network_of}
+use Rattle.session_index.specs.Forgetting.{SamePrefixed, SameKeyed, ShowsAddress, ShowsNetwork, ShowsNothing, EndedShowNothing, GivesAddress, GivesNetwork, ForgetsAddress, ForgetsNetwork, ForgetsEach, ForgetsSubscribers}
+use Rattle.session_index.proofs.Covering.{address_itself, network_itself}
 
 -- ---- lists without one
 
@@ -52,10 +54,10 @@ among_or_not x xs = by (list_any (λ y. is_eq (subscriber_cmp x y)) xs) refl
 
 -- ---- what is covered stays so
 
--- where those that have a prefix stay listed, each that was among them is
-pub prefixed_still : (i j : IndexValue) → SamePrefixed i j → (k : Kind) (id : List ℕ) → In id (with_prefix i k) → In id (with_prefix j k)
-prefixed_still i j p Gx id m = subst (λ (l : List (List ℕ)). In id l) (sym p.gateways) m
-prefixed_still i j p Af id m = subst (λ (l : List (List ℕ)). In id l) (sym p.calls) m
+-- where those under networks stay listed, each that was among them is
+pub prefixed_still : (i j : IndexValue) → SamePrefixed i j → (k : Kind) (n : Ipv6Prefix) (id : List ℕ) → In id (listed_in i k n) → In id (listed_in j k n)
+prefixed_still i j p Gx n id m = subst (λ (l : ByNetwork). In id (ids_at prefix_cmp l n)) (sym p.gateways) m
+prefixed_still i j p Af n id m = subst (λ (l : ByNetwork). In id (ids_at prefix_cmp l n)) (sym p.calls) m
 
 -- so where those under addresses do
 keyed_still : (i j : IndexValue) → SameKeyed i j → (k : Kind) (a : Ipv4Addr) (id : List ℕ) → In id (listed_at i k a) → In id (listed_at j k a)
@@ -66,28 +68,32 @@ keyed_still i j p Af a id m = subst (λ (l : ByAddress). In id (ids_at address_c
 same_address : (a b : Ipv4Addr) → is_eq (address_cmp a b) ≡ true → a ≡ b
 same_address a b e = let octets = eq_is text_ranked (ipv4_octets a) (ipv4_octets b) e in λ i. record { octets = octets i }
 
--- a session under one address fewer
-module _ (lists : ByAddress) (at : Ipv4Addr) (id : List ℕ) where
-  -- is still found by another session, or another address
-  pub still_at : (x : List ℕ) (a : Ipv4Addr) → ((x ≡ id) → (a ≡ at) → ⊥) → In x (ids_at address_cmp lists a) → In x (without_id address_cmp text_cmp lists at id a)
-  still_at x a apart i = by (is_eq (address_cmp at a)) refl
+-- a session under one key fewer
+module _ {K : Type 0} (cmp : K → K → Ordering) (exact : (a b : K) → is_eq (cmp a b) ≡ true → a ≡ b) (lists : List (K × List (List ℕ))) (at : K) (id : List ℕ) where
+  -- is still found by another session, or another key
+  pub still_at : (x : List ℕ) (a : K) → ((x ≡ id) → (a ≡ at) → ⊥) → In x (ids_at cmp lists a) → In x (without_id cmp text_cmp lists at id a)
+  still_at x a apart i = by (is_eq (cmp at a)) refl
     where
-      by : (b : Bool) → is_eq (address_cmp at a) ≡ b → In x (if b then without text_cmp id (ids_at address_cmp lists a) else ids_at address_cmp lists a)
-      by true e = stays id x (ids_at address_cmp lists a) (λ q. apart q (sym (same_address at a e))) i
+      by : (b : Bool) → is_eq (cmp at a) ≡ b → In x (if b then without text_cmp id (ids_at cmp lists a) else ids_at cmp lists a)
+      by true e = stays id x (ids_at cmp lists a) (λ q. apart q (sym (exact at a e))) i
       by false e = i
+
+-- networks that are the same
+same_network : (m n : Ipv6Prefix) → is_eq (prefix_cmp m n) ≡ true → m ≡ n
+same_network m n e = eq_is prefix_ranked m n e
 
 -- an index without a gateway's session under an address that it doesn't show covers what it covered
 pub gateway_forgotten : (i j : IndexValue) (at : Ipv4Addr) (id : List ℕ) → ((a : Ipv4Addr) → listed_at j Gx a ≡ without_id address_cmp text_cmp i.gateways at id a)
     → j.calls ≡ i.calls → j.subscribed ≡ i.subscribed → SamePrefixed i j → (v : View) → ¬ ShowsAddress v (gx id) at → Covers v i → Covers v j
 gateway_forgotten i j at id g c u p v none h = record {
   addresses = λ s a e. by s.kind s.id a e;
-  prefixes = λ s q e. prefixed_still i j p s.kind s.id (h.prefixes s q e);
+  prefixes = λ s q e. prefixed_still i j p s.kind (network_of q) s.id (h.prefixes s q e);
   subscribed = λ n xs x e m. subst (λ (l : BySubscriber). In n (ids_at subscriber_cmp l x)) (sym u) (h.subscribed n xs x e m);
 }
   where
     by : (k : Kind) (n : List ℕ) (a : Ipv4Addr) → ShowsAddress v (record { kind = k; id = n }) a → In n (listed_at j k a)
     by Gx n a e = subst (λ (l : List (List ℕ)). In n l) (sym (g a))
-        (still_at i.gateways at id n a (λ p q. none (subst (λ (m : List ℕ). ShowsAddress v (gx m) at) p (subst (λ (b : Ipv4Addr). ShowsAddress v (gx n) b) q e))) (h.addresses (gx n) a e))
+        (still_at address_cmp same_address i.gateways at id n a (λ p q. none (subst (λ (m : List ℕ). ShowsAddress v (gx m) at) p (subst (λ (b : Ipv4Addr). ShowsAddress v (gx n) b) q e))) (h.addresses (gx n) a e))
     by Af n a e = subst (λ (l : ByAddress). In n (ids_at address_cmp l a)) (sym c) (h.addresses (af n) a e)
 
 -- so it is without an application function's session
@@ -95,13 +101,13 @@ pub call_forgotten : (i j : IndexValue) (at : Ipv4Addr) (id : List ℕ) → ((a 
     → j.gateways ≡ i.gateways → j.subscribed ≡ i.subscribed → SamePrefixed i j → (v : View) → ¬ ShowsAddress v (af id) at → Covers v i → Covers v j
 call_forgotten i j at id c g u p v none h = record {
   addresses = λ s a e. by s.kind s.id a e;
-  prefixes = λ s q e. prefixed_still i j p s.kind s.id (h.prefixes s q e);
+  prefixes = λ s q e. prefixed_still i j p s.kind (network_of q) s.id (h.prefixes s q e);
   subscribed = λ n xs x e m. subst (λ (l : BySubscriber). In n (ids_at subscriber_cmp l x)) (sym u) (h.subscribed n xs x e m);
 }
   where
     by : (k : Kind) (n : List ℕ) (a : Ipv4Addr) → ShowsAddress v (record { kind = k; id = n }) a → In n (listed_at j k a)
     by Af n a e = subst (λ (l : List (List ℕ)). In n l) (sym (c a))
-        (still_at i.calls at id n a (λ p q. none (subst (λ (m : List ℕ). ShowsAddress v (af m) at) p (subst (λ (b : Ipv4Addr). ShowsAddress v (af n) b) q e))) (h.addresses (af n) a e))
+        (still_at address_cmp same_address i.calls at id n a (λ p q. none (subst (λ (m : List ℕ). ShowsAddress v (af m) at) p (subst (λ (b : Ipv4Addr). ShowsAddress v (af n) b) q e))) (h.addresses (af n) a e))
     by Gx n a e = subst (λ (l : ByAddress). In n (ids_at address_cmp l a)) (sym g) (h.addresses (gx n) a e)
 
 -- and without one under subscribers, where it shows none
@@ -109,7 +115,7 @@ pub subscribers_forgotten : (i j : IndexValue) (id : List ℕ) (xs : List Subscr
     → j.gateways ≡ i.gateways → j.calls ≡ i.calls → SamePrefixed i j → (v : View) → value v (gx id) subscribers ≡ None → Covers v i → Covers v j
 subscribers_forgotten i j id xs f g c p v none h = record {
   addresses = λ s a e. by s.kind s.id a e;
-  prefixes = λ s q e. prefixed_still i j p s.kind s.id (h.prefixes s q e);
+  prefixes = λ s q e. prefixed_still i j p s.kind (network_of q) s.id (h.prefixes s q e);
   subscribed = λ n us x e m. under n x (λ q. none_some (Subscribers us) (sym none ∙ ap (λ (l : List ℕ). value v (gx l) subscribers) (sym q) ∙ e)) (h.subscribed n us x e m);
 }
   where
@@ -123,44 +129,39 @@ subscribers_forgotten i j id xs f g c p v none h = record {
       | inr k ↦ subst (λ (l : List (List ℕ)). In n l) (sym (f.others x k)) m
     ]
 
--- a session that shows no prefix isn't one that shows one
-others_have : (v : View) (s r : Session) (q : Ipv6Prefix) → value v s prefix ≡ None → value v r prefix ≡ Some (Prefix q) → (r ≡ s → ⊥)
-others_have v s r q none e same = none_some (Prefix q) (sym none ∙ ap (λ (z : Session). value v z prefix) (sym same) ∙ e)
-
--- so an index without a gateway's session among those that have a prefix, where it shows none, covers what it covered
-pub prefixed_gateway_forgotten : (i j : IndexValue) (id : List ℕ) → j.prefixed_gateways ≡ without text_cmp id i.prefixed_gateways → j.prefixed_calls ≡ i.prefixed_calls
-    → SameKeyed i j → (v : View) → value v (gx id) prefix ≡ None → Covers v i → Covers v j
-prefixed_gateway_forgotten i j id g c k v none h = record {
+-- and without a gateway's session under a network of which it shows no prefix
+pub gateway_network_forgotten : (i j : IndexValue) (at : Ipv6Prefix) (id : List ℕ) → ((n : Ipv6Prefix) → listed_in j Gx n ≡ without_id prefix_cmp text_cmp i.gateway_networks at id n)
+    → j.call_networks ≡ i.call_networks → SameKeyed i j → (v : View) → ¬ ShowsNetwork v (gx id) at → Covers v i → Covers v j
+gateway_network_forgotten i j at id g c k v none h = record {
   addresses = λ s a e. keyed_still i j k s.kind a s.id (h.addresses s a e);
   prefixes = λ s q e. by s.kind s.id q e;
   subscribed = λ n xs x e m. subst (λ (l : BySubscriber). In n (ids_at subscriber_cmp l x)) (sym k.subscribed) (h.subscribed n xs x e m);
 }
   where
-    by : (kind : Kind) (n : List ℕ) (q : Ipv6Prefix) → value v (record { kind = kind; id = n }) prefix ≡ Some (Prefix q) → In n (with_prefix j kind)
-    by Gx n q e = subst (λ (l : List (List ℕ)). In n l) (sym g) (stays id n i.prefixed_gateways (λ s. others_have v (gx id) (gx n) q none e (ap gx s)) (h.prefixes (gx n) q e))
-    by Af n q e = subst (λ (l : List (List ℕ)). In n l) (sym c) (h.prefixes (af n) q e)
+    by : (kind : Kind) (n : List ℕ) (q : Ipv6Prefix) → value v (record { kind = kind; id = n }) prefix ≡ Some (Prefix q) → In n (listed_in j kind (network_of q))
+    by Gx n q e = subst (λ (l : List (List ℕ)). In n l) (sym (g (network_of q)))
+        (still_at prefix_cmp same_network i.gateway_networks at id n (network_of q)
+        (λ p r. none (q, subst (λ (m : List ℕ). value v (gx m) prefix ≡ Some (Prefix q)) p e, r)) (h.prefixes (gx n) q e))
+    by Af n q e = subst (λ (l : ByNetwork). In n (ids_at prefix_cmp l (network_of q))) (sym c) (h.prefixes (af n) q e)
 
 -- and without an application function's
-pub prefixed_call_forgotten : (i j : IndexValue) (id : List ℕ) → j.prefixed_calls ≡ without text_cmp id i.prefixed_calls → j.prefixed_gateways ≡ i.prefixed_gateways
-    → SameKeyed i j → (v : View) → value v (af id) prefix ≡ None → Covers v i → Covers v j
-prefixed_call_forgotten i j id c g k v none h = record {
+pub call_network_forgotten : (i j : IndexValue) (at : Ipv6Prefix) (id : List ℕ) → ((n : Ipv6Prefix) → listed_in j Af n ≡ without_id prefix_cmp text_cmp i.call_networks at id n)
+    → j.gateway_networks ≡ i.gateway_networks → SameKeyed i j → (v : View) → ¬ ShowsNetwork v (af id) at → Covers v i → Covers v j
+call_network_forgotten i j at id c g k v none h = record {
   addresses = λ s a e. keyed_still i j k s.kind a s.id (h.addresses s a e);
   prefixes = λ s q e. by s.kind s.id q e;
   subscribed = λ n xs x e m. subst (λ (l : BySubscriber). In n (ids_at subscriber_cmp l x)) (sym k.subscribed) (h.subscribed n xs x e m);
 }
   where
-    by : (kind : Kind) (n : List ℕ) (q : Ipv6Prefix) → value v (record { kind = kind; id = n }) prefix ≡ Some (Prefix q) → In n (with_prefix j kind)
-    by Gx n q e = subst (λ (l : List (List ℕ)). In n l) (sym g) (h.prefixes (gx n) q e)
-    by Af n q e = subst (λ (l : List (List ℕ)). In n l) (sym c) (stays id n i.prefixed_calls (λ s. others_have v (af id) (af n) q none e (ap af s)) (h.prefixes (af n) q e))
+    by : (kind : Kind) (n : List ℕ) (q : Ipv6Prefix) → value v (record { kind = kind; id = n }) prefix ≡ Some (Prefix q) → In n (listed_in j kind (network_of q))
+    by Gx n q e = subst (λ (l : ByNetwork). In n (ids_at prefix_cmp l (network_of q))) (sym g) (h.prefixes (gx n) q e)
+    by Af n q e = subst (λ (l : List (List ℕ)). In n l) (sym (c (network_of q)))
+        (still_at prefix_cmp same_network i.call_networks at id n (network_of q)
+        (λ p r. none (q, subst (λ (m : List ℕ). value v (af m) prefix ≡ Some (Prefix q)) p e, r)) (h.prefixes (af n) q e))
 
--- a session whose facts show no prefix has no value there
-pub shows_none : (facts : List SessionFact) (s : Session) (own : List Fact) → own ≡ facts_on facts s → shows_prefix own ≡ false → value (view facts) s prefix ≡ None
-unfolding view
-shows_none facts s own its none = by (entry_shown (facts_on facts s) prefix) (ap shows_prefix (sym its) ∙ none)
-  where
-    by : (o : Option Entry) → is_some o ≡ false → option_map (λ (e : Entry). e.1) o ≡ None
-    by None h = refl
-    by (Some e) h = clash true refl h
+-- a session that shows nothing shows no prefix of a network
+pub shows_no_network : (v : View) (s : Session) (n : Ipv6Prefix) → ShowsNothing v s → ¬ ShowsNetwork v s n
+shows_no_network v s n none w = none_some (Prefix w.0) (sym (none prefix) ∙ w.1)
 
 -- ---- an ended session shows nothing
 
@@ -248,6 +249,39 @@ pub no_address_forgotten : (i : IndexValue) (s : Session) (facts : List Fact) �
 no_address_forgotten i s facts shows = record {
   gone = λ a e. none_some (Address (ipv4_octets a)) (ap (option_map (λ (w : Entry). w.1)) shows ∙ e);
   others = λ a n. refl;
+}
+
+-- under the network of the prefix that a record shows
+pub network_forgotten : (i j : IndexValue) (s : Session) (facts : List Fact) (t : Tag) (x at : Ipv6Prefix) → Some (t, Prefix x) ≡ entry_shown facts prefix → at ≡ network_of x
+    → ((n : Ipv6Prefix) → listed_in j s.kind n ≡ (if is_eq (prefix_cmp at n) then without text_cmp s.id (listed_in i s.kind n) else listed_in i s.kind n)) → ForgetsNetwork i j s facts
+network_forgotten i j s facts t x at shows its_network f = record {
+  gone = λ n w. f n ∙ out n w (is_eq (prefix_cmp at n)) refl;
+  others = λ n none. f n ∙ kept n none (is_eq (prefix_cmp at n)) refl;
+}
+  where
+    prefix_in : Value → Ipv6Prefix
+    prefix_in (Prefix q) = q
+    prefix_in v = all_networks
+
+    out : (n : Ipv6Prefix) → GivesNetwork facts n → (b : Bool) → is_eq (prefix_cmp at n) ≡ b
+        → (if b then without text_cmp s.id (listed_in i s.kind n) else listed_in i s.kind n) ≡ without text_cmp s.id (listed_in i s.kind n)
+    out n w true q = refl
+    out n w false q =
+        let same : x ≡ w.0 = ap prefix_in (its facts prefix t (Prefix x) (Prefix w.0) shows w.1) in
+        let here : at ≡ n = its_network ∙ ap network_of same ∙ w.2 in
+        clash _ (network_itself at) (ap (λ (o : Ipv6Prefix). is_eq (prefix_cmp at o)) here ∙ q)
+
+    kept : (n : Ipv6Prefix) → ¬ GivesNetwork facts n → (b : Bool) → is_eq (prefix_cmp at n) ≡ b
+        → (if b then without text_cmp s.id (listed_in i s.kind n) else listed_in i s.kind n) ≡ listed_in i s.kind n
+    kept n none true q =
+        absurd (none (x, sym (ap (option_map (λ (w : Entry). w.1)) shows), sym its_network ∙ same_network at n q))
+    kept n none false q = refl
+
+-- under none, where it shows none
+pub no_network_forgotten : (i : IndexValue) (s : Session) (facts : List Fact) → None ≡ entry_shown facts prefix → ForgetsNetwork i i s facts
+no_network_forgotten i s facts shows = record {
+  gone = λ n w. none_some (Prefix w.0) (ap (option_map (λ (e : Entry). e.1)) shows ∙ w.1);
+  others = λ n none. refl;
 }
 
 -- under the subscribers that a record shows

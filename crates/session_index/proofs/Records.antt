@@ -11,7 +11,8 @@ use Rattle.pcrf_model.specs.Holdings.{SessionFact, facts_on}
 use Rattle.pcrf_model.specs.Sessions.{Kind, Gx, Af, Session, gx, af}
 use Rattle.pcrf_model.specs.Views.{view, value}
 use Rattle.site_join.specs.States.{Records}
-use Rattle.session_index.specs.Index.{IndexValue, listed_at, with_prefix, Covers, Grows, ListsAddress, ListsPrefix, ListsSubscribers, ListsGateway, ListsCall, ListEach}
+use Rattle.session_index.specs.Index.{IndexValue, listed_at, listed_in, Covers, Grows, ListsAddress, ListsPrefix, ListsSubscribers, ListsGateway, ListsCall, ListEach}
+use Rattle.session_index.specs.Networks.{network_of}
 use Rattle.bind_index.proofs.Alike.{was_there}
 use Rattle.session_index.proofs.Covering.{grows_through, grows_itself, under_grows}
 use Rattle.bind_index.proofs.Entries.{AreRecordsOf, has_record}
@@ -21,7 +22,7 @@ pub address_grows : (i j : IndexValue) (s : Session) (facts : List Fact) → Gro
 address_grows i j s facts g h = record { listed = λ a e. g.addresses s.kind a s.id (h.listed a e) }
 
 pub prefix_grows : (i j : IndexValue) (s : Session) (facts : List Fact) → Grows i j → ListsPrefix i s facts → ListsPrefix j s facts
-prefix_grows i j s facts g h = record { listed = λ p e. g.prefixes s.kind s.id (h.listed p e) }
+prefix_grows i j s facts g h = record { listed = λ p e. g.prefixes s.kind (network_of p) s.id (h.listed p e) }
 
 subscribers_grow : (i j : IndexValue) (id : List ℕ) (facts : List Fact) → Grows i j → ListsSubscribers i id facts → ListsSubscribers j id facts
 subscribers_grow i j id facts g h = record { listed = λ xs e. under_grows i.subscribed j.subscribed id xs (record { each = g.subscribed }) (h.listed xs e) }
@@ -78,8 +79,8 @@ module _ (facts : List SessionFact) (gxs afs : Records) (g : AreRecordsOf gx fac
       let w = was_there _ ((view facts).shows (af id) address) (Address (ipv4_octets x)) h in
       (of_calls.each (id, facts_on facts (af id)) (has_record facts afs a id address w.0 w.1)).address.listed x h
 
-  -- each with a prefix among those of its kind
-  has_prefix : (k : Kind) (id : List ℕ) (p : Ipv6Prefix) → value (view facts) (record { kind = k; id = id }) prefix ≡ Some (Prefix p) → In id (with_prefix i k)
+  -- each with a prefix under its network
+  has_prefix : (k : Kind) (id : List ℕ) (p : Ipv6Prefix) → value (view facts) (record { kind = k; id = id }) prefix ≡ Some (Prefix p) → In id (listed_in i k (network_of p))
   unfolding view
   has_prefix Gx id p h =
       let w = was_there _ ((view facts).shows (gx id) prefix) (Prefix p) h in

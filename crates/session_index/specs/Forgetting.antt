@@ -4,25 +4,30 @@ use Rattle.std.specs.Net.Addr.{ipv4_octets}
 use Rattle.std.specs.declared.net.ipv4_addr.Ipv4Addr.{Ipv4Addr}
 use Rattle.ranked.specs.Orders.{text_cmp}
 use Rattle.ranked.specs.Sets.{In}
+use Rattle.pcrf_values.specs.Prefixes.{Ipv6Prefix}
 use Rattle.pcrf_values.specs.Subscribers.{subscriber_cmp}
 use Rattle.pcrf_facts.specs.Facts.{Fact}
 use Rattle.pcrf_facts.specs.FlowWords.{value_at}
 use Rattle.pcrf_facts.specs.Held.{entry_shown}
-use Rattle.pcrf_facts.specs.Live.{shows_at}
 use Rattle.pcrf_facts.specs.Places.{Place, address, prefix, subscribers}
-use Rattle.pcrf_facts.specs.Values.{Subscriber, Address, Subscribers}
+use Rattle.pcrf_facts.specs.Values.{Subscriber, Address, Subscribers, Prefix}
 use Rattle.pcrf_model.specs.Holdings.{SessionFact}
 use Rattle.pcrf_model.specs.Sessions.{Session}
 use Rattle.pcrf_model.specs.Views.{View, view, value}
 use Rattle.bind_index.specs.Listings.{HasSubscriber, shows_asked}
 use Rattle.session_lists.specs.Lists.{ids_at, without}
-use Rattle.session_index.specs.Index.{BySubscriber, IndexValue, listed_at}
+use Rattle.session_index.specs.Index.{BySubscriber, IndexValue, listed_at, listed_in}
+use Rattle.session_index.specs.Networks.{network_of}
 
 -- the session shows the address
 abbrev pub ShowsAddress : View → Session → Ipv4Addr → Type 0
 ShowsAddress v s a = value v s address ≡ Some (Address (ipv4_octets a))
 
--- nor anything else
+-- the session shows a prefix of the network
+abbrev pub ShowsNetwork : View → Session → Ipv6Prefix → Type 0
+ShowsNetwork v s n = (p : Ipv6Prefix) × (value v s prefix ≡ Some (Prefix p)) × (network_of p ≡ n)
+
+-- the session shows nothing
 abbrev pub ShowsNothing : View → Session → Type 0
 ShowsNothing v s = (p : Place) → value v s p ≡ None
 
@@ -38,6 +43,15 @@ GivesAddress facts a = value_at (entry_shown facts) address ≡ Some (Address (i
 pub record ForgetsAddress (before after : IndexValue) (s : Session) (facts : List Fact) : Type 0 where
   pub gone : (a : Ipv4Addr) → GivesAddress facts a → listed_at after s.kind a ≡ without text_cmp s.id (listed_at before s.kind a)
   pub others : (a : Ipv4Addr) → ¬ GivesAddress facts a → listed_at after s.kind a ≡ listed_at before s.kind a
+
+-- these facts of a session show a prefix of the network
+abbrev pub GivesNetwork : List Fact → Ipv6Prefix → Type 0
+GivesNetwork facts n = (p : Ipv6Prefix) × (value_at (entry_shown facts) prefix ≡ Some (Prefix p)) × (network_of p ≡ n)
+
+-- the session is taken out from under the network of the prefix that these facts show, and from under no other
+pub record ForgetsNetwork (before after : IndexValue) (s : Session) (facts : List Fact) : Type 0 where
+  pub gone : (n : Ipv6Prefix) → GivesNetwork facts n → listed_in after s.kind n ≡ without text_cmp s.id (listed_in before s.kind n)
+  pub others : (n : Ipv6Prefix) → ¬ GivesNetwork facts n → listed_in after s.kind n ≡ listed_in before s.kind n
 
 -- the session is taken out from under these subscribers, and from under no others
 pub record ForgetsEach (before after : BySubscriber) (id : List ℕ) (xs : List Subscriber) : Type 0 where
@@ -63,14 +77,10 @@ pub record ForgetsUnshown (before after : BySubscriber) (id : List ℕ) (xs : Li
   pub shown : (x : Subscriber) → shows_subscriber facts x ≡ true → ids_at subscriber_cmp after x ≡ ids_at subscriber_cmp before x
   pub others : (x : Subscriber) → ¬ In x xs → ids_at subscriber_cmp after x ≡ ids_at subscriber_cmp before x
 
--- these facts of a session show a prefix
-abbrev pub shows_prefix : List Fact → Bool
-shows_prefix facts = shows_at (entry_shown facts) prefix
-
--- those that have a prefix stay listed, and no others are
+-- sessions stay listed under networks, and no others are
 pub record SamePrefixed (before after : IndexValue) : Type 0 where
-  pub gateways : after.prefixed_gateways ≡ before.prefixed_gateways
-  pub calls : after.prefixed_calls ≡ before.prefixed_calls
+  pub gateways : after.gateway_networks ≡ before.gateway_networks
+  pub calls : after.call_networks ≡ before.call_networks
 
 -- sessions stay listed under addresses and subscribers, and no others are
 pub record SameKeyed (before after : IndexValue) : Type 0 where

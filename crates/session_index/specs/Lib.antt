@@ -1,2 +1,4 @@
 pub mod Forgetting
 pub mod Index
+pub mod Neighbours
+pub mod Networks

@@ -18,9 +18,9 @@ use std::alloc::AllocError;
 use std::collections::btree_map::Iter;
 
 impl Index {
-    /// Lists the session of an operation under each address that it gives it, with those that were given a prefix if it gives
-    /// it one, and one of a gateway under each subscriber. A refusal leaves what was listed so far. An index that covers a
-    /// state before then covers it with the operation.
+    /// Lists the session of an operation under each address that it gives it, under the network of each prefix, and one of a
+    /// gateway under each subscriber. A refusal leaves what was listed so far. An index that covers a state before then covers
+    /// it with the operation.
     pub fn cover(&mut self, operation: &Operation) -> Result<(), AllocError>
         ensures grows { Grows self.old self.new }
         ensures lists { OnOk result
@@ -32,8 +32,8 @@ impl Index {
         }
     }
 
-    /// Lists each session of a state under the address that it shows, with those that were given a prefix if it shows one, and
-    /// each of a gateway under the subscribers that it shows. A refusal leaves what was listed so far.
+    /// Lists each session of a state under the address that it shows, under the network of the prefix that it shows, and each
+    /// of a gateway under the subscribers that it shows. A refusal leaves what was listed so far.
     pub fn cover_state(&mut self, state: &State) -> Result<(), AllocError>
         ensures grows { Grows self.old self.new }
         ensures covers { OnOk result (Covers (view state.now.facts) self.new) }
@@ -42,8 +42,8 @@ impl Index {
         self.list_calls(state.all_af())
     }
 
-    /// Lists a gateway's session under the address and each subscriber that a record of it shows, and with those that were given
-    /// a prefix if it shows one. A refusal leaves what was listed so far.
+    /// Lists a gateway's session under the address, the network of the prefix, and each subscriber that a record of it shows. A
+    /// refusal leaves what was listed so far.
     pub fn cover_gateway(&mut self, id: &GxSid, known: &GxRec) -> Result<(), AllocError>
         ensures grows { Grows self.old self.new }
         ensures lists { OnOk result (ListsGateway self.new id.now known.now) }
@@ -89,7 +89,7 @@ impl Index {
     {
         match value {
             SessionValue::Address(address) => self.add_gateway(address, id),
-            SessionValue::Prefix(_) => self.add_prefixed_gateway(id),
+            SessionValue::Prefix(prefix) => self.add_prefixed_gateway(prefix, id),
             SessionValue::Subscribers(subscribers) => {
                 self.add_subscribed(subscribers.as_slice(), id)
             }
@@ -133,7 +133,7 @@ impl Index {
     {
         match value {
             SessionValue::Address(address) => self.add_call(address, id),
-            SessionValue::Prefix(_) => self.add_prefixed_call(id),
+            SessionValue::Prefix(prefix) => self.add_prefixed_call(prefix, id),
             _ => Ok(()),
         }
     }
@@ -160,15 +160,15 @@ impl Index {
         self.add_gateway(address, id)
     }
 
-    /// Lists a gateway's session with those that were given a prefix, if its record shows one.
+    /// Lists a gateway's session under the network of the prefix that its record shows.
     fn list_gateway_prefix(&mut self, id: &GxSid, known: &GxRec) -> Result<(), AllocError>
         ensures grows { Grows self.old self.new }
         ensures lists { OnOk result (ListsPrefix self.new (gx id.now) known.now) }
     {
-        if known.prefix().is_none() {
+        let Some((_, prefix)) = known.prefix() else {
             return Ok(());
-        }
-        self.add_prefixed_gateway(id)
+        };
+        self.add_prefixed_gateway(prefix, id)
     }
 
     /// Lists a gateway's session under each subscriber that its record shows.
@@ -193,8 +193,7 @@ impl Index {
         Ok(())
     }
 
-    /// Lists an application function's session under the address that its record shows, and with those that were given a
-    /// prefix if it shows one.
+    /// Lists an application function's session under the address that its record shows, and under the network of the prefix.
     fn cover_call(&mut self, id: &AfSid, known: &AfRec) -> Result<(), AllocError>
         ensures grows { Grows self.old self.new }
         ensures lists { OnOk result (ListsCall self.new id.now known.now) }
@@ -214,14 +213,14 @@ impl Index {
         self.add_call(address, id)
     }
 
-    /// Lists an application function's session with those that were given a prefix, if its record shows one.
+    /// Lists an application function's session under the network of the prefix that its record shows.
     fn list_call_prefix(&mut self, id: &AfSid, known: &AfRec) -> Result<(), AllocError>
         ensures grows { Grows self.old self.new }
         ensures lists { OnOk result (ListsPrefix self.new (af id.now) known.now) }
     {
-        if known.prefix().is_none() {
+        let Some((_, prefix)) = known.prefix() else {
             return Ok(());
-        }
-        self.add_prefixed_call(id)
+        };
+        self.add_prefixed_call(prefix, id)
     }
 }

@@ -1,91 +1,79 @@
-//! What an index no longer lists: sessions that are ended, or that moved to another address, or that show no prefix any more.
-ghost use Rattle.std.specs.Prelude.{◌≡◌, List, if◌then◌else◌};
-ghost use Rattle.std.specs.Option.{option_copied};
+//! What an index no longer lists of sessions that are ended.
+ghost use Rattle.std.specs.Prelude.{◌≡◌};
 ghost use Rattle.std.specs.declared.net.ipv4_addr.Ipv4Addr.{Ipv4Addr as Address};
-ghost use Rattle.pcrf_model.specs.Holdings.{SessionFact, facts_on};
 ghost use Rattle.pcrf_model.specs.Sessions.{Gx, Af, gx, af};
-ghost use Rattle.pcrf_model.specs.Views.{View, view};
-ghost use Rattle.ranked.specs.Orders.{text_cmp};
-ghost use Rattle.session_lists.specs.Lists.{without};
-ghost use Rattle.site_join.specs.States.{record_facts};
-ghost use Rattle.session_index.specs.Forgetting.{ForgetsAddress, ForgetsSubscribers, SameKeyed, SamePrefixed, ShowsNothing, shows_prefix};
-ghost use Rattle.session_index.specs.Index.{Covers, listed_at};
+ghost use Rattle.pcrf_model.specs.Views.{View};
+ghost use Rattle.pcrf_values.specs.Prefixes.{Ipv6Prefix as PrefixValue};
+ghost use Rattle.session_index.specs.Forgetting.{ForgetsAddress, ForgetsNetwork, ForgetsSubscribers, SameKeyed, SamePrefixed, ShowsNothing};
+ghost use Rattle.session_index.specs.Index.{Covers, listed_at, listed_in};
 
 use crate::index::Index;
+use crate::networks::network_of;
 use af_records::AfRec;
 use gx_records::GxRec;
 use pcrf_values::{AfSid, GxSid};
 
 impl Index {
-    /// Takes a gateway's session out from under the address and the subscribers that a record of it shows, that which stood
-    /// before the session was ended, and out of those that were given a prefix. An index that covers a state in which the
-    /// session shows nothing then still covers it, and a pool of addresses that is used again and again doesn't fill it.
+    /// Takes a gateway's session out from under the address, the network and the subscribers that a record of it shows, that
+    /// which stood before the session was ended. An index that covers a state in which the session shows nothing then still
+    /// covers it, and a pool of addresses that is used again and again doesn't fill it.
     pub fn forget_gateway(&mut self, id: &GxSid, known: &GxRec)
         ensures address { ForgetsAddress self.old self.new (gx id.now) known.now }
         ensures subscribers { ForgetsSubscribers
             self.old.subscribed self.new.subscribed id.now known.now }
-        ensures prefix { self.new.prefixed_gateways
-            ≡ without text_cmp id.now self.old.prefixed_gateways }
+        ensures network { ForgetsNetwork self.old self.new (gx id.now) known.now }
         ensures calls { (a : Address) → listed_at self.new Af a ≡ listed_at self.old Af a }
-        ensures prefixed_calls { self.new.prefixed_calls ≡ self.old.prefixed_calls }
+        ensures calls_in { (n : PrefixValue) → listed_in self.new Af n ≡ listed_in self.old Af n }
         ensures covers { (v : View) → ShowsNothing v (gx id.now)
             → Covers v self.old → Covers v self.new }
     {
         self.forget_gateway_address(id, known);
         self.forget_gateway_subscribers(id, known);
-        self.unlist_prefixed_gateway(id);
+        self.forget_gateway_network(id, known);
     }
 
-    /// Takes an application function's session out from under the address that a record of it shows and out of those that were
-    /// given a prefix, as `forget_gateway` does.
+    /// Takes an application function's session out from under the address and the network that a record of it shows, as
+    /// `forget_gateway` does.
     pub fn forget_call(&mut self, id: &AfSid, known: &AfRec)
         ensures address { ForgetsAddress self.old self.new (af id.now) known.now }
-        ensures prefix { self.new.prefixed_calls ≡ without text_cmp id.now self.old.prefixed_calls }
+        ensures network { ForgetsNetwork self.old self.new (af id.now) known.now }
         ensures gateways { (a : Address) → listed_at self.new Gx a ≡ listed_at self.old Gx a }
-        ensures prefixed_gateways { self.new.prefixed_gateways ≡ self.old.prefixed_gateways }
+        ensures gateways_in { (n : PrefixValue) →
+            listed_in self.new Gx n ≡ listed_in self.old Gx n }
         ensures subscribers { self.new.subscribed ≡ self.old.subscribed }
         ensures covers { (v : View) → ShowsNothing v (af id.now)
             → Covers v self.old → Covers v self.new }
     {
         self.forget_call_address(id, known);
-        self.unlist_prefixed_call(id);
+        self.forget_call_network(id, known);
     }
 
-    /// Takes a gateway's session out of those that were given a prefix, unless the record that is known of it shows one;
-    /// without a record it shows none. An index that covers a state with this record still covers it.
-    pub fn forget_gateway_prefix(&mut self, id: &GxSid, known: Option<&GxRec>)
-        ensures gateways { self.new.prefixed_gateways
-            ≡ (if shows_prefix (record_facts (option_copied known.entry))
-            then self.old.prefixed_gateways
-            else without text_cmp id.now self.old.prefixed_gateways) }
-        ensures calls { self.new.prefixed_calls ≡ self.old.prefixed_calls }
+    /// Takes a gateway's session out from under the network of the prefix that a record of it shows.
+    fn forget_gateway_network(&mut self, id: &GxSid, known: &GxRec)
+        ensures network { ForgetsNetwork self.old self.new (gx id.now) known.now }
+        ensures calls { self.new.call_networks ≡ self.old.call_networks }
         ensures keyed { SameKeyed self.old self.new }
-        ensures covers { (facts : List SessionFact)
-            → record_facts (option_copied known.entry) ≡ facts_on facts (gx id.now)
-            → Covers (view facts) self.old → Covers (view facts) self.new }
+        ensures covers { (v : View) → ShowsNothing v (gx id.now)
+            → Covers v self.old → Covers v self.new }
     {
-        if gateway_has_prefix(known) {
+        let Some((_, prefix)) = known.prefix() else {
             return;
-        }
-        self.unlist_prefixed_gateway(id);
+        };
+        self.forget_gateway_in(&network_of(prefix), id);
     }
 
-    /// Takes an application function's session out of those that were given a prefix, as `forget_gateway_prefix` does.
-    pub fn forget_call_prefix(&mut self, id: &AfSid, known: Option<&AfRec>)
-        ensures calls { self.new.prefixed_calls
-            ≡ (if shows_prefix (record_facts (option_copied known.entry))
-            then self.old.prefixed_calls
-            else without text_cmp id.now self.old.prefixed_calls) }
-        ensures gateways { self.new.prefixed_gateways ≡ self.old.prefixed_gateways }
+    /// Takes an application function's session out from under the network of the prefix that a record of it shows.
+    fn forget_call_network(&mut self, id: &AfSid, known: &AfRec)
+        ensures network { ForgetsNetwork self.old self.new (af id.now) known.now }
+        ensures gateways { self.new.gateway_networks ≡ self.old.gateway_networks }
         ensures keyed { SameKeyed self.old self.new }
-        ensures covers { (facts : List SessionFact)
-            → record_facts (option_copied known.entry) ≡ facts_on facts (af id.now)
-            → Covers (view facts) self.old → Covers (view facts) self.new }
+        ensures covers { (v : View) → ShowsNothing v (af id.now)
+            → Covers v self.old → Covers v self.new }
     {
-        if call_has_prefix(known) {
+        let Some((_, prefix)) = known.prefix() else {
             return;
-        }
-        self.unlist_prefixed_call(id);
+        };
+        self.forget_call_in(&network_of(prefix), id);
     }
 
     /// Takes an application function's session out from under the address that a record of it shows.
@@ -132,25 +120,5 @@ impl Index {
             return;
         };
         self.forget_gateway_of(subscribers.as_slice(), id);
-    }
-}
-
-/// The gateway's session of this record, if there is one, shows a prefix.
-fn gateway_has_prefix(known: Option<&GxRec>) -> bool
-    ensures { result ≡ shows_prefix (record_facts (option_copied known.entry)) }
-{
-    match known {
-        Some(known) => known.prefix().is_some(),
-        None => false,
-    }
-}
-
-/// The application function's session of this record, if there is one, shows a prefix.
-fn call_has_prefix(known: Option<&AfRec>) -> bool
-    ensures { result ≡ shows_prefix (record_facts (option_copied known.entry)) }
-{
-    match known {
-        Some(known) => known.prefix().is_some(),
-        None => false,
     }
 }

@@ -6,27 +6,31 @@ ghost use Rattle.pcrf_facts.specs.Values.{Subscriber as SubscriberValue};
 ghost use Rattle.pcrf_facts.specs.Places as places;
 ghost use Rattle.pcrf_model.specs.Sessions.{Gx, Af, gx, af};
 ghost use Rattle.pcrf_model.specs.Views.{View, value};
+ghost use Rattle.pcrf_values.specs.Prefixes.{Ipv6Prefix as PrefixValue, prefix_cmp};
 ghost use Rattle.ranked.specs.Orders.{text_cmp};
 ghost use Rattle.ranked.specs.Sets.{In};
-ghost use Rattle.session_lists.specs.Lists.{ids_or_none, without, without_id};
-ghost use Rattle.session_index.specs.Forgetting.{ForgetsEach, SameKeyed, SamePrefixed, ShowsAddress};
-ghost use Rattle.session_index.specs.Index.{Covers, Grows, GrowsUnder, ListedUnder, address_cmp, listed_at, listed_of, with_prefix};
+ghost use Rattle.session_lists.specs.Lists.{ids_or_none, without_id};
+ghost use Rattle.session_index.specs.Forgetting.{ForgetsEach, SameKeyed, SamePrefixed, ShowsAddress, ShowsNetwork};
+ghost use Rattle.session_index.specs.Index.{Covers, Grows, GrowsUnder, ListedUnder, address_cmp, listed_at, listed_in, listed_of};
+ghost use Rattle.session_index.specs.Networks.{network_of};
 
-use pcrf_values::{AfSid, GxSid, Subscriber};
-use session_lists::{SessionIds, SessionLists, SessionSet};
+use crate::networks::network_of;
+use pcrf_values::{AfSid, GxSid, Ipv6Prefix, Subscriber};
+use session_lists::{SessionIds, SessionLists};
 use std::alloc::{AllocError, Global};
+use std::collections::btree_map::Iter;
 use std::marker::Model;
 use std::net::Ipv4Addr;
 
-/// Gateways' sessions by address and by subscriber, application functions' sessions by address, and of each those that were
-/// given an IPv6 prefix. A session may show nothing of what it is listed under.
+/// Gateways' sessions by address and by subscriber, application functions' sessions by address, and both by the network of the
+/// IPv6 prefix that they were given. A session may show nothing of what it is listed under.
 #[derive(Drop)]
 pub struct Index {
     gateways: SessionLists<Ipv4Addr, GxSid>,
     calls: SessionLists<Ipv4Addr, AfSid>,
     pub(crate) subscribed: SessionLists<Subscriber, GxSid>,
-    prefixed_gateways: SessionSet<GxSid>,
-    prefixed_calls: SessionSet<AfSid>,
+    gateway_networks: SessionLists<Ipv6Prefix, GxSid>,
+    call_networks: SessionLists<Ipv6Prefix, AfSid>,
 }
 
 impl Model for Index {
@@ -38,8 +42,8 @@ impl Model for Index {
       gateways = i.gateways;
       calls = i.calls;
       subscribed = i.subscribed;
-      prefixed_gateways = i.prefixed_gateways;
-      prefixed_calls = i.prefixed_calls;
+      gateway_networks = i.gateway_networks;
+      call_networks = i.call_networks;
     } };
 }
 
@@ -49,15 +53,15 @@ impl Index {
         ensures gateways { (a : Address) → listed_at result Gx a ≡ [] }
         ensures calls { (a : Address) → listed_at result Af a ≡ [] }
         ensures subscribers { (x : SubscriberValue) → listed_of result x ≡ [] }
-        ensures prefixed_gateways { with_prefix result Gx ≡ [] }
-        ensures prefixed_calls { with_prefix result Af ≡ [] }
+        ensures gateway_networks { (n : PrefixValue) → listed_in result Gx n ≡ [] }
+        ensures call_networks { (n : PrefixValue) → listed_in result Af n ≡ [] }
     {
         Index {
             gateways: SessionLists::start(alloc),
             calls: SessionLists::start(alloc),
             subscribed: SessionLists::start(alloc),
-            prefixed_gateways: SessionSet::start(alloc),
-            prefixed_calls: SessionSet::start(alloc),
+            gateway_networks: SessionLists::start(alloc),
+            call_networks: SessionLists::start(alloc),
         }
     }
 
@@ -82,18 +86,25 @@ impl Index {
         self.subscribed.at(subscriber)
     }
 
-    /// The gateways' sessions that are listed since they were given a prefix.
-    pub fn gateways_with_prefix(&self) -> Option<&SessionIds<GxSid>>
-        ensures { ids_or_none (option_copied result) ≡ with_prefix self.now Gx }
+    /// The gateways' sessions that are listed under a network.
+    pub fn gateways_in(&self, network: &Ipv6Prefix) -> Option<&SessionIds<GxSid>>
+        ensures { ids_or_none (option_copied result) ≡ listed_in self.now Gx network.now }
     {
-        self.prefixed_gateways.ids()
+        self.gateway_networks.at(network)
     }
 
-    /// The application functions' sessions that are listed since they were given a prefix.
-    pub fn calls_with_prefix(&self) -> Option<&SessionIds<AfSid>>
-        ensures { ids_or_none (option_copied result) ≡ with_prefix self.now Af }
+    /// The application functions' sessions that are listed under a network.
+    pub fn calls_in(&self, network: &Ipv6Prefix) -> Option<&SessionIds<AfSid>>
+        ensures { ids_or_none (option_copied result) ≡ listed_in self.now Af network.now }
     {
-        self.prefixed_calls.ids()
+        self.call_networks.at(network)
+    }
+
+    /// The application functions' sessions that are listed under networks, by these.
+    pub fn calls_by_network(&self) -> Iter<'_, Ipv6Prefix, SessionIds<AfSid>>
+        ensures { result ≡ self.now.call_networks }
+    {
+        self.call_networks.iter()
     }
 
     /// Lists a gateway's session under an address.
@@ -112,20 +123,28 @@ impl Index {
         self.calls.add(address, id)
     }
 
-    /// Lists a gateway's session with those that were given a prefix.
-    pub(crate) fn add_prefixed_gateway(&mut self, id: &GxSid) -> Result<(), AllocError>
+    /// Lists a gateway's session under the network of a prefix.
+    pub(crate) fn add_prefixed_gateway(
+        &mut self,
+        prefix: &Ipv6Prefix,
+        id: &GxSid,
+    ) -> Result<(), AllocError>
         ensures grows { Grows self.old self.new }
-        ensures lists { OnOk result (In id.now (with_prefix self.new Gx)) }
+        ensures lists { OnOk result (In id.now (listed_in self.new Gx (network_of prefix.now))) }
     {
-        self.prefixed_gateways.add(id)
+        self.gateway_networks.add(&network_of(prefix), id)
     }
 
-    /// Lists an application function's session with those that were given a prefix.
-    pub(crate) fn add_prefixed_call(&mut self, id: &AfSid) -> Result<(), AllocError>
+    /// Lists an application function's session under the network of a prefix.
+    pub(crate) fn add_prefixed_call(
+        &mut self,
+        prefix: &Ipv6Prefix,
+        id: &AfSid,
+    ) -> Result<(), AllocError>
         ensures grows { Grows self.old self.new }
-        ensures lists { OnOk result (In id.now (with_prefix self.new Af)) }
+        ensures lists { OnOk result (In id.now (listed_in self.new Af (network_of prefix.now))) }
     {
-        self.prefixed_calls.add(id)
+        self.call_networks.add(&network_of(prefix), id)
     }
 
     /// Lists a gateway's session under these subscribers; a refusal leaves what was listed so far.
@@ -179,27 +198,28 @@ impl Index {
         unlist_under(&mut self.subscribed, subscribers, id);
     }
 
-    /// Takes a gateway's session out of those that were given a prefix: it no longer shows one.
-    pub(crate) fn unlist_prefixed_gateway(&mut self, id: &GxSid)
-        ensures gateways { self.new.prefixed_gateways
-            ≡ without text_cmp id.now self.old.prefixed_gateways }
-        ensures calls { self.new.prefixed_calls ≡ self.old.prefixed_calls }
+    /// Takes a gateway's session out from under a network: it no longer shows a prefix of it.
+    pub fn forget_gateway_in(&mut self, network: &Ipv6Prefix, id: &GxSid)
+        ensures gateways { (n : PrefixValue) → listed_in self.new Gx n
+            ≡ without_id prefix_cmp text_cmp self.old.gateway_networks network.now id.now n }
+        ensures calls { self.new.call_networks ≡ self.old.call_networks }
         ensures keyed { SameKeyed self.old self.new }
-        ensures covers { (v : View) → (value v (gx id.now) places.prefix ≡ None)
+        ensures covers { (v : View) → ¬ ShowsNetwork v (gx id.now) network.now
             → Covers v self.old → Covers v self.new }
     {
-        self.prefixed_gateways.remove(id);
+        self.gateway_networks.remove(network, id);
     }
 
-    /// Takes an application function's session out of those that were given a prefix: it no longer shows one.
-    pub(crate) fn unlist_prefixed_call(&mut self, id: &AfSid)
-        ensures calls { self.new.prefixed_calls ≡ without text_cmp id.now self.old.prefixed_calls }
-        ensures gateways { self.new.prefixed_gateways ≡ self.old.prefixed_gateways }
+    /// Takes an application function's session out from under a network: it no longer shows a prefix of it.
+    pub fn forget_call_in(&mut self, network: &Ipv6Prefix, id: &AfSid)
+        ensures calls { (n : PrefixValue) → listed_in self.new Af n
+            ≡ without_id prefix_cmp text_cmp self.old.call_networks network.now id.now n }
+        ensures gateways { self.new.gateway_networks ≡ self.old.gateway_networks }
         ensures keyed { SameKeyed self.old self.new }
-        ensures covers { (v : View) → (value v (af id.now) places.prefix ≡ None)
+        ensures covers { (v : View) → ¬ ShowsNetwork v (af id.now) network.now
             → Covers v self.old → Covers v self.new }
     {
-        self.prefixed_calls.remove(id);
+        self.call_networks.remove(network, id);
     }
 }
 

@@ -1,27 +1,29 @@
 //! The gateway's session to which an application function's session is bound, by an index.
 ghost use Rattle.std.specs.Prelude.{◌≡◌, ℕ, List, option_map};
 ghost use Rattle.std.specs.Option.{option_copied};
-ghost use Rattle.pcrf_model.specs.Bindings.{bind, candidate_cmp};
+ghost use Rattle.pcrf_model.specs.Bindings.{bind};
 ghost use Rattle.pcrf_model.specs.Holdings.{facts_on};
 ghost use Rattle.pcrf_model.specs.Sessions.{gx, af};
 ghost use Rattle.pcrf_model.specs.Views.{view};
-ghost use Rattle.ranked.specs.Sets.{greatest};
 ghost use Rattle.bind_index.specs.Asking.{with_record};
-ghost use Rattle.session_index.specs.Index.{AreAskedFor, Covers, matches_listed};
-ghost use Rattle.bind_index.specs.Matches.{match_of, match_value};
+ghost use Rattle.session_index.specs.Index.{Covers, IsFoundFor, IsFoundIn, matches_listed};
+ghost use Rattle.session_index.specs.Networks.{network_of};
+ghost use Rattle.bind_index.specs.Matches.{best_from, match_of, match_value};
 ghost use Rattle.session_lists.specs.Lists.{ids_or_none};
 
 use crate::index::Index;
+use crate::networks::{all_networks, network_of, spans_networks};
 use af_records::AfRec;
 use bind_index::{Match, greater, match_of};
-use pcrf_values::{AfSid, GxSid};
+use pcrf_values::{AfSid, GxSid, Ipv6Prefix};
 use session_lists::SessionIds;
 use site_join::State;
 
 impl Index {
     /// The gateway's session to which an application function's session is bound, `None` where it is bound to none, by an
     /// index that covers the state. Its time grows with the number of gateways' sessions that are listed under the address, or
-    /// where the session has a prefix and no address with that of all that were given a prefix; it takes no memory.
+    /// where the session has a prefix and no address with that of those whose prefix is of its network or has fewer than 64
+    /// bits; it takes no memory.
     pub fn bind(&self, state: &State, session: &AfSid) -> Option<&GxSid>
         ensures { Covers (view state.now.facts) self.now → option_map gx (option_copied result)
             ≡ bind (view state.now.facts) (af session.now) }
@@ -39,40 +41,55 @@ impl Index {
             → option_map gx (option_copied result)
             ≡ bind (view (with_record state.now (af a) asking.now).facts) (af a) }
     {
-        let Some(ids) = self.sessions_for(asking) else {
-            return None;
-        };
-        let Some(found) = greatest_listed(asking, state, ids) else {
+        let Some(found) = self.greatest_for(state, asking) else {
             return None;
         };
         Some(found.session)
     }
 
-    /// The gateways' sessions among which an application function's session of this record finds its own: those under its
-    /// address, or where it has a prefix alone those that were given one.
-    fn sessions_for(&self, asking: &AfRec) -> Option<&SessionIds<GxSid>>
-        ensures { AreAskedFor self.now asking.now (ids_or_none (option_copied result)) }
+    /// The greatest match of an application function's session of this record: among the gateways' sessions under its address,
+    /// or where it has a prefix alone among those that its network has and those that span networks.
+    fn greatest_for(&self, state: &State, asking: &AfRec) -> Option<Match<'_>>
+        ensures { IsFoundFor self.now asking.now state.now.facts
+            (option_map match_value result) }
     {
         if let Some((_, address)) = asking.address() {
-            return self.gateways_at(*address);
+            return greatest_listed(asking, state, self.gateways_at(*address), None);
         }
-        if asking.prefix().is_none() {
+        let Some((_, prefix)) = asking.prefix() else {
             return None;
+        };
+        self.greatest_by(state, asking, prefix)
+    }
+
+    /// The greatest match among the gateways' sessions that the network of this prefix has and those that span networks.
+    fn greatest_by(&self, state: &State, asking: &AfRec, prefix: &Ipv6Prefix) -> Option<Match<'_>>
+        ensures { IsFoundIn self.now (network_of prefix.now) asking.now state.now.facts
+            (option_map match_value result) }
+    {
+        let all = all_networks();
+        let best = greatest_listed(asking, state, self.gateways_in(&all), None);
+        if spans_networks(prefix) {
+            return best;
         }
-        self.gateways_with_prefix()
+        greatest_listed(asking, state, self.gateways_in(&network_of(prefix)), best)
     }
 }
 
-/// The greatest of these sessions that match.
+/// The greatest of these sessions that match, or the best so far where that is greater.
 fn greatest_listed<'i>(
     asking: &AfRec,
     state: &State,
-    ids: &'i SessionIds<GxSid>,
+    listed: Option<&'i SessionIds<GxSid>>,
+    so_far: Option<Match<'i>>,
 ) -> Option<Match<'i>>
-    ensures { option_map match_value result
-        ≡ greatest candidate_cmp (matches_listed asking.now state.now.facts ids.now) }
+    ensures { option_map match_value result ≡ best_from (option_map match_value so_far.entry)
+        (matches_listed asking.now state.now.facts (ids_or_none (option_copied listed.entry))) }
 {
-    let mut best = None;
+    let Some(ids) = listed else {
+        return so_far;
+    };
+    let mut best = so_far;
     for session in ids.iter() {
         if let Some(found) = listed_match(asking, state, session) {
             best = Some(greater(best, found));

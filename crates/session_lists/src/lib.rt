@@ -4,9 +4,7 @@
 mod ids;
 mod iter;
 mod lists;
-mod set;
 
 pub use ids::SessionIds;
 pub use iter::Ids;
 pub use lists::SessionLists;
-pub use set::SessionSet;

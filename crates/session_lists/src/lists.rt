@@ -8,6 +8,7 @@ use crate::ids::SessionIds;
 use ranked::Ranked;
 use std::alloc::{AllocError, Global};
 use std::collections::BTreeMap;
+use std::collections::btree_map::Iter;
 use std::marker::Model;
 
 /// Session-Ids under keys, which contracts see as the list of keys with their ascending lists. A call takes the logarithm of
@@ -42,6 +43,13 @@ impl<K: Ranked, S: Ranked> SessionLists<K, S> {
         ensures { ids_or_none (option_copied result) ≡ ids_at K.cmp self.now key.now }
     {
         self.lists.get(key)
+    }
+
+    /// The lists with their keys, in the order of these.
+    pub fn iter(&self) -> Iter<'_, K, SessionIds<S>>
+        ensures { result ≡ self.now }
+    {
+        self.lists.iter()
     }
 
     /// Lists a session under a key; a refusal changes nothing.

@@ -1,11 +1,12 @@
 -- When all that are abandoned wait after a change was followed.
-use Rattle.std.proofs.Common.{◌≡◌, ℕ, true, false, List, Option, Some, None, inl, inr, refl, sym, ap, ◌∙◌, subst, option_map}
+use Rattle.std.proofs.Common.{◌≡◌, ℕ, true, false, List, [], Option, Some, None, inl, inr, refl, sym, ap, ◌∙◌, subst, option_map}
 use Rattle.std.specs.Net.Addr.{ipv4_octets}
 use Rattle.std.specs.declared.net.ipv4_addr.Ipv4Addr.{Ipv4Addr}
 use Rattle.ranked.specs.Sets.{In}
 use Rattle.ranked.proofs.Plain.{clash, none_some, some_same}
+use Rattle.pcrf_values.specs.Prefixes.{Ipv6Prefix, covers as covers_prefix}
 use Rattle.pcrf_facts.specs.Places.{address, prefix}
-use Rattle.pcrf_facts.specs.Values.{Value, Address}
+use Rattle.pcrf_facts.specs.Values.{Value, Address, Prefix}
 use Rattle.pcrf_model.specs.Aborting.{is_abandoned}
 use Rattle.pcrf_model.specs.Bindings.{matches}
 use Rattle.pcrf_model.specs.Holdings.{SessionFact}
@@ -14,9 +15,12 @@ use Rattle.pcrf_model.specs.Sessions.{Session, af, is_gx}
 use Rattle.pcrf_model.specs.Views.{View, view, value}
 use Rattle.pcrf_model.proofs.BindLaws.{matched}
 use Rattle.pcrf_model.proofs.NeighbourLaws.{how_they_meet}
-use Rattle.session_index.specs.Index.{IndexValue, Covers, listed_at}
+use Rattle.session_index.specs.Index.{IndexValue, Covers, listed_at, listed_in}
+use Rattle.session_index.specs.Networks.{network_of, spans_networks}
+use Rattle.session_index.proofs.Indexed.{prefixes_met}
+use Rattle.session_index.proofs.CoveredNetworks.{one_network}
 use Rattle.waiting_sessions.specs.Waits.{WaitingValue, waiting_of, Keeps, WaitsIfDue}
-use Rattle.waiting_aborts.specs.Abandoned.{AbandonedWait, ListedCallsWait, EachCallWaits}
+use Rattle.waiting_aborts.specs.Abandoned.{AbandonedWait, ListedCallsWait, NetworkCallsWait, EachCallWaits}
 use Rattle.waiting_aborts.proofs.Parts.{of_call, at_host}
 use Rattle.waiting_aborts.proofs.Firsts.{af_is}
 use Rattle.waiting_aborts.proofs.Changes.{suited_enough, alike_enough}
@@ -72,33 +76,44 @@ module _ (i : ℕ) (xs ys : List SessionFact) (d : Session) (u w : WaitingValue)
     listed = λ a. alike_enough i xs ys d (waiting_of u) (waiting_of w) h (all.listed (k.some a)) (k.stay a) alike;
   }
 
-  module _ (g : is_gx d.kind ≡ true) (no_prefix : value v d prefix ≡ None) (index : IndexValue) (covers : Covers v index)
-      (at : Option Ipv4Addr) (shows : option_map address_value at ≡ value v d address) (listed : ListedCallsWait z index w at) where
+  module _ (g : is_gx d.kind ≡ true) (index : IndexValue) (covers : Covers v index)
+      (at : Option Ipv4Addr) (shows : option_map address_value at ≡ value v d address) (listed : ListedCallsWait z index w at)
+      (by : Option Ipv6Prefix) (shows_prefix : option_map Prefix by ≡ value v d prefix)
+      (one : (p : Ipv6Prefix) → by ≡ Some p → (spans_networks p ≡ false) × NetworkCallsWait z index w (network_of p)) where
     -- the one that changed isn't abandoned
     not_own : (name : List ℕ) → is_abandoned i z (Some name) d ≡ true → ⊥
     not_own name q = clash (is_gx d.kind) g (of_call i z (Some name) d q)
 
-    -- what the address is of
-    its_address : (o : Option Ipv4Addr) (x : Value) → option_map address_value o ≡ Some x → (a : Ipv4Addr) × (o ≡ Some a) × (address_value a ≡ x)
-    its_address None x e = none_some x e
-    its_address (Some a) x e = (a, refl, some_same (address_value a) x e)
+    -- what is shown is of something
+    what : {A : Type 0} (f : A → Value) (o : Option A) (x : Value) → option_map f o ≡ Some x → (a : A) × (o ≡ Some a) × (f a ≡ x)
+    what f None x e = none_some x e
+    what f (Some a) x e = (a, refl, some_same (f a) x e)
 
-    -- whoever it suited is listed under the address that it showed
-    met : (s : Session) → matches v s d ≡ true → (a : Ipv4Addr) × (at ≡ Some a) × In s.id (listed_at index s.kind a)
-    met s m = elim (how_they_meet v s d m) [
-      | inl b ↦
-          let own = its_address at b.0 (shows ∙ b.2) in
-          (own.0, own.1, covers.addresses s own.0 (b.1 ∙ ap Some (sym own.2)))
-      | inr b ↦ none_some b.1.0 (sym no_prefix ∙ b.1.1)
-    ]
+    -- the prefix of a value
+    abbrev prefix_in : Value → Ipv6Prefix
+    prefix_in (Prefix p) = p
+    prefix_in x = (0, [])
 
-    -- and waits
+    -- whoever it suited waits: it is listed under the address that it showed, or under the network of its prefix
     suited_waits : w.all ≡ false → (name : List ℕ) (s : Session) → matches v s d ≡ true → is_abandoned i z (Some name) s ≡ true → In s.id (waiting_of w name)
     suited_waits a name s m q =
-        let there = met s m in
-        let named : af s.id ≡ s = af_is s s.kind refl (of_call i z (Some name) s q) in
-        let here = subst (λ (r : Session). In r.id (listed_at index r.kind there.0)) (sym named) there.2 in
-        waits_there i z w s a (subst (λ (r : Session). WaitsIfDue z w r) named (listed.each there.0 s.id there.1 here)) name q
+        waits_there i z w s a (subst (λ (r : Session). WaitsIfDue z w r) named (elim (how_they_meet v s d m) [
+          | inl b ↦
+              let own = what address_value at b.0 (shows ∙ b.2) in
+              listed.each own.0 s.id own.1 (subst (λ (r : Session). In r.id (listed_at index r.kind own.0)) (sym named) (covers.addresses s own.0 (b.1 ∙ ap Some (sym own.2))))
+          | inr b ↦
+              let p = prefixes_met v s d m b.0 in
+              let own = what Prefix by (Prefix p.shown) (shows_prefix ∙ p.shows) in
+              let its = one own.0 own.1 in
+              let shown : own.0 ≡ p.shown = ap prefix_in own.2 in
+              let met : network_of own.0 ≡ network_of p.asked = one_network own.0 p.asked (subst (λ (x : Ipv6Prefix). covers_prefix x p.asked ≡ true) (sym shown) p.covered) its.0 in
+              let here : In s.id (listed_in index s.kind (network_of own.0)) =
+              subst (λ (n : Ipv6Prefix). In s.id (listed_in index s.kind n)) (sym met) (covers.prefixes s p.asked p.asks) in
+              its.1.each s.id (subst (λ (r : Session). In r.id (listed_in index r.kind (network_of own.0))) (sym named) here)
+        ])) name q
+      where
+        named : af s.id ≡ s
+        named = af_is s s.kind refl (of_call i z (Some name) s q)
 
     -- so those that are listed there are enough
     pub gateway_followed : AbandonedWait i z w

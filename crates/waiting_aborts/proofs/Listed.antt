@@ -14,7 +14,7 @@ use Rattle.pcrf_model.specs.Views.{View, view}
 use Rattle.site_join.specs.States.{record_facts}
 use Rattle.session_index.specs.Index.{IndexValue, listed_at}
 use Rattle.waiting_sessions.specs.Waits.{WaitingValue, Keeps, WaitsIfDue}
-use Rattle.waiting_aborts.specs.Abandoned.{EachCallWaits, ListedCallsWait}
+use Rattle.waiting_aborts.specs.Abandoned.{EachCallWaits, EachListedCallWaits, ListedCallsWait}
 use Rattle.waiting_sessions.proofs.Waited.{waits_on}
 use Rattle.waiting_sessions.proofs.Reading.{no_host}
 
@@ -30,17 +30,26 @@ next_waits v u w rest next id x k e own (inl m) = next_of v w id x next own (sub
 next_waits v u w rest next id x k e own (inr h) = inr (waits_on v u w (af x) k h)
 
 -- once all were
-pub all_listed : (v : View) (i : IndexValue) (w : WaitingValue) (at : Option Ipv4Addr) (a : Ipv4Addr) (all rest : List (List ℕ)) → at ≡ Some a → all ≡ listed_at i Af a
-    → ((x : List ℕ) → In x all → In x rest ⊎ WaitsIfDue v w (af x)) → rest ≡ [] → ListedCallsWait v i w at
-all_listed v i w at a all rest h e f none = record {
+pub all_waited : (v : View) (w : WaitingValue) (all rest : List (List ℕ)) → ((x : List ℕ) → In x all → In x rest ⊎ WaitsIfDue v w (af x)) → rest ≡ [] → EachListedCallWaits v w all
+all_waited v w all rest f none = record {
+  each = λ id m. elim (f id m) [
+    | inl j ↦ absurd (subst (λ (l : List (List ℕ)). In id l) none j)
+    | inr g ↦ g
+  ];
+}
+
+-- so those that are listed under an address
+pub all_listed : (v : View) (i : IndexValue) (w : WaitingValue) (at : Option Ipv4Addr) (a : Ipv4Addr) (ids : List (List ℕ)) → at ≡ Some a → ids ≡ listed_at i Af a
+    → EachListedCallWaits v w ids → ListedCallsWait v i w at
+all_listed v i w at a ids h e f = record {
   each = λ b id k m.
       let same : a ≡ b = some_same a b (sym h ∙ k) in
-      let here : In id all = subst (λ (l : List (List ℕ)). In id l) (sym (e ∙ ap (listed_at i Af) same)) m in
-      elim (f id here) [
-        | inl j ↦ absurd (subst (λ (l : List (List ℕ)). In id l) none j)
-        | inr g ↦ g
-      ];
+      f.each id (subst (λ (l : List (List ℕ)). In id l) (sym (e ∙ ap (listed_at i Af) same)) m);
 }
+
+-- and none where there are none
+pub none_listed : (v : View) (w : WaitingValue) (ids : List (List ℕ)) → [] ≡ ids → EachListedCallWaits v w ids
+none_listed v w ids e = record { each = λ id m. absurd (subst (λ (l : List (List ℕ)). In id l) (sym e) m) }
 
 -- ---- records
 

@@ -7,7 +7,8 @@ use Rattle.pcrf_model.specs.Replies.{AbortValue}
 use Rattle.pcrf_model.specs.Sessions.{Af, Session, af}
 use Rattle.pcrf_model.specs.Views.{View}
 use Rattle.pcrf_model.specs.Waiting.{Waiting}
-use Rattle.session_index.specs.Index.{IndexValue, listed_at}
+use Rattle.pcrf_values.specs.Prefixes.{Ipv6Prefix}
+use Rattle.session_index.specs.Index.{IndexValue, listed_at, listed_in}
 use Rattle.waiting_sessions.specs.Waits.{WaitingValue, WaitsIfDue, waiting_of}
 
 -- each session that is abandoned at a site waits under its host
@@ -25,6 +26,14 @@ first_waiting i v waiting name = find (is_abandoned i v (Some name)) (map af (wa
 -- each application function's session that is listed under the address waits under its host
 pub record ListedCallsWait (v : View) (index : IndexValue) (w : WaitingValue) (at : Option Ipv4Addr) : Type 0 where
   pub each : (a : Ipv4Addr) (id : List ℕ) → at ≡ Some a → In id (listed_at index Af a) → WaitsIfDue v w (af id)
+
+-- each of these application functions' sessions waits under its host
+pub record EachListedCallWaits (v : View) (w : WaitingValue) (ids : List (List ℕ)) : Type 0 where
+  pub each : (id : List ℕ) → In id ids → WaitsIfDue v w (af id)
+
+-- so does each that is listed under the network
+abbrev pub NetworkCallsWait : View → IndexValue → WaitingValue → Ipv6Prefix → Type 0
+NetworkCallsWait v index w n = EachListedCallWaits v w (listed_in index Af n)
 
 -- so does each that there is
 pub record EachCallWaits (v : View) (w : WaitingValue) : Type 0 where

@@ -8,5 +8,5 @@ mod waiters;
 mod waiting;
 
 pub use aborting::{first_abort, next_abort};
-pub use waiters::{gather, wait_at, wait_one};
+pub use waiters::{gather, wait_at, wait_in, wait_one};
 pub use waiting::WaitingCalls;

@@ -3,11 +3,12 @@ ghost use Rattle.std.specs.Prelude.{◌≡◌, ℕ, false, IfOk, OnOk};
 ghost use Rattle.pcrf_model.specs.Sessions.{af};
 ghost use Rattle.pcrf_model.specs.Views.{view};
 ghost use Rattle.waiting_sessions.specs.Waits.{Keeps, WaitsIfDue};
-ghost use Rattle.waiting_aborts.specs.Abandoned.{AbandonedWait, EachCallWaits, ListedCallsWait};
+ghost use Rattle.waiting_aborts.specs.Abandoned.{AbandonedWait, EachCallWaits, EachListedCallWaits, ListedCallsWait, NetworkCallsWait};
 
 use crate::waiting::WaitingCalls;
-use pcrf_values::AfSid;
+use pcrf_values::{AfSid, Ipv6Prefix};
 use session_index::Index;
+use session_lists::SessionIds;
 use site_join::State;
 use std::alloc::{AllocError, Global};
 use std::net::Ipv4Addr;
@@ -38,6 +39,26 @@ pub fn wait_at(state: &State, index: &Index, waiting: &mut WaitingCalls, address
     let Some(ids) = index.calls_at(address) else {
         return;
     };
+    wait_each(state, waiting, ids);
+}
+
+/// Has the application functions' sessions wait that are listed under a network: those that may lose the gateway's session to
+/// which they were bound, where its prefix was of the network.
+pub fn wait_in(state: &State, index: &Index, waiting: &mut WaitingCalls, network: &Ipv6Prefix)
+    ensures keeps { Keeps waiting.old waiting.new }
+    ensures waits { NetworkCallsWait (view state.now.facts) index.now waiting.new network.now }
+{
+    let Some(ids) = index.calls_in(network) else {
+        return;
+    };
+    wait_each(state, waiting, ids);
+}
+
+/// Has these application functions' sessions wait.
+fn wait_each(state: &State, waiting: &mut WaitingCalls, ids: &SessionIds<AfSid>)
+    ensures keeps { Keeps waiting.old waiting.new }
+    ensures waits { EachListedCallWaits (view state.now.facts) waiting.new ids.now }
+{
     for id in ids.iter() {
         wait_one(state, waiting, id);
     }

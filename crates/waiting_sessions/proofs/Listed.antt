@@ -14,8 +14,7 @@ use Rattle.pcrf_model.specs.Views.{View, view}
 use Rattle.pcrf_model.proofs.BindLaws.{gx_is}
 use Rattle.site_join.specs.States.{record_facts}
 use Rattle.session_index.specs.Index.{IndexValue, listed_at}
-use Rattle.waiting_sessions.specs.Waits.{ListedWait}
-use Rattle.waiting_sessions.specs.Waits.{WaitingValue, Keeps, WaitsIfDue, EachWaits}
+use Rattle.waiting_sessions.specs.Waits.{WaitingValue, EachListedWaits, EachWaits, Keeps, ListedWait, WaitsIfDue}
 use Rattle.waiting_sessions.proofs.Waited.{waits_on}
 use Rattle.waiting_sessions.proofs.Reading.{no_host}
 
@@ -31,18 +30,28 @@ next_waits v u w rest next id x k e own (inl m) = next_of v w id x next own (sub
 next_waits v u w rest next id x k e own (inr h) = inr (waits_on v u w (gx x) k h)
 
 -- once all were
-pub all_listed : (v : View) (i : IndexValue) (w : WaitingValue) (at : Option Ipv4Addr) (a : Ipv4Addr) (all rest : List (List ℕ)) → at ≡ Some a → all ≡ listed_at i Gx a
-    → ((x : List ℕ) → In x all → In x rest ⊎ WaitsIfDue v w (gx x)) → rest ≡ [] → ListedWait v i w at
-all_listed v i w at a all rest h e f none = record {
+pub all_waited : (v : View) (w : WaitingValue) (all rest : List (List ℕ)) → ((x : List ℕ) → In x all → In x rest ⊎ WaitsIfDue v w (gx x)) → rest ≡ [] → EachListedWaits v w all
+all_waited v w all rest f none = record {
+  each = λ id m. elim (f id m) [
+    | inl j ↦ absurd (subst (λ (l : List (List ℕ)). In id l) none j)
+    | inr g ↦ g
+  ];
+}
+
+-- so those that are listed under an address
+pub all_listed : (v : View) (i : IndexValue) (w : WaitingValue) (at : Option Ipv4Addr) (a : Ipv4Addr) (ids : List (List ℕ)) → at ≡ Some a → ids ≡ listed_at i Gx a
+    → EachListedWaits v w ids → ListedWait v i w at
+all_listed v i w at a ids h e f = record {
   each = λ b s k kind m.
       let same : a ≡ b = some_same a b (sym h ∙ k) in
-      let here : In s.id all = subst (λ (l : List (List ℕ)). In s.id l) (sym (e ∙ ap (listed_at i Gx) same)) m in
+      let here : In s.id ids = subst (λ (l : List (List ℕ)). In s.id l) (sym (e ∙ ap (listed_at i Gx) same)) m in
       let named : gx s.id ≡ s = λ j. record { kind = sym kind j; id = s.id } in
-      elim (f s.id here) [
-        | inl j ↦ absurd (subst (λ (l : List (List ℕ)). In s.id l) none j)
-        | inr g ↦ subst (λ (r : Session). WaitsIfDue v w r) named g
-      ];
+      subst (λ (r : Session). WaitsIfDue v w r) named (f.each s.id here);
 }
+
+-- and none where there are none
+pub none_listed : (v : View) (w : WaitingValue) (ids : List (List ℕ)) → [] ≡ ids → EachListedWaits v w ids
+none_listed v w ids e = record { each = λ id m. absurd (subst (λ (l : List (List ℕ)). In id l) (sym e) m) }
 
 -- ---- records
 

@@ -4,12 +4,13 @@ use Rattle.std.specs.declared.net.ipv4_addr.Ipv4Addr.{Ipv4Addr}
 use Rattle.ranked.specs.Orders.{text_cmp}
 use Rattle.ranked.specs.Sets.{In}
 use Rattle.pcrf_facts.specs.Places.{host}
-use Rattle.pcrf_model.specs.Sessions.{Gx, Session, is_gx}
+use Rattle.pcrf_model.specs.Sessions.{Gx, Session, gx, is_gx}
 use Rattle.pcrf_model.specs.Tables.{Tables}
 use Rattle.pcrf_model.specs.Views.{View, text}
 use Rattle.pcrf_model.specs.Waiting.{Waiting, AllDueWait, Stay}
 use Rattle.session_lists.specs.Lists.{first_of, ids_at}
-use Rattle.session_index.specs.Index.{IndexValue, listed_at}
+use Rattle.pcrf_values.specs.Prefixes.{Ipv6Prefix}
+use Rattle.session_index.specs.Index.{IndexValue, listed_at, listed_in}
 
 -- all sessions wait, or those of the lists, each under the host of its gateway
 pub record WaitingValue : Type 0 where
@@ -48,3 +49,11 @@ pub record EachWaits (v : View) (w : WaitingValue) : Type 0 where
 -- each gateway's session that is listed under the address waits, where it may be due
 pub record ListedWait (v : View) (index : IndexValue) (w : WaitingValue) (at : Option Ipv4Addr) : Type 0 where
   pub each : (a : Ipv4Addr) (s : Session) → at ≡ Some a → s.kind ≡ Gx → In s.id (listed_at index Gx a) → WaitsIfDue v w s
+
+-- each of these gateways' sessions waits, where it may be due
+pub record EachListedWaits (v : View) (w : WaitingValue) (ids : List (List ℕ)) : Type 0 where
+  pub each : (id : List ℕ) → In id ids → WaitsIfDue v w (gx id)
+
+-- so does each that is listed under the network
+abbrev pub NetworkWaits : View → IndexValue → WaitingValue → Ipv6Prefix → Type 0
+NetworkWaits v index w n = EachListedWaits v w (listed_in index Gx n)

@@ -5,5 +5,5 @@
 mod waiters;
 mod waiting;
 
-pub use waiters::{gather, wait_at, wait_one};
+pub use waiters::{gather, wait_at, wait_in, wait_one};
 pub use waiting::Waiting;

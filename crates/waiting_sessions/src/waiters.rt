@@ -3,11 +3,12 @@ ghost use Rattle.std.specs.Prelude.{◌≡◌, ℕ, false, IfOk, OnOk};
 ghost use Rattle.pcrf_model.specs.Sessions.{gx};
 ghost use Rattle.pcrf_model.specs.Tables.{Tables as TablesValue};
 ghost use Rattle.pcrf_model.specs.Views.{view};
-ghost use Rattle.waiting_sessions.specs.Waits.{DueWait, EachWaits, Keeps, ListedWait, WaitsIfDue};
+ghost use Rattle.waiting_sessions.specs.Waits.{DueWait, EachListedWaits, EachWaits, Keeps, ListedWait, NetworkWaits, WaitsIfDue};
 
 use crate::waiting::Waiting;
-use pcrf_values::GxSid;
+use pcrf_values::{GxSid, Ipv6Prefix};
 use session_index::Index;
+use session_lists::SessionIds;
 use site_join::State;
 use std::alloc::{AllocError, Global};
 use std::net::Ipv4Addr;
@@ -37,6 +38,25 @@ pub fn wait_at(state: &State, index: &Index, waiting: &mut Waiting, address: Opt
     let Some(ids) = index.gateways_at(address) else {
         return;
     };
+    wait_each(state, waiting, ids);
+}
+
+/// Has the gateways' sessions wait that are listed under a network.
+pub fn wait_in(state: &State, index: &Index, waiting: &mut Waiting, network: &Ipv6Prefix)
+    ensures keeps { Keeps waiting.old waiting.new }
+    ensures waits { NetworkWaits (view state.now.facts) index.now waiting.new network.now }
+{
+    let Some(ids) = index.gateways_in(network) else {
+        return;
+    };
+    wait_each(state, waiting, ids);
+}
+
+/// Has these gateways' sessions wait.
+fn wait_each(state: &State, waiting: &mut Waiting, ids: &SessionIds<GxSid>)
+    ensures keeps { Keeps waiting.old waiting.new }
+    ensures waits { EachListedWaits (view state.now.facts) waiting.new ids.now }
+{
     for id in ids.iter() {
         wait_one(state, waiting, id);
     }

@@ -21,7 +21,7 @@ use std::process::Abort;
 const ADDRESSES: u8 = 7;
 
 /// How many prefixes they share.
-const PREFIXES: u8 = 7;
+const PREFIXES: u8 = 9;
 
 /// How many calls give an address; those behind them give a prefix alone.
 const WITH_ADDRESS: u8 = 16;

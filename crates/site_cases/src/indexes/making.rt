@@ -50,6 +50,8 @@ pub fn prefix(rt: &impl Abort, number: u8) -> Ipv6Prefix {
         3 => (128, 2),
         4 => (61, 0),
         5 => (56, 0),
+        6 => (65, 1),
+        7 => (32, 0),
         _ => (0, 0),
     };
     let octets = [0x20, 1, 0xd, 0xb8, 0, 0, 0, network, 0, 0, 0, 0, 0, 0, 0, 5];

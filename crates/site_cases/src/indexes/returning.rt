@@ -1,14 +1,15 @@
-//! Sessions that come and go over few addresses and subscribers: an index lists no more of them after each round than after the
+//! Sessions that come and go over few addresses, prefixes and subscribers: an index lists no more of them after each round than after the
 //! first, however late their requests come once more.
 use crate::indexes::making::{
-    address, call, call_end, gateway_end, host, request, subscribed, subscriber,
+    address, call, call_end, call_within, gateway_end, host, prefix, prefixed, request, subscribed,
+    subscriber,
 };
 use gx_records::OpenRequestType;
 use indexed_state::IndexedState;
 use pcrf_values::Subscriber;
 use ranked::Tag;
 use samples::{Given, telephony};
-use session_index::Index;
+use session_index::{Index, network_of};
 use site_join::{Operation, State};
 use std::alloc::AllocGlobal;
 use std::process::Abort;
@@ -19,14 +20,22 @@ const POOL: u8 = 3;
 /// How many sessions come and go in a round.
 const EACH: u8 = 6;
 
+/// How many prefixes they share, of 0 to 128 bits.
+const PREFIXES: u8 = 9;
+
+/// Prefixes of each network of these, and one that spans networks.
+const OF_NETWORKS: [u8; 3] = [1, 2, 5];
+
 /// How many rounds there are.
 const ROUNDS: u8 = 5;
 
-/// How many gateways' sessions and calls are listed under addresses, and how many sessions under subscribers.
+/// How many gateways' sessions and calls are listed under addresses and under networks, and how many sessions under subscribers.
 #[derive(Clone, Copy, Debug, Default, PartialEq, Eq)]
 pub struct Listed {
     pub gateways: usize,
     pub calls: usize,
+    pub gateways_in: usize,
+    pub calls_in: usize,
     pub subscribed: usize,
 }
 
@@ -44,6 +53,21 @@ fn add_place(index: &Index, place: u8, listed: &mut Listed) {
     }
 }
 
+/// Under the network of a prefix.
+fn add_network(rt: &impl Abort, index: &Index, number: u8, listed: &mut Listed) {
+    let network = network_of(&prefix(rt, number));
+    if let Some(ids) = index.gateways_in(&network) {
+        for _session in ids.iter() {
+            listed.gateways_in = listed.gateways_in.saturating_add(1);
+        }
+    }
+    if let Some(ids) = index.calls_in(&network) {
+        for _session in ids.iter() {
+            listed.calls_in = listed.calls_in.saturating_add(1);
+        }
+    }
+}
+
 /// And under a subscriber.
 fn add_subscriber(index: &Index, who: &Subscriber, listed: &mut Listed) {
     if let Some(ids) = index.gateways_of(who) {
@@ -53,7 +77,7 @@ fn add_subscriber(index: &Index, who: &Subscriber, listed: &mut Listed) {
     }
 }
 
-/// What an index lists under all addresses and subscribers that are shared.
+/// What an index lists under all addresses, networks and subscribers that are shared.
 pub fn listings_of(rt: &(impl AllocGlobal + Abort), index: &Index) -> Listed {
     let mut listed = Listed::default();
     for number in 0..POOL {
@@ -61,6 +85,9 @@ pub fn listings_of(rt: &(impl AllocGlobal + Abort), index: &Index) -> Listed {
         let who = subscriber(rt, number);
         add_subscriber(index, &who, &mut listed);
         drop(who);
+    }
+    for number in OF_NETWORKS {
+        add_network(rt, index, number, &mut listed);
     }
     listed
 }
@@ -105,12 +132,32 @@ fn take_whole(rt: &(impl AllocGlobal + Abort), held: &mut IndexedState, made: Op
     drop(state);
 }
 
-/// A session comes, moves to another subscriber, and has a call.
+/// A session and its call are given a prefix, and then another.
+fn give_prefixes(
+    rt: &(impl AllocGlobal + Abort),
+    held: &mut IndexedState,
+    number: u8,
+    counter: u64,
+) {
+    for (further, turn) in [(3, 0), (4, 1)] {
+        let given = prefix(rt, number.saturating_add(turn) % PREFIXES);
+        take(rt, held, prefixed(rt, number, at(counter, further), given));
+        let asked = prefix(rt, number.saturating_add(turn).saturating_add(4) % PREFIXES);
+        take(
+            rt,
+            held,
+            call_within(rt, number, at(counter, further), asked),
+        );
+    }
+}
+
+/// A session comes, moves to another subscriber, and has a call; both move to other prefixes.
 fn come(rt: &(impl AllocGlobal + Abort), held: &mut IndexedState, number: u8, counter: u64) {
     let place = number % POOL;
     take(rt, held, initial(rt, number, at(counter, 0), place));
     take(rt, held, subscribed(rt, number, at(counter, 1), place));
     take(rt, held, call(rt, number, at(counter, 2), place));
+    give_prefixes(rt, held, number, counter);
 }
 
 /// It ends, and so does its call; by a state of another site if it is asked for.
@@ -130,12 +177,13 @@ fn go(
     }
 }
 
-/// Requests of it come late, at other addresses and of other subscribers.
+/// Requests of it come late, at other addresses, by other prefixes and of other subscribers.
 fn come_late(rt: &(impl AllocGlobal + Abort), held: &mut IndexedState, number: u8, counter: u64) {
     let other = (number % POOL + 1) % POOL;
     take(rt, held, initial(rt, number, at(counter, 20), other));
     take(rt, held, subscribed(rt, number, at(counter, 21), other));
     take(rt, held, call(rt, number, at(counter, 22), other));
+    give_prefixes(rt, held, number, counter.saturating_add(20));
 }
 
 /// The sessions of a round come and go, one after the other.
@@ -148,6 +196,8 @@ fn round(rt: &(impl AllocGlobal + Abort), held: &mut IndexedState, first: u8) {
         let up = Listed {
             gateways: stay.gateways.saturating_add(1),
             calls: stay.calls.saturating_add(1),
+            gateways_in: stay.gateways_in.saturating_add(1),
+            calls_in: stay.calls_in.saturating_add(1),
             subscribed: stay.subscribed.saturating_add(1),
         };
         assert_eq!(rt; listed_in(rt, held), up);
@@ -167,6 +217,8 @@ fn an_index_lists_what_shows_alone(rt: HostRuntime) {
     let stay = Listed {
         gateways: 2,
         calls: 2,
+        gateways_in: 2,
+        calls_in: 2,
         subscribed: 2,
     };
     for turn in 0..ROUNDS {

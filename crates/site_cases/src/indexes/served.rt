@@ -40,6 +40,8 @@ fn come_and_go(rt: &(impl AllocGlobal + Abort), site: &mut Site, session: &[u8],
     let up = Listed {
         gateways: 1,
         calls: 0,
+        gateways_in: 0,
+        calls_in: 0,
         subscribed: 1,
     };
     assert_eq!(rt; listed_at(rt, site), up);

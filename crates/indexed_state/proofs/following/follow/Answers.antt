@@ -23,10 +23,10 @@ returns c = λ t i h differs was a.
     let id = c.args.id.now in
     let d = gx id in
     let new = c.list_known.new.index in
-    let w = c.unsettle.new.waiting in
+    let w = c.unsettle_gateway.new.waiting in
     let covers = a.covers c.if-not-is_whole.false in
-    let last = c.unsettle.ensures.keeps in
-    let z : Followed t i h k d c.args.index.now new c.args.rules.now c.unsettle.new.rules c.args.waiting.now w c.args.aborts.now c.wait_lost.new.aborts c.gateway_reached_in-before.result c.gateway_reached_in-after.result
+    let last = c.unsettle_gateway.ensures.before.keeps in
+    let z : Followed t i h k d c.args.index.now new c.args.rules.now c.unsettle_gateway.new.rules c.args.waiting.now w c.args.aborts.now c.wait_lost.new.aborts c.gateway_reached_in-before.result c.gateway_reached_in-after.result
     = record {
       differs = differs;
       covers = covers;
@@ -36,19 +36,21 @@ returns c = λ t i h differs was a.
       grows = c.list_known.ensures.grows;
       was_at = c.gateway_reached_in-before.ensures h.facts id (ap record_facts c.as_ref.ensures.value ∙ was);
       is_at = c.gateway_reached_in-after.ensures k.facts id c.gx-known.ensures;
-      touched_before = c.unsettle.ensures.stale_before;
-      touched_after = c.unsettle.ensures.stale_after;
+      gone_before = c.unsettle_gateway.ensures.before.gone;
+      gone_after = c.unsettle_gateway.ensures.after.gone;
+      same = c.unsettle_gateway.ensures.before.same;
       keeps = keeps_through c.args.waiting.now c.wait_gateway.new.waiting w c.wait_gateway.ensures.keeps last;
       own = λ none g. waits_on (view k.facts) c.wait_gateway.new.waiting w d last (c.wait_gateway.ensures.waits none);
-      near_before = c.unsettle.ensures.wait_before;
-      near_after = c.unsettle.ensures.wait_after;
-      all = c.unsettle.ensures.all;
+      near_before = c.unsettle_gateway.ensures.before.waits;
+      near_after = c.unsettle_gateway.ensures.after.waits;
+      all = λ _. c.unsettle_gateway.ensures.all;
       abandoned = a.abandoned;
       go_on = c.wait_lost.ensures.keeps;
       own_call = λ e. clash true refl e;
       near_calls = λ _. c.wait_lost.ensures.near;
+      network_calls = λ _. c.wait_lost.ensures.near_by;
       all_calls = λ _. c.wait_lost.ensures.all;
     } in
-    agree_followed t i h k d c.args.index.now new c.args.rules.now c.unsettle.new.rules c.args.waiting.now w c.args.aborts.now c.wait_lost.new.aborts c.gateway_reached_in-before.result c.gateway_reached_in-after.result
+    agree_followed t i h k d c.args.index.now new c.args.rules.now c.unsettle_gateway.new.rules c.args.waiting.now w c.args.aborts.now c.wait_lost.new.aborts c.gateway_reached_in-before.result c.gateway_reached_in-after.result
     z c.args.is_whole.now c.forget_stood.new.index
-    (λ all. c.forget_stood.ensures k.facts c.gx-known.ensures (c.forget_gateway.ensures (view k.facts) (c.gateway_reached_in-after.ensures k.facts id c.gx-known.ensures).at_address all))
+    (λ all. c.forget_stood.ensures k.facts c.gx-known.ensures (c.forget_gateway.ensures (view k.facts) (c.gateway_reached_in-after.ensures k.facts id c.gx-known.ensures) all))

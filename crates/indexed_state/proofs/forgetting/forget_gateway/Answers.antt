@@ -1,9 +1,4 @@
-use Rattle.ranked.proofs.Plain.{clash}
-use Rattle.pcrf_model.specs.Sessions.{gx}
-use Rattle.indexed_state.proofs.Reading.{not_shown}
 use Rattle.indexed_state.proofs.forgetting.forget_gateway.Goals as goal
 
 pub returns : goal.returns
-returns c = λ v is covers.
-    c.forget_gateway_at.ensures.covers v
-    (not_shown v (gx c.args.id.now) c.args.after c.in-Some.address is (λ e. clash _ (c.shows.ensures e) c.if-shows.false)) covers
+returns c = λ v is covers. c.forget_gateway_by.ensures v is.at_prefix (c.forget_gateway_at.ensures v is.at_address covers)

@@ -13,6 +13,6 @@ loop-session-preserved-in-Some-listed_match c =
     let one = match_value c.in-Some-listed_match.found in
     let so_far = option_map match_value c.loop-session.best in
     goes_on so_far one (match_value c.greater.result) (matches_listed asking facts rest) c.greater.ensures
-    ∙ ap (best_from so_far) (more_listed asking facts c.in-Some.session.now rest one c.in-Some-listed_match.ensures)
-    ∙ ap (λ (ids : List (List ℕ)). best_from so_far (matches_listed asking facts ids)) (sym c.in-Some.ensures.steps)
+    ∙ ap (best_from so_far) (more_listed asking facts c.in-Some-session.session.now rest one c.in-Some-listed_match.ensures)
+    ∙ ap (λ (ids : List (List ℕ)). best_from so_far (matches_listed asking facts ids)) (sym c.in-Some-session.ensures.steps)
     ∙ c.loop-session.invariant

@@ -1,6 +1,4 @@
 use Rattle.std.proofs.Common.{◌≡◌, option_map}
-use Rattle.ranked.specs.Sets.{greatest}
-use Rattle.pcrf_model.specs.Bindings.{candidate_cmp}
 use Rattle.session_index.specs.Index.{matches_listed}
 use Rattle.bind_index.specs.Matches.{best_from, match_value}
 use Rattle.session_index.proofs.lookup.greatest_listed.Given as goal
@@ -9,4 +7,4 @@ use Rattle.session_index.proofs.lookup.greatest_listed.Given as goal
 abbrev pub invariant-loop-session : goal.invariant-loop-session
 invariant-loop-session l =
     best_from (option_map match_value l.best) (matches_listed l.asking l.state.facts l.session-iterator)
-    ≡ greatest candidate_cmp (matches_listed l.asking l.state.facts l.fn.ids)
+    ≡ best_from (option_map match_value l.fn.so_far) (matches_listed l.asking l.state.facts l.initial.session-iterator)

@@ -1,17 +1,8 @@
-use Rattle.std.proofs.Common.{◌∙◌}
 use Rattle.pcrf_model.specs.Views.{view}
-use Rattle.waiting_sessions.proofs.Waited.{keeps_through}
-use Rattle.waiting_sessions.proofs.Listed.{next_waits, all_listed}
+use Rattle.waiting_sessions.proofs.Listed.{all_listed}
 use Rattle.waiting_sessions.proofs.waiters.wait_at.Goals as goal
-
-pub loop-id-preserved : goal.loop-id-preserved
-loop-id-preserved c = record {
-  keeps = keeps_through c.args.waiting.now c.loop-id.waiting c.wait_one.new.waiting c.loop-id.invariant.keeps c.wait_one.ensures.keeps;
-  so_far = λ x m. next_waits (view c.args.state.now.facts) c.loop-id.waiting c.wait_one.new.waiting c.loop-id.id-iterator c.next.new.self c.in-Some-id.id.now x
-      c.wait_one.ensures.keeps c.in-Some-id.ensures.steps c.wait_one.ensures.waits (c.loop-id.invariant.so_far x m);
-}
 
 pub returns-clause-waits : goal.returns-clause-waits
 returns-clause-waits c =
-    all_listed (view c.args.state.now.facts) c.args.index.now c.loop-id.waiting c.args.address c.in-Some.address c.into_iter-id-iterator.result c.loop-id.id-iterator
-    c.in-Some.is (c.into_iter-id-iterator.ensures.into_iter_gives ∙ c.iter-id-items.ensures.all ∙ c.in-Some-gateways_at.ensures) c.loop-id.invariant.so_far c.in-None.ensures.steps.0
+    all_listed (view c.args.state.now.facts) c.args.index.now c.wait_each.new.waiting c.args.address c.in-Some.address c.in-Some-gateways_at.ids.now
+    c.in-Some.is c.in-Some-gateways_at.ensures c.wait_each.ensures.waits

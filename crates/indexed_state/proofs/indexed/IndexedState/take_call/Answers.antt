@@ -43,13 +43,13 @@ invariant_of-self-2 c =
     let is = c.in_ok-stood.ensures.placed ∙ put_is_taken h o c.note_kept.ensures c.max-clock.result counter s c.requires.session c.args.known joins in
     let k = c.put_af.new.self in
     let known = put_known h o c.note_kept.ensures c.max-clock.result counter s c.requires.session c.args.known joins in
-    let w = c.unsettle.new.waiting in
+    let w = c.unsettle_both.new.waiting in
     let before = c.call_reached_in-before.result in
     let after = c.call_reached_in-after.result in
-    let last = c.unsettle.ensures.keeps in
+    let last = c.unsettle_both.ensures.before.keeps in
     let is_at = c.call_reached_in-after.ensures k.facts c.args.id.now (known ∙ ap (λ (m : Holding). facts_on m.facts s) (sym is)) in
     let covers = c.make_whole.ensures.covers c.self.invariant.covers c.in_ok-make_whole.ensures.whole in
-    let z : Followed c.self.inside.tables c.self.inside.site h k s c.make_whole.new.index c.cover.new.self c.self.inside.rules c.unsettle.new.rules c.self.inside.waiting w c.self.inside.aborts c.wait_one.new.waiting before after
+    let z : Followed c.self.inside.tables c.self.inside.site h k s c.make_whole.new.index c.cover.new.self c.self.inside.rules c.unsettle_both.new.rules c.self.inside.waiting w c.self.inside.aborts c.wait_one.new.waiting before after
     = record {
       differs = placed_differs h k s (record_facts (Some c.args.known)) c.max-clock.result c.in_ok-stood.ensures.placed;
       covers = covers;
@@ -59,21 +59,23 @@ invariant_of-self-2 c =
       grows = c.cover.ensures.grows;
       was_at = c.call_reached_in-before.ensures h.facts c.args.id.now (ap record_facts c.as_ref.ensures.value ∙ c.in_ok-stood.ensures.stood);
       is_at = is_at;
-      touched_before = c.unsettle.ensures.stale_before;
-      touched_after = c.unsettle.ensures.stale_after;
+      gone_before = c.unsettle_both.ensures.before.gone;
+      gone_after = c.unsettle_both.ensures.after.gone;
+      same = c.unsettle_both.ensures.before.same;
       keeps = last;
       own = λ none g. clash false g refl;
-      near_before = c.unsettle.ensures.wait_before;
-      near_after = c.unsettle.ensures.wait_after;
-      all = c.unsettle.ensures.all;
+      near_before = c.unsettle_both.ensures.before.waits;
+      near_after = c.unsettle_both.ensures.after.waits;
+      all = λ g. clash false g refl;
       abandoned = c.self.invariant.abandoned;
       go_on = c.wait_one.ensures.keeps;
       own_call = λ _. c.wait_one.ensures.waits;
       near_calls = λ g. clash false g refl;
+      network_calls = λ g. clash false g refl;
       all_calls = λ g. clash false g refl;
     } in
-    agree_followed c.self.inside.tables c.self.inside.site h k s c.make_whole.new.index c.cover.new.self c.self.inside.rules c.unsettle.new.rules c.self.inside.waiting w c.self.inside.aborts c.wait_one.new.waiting
-    before after z c.make_whole.new.is_whole c.forget_call_prefix.new.self (λ all. c.forget_call_prefix.ensures.covers k.facts c.af.ensures (c.forget_call.ensures (view k.facts) is_at.at_address all))
+    agree_followed c.self.inside.tables c.self.inside.site h k s c.make_whole.new.index c.cover.new.self c.self.inside.rules c.unsettle_both.new.rules c.self.inside.waiting w c.self.inside.aborts c.wait_one.new.waiting
+    before after z c.make_whole.new.is_whole c.forget_call.new.index (λ all. c.forget_call.ensures (view k.facts) is_at all)
 
 pub returns-clause-ok : goal.returns-clause-ok
 returns-clause-ok c =

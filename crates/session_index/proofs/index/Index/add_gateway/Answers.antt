@@ -6,7 +6,7 @@ use Rattle.session_index.proofs.index.Index.add_gateway.Goals as goal
 
 pub returns-clause-grows : goal.returns-clause-grows
 returns-clause-grows c =
-    let i : IndexValue = record { gateways = c.self.inside.gateways; calls = c.self.inside.calls; subscribed = c.self.inside.subscribed; prefixed_gateways = c.self.inside.prefixed_gateways; prefixed_calls = c.self.inside.prefixed_calls } in
+    let i : IndexValue = record { gateways = c.self.inside.gateways; calls = c.self.inside.calls; subscribed = c.self.inside.subscribed; gateway_networks = c.self.inside.gateway_networks; call_networks = c.self.inside.call_networks } in
     subst (λ (m : IndexValue). Grows m (record i { gateways = c.add.new.self })) c.self.view_is
     (gateways_grow i c.add.new.self (result_grows address_cmp c.self.inside.gateways c.add.new.self c.args.address.now c.args.id.now c.add.result c.add.ensures.added c.add.ensures.unchanged))
 

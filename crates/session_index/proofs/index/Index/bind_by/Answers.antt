@@ -1,4 +1,4 @@
-use Rattle.std.proofs.Common.{[], Some, None, refl}
+use Rattle.std.proofs.Common.{Some, None}
 use Rattle.pcrf_model.specs.Sessions.{af}
 use Rattle.bind_index.specs.Asking.{with_record}
 use Rattle.bind_index.specs.Matches.{match_value}
@@ -10,18 +10,10 @@ pub returns-in_default : goal.returns-in_default
 returns-in_default c = λ all a.
     let h = c.args.state.now in
     let asking = c.args.asking.now in
-    listed_is_bound h.facts asking (with_record h (af a) asking).facts a (placed_record h asking a) c.args.self.now None [] all c.in_default.ensures refl
-
-pub returns-in_default-greatest_listed : goal.returns-in_default-greatest_listed
-returns-in_default-greatest_listed c = λ all a.
-    let h = c.args.state.now in
-    let asking = c.args.asking.now in
-    listed_is_bound h.facts asking (with_record h (af a) asking).facts a (placed_record h asking a) c.args.self.now None c.in-Some.ids.now all c.in-Some.ensures
-    c.in_default-greatest_listed.ensures
+    listed_is_bound h.facts asking (with_record h (af a) asking).facts a (placed_record h asking a) c.args.self.now None all c.in_default.ensures
 
 pub returns : goal.returns
 returns c = λ all a.
     let h = c.args.state.now in
     let asking = c.args.asking.now in
-    listed_is_bound h.facts asking (with_record h (af a) asking).facts a (placed_record h asking a) c.args.self.now (Some (match_value c.in-Some-greatest_listed.found)) c.in-Some.ids.now
-    all c.in-Some.ensures c.in-Some-greatest_listed.ensures
+    listed_is_bound h.facts asking (with_record h (af a) asking).facts a (placed_record h asking a) c.args.self.now (Some (match_value c.in-Some.found)) all c.in-Some.ensures

@@ -8,7 +8,7 @@ use Rattle.session_index.proofs.index.Index.forget_unshown.Goals as goal
 
 pub returns-clause-covers : goal.returns-clause-covers
 returns-clause-covers c = λ facts known h.
-    let i : IndexValue = record { gateways = c.self.inside.gateways; calls = c.self.inside.calls; subscribed = c.self.inside.subscribed; prefixed_gateways = c.self.inside.prefixed_gateways; prefixed_calls = c.self.inside.prefixed_calls } in
+    let i : IndexValue = record { gateways = c.self.inside.gateways; calls = c.self.inside.calls; subscribed = c.self.inside.subscribed; gateway_networks = c.self.inside.gateway_networks; call_networks = c.self.inside.call_networks } in
     let j : IndexValue = record i { subscribed = c.unlist_unshown.new.lists } in
     unshown_forgotten i j c.args.id.now c.args.subscribers.now facts
     (subst (λ (fs : List Fact). ForgetsUnshown i.subscribed j.subscribed c.args.id.now c.args.subscribers.now fs) known c.unlist_unshown.ensures)

@@ -17,5 +17,5 @@ pub returns-in-Prefix-clause-lists : goal.returns-in-Prefix-clause-lists
 returns-in-Prefix-clause-lists c =
     on_ok_weaker c.add_prefixed_call.result
     (λ added t. subst (λ v. ListsFacts c.add_prefixed_call.new.self (af c.args.id.now) (session_fact t v ∷ [])) (sym c.in-Prefix.is)
-    (prefix_fact c.add_prefixed_call.new.self (af c.args.id.now) t _ added))
+    (prefix_fact c.add_prefixed_call.new.self (af c.args.id.now) t c.in-Prefix.prefix added))
     c.add_prefixed_call.ensures.lists

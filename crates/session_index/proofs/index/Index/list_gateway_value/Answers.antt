@@ -17,7 +17,7 @@ pub returns-in-Prefix-clause-lists : goal.returns-in-Prefix-clause-lists
 returns-in-Prefix-clause-lists c =
     on_ok_weaker c.add_prefixed_gateway.result
     (λ added t. subst (λ v. ListsFacts c.add_prefixed_gateway.new.self (gx c.args.id.now) (session_fact t v ∷ [])) (sym c.in-Prefix.is)
-    (prefix_fact c.add_prefixed_gateway.new.self (gx c.args.id.now) t _ added))
+    (prefix_fact c.add_prefixed_gateway.new.self (gx c.args.id.now) t c.in-Prefix.prefix added))
     c.add_prefixed_gateway.ensures.lists
 
 pub returns-in-Subscribers-clause-lists : goal.returns-in-Subscribers-clause-lists

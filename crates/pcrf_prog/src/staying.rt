@@ -1,0 +1,16 @@
+//! A site that stays: connections come and go, each seat serves one behind the other, and it ends by a signal alone.
+
+mod accepting;
+mod answers;
+mod chairs;
+mod exchange;
+mod journal;
+mod machine;
+mod serving;
+mod showing;
+mod sockets;
+mod working;
+
+pub use machine::Machine;
+pub use serving::{StaySettings, run_staying};
+pub use showing::{Console, Input, Output};

@@ -1,0 +1,23 @@
+//! What a server that stays needs of its machine.
+use std::net::{Net, TcpListener, TcpStream};
+use std::random::RandomSource;
+use std::sync::Wait;
+use std::thread::Threads;
+use std::time::Clock;
+
+/// What a server that stays needs of its machine.
+pub trait Machine: Net<Listener = TcpListener, Stream = TcpStream>
+    + Threads
+    + Wait
+    + Clock
+    + RandomSource
+    + Sync {}
+
+impl<
+    M: Net<Listener = TcpListener, Stream = TcpStream>
+        + Threads
+        + Wait
+        + Clock
+        + RandomSource
+        + Sync,
+> Machine for M {}
