@@ -1,0 +1,44 @@
+-- Letters of a site that may have begun anew.
+use Rattle.std.proofs.Common.{◌≡◌, ℕ, Bool, true, false, cond, ◌==◌, ◌&&◌, List, Option, Some, None, option_and_then, Result, Ok, Err, IfOk, OnErr, refl, sym, ap, ◌∙◌}
+use Rattle.ranked.proofs.Plain.{none_some, some_same}
+use Rattle.pcrf_model.specs.Letters.{AckValue, LetterBody, LetterValue, body_from, is_carried}
+use Rattle.pcrf_model.specs.Cursors.{Cursor, CursorsValue, cursors_after_ack, letter_of, letter_saying}
+use Rattle.pcrf_model.specs.Replies.{ReplyValue}
+use Rattle.peer_links.specs.Lives.{IsCounted}
+use Rattle.peer_links.specs.declared.dialing.Sent.{Sent}
+use Rattle.peer_links.specs.declared.dialing.Sent.TheVariants.{Acknowledged, BegunAnew}
+use Rattle.peer_links.proofs.Following.{acked_makers}
+
+-- ---- the head of a letter
+
+-- a letter that the cursors make is of their epoch
+pub letter_epoch : (c : CursorsValue) (edition from : ℕ) (reply : ReplyValue) (l : LetterValue) → letter_of c edition from reply ≡ Some l → l.epoch ≡ c.epoch
+letter_epoch c edition from reply l e = of_body (body_from from reply) e
+  where
+    of_test : (b : LetterBody) (carried : Bool) → cond carried (Some (letter_saying c edition b)) None ≡ Some l → l.epoch ≡ c.epoch
+    of_test b true h = ap (λ (x : LetterValue). x.epoch) (sym (some_same (letter_saying c edition b) l h))
+    of_test b false h = none_some l h
+
+    of_body : (o : Option LetterBody) → option_and_then (λ b. cond (is_carried b) (Some (letter_saying c edition b)) None) o ≡ Some l → l.epoch ≡ c.epoch
+    of_body None h = none_some l h
+    of_body (Some b) h = of_test b (is_carried b) h
+
+-- ---- what is counted
+
+-- an acknowledgement leaves the cursors in their epoch
+acked_epoch : (c : CursorsValue) (a : AckValue) → (cursors_after_ack c a).epoch ≡ c.epoch
+acked_epoch c a = of_test (a.maker == c.site && a.maker_epoch == c.epoch) _
+  where
+    of_test : (counts : Bool) (peers : List (Option Cursor)) → (cond counts (record c { peers = peers }) c).epoch ≡ c.epoch
+    of_test true peers = refl
+    of_test false peers = refl
+
+-- so does whatever was sent
+pub counted_epoch : (c d : CursorsValue) (sent : Sent) → IsCounted c sent d → d.epoch ≡ c.epoch
+counted_epoch c d (Acknowledged a) e = ap (λ (x : CursorsValue). x.epoch) e ∙ acked_epoch c a
+counted_epoch c d (BegunAnew n) e = ap (λ (x : CursorsValue). x.epoch) e
+
+-- and no maker's entry changes
+pub counted_makers : (c d : CursorsValue) (sent : Sent) → IsCounted c sent d → d.makers ≡ c.makers
+counted_makers c d (Acknowledged a) e = ap (λ (x : CursorsValue). x.makers) e ∙ acked_makers c a
+counted_makers c d (BegunAnew n) e = ap (λ (x : CursorsValue). x.makers) e
