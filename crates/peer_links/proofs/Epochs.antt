@@ -42,3 +42,8 @@ counted_epoch c d (BegunAnew n) e = ap (λ (x : CursorsValue). x.epoch) e
 pub counted_makers : (c d : CursorsValue) (sent : Sent) → IsCounted c sent d → d.makers ≡ c.makers
 counted_makers c d (Acknowledged a) e = ap (λ (x : CursorsValue). x.makers) e ∙ acked_makers c a
 counted_makers c d (BegunAnew n) e = ap (λ (x : CursorsValue). x.makers) e
+
+-- whether a letter was acknowledged, there was none to send, or the connection ended
+pub counted_either : {E : Type 0} (c d : CursorsValue) (sent : Result Sent E) → IfOk sent (λ s. IsCounted c s d) → OnErr sent (d ≡ c) → (d.makers ≡ c.makers) × (d.epoch ≡ c.epoch)
+counted_either c d (Ok s) counted same = (counted_makers c d s counted, counted_epoch c d s counted)
+counted_either c d (Err e) counted same = (ap (λ (x : CursorsValue). x.makers) same, ap (λ (x : CursorsValue). x.epoch) same)
