@@ -14,7 +14,7 @@ returns-clause-answered g c =
     let stepped : c.step.new.self.history ≡ history = search rules in
     let leads : LeadsTo g.L.Roll.opening new.history new.site = search rules in
     let number : c.args.seat.now.number ≡ c.audit.new.seat.number = search rules in
-    let times : c.begun.result ≡ times_begun old.history = search rules in
+    let times : c.begun-begun.result ≡ times_begun old.history = search rules in
     let seat : c.audit.new.seat ≡ c.step.new.seat = search rules in
     let account : IsAccountOf g.L.Roll.seats history c.step.new.seat = subst (λ (h : List Deed). IsAccountOf g.L.Roll.seats h c.step.new.seat) stepped c.audit.ensures.accounts in (
       old.history,
