@@ -2,12 +2,12 @@
 ghost use Rattle.std.specs.Prelude.{◌≡◌, ◌+◌, ◌≤◌, List, [], IfOk, length, map, option_map};
 ghost use Rattle.std.specs.Option.{option_copied};
 ghost use Rattle.std.specs.Ordering.{is_eq};
-ghost use Rattle.std.specs.List.{list_any};
+ghost use Rattle.std.specs.List.{filter, list_any};
 ghost use Rattle.std.specs.Vec.{vec_len, vec_capacity};
 ghost use Rattle.pcrf_facts.specs.Facts.{Fact, fact_cmp};
 ghost use Rattle.pcrf_facts.specs.Held.{kept_list, is_ended, is_aborted, entry_shown};
 ghost use Rattle.pcrf_facts.specs.Places.{Place, place_position};
-ghost use Rattle.fact_records.specs.Found.{IsFound, entry_found};
+ghost use Rattle.fact_records.specs.Found.{IsFound, entry_found, stands_in};
 ghost use Rattle.fact_records.specs.Sets.{facts_subset};
 
 use crate::fact::{Position, TypedFact, compare};
@@ -141,6 +141,13 @@ impl<F: TypedFact> Record<F> {
             → entry_found (option_map F.fact (option_copied result)) ≡ entry_shown self.now p }
     {
         search::find(self.items.as_slice(), sought)
+    }
+
+    /// The facts of one kind in one component, in order.
+    pub fn part(&self, kind: u8, component: u32) -> &[F]
+        ensures { map F.fact result.now ≡ filter (stands_in kind component) self.now }
+    {
+        search::part(self.items.as_slice(), kind, component)
     }
 
     /// The session is ended.
