@@ -182,13 +182,8 @@ impl AfRec {
     {
         match self.facts.at(&position_of_field(number)) {
             None => None,
-            Some(AfFact::End) => None,
-            Some(AfFact::ComponentRemoved(_)) => None,
-            Some(AfFact::FlowRemoved(_, _)) => None,
-            Some(AfFact::Aborted) => None,
             Some(AfFact::Session(tag, value)) => Some((*tag, value)),
-            Some(AfFact::Component(_, _, _)) => None,
-            Some(AfFact::Flow(_, _, _, _)) => None,
+            Some(_) => None,
         }
     }
 
@@ -201,13 +196,8 @@ impl AfRec {
     {
         match self.facts.at(&component_position(component, number)) {
             None => None,
-            Some(AfFact::End) => None,
-            Some(AfFact::ComponentRemoved(_)) => None,
-            Some(AfFact::FlowRemoved(_, _)) => None,
-            Some(AfFact::Aborted) => None,
-            Some(AfFact::Session(_, _)) => None,
             Some(AfFact::Component(_, tag, value)) => Some((*tag, value)),
-            Some(AfFact::Flow(_, _, _, _)) => None,
+            Some(_) => None,
         }
     }
 
@@ -220,13 +210,8 @@ impl AfRec {
     {
         match self.facts.at(&flow_position(component, flow, number)) {
             None => None,
-            Some(AfFact::End) => None,
-            Some(AfFact::ComponentRemoved(_)) => None,
-            Some(AfFact::FlowRemoved(_, _)) => None,
-            Some(AfFact::Aborted) => None,
-            Some(AfFact::Session(_, _)) => None,
-            Some(AfFact::Component(_, _, _)) => None,
             Some(AfFact::Flow(_, _, tag, value)) => Some((*tag, value)),
+            Some(_) => None,
         }
     }
 
@@ -235,11 +220,8 @@ impl AfRec {
         ensures { entry_by address_value (option_map (λ e. (e.0, e.1.now)) result)
             ≡ entry_shown self.now places.address }
     {
-        let Some((tag, value)) = self.field(1) else {
-            return None;
-        };
-        match value {
-            SessionValue::Address(address) => Some((tag, address)),
+        match self.field(1) {
+            Some((tag, SessionValue::Address(address))) => Some((tag, address)),
             _ => None,
         }
     }
@@ -249,11 +231,8 @@ impl AfRec {
         ensures { entry_by Text (option_map (λ e. (e.0, e.1.now)) result)
             ≡ entry_shown self.now places.apn }
     {
-        let Some((tag, value)) = self.field(2) else {
-            return None;
-        };
-        match value {
-            SessionValue::Apn(apn) => Some((tag, apn)),
+        match self.field(2) {
+            Some((tag, SessionValue::Apn(apn))) => Some((tag, apn)),
             _ => None,
         }
     }
@@ -263,11 +242,8 @@ impl AfRec {
         ensures { entry_by values.Subscribers (option_map (λ e. (e.0, e.1.now)) result)
             ≡ entry_shown self.now places.subscribers }
     {
-        let Some((tag, value)) = self.field(3) else {
-            return None;
-        };
-        match value {
-            SessionValue::Subscribers(subscribers) => Some((tag, subscribers)),
+        match self.field(3) {
+            Some((tag, SessionValue::Subscribers(subscribers))) => Some((tag, subscribers)),
             _ => None,
         }
     }
@@ -277,11 +253,8 @@ impl AfRec {
         ensures { entry_by Text (option_map (λ e. (e.0, e.1.now)) result)
             ≡ entry_shown self.now places.host }
     {
-        let Some((tag, value)) = self.field(4) else {
-            return None;
-        };
-        match value {
-            SessionValue::Host(host) => Some((tag, host)),
+        match self.field(4) {
+            Some((tag, SessionValue::Host(host))) => Some((tag, host)),
             _ => None,
         }
     }
@@ -291,11 +264,8 @@ impl AfRec {
         ensures { entry_by Text (option_map (λ e. (e.0, e.1.now)) result)
             ≡ entry_shown self.now places.realm }
     {
-        let Some((tag, value)) = self.field(5) else {
-            return None;
-        };
-        match value {
-            SessionValue::Realm(realm) => Some((tag, realm)),
+        match self.field(5) {
+            Some((tag, SessionValue::Realm(realm))) => Some((tag, realm)),
             _ => None,
         }
     }
@@ -305,11 +275,8 @@ impl AfRec {
         ensures { entry_by Number (option_map (λ e. (e.0, e.1.now)) result)
             ≡ entry_shown self.now places.last }
     {
-        let Some((tag, value)) = self.field(6) else {
-            return None;
-        };
-        match value {
-            SessionValue::Last(last) => Some((tag, last)),
+        match self.field(6) {
+            Some((tag, SessionValue::Last(last))) => Some((tag, last)),
             _ => None,
         }
     }
@@ -319,11 +286,8 @@ impl AfRec {
         ensures { entry_by values.Prefix (option_map (λ e. (e.0, e.1.now)) result)
             ≡ entry_shown self.now places.prefix }
     {
-        let Some((tag, value)) = self.field(7) else {
-            return None;
-        };
-        match value {
-            SessionValue::Prefix(prefix) => Some((tag, prefix)),
+        match self.field(7) {
+            Some((tag, SessionValue::Prefix(prefix))) => Some((tag, prefix)),
             _ => None,
         }
     }
@@ -333,11 +297,8 @@ impl AfRec {
         ensures { entry_by Number (option_map (λ e. (e.0, e.1.now)) result)
             ≡ entry_shown self.now (OfComponent component places.MediaType) }
     {
-        let Some((tag, value)) = self.component_field(component, 1) else {
-            return None;
-        };
-        match value {
-            ComponentValue::MediaType(kind) => Some((tag, kind)),
+        match self.component_field(component, 1) {
+            Some((tag, ComponentValue::MediaType(kind))) => Some((tag, kind)),
             _ => None,
         }
     }
@@ -347,11 +308,8 @@ impl AfRec {
         ensures { entry_by Number (option_map (λ e. (e.0, e.1.now)) result)
             ≡ entry_shown self.now (OfComponent component places.ComponentStatus) }
     {
-        let Some((tag, value)) = self.component_field(component, 2) else {
-            return None;
-        };
-        match value {
-            ComponentValue::Status(status) => Some((tag, status)),
+        match self.component_field(component, 2) {
+            Some((tag, ComponentValue::Status(status))) => Some((tag, status)),
             _ => None,
         }
     }
@@ -361,11 +319,8 @@ impl AfRec {
         ensures { entry_by Number (option_map (λ e. (e.0, e.1.now)) result)
             ≡ entry_shown self.now (OfComponent component places.ComponentRateUp) }
     {
-        let Some((tag, value)) = self.component_field(component, 3) else {
-            return None;
-        };
-        match value {
-            ComponentValue::RateUp(rate) => Some((tag, rate)),
+        match self.component_field(component, 3) {
+            Some((tag, ComponentValue::RateUp(rate))) => Some((tag, rate)),
             _ => None,
         }
     }
@@ -375,11 +330,8 @@ impl AfRec {
         ensures { entry_by Number (option_map (λ e. (e.0, e.1.now)) result)
             ≡ entry_shown self.now (OfComponent component places.ComponentRateDown) }
     {
-        let Some((tag, value)) = self.component_field(component, 4) else {
-            return None;
-        };
-        match value {
-            ComponentValue::RateDown(rate) => Some((tag, rate)),
+        match self.component_field(component, 4) {
+            Some((tag, ComponentValue::RateDown(rate))) => Some((tag, rate)),
             _ => None,
         }
     }
@@ -389,11 +341,8 @@ impl AfRec {
         ensures { entry_by values.Filters (option_map (λ e. (e.0, e.1.now)) result)
             ≡ entry_shown self.now (OfFlow component flow places.FlowDescriptions) }
     {
-        let Some((tag, value)) = self.flow_field(component, flow, 1) else {
-            return None;
-        };
-        match value {
-            FlowValue::Descriptions(filters) => Some((tag, filters)),
+        match self.flow_field(component, flow, 1) {
+            Some((tag, FlowValue::Descriptions(filters))) => Some((tag, filters)),
             _ => None,
         }
     }
@@ -403,11 +352,8 @@ impl AfRec {
         ensures { entry_by Number (option_map (λ e. (e.0, e.1.now)) result)
             ≡ entry_shown self.now (OfFlow component flow places.FlowUsage) }
     {
-        let Some((tag, value)) = self.flow_field(component, flow, 2) else {
-            return None;
-        };
-        match value {
-            FlowValue::Usage(usage) => Some((tag, usage)),
+        match self.flow_field(component, flow, 2) {
+            Some((tag, FlowValue::Usage(usage))) => Some((tag, usage)),
             _ => None,
         }
     }
@@ -421,11 +367,8 @@ impl AfRec {
         ensures { entry_by Number (option_map (λ e. (e.0, e.1.now)) result)
             ≡ entry_shown self.now (OfFlow component flow places.FlowStatus) }
     {
-        let Some((tag, value)) = self.flow_field(component, flow, 3) else {
-            return None;
-        };
-        match value {
-            FlowValue::Status(status) => Some((tag, status)),
+        match self.flow_field(component, flow, 3) {
+            Some((tag, FlowValue::Status(status))) => Some((tag, status)),
             _ => None,
         }
     }
@@ -435,11 +378,8 @@ impl AfRec {
         ensures { entry_by Number (option_map (λ e. (e.0, e.1.now)) result)
             ≡ entry_shown self.now (OfFlow component flow places.FlowRateUp) }
     {
-        let Some((tag, value)) = self.flow_field(component, flow, 4) else {
-            return None;
-        };
-        match value {
-            FlowValue::RateUp(rate) => Some((tag, rate)),
+        match self.flow_field(component, flow, 4) {
+            Some((tag, FlowValue::RateUp(rate))) => Some((tag, rate)),
             _ => None,
         }
     }
@@ -449,11 +389,8 @@ impl AfRec {
         ensures { entry_by Number (option_map (λ e. (e.0, e.1.now)) result)
             ≡ entry_shown self.now (OfFlow component flow places.FlowRateDown) }
     {
-        let Some((tag, value)) = self.flow_field(component, flow, 5) else {
-            return None;
-        };
-        match value {
-            FlowValue::RateDown(rate) => Some((tag, rate)),
+        match self.flow_field(component, flow, 5) {
+            Some((tag, FlowValue::RateDown(rate))) => Some((tag, rate)),
             _ => None,
         }
     }
