@@ -457,16 +457,12 @@ fn status_of(
     ensures { flow_status_number result ≡ unwrap_or
         (words.or_else (held_number (option_map (λ e. (e.0, e.1.now)) own.entry)) (held_number (option_map (λ e. (e.0, e.1.now)) whole.entry))) 2 }
 {
-    let told = match own {
-        Some(told) => Some(*told.1),
+    match own {
+        Some(told) => told.1.value(),
         None => match whole {
-            Some(told) => Some(*told.1),
-            None => None,
+            Some(told) => told.1.value(),
+            None => FlowStatus::Enabled,
         },
-    };
-    match told {
-        Some(told) => told.value(),
-        None => FlowStatus::Enabled,
     }
 }
 

@@ -118,10 +118,6 @@ impl TypedFact for AfFact {
 
     fn compare_entry(&self, other: &AfFact) -> Ordering {
         match self {
-            AfFact::End => Ordering::Equal,
-            AfFact::ComponentRemoved(_) => Ordering::Equal,
-            AfFact::FlowRemoved(_, _) => Ordering::Equal,
-            AfFact::Aborted => Ordering::Equal,
             AfFact::Session(tag, value) => match other {
                 AfFact::Session(other_tag, other_value) => {
                     tag.cmp(other_tag).then(compare_values(value, other_value))
@@ -141,6 +137,7 @@ impl TypedFact for AfFact {
                 }
                 _ => Ordering::Equal,
             },
+            _ => Ordering::Equal,
         }
     }
 

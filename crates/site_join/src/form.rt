@@ -71,21 +71,11 @@ pub(crate) fn are_held<F: FormFact>(facts: &[F], clock: u64) -> bool
 }
 
 /// The facts are those of an operation of that stamp and number.
-pub(crate) fn are_of_operation<F: FormFact>(
-    facts: &[F],
-    counter: u64,
-    site: u8,
-    number: u32,
-) -> bool
+fn are_of_operation<F: FormFact>(facts: &[F], made: Tag) -> bool
     ensures { result ≡ (stand_together (map F.fact facts.now)
-        && list_all (λ f. fits F.kind f && is_tagged F.kind counter site number f)
-        (map F.fact facts.now)) }
+        && list_all (λ f. fits F.kind f
+        && is_tagged F.kind made.counter made.site made.number f) (map F.fact facts.now)) }
 {
-    let made = Tag {
-        number,
-        counter,
-        site,
-    };
     stand_together(facts) && have_form(facts, TagForm::Made(made))
 }
 
@@ -96,14 +86,19 @@ pub(crate) fn is_operation(counter: u64, site: u8, number: u32, facts: &SessionF
     if !is_stamp(counter, site) {
         return false;
     }
+    let made = Tag {
+        number,
+        counter,
+        site,
+    };
     match facts {
         SessionFacts::Gx(id, facts) => {
             note_text(id.id());
-            are_of_operation(facts.as_slice(), counter, site, number)
+            are_of_operation(facts.as_slice(), made)
         }
         SessionFacts::Af(id, facts) => {
             note_text(id.id());
-            number == 0 && are_of_operation(facts.as_slice(), counter, site, number)
+            number == 0 && are_of_operation(facts.as_slice(), made)
         }
     }
 }
