@@ -23,4 +23,4 @@ pub use put_facts::{put_af_facts, put_gx_facts};
 pub use put_held_facts::{put_held_af_facts, put_held_gx_facts};
 pub use put_values::{put_long, put_short, put_text, put_word};
 pub use texts::text_at;
-pub use version::LetterVersion;
+pub use version::{LETTER_VERSION, LetterVersion};

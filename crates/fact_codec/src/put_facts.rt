@@ -6,9 +6,8 @@ ghost use Rattle.af_records.specs.RecordFacts as af_facts;
 ghost use Rattle.fact_codec.specs.Spelling.{word_bytes, fact_bytes, facts_bytes};
 
 use crate::fault::Unwritten;
-use crate::put_values::{
-    put_component_value, put_flow_value, put_session_value, put_text, put_told, put_word,
-};
+use crate::put_values::{put_text, put_told, put_word};
+use crate::said::{put_component_value, put_flow_value, put_session_value};
 use af_records::AfFact;
 use gx_records::GxFact;
 use std::alloc::AllocError;

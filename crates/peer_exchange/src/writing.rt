@@ -12,10 +12,10 @@ ghost use Rattle.peer_exchange.specs.Values.{body_value};
 use crate::body::{Acknowledgement, Body, Range, Snapshot};
 use crate::fault::LetterFault;
 use crate::letter::Letter;
-use crate::limits::{LENGTH_BYTES, MOST_BYTES, VERSION};
+use crate::limits::{LENGTH_BYTES, MOST_BYTES};
 use fact_codec::{
-    Unwritten, put_af_facts, put_gx_facts, put_held_af_facts, put_held_gx_facts, put_long,
-    put_short, put_text, put_word,
+    LETTER_VERSION, Unwritten, put_af_facts, put_gx_facts, put_held_af_facts, put_held_gx_facts,
+    put_long, put_short, put_text, put_word,
 };
 use site_join::{Operation, SessionFacts};
 use std::alloc::{AllocError, Global};
@@ -194,7 +194,7 @@ fn put_letter(out: &mut Vec<u8>, letter: &Letter) -> Result<(), Unwritten>
     ensures too_long { IsErrOf result Unwritten.TooLong
         → 2 ^ 32 ≤ length (letter_bytes letter.now) }
 {
-    out.push(VERSION)?;
+    out.push(LETTER_VERSION)?;
     put_word(out, letter.edition())?;
     out.push(letter.site())?;
     put_short(out, letter.epoch())?;
