@@ -221,8 +221,9 @@ impl AfRec {
             ≡ entry_shown self.now places.address }
     {
         match self.field(1) {
+            None => None,
             Some((tag, SessionValue::Address(address))) => Some((tag, address)),
-            _ => None,
+            Some(_) => None,
         }
     }
 
@@ -232,8 +233,9 @@ impl AfRec {
             ≡ entry_shown self.now places.apn }
     {
         match self.field(2) {
+            None => None,
             Some((tag, SessionValue::Apn(apn))) => Some((tag, apn)),
-            _ => None,
+            Some(_) => None,
         }
     }
 
@@ -243,8 +245,9 @@ impl AfRec {
             ≡ entry_shown self.now places.subscribers }
     {
         match self.field(3) {
+            None => None,
             Some((tag, SessionValue::Subscribers(subscribers))) => Some((tag, subscribers)),
-            _ => None,
+            Some(_) => None,
         }
     }
 
@@ -254,8 +257,9 @@ impl AfRec {
             ≡ entry_shown self.now places.host }
     {
         match self.field(4) {
+            None => None,
             Some((tag, SessionValue::Host(host))) => Some((tag, host)),
-            _ => None,
+            Some(_) => None,
         }
     }
 
@@ -265,8 +269,9 @@ impl AfRec {
             ≡ entry_shown self.now places.realm }
     {
         match self.field(5) {
+            None => None,
             Some((tag, SessionValue::Realm(realm))) => Some((tag, realm)),
-            _ => None,
+            Some(_) => None,
         }
     }
 
@@ -276,8 +281,9 @@ impl AfRec {
             ≡ entry_shown self.now places.last }
     {
         match self.field(6) {
+            None => None,
             Some((tag, SessionValue::Last(last))) => Some((tag, last)),
-            _ => None,
+            Some(_) => None,
         }
     }
 
@@ -287,8 +293,9 @@ impl AfRec {
             ≡ entry_shown self.now places.prefix }
     {
         match self.field(7) {
+            None => None,
             Some((tag, SessionValue::Prefix(prefix))) => Some((tag, prefix)),
-            _ => None,
+            Some(_) => None,
         }
     }
 
@@ -298,8 +305,9 @@ impl AfRec {
             ≡ entry_shown self.now (OfComponent component places.MediaType) }
     {
         match self.component_field(component, 1) {
+            None => None,
             Some((tag, ComponentValue::MediaType(kind))) => Some((tag, kind)),
-            _ => None,
+            Some(_) => None,
         }
     }
 
@@ -309,8 +317,9 @@ impl AfRec {
             ≡ entry_shown self.now (OfComponent component places.ComponentStatus) }
     {
         match self.component_field(component, 2) {
+            None => None,
             Some((tag, ComponentValue::Status(status))) => Some((tag, status)),
-            _ => None,
+            Some(_) => None,
         }
     }
 
@@ -320,8 +329,9 @@ impl AfRec {
             ≡ entry_shown self.now (OfComponent component places.ComponentRateUp) }
     {
         match self.component_field(component, 3) {
+            None => None,
             Some((tag, ComponentValue::RateUp(rate))) => Some((tag, rate)),
-            _ => None,
+            Some(_) => None,
         }
     }
 
@@ -331,8 +341,9 @@ impl AfRec {
             ≡ entry_shown self.now (OfComponent component places.ComponentRateDown) }
     {
         match self.component_field(component, 4) {
+            None => None,
             Some((tag, ComponentValue::RateDown(rate))) => Some((tag, rate)),
-            _ => None,
+            Some(_) => None,
         }
     }
 
@@ -342,8 +353,9 @@ impl AfRec {
             ≡ entry_shown self.now (OfFlow component flow places.FlowDescriptions) }
     {
         match self.flow_field(component, flow, 1) {
+            None => None,
             Some((tag, FlowValue::Descriptions(filters))) => Some((tag, filters)),
-            _ => None,
+            Some(_) => None,
         }
     }
 
@@ -353,8 +365,9 @@ impl AfRec {
             ≡ entry_shown self.now (OfFlow component flow places.FlowUsage) }
     {
         match self.flow_field(component, flow, 2) {
+            None => None,
             Some((tag, FlowValue::Usage(usage))) => Some((tag, usage)),
-            _ => None,
+            Some(_) => None,
         }
     }
 
@@ -368,8 +381,9 @@ impl AfRec {
             ≡ entry_shown self.now (OfFlow component flow places.FlowStatus) }
     {
         match self.flow_field(component, flow, 3) {
+            None => None,
             Some((tag, FlowValue::Status(status))) => Some((tag, status)),
-            _ => None,
+            Some(_) => None,
         }
     }
 
@@ -379,8 +393,9 @@ impl AfRec {
             ≡ entry_shown self.now (OfFlow component flow places.FlowRateUp) }
     {
         match self.flow_field(component, flow, 4) {
+            None => None,
             Some((tag, FlowValue::RateUp(rate))) => Some((tag, rate)),
-            _ => None,
+            Some(_) => None,
         }
     }
 
@@ -390,8 +405,9 @@ impl AfRec {
             ≡ entry_shown self.now (OfFlow component flow places.FlowRateDown) }
     {
         match self.flow_field(component, flow, 5) {
+            None => None,
             Some((tag, FlowValue::RateDown(rate))) => Some((tag, rate)),
-            _ => None,
+            Some(_) => None,
         }
     }
 

@@ -191,8 +191,9 @@ impl GxRec {
             ≡ entry_shown self.now places.address }
     {
         match self.field(1) {
+            None => None,
             Some((tag, SessionValue::Address(address))) => Some((tag, address)),
-            _ => None,
+            Some(_) => None,
         }
     }
 
@@ -202,8 +203,9 @@ impl GxRec {
             ≡ entry_shown self.now places.apn }
     {
         match self.field(2) {
+            None => None,
             Some((tag, SessionValue::Apn(apn))) => Some((tag, apn)),
-            _ => None,
+            Some(_) => None,
         }
     }
 
@@ -213,8 +215,9 @@ impl GxRec {
             ≡ entry_shown self.now places.subscribers }
     {
         match self.field(3) {
+            None => None,
             Some((tag, SessionValue::Subscribers(subscribers))) => Some((tag, subscribers)),
-            _ => None,
+            Some(_) => None,
         }
     }
 
@@ -224,8 +227,9 @@ impl GxRec {
             ≡ entry_shown self.now places.host }
     {
         match self.field(4) {
+            None => None,
             Some((tag, SessionValue::Host(host))) => Some((tag, host)),
-            _ => None,
+            Some(_) => None,
         }
     }
 
@@ -235,8 +239,9 @@ impl GxRec {
             ≡ entry_shown self.now places.realm }
     {
         match self.field(5) {
+            None => None,
             Some((tag, SessionValue::Realm(realm))) => Some((tag, realm)),
-            _ => None,
+            Some(_) => None,
         }
     }
 
@@ -246,8 +251,9 @@ impl GxRec {
             ≡ entry_shown self.now places.last }
     {
         match self.field(6) {
+            None => None,
             Some((tag, SessionValue::Last(last))) => Some((tag, last)),
-            _ => None,
+            Some(_) => None,
         }
     }
 
@@ -257,8 +263,9 @@ impl GxRec {
             ≡ entry_shown self.now places.prefix }
     {
         match self.field(7) {
+            None => None,
             Some((tag, SessionValue::Prefix(prefix))) => Some((tag, prefix)),
-            _ => None,
+            Some(_) => None,
         }
     }
 

@@ -1,0 +1,6 @@
+use Rattle.std.proofs.Common.{refl}
+use Rattle.pcrf_facts.specs.Places.{SubscriptionIds}
+use Rattle.af_records.proofs.record.AfRec.subscribers.Goals as goal
+
+pub returns-in-Some-default-Subscribers : goal.returns-in-Some-default-Subscribers
+returns-in-Some-default-Subscribers c = (rw c.in-Some-default-Subscribers.field-0-1-is at c.in-Some-default-Subscribers.ensures).shown SubscriptionIds refl

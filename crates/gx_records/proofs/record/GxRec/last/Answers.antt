@@ -1,0 +1,6 @@
+use Rattle.std.proofs.Common.{refl}
+use Rattle.pcrf_facts.specs.Places.{RequestType}
+use Rattle.gx_records.proofs.record.GxRec.last.Goals as goal
+
+pub returns-in-Some-default-Last : goal.returns-in-Some-default-Last
+returns-in-Some-default-Last c = (rw c.in-Some-default-Last.field-0-1-is at c.in-Some-default-Last.ensures).shown RequestType refl

@@ -1,0 +1,6 @@
+use Rattle.std.proofs.Common.{refl}
+use Rattle.pcrf_facts.specs.Places.{OriginRealm}
+use Rattle.gx_records.proofs.record.GxRec.realm.Goals as goal
+
+pub returns-in-Some-default-Realm : goal.returns-in-Some-default-Realm
+returns-in-Some-default-Realm c = (rw c.in-Some-default-Realm.field-0-1-is at c.in-Some-default-Realm.ensures).shown OriginRealm refl
