@@ -1,9 +1,5 @@
 //! The forms that tags of facts may have.
-ghost use Rattle.std.specs.Prelude.{◌≡◌, ◌&&◌, ◌==◌, nat_le, nat_lt};
-ghost use Rattle.std.specs.Ordering.{is_eq};
-ghost use Rattle.ranked.specs.Tags.{tag_cmp};
-ghost use Rattle.pcrf_values.specs.Limits.{site_limit};
-ghost use Rattle.pcrf_model.specs.Forms.{is_stamp, is_unsigned};
+ghost use Rattle.std.specs.Prelude.{◌≡◌};
 ghost use Rattle.site_join.specs.TagForms.{admits, number_by};
 
 use crate::form::is_stamp;
@@ -37,41 +33,22 @@ impl TagForm {
     pub(crate) fn admits(self, tag: &Tag, number: u32) -> bool
         ensures { result ≡ admits self number tag.now }
     {
+        note_unsigned(tag.number);
         match self {
-            TagForm::Made(made) => is_tag(tag, number, made.counter, made.site),
-            TagForm::Recorded => is_numbered(tag, number),
-            TagForm::Counted(clock) => is_counted(tag, clock, number),
+            TagForm::Made(made) => {
+                let made = Tag {
+                    number,
+                    counter: made.counter,
+                    site: made.site,
+                };
+                tag.cmp(&made).is_eq()
+            }
+            TagForm::Recorded => {
+                1 <= tag.counter && tag.site < SITE_LIMIT && tag.number == number
+            }
+            TagForm::Counted(clock) => {
+                is_stamp(tag.counter, tag.site) && tag.counter <= clock && tag.number == number
+            }
         }
     }
-}
-
-/// The tag is that of these parts.
-fn is_tag(tag: &Tag, number: u32, counter: u64, site: u8) -> bool
-    ensures { result
-        ≡ is_eq (tag_cmp tag.now (record { number = number; counter = counter; site = site })) }
-{
-    let made = Tag {
-        number,
-        counter,
-        site,
-    };
-    tag.cmp(&made).is_eq()
-}
-
-/// The tag is that of some operation, whatever its counter, with this CC-Request-Number.
-fn is_numbered(tag: &Tag, number: u32) -> bool
-    ensures { result ≡ (nat_le 1 tag.now.counter && nat_lt tag.now.site site_limit
-        && is_unsigned tag.now.number && tag.now.number == number) }
-{
-    note_unsigned(tag.number);
-    1 <= tag.counter && tag.site < SITE_LIMIT && tag.number == number
-}
-
-/// The tag is that of some operation with this CC-Request-Number, whose counter is not above the clock.
-fn is_counted(tag: &Tag, clock: u64, number: u32) -> bool
-    ensures { result ≡ (is_stamp tag.now.counter tag.now.site && nat_le tag.now.counter clock
-        && is_unsigned tag.now.number && tag.now.number == number) }
-{
-    note_unsigned(tag.number);
-    is_stamp(tag.counter, tag.site) && tag.counter <= clock && tag.number == number
 }
