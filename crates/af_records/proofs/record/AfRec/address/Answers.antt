@@ -3,4 +3,4 @@ use Rattle.pcrf_facts.specs.Places.{FramedIpAddress}
 use Rattle.af_records.proofs.record.AfRec.address.Goals as goal
 
 pub returns-in-Some-default-Address : goal.returns-in-Some-default-Address
-returns-in-Some-default-Address c = (rw c.in-Some-default-Address.field-0-1-is at c.in-Some-default-Address.ensures).shown FramedIpAddress refl
+returns-in-Some-default-Address c = let said = rw c.in-Some-default-Address.field-0-1-is at c.in-Some-default-Address.ensures in said.shown FramedIpAddress refl

@@ -3,4 +3,4 @@ use Rattle.pcrf_facts.specs.Places.{CalledStationId}
 use Rattle.af_records.proofs.record.AfRec.apn.Goals as goal
 
 pub returns-in-Some-default-Apn : goal.returns-in-Some-default-Apn
-returns-in-Some-default-Apn c = (rw c.in-Some-default-Apn.field-0-1-is at c.in-Some-default-Apn.ensures).shown CalledStationId refl
+returns-in-Some-default-Apn c = let said = rw c.in-Some-default-Apn.field-0-1-is at c.in-Some-default-Apn.ensures in said.shown CalledStationId refl

@@ -3,4 +3,4 @@ use Rattle.pcrf_facts.specs.Places.{ComponentRateDown}
 use Rattle.af_records.proofs.record.AfRec.component_rate_down.Goals as goal
 
 pub returns-in-Some-default-RateDown : goal.returns-in-Some-default-RateDown
-returns-in-Some-default-RateDown c = (rw c.in-Some-default-RateDown.field-0-1-is at c.in-Some-default-RateDown.ensures).shown ComponentRateDown refl
+returns-in-Some-default-RateDown c = let said = rw c.in-Some-default-RateDown.field-0-1-is at c.in-Some-default-RateDown.ensures in said.shown ComponentRateDown refl

@@ -3,4 +3,4 @@ use Rattle.pcrf_facts.specs.Places.{FlowRateUp}
 use Rattle.af_records.proofs.record.AfRec.flow_rate_up.Goals as goal
 
 pub returns-in-Some-default-RateUp : goal.returns-in-Some-default-RateUp
-returns-in-Some-default-RateUp c = (rw c.in-Some-default-RateUp.field-0-1-is at c.in-Some-default-RateUp.ensures).shown FlowRateUp refl
+returns-in-Some-default-RateUp c = let said = rw c.in-Some-default-RateUp.field-0-1-is at c.in-Some-default-RateUp.ensures in said.shown FlowRateUp refl

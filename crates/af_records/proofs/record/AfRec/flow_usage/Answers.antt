@@ -3,4 +3,4 @@ use Rattle.pcrf_facts.specs.Places.{FlowUsage}
 use Rattle.af_records.proofs.record.AfRec.flow_usage.Goals as goal
 
 pub returns-in-Some-default-Usage : goal.returns-in-Some-default-Usage
-returns-in-Some-default-Usage c = (rw c.in-Some-default-Usage.field-0-1-is at c.in-Some-default-Usage.ensures).shown FlowUsage refl
+returns-in-Some-default-Usage c = let said = rw c.in-Some-default-Usage.field-0-1-is at c.in-Some-default-Usage.ensures in said.shown FlowUsage refl

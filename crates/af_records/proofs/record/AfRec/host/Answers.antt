@@ -3,4 +3,4 @@ use Rattle.pcrf_facts.specs.Places.{OriginHost}
 use Rattle.af_records.proofs.record.AfRec.host.Goals as goal
 
 pub returns-in-Some-default-Host : goal.returns-in-Some-default-Host
-returns-in-Some-default-Host c = (rw c.in-Some-default-Host.field-0-1-is at c.in-Some-default-Host.ensures).shown OriginHost refl
+returns-in-Some-default-Host c = let said = rw c.in-Some-default-Host.field-0-1-is at c.in-Some-default-Host.ensures in said.shown OriginHost refl

@@ -3,4 +3,4 @@ use Rattle.pcrf_facts.specs.Places.{FramedIpv6Prefix}
 use Rattle.af_records.proofs.record.AfRec.prefix.Goals as goal
 
 pub returns-in-Some-default-Prefix : goal.returns-in-Some-default-Prefix
-returns-in-Some-default-Prefix c = (rw c.in-Some-default-Prefix.field-0-1-is at c.in-Some-default-Prefix.ensures).shown FramedIpv6Prefix refl
+returns-in-Some-default-Prefix c = let said = rw c.in-Some-default-Prefix.field-0-1-is at c.in-Some-default-Prefix.ensures in said.shown FramedIpv6Prefix refl

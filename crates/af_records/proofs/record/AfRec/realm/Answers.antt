@@ -3,4 +3,4 @@ use Rattle.pcrf_facts.specs.Places.{OriginRealm}
 use Rattle.af_records.proofs.record.AfRec.realm.Goals as goal
 
 pub returns-in-Some-default-Realm : goal.returns-in-Some-default-Realm
-returns-in-Some-default-Realm c = (rw c.in-Some-default-Realm.field-0-1-is at c.in-Some-default-Realm.ensures).shown OriginRealm refl
+returns-in-Some-default-Realm c = let said = rw c.in-Some-default-Realm.field-0-1-is at c.in-Some-default-Realm.ensures in said.shown OriginRealm refl

@@ -3,4 +3,4 @@ use Rattle.pcrf_facts.specs.Places.{SubscriptionIds}
 use Rattle.af_records.proofs.record.AfRec.subscribers.Goals as goal
 
 pub returns-in-Some-default-Subscribers : goal.returns-in-Some-default-Subscribers
-returns-in-Some-default-Subscribers c = (rw c.in-Some-default-Subscribers.field-0-1-is at c.in-Some-default-Subscribers.ensures).shown SubscriptionIds refl
+returns-in-Some-default-Subscribers c = let said = rw c.in-Some-default-Subscribers.field-0-1-is at c.in-Some-default-Subscribers.ensures in said.shown SubscriptionIds refl
