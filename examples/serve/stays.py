@@ -5,6 +5,7 @@ import re
 import subprocess
 import sys
 import threading
+import time
 
 from diameter import Connection, find
 from sites import SECONDS, TABLES, Site, free_ports
@@ -61,6 +62,16 @@ class Staying(Site):
         """How many lines with that text were told."""
         with self.grown:
             return sum(text in line for line in self.lines)
+
+    def shown(self):
+        """What the site holds, as `show` of a script has it."""
+        self.process.stdin.write("show\n")
+        self.process.stdin.flush()
+        lines = []
+        while not lines or lines[-1] != "end\n":
+            lines.append(self.process.stdout.readline())
+            require(lines[-1], f"site {self.number} showed {len(lines)} lines and no end")
+        return "".join(lines)
 
     def memory(self):
         """The resident memory of the process in bytes."""
@@ -173,6 +184,13 @@ class Pair:
                                      ports=self.ports[number], epoch=("--epoch-file", self.folder / f"epoch{number}"),
                                      peers=[self.ports[1 - number][1]])
         return self.sites[number]
+
+    def agree(self):
+        """Waits until all sites show the same."""
+        end = time.monotonic() + 3 * SECONDS
+        while len({site.shown() for site in self.sites}) > 1:
+            require(time.monotonic() < end, "the sites don't show the same")
+            time.sleep(0.1)
 
     def epoch(self, number):
         """What the file of a site's epoch says."""
