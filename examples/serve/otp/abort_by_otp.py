@@ -95,7 +95,7 @@ def main(program, *more):
     with tempfile.TemporaryDirectory() as folder:
         try:
             build(folder)
-            with Staying(program, 2) as site:
+            with Staying(program, 2, watchdog=3600) as site:
                 run(site, folder, bool(more))
         except (OSError, RuntimeError, TimeoutError, subprocess.SubprocessError) as fault:
             sys.exit(f"abort_by_otp: {type(fault).__name__}: {fault}")
