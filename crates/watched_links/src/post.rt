@@ -16,10 +16,10 @@ const MOST: u32 = 1 << 20;
 #[derive(Drop)]
 struct Waiting {
     outbox: Outbox,
-    /// Requests that were left before the first answer, behind which they come.
+    /// Requests that were left before the connection was settled, which they come behind.
     early: Outbox,
-    /// An answer was left.
-    is_answered: bool,
+    /// The peer had time to take the answer to its capabilities exchange.
+    is_settled: bool,
     /// The worker will write what waits before it reads on.
     is_awake: bool,
     /// What was taken is being written.
@@ -41,17 +41,21 @@ fn is_request(bytes: &[u8]) -> bool {
 }
 
 impl Waiting {
-    /// Puts bytes behind those that wait. Whoever has a host asked for something may be quicker than the answer by which the host is reached:
-    /// a request waits for the first answer.
-    fn put(&mut self, alloc: Global, bytes: &[u8]) -> Result<(), PutFault> {
-        if self.is_answered {
-            return self.outbox.put(bytes);
-        }
-        if is_request(bytes) {
+    /// Puts bytes behind those that wait. Whoever has a host asked for something may be quicker than the answer by which the host is reached,
+    /// and a peer may pass over what comes right behind that: a request waits until the connection is settled.
+    fn put(&mut self, bytes: &[u8]) -> Result<(), PutFault> {
+        if !self.is_settled && is_request(bytes) {
             return self.early.put(bytes);
         }
-        self.outbox.put(bytes)?;
-        self.is_answered = true;
+        self.outbox.put(bytes)
+    }
+
+    /// The connection is settled: the requests that waited for that come behind what waits to be written.
+    fn settle(&mut self, alloc: Global) -> Result<(), PutFault> {
+        if self.is_settled {
+            return Ok(());
+        }
+        self.is_settled = true;
         let early = self.early.take(alloc);
         self.outbox.put(early.as_slice())
     }
@@ -109,7 +113,7 @@ impl Post {
             waiting: Mutex::new(Waiting {
                 outbox: Outbox::with_room(alloc, MOST),
                 early: Outbox::with_room(alloc, MOST),
-                is_answered: false,
+                is_settled: false,
                 is_awake: true,
                 is_busy: false,
                 is_closing: false,
@@ -140,7 +144,20 @@ impl Post {
     /// Leaves the bytes of whole messages, which are written behind those that wait. It waits for nobody who writes. Where they can't be
     /// left the connection ends at once.
     pub fn leave(&self, rt: &impl Wait, bytes: &[u8]) -> io::Result<()> {
-        match self.put(rt, bytes) {
+        let put = self.put(rt, bytes);
+        self.conclude(rt, put)
+    }
+
+    /// The peer had time to take the answer to its capabilities exchange, which was left before: what it is asked is written from now on. Where
+    /// that can't be left the connection ends at once.
+    pub fn settle(&self, rt: &impl Wait) -> io::Result<()> {
+        let settled = self.waiting.lock(rt).settle(self.alloc);
+        self.conclude(rt, settled)
+    }
+
+    /// Tells who writes that something was left; where it couldn't be the connection ends.
+    fn conclude(&self, rt: &impl Wait, put: Result<(), PutFault>) -> io::Result<()> {
+        match put {
             Ok(()) => {
                 self.changed.notify_all();
                 Ok(())
@@ -161,7 +178,7 @@ impl Post {
         if waiting.is_broken || waiting.is_closing {
             return Err(PutFault::Full);
         }
-        waiting.put(self.alloc, bytes)
+        waiting.put(bytes)
     }
 
     /// Writes what waits, as its worker, who waits for bytes then. False where nothing more can be written.

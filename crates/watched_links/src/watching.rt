@@ -18,6 +18,10 @@ use std::time::{Clock, Duration, Instant};
 /// How long a peer has for its capabilities exchange.
 const EXCHANGE_SECONDS: u64 = 10;
 
+/// How many milliseconds a peer has to take the answer to it before it is asked for something, unless it sends something itself: OTP's
+/// diameter passes over a request that comes right behind the answer.
+const SETTLE_MILLIS: u64 = 100;
+
 /// The reading half of a connection.
 #[derive(Drop)]
 pub struct Watched<'b, 'r, R> {
@@ -30,6 +34,8 @@ pub struct Watched<'b, 'r, R> {
     since: Instant,
     /// The host of its first capabilities exchange.
     host: Option<DiameterIdentity>,
+    /// It may be asked for something.
+    is_settled: bool,
     /// It was asked whether it is there, and nothing came since.
     is_asked: bool,
     /// Nothing more is read.
@@ -66,6 +72,7 @@ impl<'b, 'r, R: Wait + Clock> Watched<'b, 'r, R> {
             frames: Frames::start(alloc),
             since,
             host: None,
+            is_settled: false,
             is_asked: false,
             is_over: false,
         }
@@ -90,10 +97,22 @@ impl<'b, 'r, R: Wait + Clock> Watched<'b, 'r, R> {
         }
     }
 
-    /// Nothing came for as long as a read waits: the peer is asked whether it is there (RFC 3539, 3.4.1).
+    /// Its capabilities exchange was answered a while ago, or it sent something behind that.
+    fn settle(&mut self) -> io::Result<()> {
+        self.is_settled = true;
+        self.post
+            .stream()
+            .set_read_timeout(Some(self.own.watchdog))?;
+        self.post.settle(self.rt)
+    }
+
+    /// Nothing came for as long as a read waits: the peer may be asked for something, and then whether it is there (RFC 3539, 3.4.1).
     fn ask(&mut self) -> io::Result<()> {
         if self.host.is_none() {
             return Ok(());
+        }
+        if !self.is_settled {
+            return self.settle();
         }
         if self.is_asked {
             return self.end(Cause::Silent);
@@ -145,7 +164,9 @@ impl<'b, 'r, R: Wait + Clock> Watched<'b, 'r, R> {
             Some(_) => self.end(Cause::OtherHost),
             None => {
                 self.host = Some(host);
-                self.post.stream().set_read_timeout(Some(self.own.watchdog))
+                self.post
+                    .stream()
+                    .set_read_timeout(Some(Duration::from_millis(SETTLE_MILLIS)))
             }
         }
     }
@@ -179,6 +200,9 @@ impl<R: Wait + Clock> Read for Watched<'_, '_, R> {
         let count = self.await_bytes(buf)?;
         self.is_asked = false;
         self.post.wake(self.rt);
+        if self.host.is_some() && !self.is_settled {
+            self.settle()?;
+        }
         self.judge(buf.get(..count).unwrap_or(&[]))?;
         Ok(count)
     }

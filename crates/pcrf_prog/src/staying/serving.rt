@@ -452,6 +452,7 @@ fn exchange_of<G: Log>(
         peers,
         hall: Hall::start(alloc, links),
         closed: Mutex::new(Quiet::of(CLOSED_SECONDS)),
+        ended: Mutex::new(Quiet::of(CLOSED_SECONDS)),
         disagreed: Mutex::new(Quiet::of(DISAGREED_SECONDS)),
     })
 }

@@ -20,6 +20,19 @@ pub fn tell_unsealed<G: Log>(log: &G, peer: SocketAddr, why: SealFault) {
     warn!(log; target: TARGET, "the link with peer site {peer} was closed: {why}");
 }
 
+/// A link that somebody dialled isn't opened. Who only looks whether the port is there is no reason to warn.
+pub fn tell_unopened<G: Log>(log: &G, peer: SocketAddr, why: SealFault) {
+    match why {
+        SealFault::Cut => tell_ended_early(log, peer),
+        fault => warn!(log; target: TARGET, "the link from {peer} was closed: {fault}"),
+    }
+}
+
+/// A link ended before its first letter.
+fn tell_ended_early<G: Log>(log: &G, peer: SocketAddr) {
+    info!(log; target: TARGET, "the link from {peer} ended before its first letter");
+}
+
 /// Letters are sent to a peer site no more.
 pub fn tell_sending_ended<G: Log>(log: &G, peer: SocketAddr, end: LinkEnd, letters: u64) {
     warn!(log; target: TARGET, "letters to peer site {peer} ended behind {letters}: {}", Ending(end));
@@ -74,9 +87,7 @@ pub fn tell_unlinked<G: Log>(log: &G, peer: SocketAddr, why: Unlinked) {
         Unlinked::Lost(ErrorKind::TimedOut) | Unlinked::Lost(ErrorKind::WouldBlock) => {
             warn!(log; target: TARGET, "the link from {peer} was closed: no letter came in time");
         }
-        Unlinked::Lost(_) => {
-            info!(log; target: TARGET, "the link from {peer} ended before its first letter");
-        }
+        Unlinked::Lost(_) => tell_ended_early(log, peer),
     }
 }
 

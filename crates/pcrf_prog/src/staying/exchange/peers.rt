@@ -24,6 +24,8 @@ pub struct Exchange {
     pub hall: Hall,
     /// When it was told last that a link was closed before its first letter.
     pub closed: Mutex<Quiet>,
+    /// When it was told last that one ended before its first letter.
+    pub ended: Mutex<Quiet>,
     /// When it was told last that sites disagree.
     pub disagreed: Mutex<Quiet>,
 }

@@ -2,17 +2,17 @@
 use crate::staying::accepting::{QUIET_SECONDS, arrived, rest};
 use crate::staying::exchange::journal::{
     tell_all_taken, tell_earlier, tell_stranger, tell_surplus, tell_taken, tell_taking,
-    tell_taking_ended, tell_too_many, tell_unlinked, tell_unsealed,
+    tell_taking_ended, tell_too_many, tell_unlinked, tell_unopened,
 };
-use crate::staying::exchange::peers::{LETTERS, LETTERS_SECONDS};
+use crate::staying::exchange::peers::{Exchange, LETTERS, LETTERS_SECONDS};
 use crate::staying::journal::{tell_no_memory, tell_unbegun};
 use crate::staying::machine::Machine;
 use crate::staying::working::Shared;
 use link_ends::{Gate, SharedSite};
 use log::Log;
-use peer_lines::{Board, Claim, Line, Link, Sender};
+use peer_lines::{Board, Claim, Line, Link, Sender, Unlinked};
 use peer_links::{Cursors, Role, exchange_with};
-use sealed_links::Side;
+use sealed_links::{SealFault, Side};
 use std::alloc::AllocError;
 use std::net::{IpAddr, SocketAddr, TcpListener, TcpStream};
 use std::sync::atomic::{AtomicU64, Ordering};
@@ -107,6 +107,23 @@ fn take_claimed<'s, 'r, S: SharedSite, M: Machine, G: Log>(
     all.board.give_back(rt, claim, seat);
 }
 
+/// Whether that a link isn't opened was told just now.
+fn quiet_of_unopened(exchange: &Exchange, why: SealFault) -> &Mutex<Quiet> {
+    match why {
+        SealFault::Cut => &exchange.ended,
+        _ => &exchange.closed,
+    }
+}
+
+/// Whether that a link had no first letter was told just now.
+fn quiet_of_unlinked(exchange: &Exchange, why: Unlinked) -> &Mutex<Quiet> {
+    match why {
+        Unlinked::Lost(_) => &exchange.ended,
+        Unlinked::Head(_) if why.is_disagreement() => &exchange.disagreed,
+        Unlinked::Head(_) => &exchange.closed,
+    }
+}
+
 /// Takes the letters of a link whose line is there.
 fn take_line<'s, 'r, S: SharedSite, M: Machine, G: Log>(
     rt: &'s M,
@@ -117,8 +134,8 @@ fn take_line<'s, 'r, S: SharedSite, M: Machine, G: Log>(
     let mut link = match all.exchange.opening.link(all.rt, &line, Side::Listener) {
         Ok(link) => link,
         Err(fault) => {
-            if all.exchange.closed.lock(rt).is_due(rt) {
-                tell_unsealed(all.log, peer, fault);
+            if quiet_of_unopened(all.exchange, fault).lock(rt).is_due(rt) {
+                tell_unopened(all.log, peer, fault);
             }
             return Ok(());
         }
@@ -126,11 +143,7 @@ fn take_line<'s, 'r, S: SharedSite, M: Machine, G: Log>(
     let sender = match link.first_sender() {
         Ok(sender) => sender,
         Err(why) => {
-            let quiet = match why.is_disagreement() {
-                true => &all.exchange.disagreed,
-                false => &all.exchange.closed,
-            };
-            if quiet.lock(rt).is_due(rt) {
+            if quiet_of_unlinked(all.exchange, why).lock(rt).is_due(rt) {
                 tell_unlinked(all.log, peer, why);
             }
             return Ok(());
