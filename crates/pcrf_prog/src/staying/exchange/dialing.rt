@@ -29,6 +29,10 @@ const ANSWER_SECONDS: u64 = 5;
 
 const ACKNOWLEDGE_SECONDS: u64 = 30;
 
+/// How many it has at most for a link's first letter, for which each that it didn't acknowledge in time gives it twice as many: what a site
+/// takes whole may take it longer.
+const MOST_ACKNOWLEDGE_SECONDS: u64 = 480;
+
 /// For how many seconds it isn't told again that a peer site can't be reached or that a link with it ended behind no letter.
 const UNREACHABLE_SECONDS: u64 = 60;
 
@@ -81,7 +85,8 @@ fn send<'s, 'r, S: SharedSite, M: Machine, G: Log>(
     (growing.letters.load(Ordering::SeqCst), end)
 }
 
-/// Opens a line and sends letters over it: how many were acknowledged. That one ended isn't told too often where there were none.
+/// Opens a line and sends letters over it: how many were acknowledged, and how it ended, if it was opened. That isn't told too often where
+/// there were none.
 fn exchange<'s, 'r, S: SharedSite, M: Machine, G: Log>(
     rt: &'s M,
     all: &'s Shared<'s, 'r, S, M, G>,
@@ -89,23 +94,24 @@ fn exchange<'s, 'r, S: SharedSite, M: Machine, G: Log>(
     probe: &Mutex<S::Seat>,
     line: Arc<Line>,
     peer: SocketAddr,
+    patience: u64,
     quiet: &mut Quiet,
-) -> u64 {
+) -> Option<(u64, LinkEnd)> {
     let link = match all.exchange.opening.link(all.rt, &line, Side::Dialler) {
         Ok(link) => link,
         Err(fault) => {
             if quiet.is_due(rt) {
                 tell_unsealed(all.log, peer, fault);
             }
-            return 0;
+            return None;
         }
     };
-    let _ = line.open(Some(Duration::from_secs(ACKNOWLEDGE_SECONDS)));
+    let _ = line.open(Some(Duration::from_secs(patience)));
     let (letters, end) = send(rt, all, seat, probe, line, link, peer);
     if letters > 0 || quiet.is_due(rt) {
         tell_sending_ended(all.log, peer, end, letters);
     }
-    letters
+    Some((letters, end))
 }
 
 /// Sends a peer site letters, and dials it again whenever a link has ended, as long as the server runs.
@@ -121,20 +127,28 @@ pub fn dial_on<'s, 'r, S: SharedSite, M: Machine, G: Log>(
     let mut unreached = Quiet::of(UNREACHABLE_SECONDS);
     let mut ended = Quiet::of(UNREACHABLE_SECONDS);
     let mut pause = FIRST_PAUSE;
+    let mut patience = ACKNOWLEDGE_SECONDS;
     for _ in rt.forever() {
         let letters = match dialled(rt, all.server.alloc, peer) {
-            Ok(line) => exchange(rt, all, &mut seat, &probe, line, peer, &mut ended),
+            Ok(line) => exchange(rt, all, &mut seat, &probe, line, peer, patience, &mut ended),
             Err(error) => {
                 if unreached.is_due(rt) {
                     tell_unreachable(all.log, peer, &error);
                 }
-                0
+                None
             }
         };
-        if letters > 0 {
-            pause = FIRST_PAUSE;
-            unreached = Quiet::of(UNREACHABLE_SECONDS);
-            ended = Quiet::of(UNREACHABLE_SECONDS);
+        match letters {
+            Some((0, LinkEnd::ReadFailed)) => {
+                patience = patience.saturating_mul(2).min(MOST_ACKNOWLEDGE_SECONDS);
+            }
+            Some((letters, _)) if letters > 0 => {
+                pause = FIRST_PAUSE;
+                patience = ACKNOWLEDGE_SECONDS;
+                unreached = Quiet::of(UNREACHABLE_SECONDS);
+                ended = Quiet::of(UNREACHABLE_SECONDS);
+            }
+            _ => {}
         }
         thread::sleep(rt, Duration::from_millis(pause));
         pause = pause.saturating_mul(2).min(LAST_PAUSE);
