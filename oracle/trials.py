@@ -92,24 +92,18 @@ def end_of_session():
     return letters.letter(letters.log_range([end], first=1))
 
 
-# A subscriber, by the IMSI.
-SUBSCRIBER = b"001010000000001"
-
-
 def initial(counter):
-    """The initial request of a session of its own, of the one subscriber and at an access point without rules, as an operation."""
-    facts = [letters.address(bytes((10, 0, 0, counter))), letters.apn(b"net"), letters.subscribers([(1, SUBSCRIBER)]),
-             letters.host(b"g"), letters.realm(), letters.last(1)]
+    """The initial request of a session of its own, at an access point without rules, as an operation."""
+    facts = [letters.address(bytes((10, 0, 0, counter))), letters.apn(b"net"), letters.subscribers([(0, b"1")]), letters.host(b"g"),
+             letters.realm(), letters.last(1)]
     return letters.gx(facts, session=b"gw;1;%d" % counter, counter=counter, site=2)
 
 
 def three_sessions():
-    """The letter of three sessions, and of a call of the second; their Session-Ids; and the rule of each, which has none but for the call's."""
+    """The letter of three sessions, and of a call of the second."""
     facts = [letters.address(bytes((10, 0, 0, 2))), letters.component(1, 1, 0), letters.flow(1, 1, 1, letters.filters([b"permit in 17"]))]
     call = letters.operation(facts, session=b"af;1;1", counter=4, site=2)
-    yield "sessions", letters.letter(letters.log_range([initial(1), initial(2), initial(3), call]))
-    yield "ids", "gw;1;1 gw;1;2 gw;1;3"
-    yield "rules", "- af/af;1;1/1/1 -"
+    return letters.letter(letters.log_range([initial(1), initial(2), initial(3), call]))
 
 
 EXCHANGE = base(257, [avp(260, avp(266, TGPP) + avp(258, GX))])
@@ -117,8 +111,6 @@ FURTHER = [ccr(2, 9), base(280), base(282)]
 # A session with a prefix, a call of it, and the session's end: what leaves a call to abort.
 OTHER = {"other-request": ccr(1, 0, "gw;1;9", None, "IMS", (X,), NETWORK), "other-call": aar(None, [VOICE], "af;9", WITHIN),
          "other-end": ccr(3, 1, "gw;1;9")}
-# What a seat calls, one after the other.
-CALLS = [*OTHER, "abort", "request", "call", "push", "whole", "own", "updates"]
 
 
 def seat_lines(tables):
@@ -143,7 +135,6 @@ def seat_lines(tables):
     exchanged, request = ours.serve(EXCHANGE), push(ours)
     further = b"".join(map(ours.serve, FURTHER))
     assert converse(ours, EXCHANGE + b"".join(FURTHER)) == (exchanged + further, "disconnected")
-    yield "exchanged", exchanged
     yield "answers", exchanged + request + further
     yield "answers-alone", exchanged + further
 
@@ -157,31 +148,26 @@ def push(site):
 
 
 def lines(tables):
-    """Each word with what stands behind it."""
+    """Each word with its bytes."""
     ours, theirs = (one for one in world_of(tables, RESTART).letters)
     yield "ours", letter_octets(tables, ours)
     yield "theirs", letter_octets(tables, theirs)
     yield "both", whole(tables, world_of(tables, RESTART).sites[1])
     yield "end", end_of_session()
     yield "snapshot", whole(tables, world_of(tables, CALL[:CALL.index("# a push of nothing")]).sites[0])
-    yield from three_sessions()
-    yield "calls", " ".join(CALLS)
+    yield "sessions", three_sessions()
     yield from seat_lines(tables)
 
 
 # ---- what is printed
 
-CONNECTION = ["a connection", "an exchange, and a push"] + ["a message"] * 3
+CALLS = [*OTHER, "abort", "request", "call", "push", "whole", "own", "grown", "updates"]
+CONNECTION = ["a connection", "an exchange, and a push between its operation and its request's bytes"] + ["a message"] * 3
 
 
 def done(call, *tried):
     """The lines of a call that isn't refused."""
     return [f"# {call}: {what}" for what in tried] + ["done"]
-
-
-def seated(call, words):
-    """The lines of calls of a seat."""
-    return [line for word in words for line in done(call, word)]
 
 
 def steps(script):
@@ -197,18 +183,19 @@ def steps(script):
 
 def prints(tables):
     """All that is printed where nothing is refused."""
-    yield from done("read_tables", "a text")
+    yield from done("read_tables", "the tables of a network with calls")
     for script in SCRIPTS:
         yield from done("run_script", "a script") + run_script(tables, script) + steps(script)
         if any(line.startswith("restart ") for line in script):
             yield from done("World::run", "the events of a script")
     yield from done("State::merge", "two states of one session")
     yield from done("read_letter and write_letter", "end") + done("read_letter and write_letter", "snapshot")
-    for call in ("Site::sessions_of", "derive_many", "Site::renew"):
-        yield from done(call, "three sessions")
-    yield from done("SiteBook::start", "a site") + seated("SiteBook::step", CALLS) + done("LockedSite::over", "a book")
-    yield from done("LockedSite::start", "a site") + seated("LockedSite::call", CALLS) + done("LockedSite::call_grown", "own")
-    yield from done("serve_connection", *CONNECTION) + seated("LockedSite::call", ["whole", "own"])
+    yield from done("derive_many", "three sessions") + done("Site::renew", "three sessions")
+    yield from done("LockedSite::start", "a site")
+    for word in CALLS:
+        yield from done("LockedSite::call", word)
+    yield from done("serve_connection", *CONNECTION)
+    yield from done("LockedSite::call", "whole") + done("LockedSite::call", "own")
 
 
 # ---- files
@@ -218,7 +205,7 @@ def files(crate):
     tables = read_tables(crate / "data/telephony.toml")
     head = "# Scripts of worlds: each begins at its line `sites N`, and a comment says what its next lines try."
     yield crate / "data/rows.scripts", [head] + [line for script in SCRIPTS for line in script]
-    yield crate / "data/trials.lines", [f"{word} {found if isinstance(found, str) else found.hex()}" for word, found in lines(tables)]
+    yield crate / "data/trials.lines", [f"{word} {found.hex()}" for word, found in lines(tables)]
     yield crate / "stdout", prints(tables)
 
 

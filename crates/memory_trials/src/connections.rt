@@ -1,35 +1,45 @@
 //! A connection that a seat serves in memory, from its first message to its end.
 use crate::given::Given;
-use crate::seats::Kept;
-use crate::trial::{Host, begin, end, judge};
+use crate::trial::{begin, end, judge};
 use gateway_links::Half;
 use pcrf_serve::{Gate, Gateways, LinkEnd, Server, Unrepeated, serve_connection};
-use site_book::Receipt;
-use site_core::Reply;
+use site_book::{Receipt, Seat};
+use site_core::{Reply, Site};
 use site_lock::LockedSite;
+use std::alloc::Global;
 use std::io::{self, Print, Write};
 use std::sync::ledger::Ledger;
 use std::sync::{Arc, Mutex, Wait};
+use std::thread::Threads;
 use world_checks::follows;
 
-/// The most bytes that are written to a connection.
-const ROOM: usize = 1 << 12;
+/// The first message.
+const FIRST: &str = "an exchange, and a push between its operation and its request's bytes";
 
-/// Where the identifiers of a message begin in its header, and how long they are (RFC 6733, 3).
-const IDENTIFIERS: usize = 12;
+/// R and P, and Re-Auth, in the header of a re-authorisation request (TS 29.212, 5.6.4).
+const REQUEST: &[u8] = &[0xC0, 0, 1, 2];
 
-const IDENTIFIERS_BYTES: usize = 8;
+/// Where what is written is kept, with room for it.
+pub type Place = Mutex<Vec<u8>>;
 
-/// The other end of a connection: it tells of each message that comes, which it lets through, and keeps what is written.
+/// Keeps what is written, but for the identifiers of a re-authorisation request, which are its place in the history.
 #[derive(Drop)]
-struct Peer<'a, R> {
+struct Keeping<'a, R> {
     rt: &'a R,
-    place: &'a Mutex<Vec<u8>>,
+    place: &'a Place,
 }
 
-impl<R: Wait> Write for Peer<'_, R> {
+impl<R: Wait> Write for Keeping<'_, R> {
     fn write(&mut self, buf: &[u8]) -> io::Result<usize> {
-        self.place.lock(self.rt).extend_from_slice(buf)?;
+        let mut guard = self.place.lock(self.rt);
+        let held = &mut *guard;
+        if buf.len() < 20 || &buf[4..8] != REQUEST {
+            held.extend_from_slice(buf)?;
+            return Ok(buf.len());
+        }
+        held.extend_from_slice(&buf[..12])?;
+        held.extend_from_slice(&[0; 8])?;
+        held.extend_from_slice(&buf[20..])?;
         Ok(buf.len())
     }
 
@@ -38,12 +48,16 @@ impl<R: Wait> Write for Peer<'_, R> {
     }
 }
 
-impl<R: Print> Gate for Peer<'_, R> {
+/// Tells of each message that comes, and lets it through.
+#[derive(Drop)]
+struct Telling<'a, R> {
+    rt: &'a R,
+}
+
+impl<R: Print> Gate for Telling<'_, R> {
     fn enter(&self, _connection: usize, message: u64) -> bool {
-        match message {
-            0 => begin(self.rt, "serve_connection", "an exchange, and a push"),
-            _ => begin(self.rt, "serve_connection", "a message"),
-        }
+        let what = if message == 0 { FIRST } else { "a message" };
+        begin(self.rt, "serve_connection", what);
         true
     }
 
@@ -52,81 +66,81 @@ impl<R: Print> Gate for Peer<'_, R> {
     }
 }
 
-impl<L: Ledger> Kept<L, LockedSite<L>> {
-    /// The seat serves messages to their end: how they ended.
-    fn serve<'a, R: Host>(
-        &mut self,
-        rt: &'a R,
-        given: &Given,
-        place: &'a Mutex<Vec<u8>>,
-    ) -> Option<LinkEnd> {
-        let messages = given.bytes("messages")?;
-        let half = Arc::new(given.alloc, Half::start()).ok()?;
-        half.open(rt, Peer { rt, place });
-        let seat = self.seats.pop()?;
-        let gateways = Gateways::start(given.alloc);
-        let gate = Peer { rt, place };
-        let server = Server {
-            alloc: given.alloc,
-            site: &self.keeper,
-            gateways: &gateways,
-            gate: &gate,
-            repeats: &Unrepeated,
-        };
-        begin(rt, "serve_connection", "a connection");
-        let (seat, how) = serve_connection(rt, &server, seat, messages.as_slice(), half);
-        end(rt, how == LinkEnd::NoMemory);
-        self.seats.push(seat).ok()?;
-        Some(how)
-    }
-
-    /// The seat serves a connection; whether memory was refused. A push that it didn't make now was made before.
-    fn connect<R: Host>(&mut self, rt: &R, given: &Given) -> Option<bool> {
-        let exchanged = given.bytes("exchanged")?;
-        let mut answers = given.bytes("answers-alone")?;
-        let before = self.seats.first()?.receipts().len();
-        let place = Mutex::new(Vec::with_capacity(given.alloc, ROOM).ok()?);
-        let how = self.serve(rt, given, &place)?;
-        let mut written = place.into_inner();
-        let made = self.seats.first()?.receipts().get(before..)?;
-        if is_pushed(made) {
-            if written.len() <= exchanged.len() {
-                let _ = println!(rt; "a push stands without its request");
-            }
-            clear_identifiers(written.as_mut_slice(), exchanged.as_slice());
-            answers = given.bytes("answers")?;
-        }
-        let is_part = how == LinkEnd::NoMemory
-            && answers.as_slice().starts_with(written.as_slice());
-        let is_all = how == LinkEnd::Disconnected && answers.as_slice() == written.as_slice();
-        judge(rt, Some(is_part || is_all));
-        judge(rt, follows(&mut self.sound, made));
-        Some(how == LinkEnd::NoMemory)
-    }
-
-    /// Tries to serve a connection. After a refusal the site holds and made what the seat's receipts say.
-    pub fn try_connection<R: Host>(&mut self, rt: &R, given: &Given) -> Option<bool> {
-        for _ in 0..2 {
-            let is_refused = self.connect(rt, given)?;
-            self.try_call(rt, given, "whole")?;
-            self.try_call(rt, given, "own")?;
-            if !is_refused {
-                return Some(true);
-            }
-        }
-        None
-    }
+/// The writing half of a connection.
+fn half_of<'a, R: Wait>(
+    rt: &'a R,
+    alloc: Global,
+    place: &'a Place,
+) -> Option<Arc<Half<Keeping<'a, R>>>> {
+    let half = Arc::new(alloc, Half::start()).ok()?;
+    half.open(rt, Keeping { rt, place });
+    Some(half)
 }
 
-/// One of these calls told a push.
-fn is_pushed(receipts: &[Receipt]) -> bool {
-    receipts.iter().any(|one: &Receipt| matches!(one.reply(), Reply::Pushed(Some(_))))
+/// A seat serves messages to their end, and comes back with how they ended.
+fn serve<'a, R: Threads + Wait + Sync + Print, L: Ledger>(
+    rt: &'a R,
+    alloc: Global,
+    site: &LockedSite<L>,
+    seat: Seat<L>,
+    messages: &[u8],
+    half: Arc<Half<Keeping<'a, R>>>,
+) -> (Seat<L>, LinkEnd) {
+    let gateways = Gateways::start(alloc);
+    let gate = Telling { rt };
+    let server = Server {
+        alloc,
+        site,
+        gateways: &gateways,
+        gate: &gate,
+        repeats: &Unrepeated,
+    };
+    begin(rt, "serve_connection", "a connection");
+    let (seat, how) = serve_connection(rt, &server, seat, messages, half);
+    end(rt, how == LinkEnd::NoMemory);
+    (seat, how)
 }
 
-/// The identifiers of the request of a push, which are its place in the history, aren't looked at. It stands behind an answer.
-fn clear_identifiers(written: &mut [u8], answer: &[u8]) {
-    let from = answer.len() + IDENTIFIERS;
-    if let Some(identifiers) = written.get_mut(from..from + IDENTIFIERS_BYTES) {
-        identifiers.fill(0);
+/// The word of what is written to a seat that made these calls: what was pushed is pushed no more.
+fn word_of(receipts: &[Receipt]) -> &'static str {
+    for receipt in receipts {
+        if let Reply::Pushed(Some(_)) = receipt.reply() {
+            return "answers-alone";
+        }
     }
+    "answers"
+}
+
+/// This was written, or a part of it where memory was refused; it is kept no more.
+fn is_written(rt: &impl Wait, place: &Place, wanted: &[u8], how: LinkEnd) -> bool {
+    let mut guard = place.lock(rt);
+    let held = &mut *guard;
+    let is_part = wanted.starts_with(held.as_slice());
+    let is_all = held.len() == wanted.len() && how == LinkEnd::Disconnected;
+    held.clear();
+    is_part && (is_all || how == LinkEnd::NoMemory)
+}
+
+/// The seat serves a connection, of which it may have made calls past so many; whether memory was refused.
+pub fn connect<'a, R: Threads + Wait + Sync + Print, L: Ledger>(
+    rt: &'a R,
+    given: &Given,
+    site: &LockedSite<L>,
+    seats: &mut Vec<Seat<L>>,
+    sound: &mut Site,
+    from: usize,
+    place: &'a Place,
+) -> Option<bool> {
+    let messages = given.bytes("messages")?;
+    let half = half_of(rt, given.alloc, place)?;
+    let seat = seats.pop()?;
+    let before = seat.receipts().len();
+    let word = word_of(seat.receipts().get(from..).unwrap_or(&[]));
+    let answers = given.bytes(word)?;
+    let (seat, how) = serve(rt, given.alloc, site, seat, messages.as_slice(), half);
+    let made = seat.receipts().get(before..).unwrap_or(&[]);
+    judge(rt, follows(sound, made));
+    seats.push(seat).ok()?;
+    judge(rt, Some(is_written(rt, place, answers.as_slice(), how)));
+    Some(how == LinkEnd::NoMemory)
 }

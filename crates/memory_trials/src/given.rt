@@ -15,7 +15,7 @@ pub const EDITION: u32 = 7;
 pub struct Given {
     pub alloc: Global,
     pub tables: Tables,
-    /// A word in each line, and bytes, or the words of what is called.
+    /// A word in each line, and bytes.
     pub lines: String,
     /// Scripts of worlds, each from its line `sites N` on.
     pub scripts: String,
@@ -31,20 +31,15 @@ fn taking(alloc: Global, bytes: &[u8]) -> Option<Event> {
 }
 
 impl Given {
-    /// What stands behind the first word of a line.
-    pub fn line(&self, word: &str) -> Option<&str> {
+    /// The bytes of the line that begins with a word.
+    pub fn bytes(&self, word: &str) -> Option<Vec<u8>> {
         for line in self.lines.lines() {
-            let (first, rest) = line.split_once(' ').unwrap_or((line, ""));
+            let (first, digits) = line.split_once(' ').unwrap_or((line, ""));
             if first == word {
-                return Some(rest);
+                return hex::decode(self.alloc, digits).ok();
             }
         }
         None
-    }
-
-    /// The bytes of a line.
-    pub fn bytes(&self, word: &str) -> Option<Vec<u8>> {
-        hex::decode(self.alloc, self.line(word)?).ok()
     }
 
     /// What happens by a word: the request or the letter of its line, or what the word itself says.

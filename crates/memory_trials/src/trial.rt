@@ -3,13 +3,6 @@
 //! what it is compared with, is made outside. A call that was refused is made again, once, under its line again. A line that can't
 //! be written is missed where what is printed is compared.
 use std::io::Print;
-use std::sync::Wait;
-use std::thread::Threads;
-
-/// What the calls run on, and where they are told.
-pub trait Host: Print + Threads + Wait + Sync {}
-
-impl<R: Print + Threads + Wait + Sync> Host for R {}
 
 /// A call follows, of something.
 pub fn begin(rt: &impl Print, call: &str, what: &str) {
@@ -27,24 +20,4 @@ pub fn judge(rt: &impl Print, is_well: Option<bool>) {
     if is_well != Some(true) {
         let _ = println!(rt; "otherwise");
     }
-}
-
-/// Tries a call that is refused for want of memory alone, and takes nothing that it is made of: what it gives.
-pub fn tried<R: Print, T: Drop, E: Drop, F: FnMut() -> Result<T, E>>(
-    rt: &R,
-    call: &str,
-    what: &str,
-    mut made: F,
-) -> Option<T>
-    requires { F.IsAlwaysCallable made }
-{
-    for _ in 0..2 {
-        begin(rt, call, what);
-        let given = made();
-        end(rt, given.is_err());
-        if let Ok(given) = given {
-            return Some(given);
-        }
-    }
-    None
 }

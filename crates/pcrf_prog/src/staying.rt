@@ -5,9 +5,10 @@ mod answers;
 mod chairs;
 mod exchange;
 mod journal;
-mod machine;
+pub mod machine;
+mod reach;
 mod serving;
-mod showing;
+pub mod showing;
 mod sockets;
 mod working;
 

@@ -3,6 +3,7 @@ use crate::staying::exchange::growing::Growing;
 use crate::staying::exchange::journal::{tell_sending_ended, tell_unreachable, tell_unsealed};
 use crate::staying::exchange::peers::{LETTERS, LETTERS_SECONDS};
 use crate::staying::machine::Machine;
+use crate::staying::reach::Reach;
 use crate::staying::sockets::ready;
 use crate::staying::working::Shared;
 use link_ends::{LinkEnd, SharedSite};
@@ -66,13 +67,17 @@ fn send<'s, 'r, S: SharedSite, M: Machine, G: Log>(
         letters: AtomicU64::new(0),
         quiet: Mutex::new(Quiet::of(LETTERS_SECONDS)),
     };
+    let reach = Reach {
+        rt: all.rt,
+        gateways: all.server.gateways,
+    };
     let end = exchange_with(
         rt,
         all.server.alloc,
         all.server.site,
         seat,
         &mut cursors,
-        all.server.gateways,
+        &reach,
         Role::Dial,
         link,
         LETTERS,

@@ -7,6 +7,7 @@ use crate::staying::exchange::journal::{
 use crate::staying::exchange::peers::{LETTERS, LETTERS_SECONDS};
 use crate::staying::journal::{tell_no_memory, tell_unbegun};
 use crate::staying::machine::Machine;
+use crate::staying::reach::Reach;
 use crate::staying::working::Shared;
 use link_ends::{Gate, SharedSite};
 use log::Log;
@@ -68,13 +69,17 @@ fn take<'s, 'r, S: SharedSite, M: Machine, G: Log>(
         letters: AtomicU64::new(0),
         quiet: Mutex::new(Quiet::of(LETTERS_SECONDS)),
     };
+    let reach = Reach {
+        rt: all.rt,
+        gateways: all.server.gateways,
+    };
     let end = exchange_with(
         rt,
         all.server.alloc,
         all.server.site,
         seat,
         &mut cursors,
-        all.server.gateways,
+        &reach,
         Role::Listen,
         link,
         LETTERS,
