@@ -359,6 +359,26 @@ def book_pushes_kept(entries, at_once=1000):
     print(f"print book: {entries} pushes")
 
 
+def living(rounds, sessions=1000):
+    print("site")
+    asked(initial, range(sessions))
+    block(update(place) for place in mixed(15_485_863, sessions))
+    print(f"steps {rounds} living: updates of a bare site")
+    print(f"living {rounds} living: updates of a site that lives")
+    print(f"print living: {rounds * sessions} updates")
+
+
+def living_idle(calls, at_once=1000):
+    """Watchdogs, and pushes of nothing, in turn."""
+    print("site")
+    for place in range(at_once // 2):
+        print(watchdog(place).hex())
+        print("-")
+    print(f"steps {calls // at_once} living: watchdogs and pushes of nothing, of a bare site")
+    print(f"living {calls // at_once} living: watchdogs and pushes of nothing, of a site that lives")
+    print(f"print living: {calls} watchdogs and pushes of nothing")
+
+
 def tables(count, names=None):
     names = names or [f"apn{place}" for place in range(count)]
     print(f"tables 10 tables: {count} access points")
@@ -375,7 +395,7 @@ def points(count):
 
 MEASURES = {made.__name__: made for made in (
     streams, streams_called, streams_prefixed, come_and_go, pushes, whole, whole_state_kept, whole_site_kept, states, states_kept, renew, records, records_kept, rx,
-    rx_kept, book, book_updates_kept, book_bare_kept, book_pushes_kept, tables, points)} | {"letters": carried}
+    rx_kept, book, book_updates_kept, book_bare_kept, book_pushes_kept, living, living_idle, tables, points)} | {"letters": carried}
 
 
 def every_measure():
@@ -393,6 +413,8 @@ def every_measure():
     rx_kept(0, count=2)
     book(2, sessions=2, rounds=4)
     book_pushes_kept(4, at_once=2)
+    living(4, sessions=2)
+    living_idle(4, at_once=2)
     tables(2, ["ims"])
 
 

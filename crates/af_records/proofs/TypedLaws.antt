@@ -1,13 +1,9 @@
 -- The facts of AF sessions by their positions and entries.
 use Rattle.std.proofs.Common.{◌≡◌, ℕ, [], Option, Some, None, is_some, refl, sym, ap, ◌∙◌, arith, option_map, option_and_then, Equal}
-use Rattle.std.specs.Option.{option_cmp}
 use Rattle.ranked.specs.declared.tag.Tag.{Tag}
-use Rattle.pcrf_facts.specs.Places.{Place, Position}
-use Rattle.pcrf_facts.specs.Values.{Value, Number, Entry, entry_cmp}
+use Rattle.pcrf_facts.specs.Values.{Value, Number}
 use Rattle.pcrf_facts.specs.Facts.{position, entry}
-use Rattle.pcrf_facts.specs.FlowWords.{as_number, number_at}
-use Rattle.pcrf_facts.specs.Live.{Shows}
-use Rattle.fact_records.specs.SessionValues.{entry_by, session_number, session_value}
+use Rattle.fact_records.specs.SessionValues.{entry_by, session_value}
 use Rattle.fact_records.specs.SessionFacts.{session_fact}
 use Rattle.fact_records.specs.declared.session_value.SessionValue.{SessionValue}
 use Rattle.fact_records.specs.declared.session_value.SessionValue.TheVariants as session
@@ -15,9 +11,8 @@ use Rattle.af_records.specs.declared.fact.ComponentValue.{ComponentValue}
 use Rattle.af_records.specs.declared.fact.ComponentValue.TheVariants as component
 use Rattle.af_records.specs.declared.fact.FlowValue.{FlowValue}
 use Rattle.af_records.specs.declared.fact.FlowValue.TheVariants as flow
-use Rattle.af_records.specs.declared.fact.AfFact.{AfFact}
-use Rattle.af_records.specs.declared.fact.AfFact.TheVariants.{End, ComponentRemoved, FlowRemoved, Aborted, Session, Component, Flow}
-use Rattle.af_records.specs.FieldValues.{component_number, component_value, flow_number, flow_value, held_number}
+use Rattle.af_records.specs.declared.fact.AfFact.TheVariants.{Component, Flow}
+use Rattle.af_records.specs.FieldValues.{component_value, flow_number, flow_value}
 use Rattle.af_records.specs.RecordFacts.{fact_of}
 
 -- where a fact of a flow stands
@@ -57,11 +52,3 @@ flow_says c n t (flow.RateDown x) = refl
 pub said : {T : Type 0} (make : T → Value) (o : Option (Tag × T)) → is_some (entry_by make o) ≡ is_some o
 said make None = refl
 said make (Some e) = refl
-
--- the number that a place shows is the one that is held
-pub number_held : (o : Option (Tag × ℕ)) (shows : Shows) (p : Place) → entry_by Number o ≡ shows p → held_number o ≡ number_at shows p
-number_held o shows p e = held o ∙ ap (λ (x : Option Entry). option_and_then as_number (option_map (λ (y : Entry). y.1) x)) e
-  where
-    held : (o : Option (Tag × ℕ)) → held_number o ≡ option_and_then as_number (option_map (λ (y : Entry). y.1) (entry_by Number o))
-    held None = refl
-    held (Some y) = refl

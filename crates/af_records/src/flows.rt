@@ -63,12 +63,7 @@ fn flow_said(fact: &AfFact) -> Option<(u32, u32)>
 {
     match fact {
         AfFact::Flow(component, flow, _, _) => Some((*component, *flow)),
-        AfFact::End => None,
-        AfFact::Aborted => None,
-        AfFact::ComponentRemoved(_) => None,
-        AfFact::FlowRemoved(_, _) => None,
-        AfFact::Session(_, _) => None,
-        AfFact::Component(_, _, _) => None,
+        _ => None,
     }
 }
 

@@ -182,13 +182,8 @@ impl AfRec {
     {
         match self.facts.at(&position_of_field(number)) {
             None => None,
-            Some(AfFact::End) => None,
-            Some(AfFact::ComponentRemoved(_)) => None,
-            Some(AfFact::FlowRemoved(_, _)) => None,
-            Some(AfFact::Aborted) => None,
             Some(AfFact::Session(tag, value)) => Some((*tag, value)),
-            Some(AfFact::Component(_, _, _)) => None,
-            Some(AfFact::Flow(_, _, _, _)) => None,
+            Some(_) => None,
         }
     }
 
@@ -201,13 +196,8 @@ impl AfRec {
     {
         match self.facts.at(&component_position(component, number)) {
             None => None,
-            Some(AfFact::End) => None,
-            Some(AfFact::ComponentRemoved(_)) => None,
-            Some(AfFact::FlowRemoved(_, _)) => None,
-            Some(AfFact::Aborted) => None,
-            Some(AfFact::Session(_, _)) => None,
             Some(AfFact::Component(_, tag, value)) => Some((*tag, value)),
-            Some(AfFact::Flow(_, _, _, _)) => None,
+            Some(_) => None,
         }
     }
 
@@ -220,13 +210,8 @@ impl AfRec {
     {
         match self.facts.at(&flow_position(component, flow, number)) {
             None => None,
-            Some(AfFact::End) => None,
-            Some(AfFact::ComponentRemoved(_)) => None,
-            Some(AfFact::FlowRemoved(_, _)) => None,
-            Some(AfFact::Aborted) => None,
-            Some(AfFact::Session(_, _)) => None,
-            Some(AfFact::Component(_, _, _)) => None,
             Some(AfFact::Flow(_, _, tag, value)) => Some((*tag, value)),
+            Some(_) => None,
         }
     }
 
@@ -235,12 +220,10 @@ impl AfRec {
         ensures { entry_by address_value (option_map (λ e. (e.0, e.1.now)) result)
             ≡ entry_shown self.now places.address }
     {
-        let Some((tag, value)) = self.field(1) else {
-            return None;
-        };
-        match value {
-            SessionValue::Address(address) => Some((tag, address)),
-            _ => None,
+        match self.field(1) {
+            None => None,
+            Some((tag, SessionValue::Address(address))) => Some((tag, address)),
+            Some(_) => None,
         }
     }
 
@@ -249,12 +232,10 @@ impl AfRec {
         ensures { entry_by Text (option_map (λ e. (e.0, e.1.now)) result)
             ≡ entry_shown self.now places.apn }
     {
-        let Some((tag, value)) = self.field(2) else {
-            return None;
-        };
-        match value {
-            SessionValue::Apn(apn) => Some((tag, apn)),
-            _ => None,
+        match self.field(2) {
+            None => None,
+            Some((tag, SessionValue::Apn(apn))) => Some((tag, apn)),
+            Some(_) => None,
         }
     }
 
@@ -263,12 +244,10 @@ impl AfRec {
         ensures { entry_by values.Subscribers (option_map (λ e. (e.0, e.1.now)) result)
             ≡ entry_shown self.now places.subscribers }
     {
-        let Some((tag, value)) = self.field(3) else {
-            return None;
-        };
-        match value {
-            SessionValue::Subscribers(subscribers) => Some((tag, subscribers)),
-            _ => None,
+        match self.field(3) {
+            None => None,
+            Some((tag, SessionValue::Subscribers(subscribers))) => Some((tag, subscribers)),
+            Some(_) => None,
         }
     }
 
@@ -277,12 +256,10 @@ impl AfRec {
         ensures { entry_by Text (option_map (λ e. (e.0, e.1.now)) result)
             ≡ entry_shown self.now places.host }
     {
-        let Some((tag, value)) = self.field(4) else {
-            return None;
-        };
-        match value {
-            SessionValue::Host(host) => Some((tag, host)),
-            _ => None,
+        match self.field(4) {
+            None => None,
+            Some((tag, SessionValue::Host(host))) => Some((tag, host)),
+            Some(_) => None,
         }
     }
 
@@ -291,12 +268,10 @@ impl AfRec {
         ensures { entry_by Text (option_map (λ e. (e.0, e.1.now)) result)
             ≡ entry_shown self.now places.realm }
     {
-        let Some((tag, value)) = self.field(5) else {
-            return None;
-        };
-        match value {
-            SessionValue::Realm(realm) => Some((tag, realm)),
-            _ => None,
+        match self.field(5) {
+            None => None,
+            Some((tag, SessionValue::Realm(realm))) => Some((tag, realm)),
+            Some(_) => None,
         }
     }
 
@@ -305,12 +280,10 @@ impl AfRec {
         ensures { entry_by Number (option_map (λ e. (e.0, e.1.now)) result)
             ≡ entry_shown self.now places.last }
     {
-        let Some((tag, value)) = self.field(6) else {
-            return None;
-        };
-        match value {
-            SessionValue::Last(last) => Some((tag, last)),
-            _ => None,
+        match self.field(6) {
+            None => None,
+            Some((tag, SessionValue::Last(last))) => Some((tag, last)),
+            Some(_) => None,
         }
     }
 
@@ -319,12 +292,10 @@ impl AfRec {
         ensures { entry_by values.Prefix (option_map (λ e. (e.0, e.1.now)) result)
             ≡ entry_shown self.now places.prefix }
     {
-        let Some((tag, value)) = self.field(7) else {
-            return None;
-        };
-        match value {
-            SessionValue::Prefix(prefix) => Some((tag, prefix)),
-            _ => None,
+        match self.field(7) {
+            None => None,
+            Some((tag, SessionValue::Prefix(prefix))) => Some((tag, prefix)),
+            Some(_) => None,
         }
     }
 
@@ -333,12 +304,10 @@ impl AfRec {
         ensures { entry_by Number (option_map (λ e. (e.0, e.1.now)) result)
             ≡ entry_shown self.now (OfComponent component places.MediaType) }
     {
-        let Some((tag, value)) = self.component_field(component, 1) else {
-            return None;
-        };
-        match value {
-            ComponentValue::MediaType(kind) => Some((tag, kind)),
-            _ => None,
+        match self.component_field(component, 1) {
+            None => None,
+            Some((tag, ComponentValue::MediaType(kind))) => Some((tag, kind)),
+            Some(_) => None,
         }
     }
 
@@ -347,12 +316,10 @@ impl AfRec {
         ensures { entry_by Number (option_map (λ e. (e.0, e.1.now)) result)
             ≡ entry_shown self.now (OfComponent component places.ComponentStatus) }
     {
-        let Some((tag, value)) = self.component_field(component, 2) else {
-            return None;
-        };
-        match value {
-            ComponentValue::Status(status) => Some((tag, status)),
-            _ => None,
+        match self.component_field(component, 2) {
+            None => None,
+            Some((tag, ComponentValue::Status(status))) => Some((tag, status)),
+            Some(_) => None,
         }
     }
 
@@ -361,12 +328,10 @@ impl AfRec {
         ensures { entry_by Number (option_map (λ e. (e.0, e.1.now)) result)
             ≡ entry_shown self.now (OfComponent component places.ComponentRateUp) }
     {
-        let Some((tag, value)) = self.component_field(component, 3) else {
-            return None;
-        };
-        match value {
-            ComponentValue::RateUp(rate) => Some((tag, rate)),
-            _ => None,
+        match self.component_field(component, 3) {
+            None => None,
+            Some((tag, ComponentValue::RateUp(rate))) => Some((tag, rate)),
+            Some(_) => None,
         }
     }
 
@@ -375,12 +340,10 @@ impl AfRec {
         ensures { entry_by Number (option_map (λ e. (e.0, e.1.now)) result)
             ≡ entry_shown self.now (OfComponent component places.ComponentRateDown) }
     {
-        let Some((tag, value)) = self.component_field(component, 4) else {
-            return None;
-        };
-        match value {
-            ComponentValue::RateDown(rate) => Some((tag, rate)),
-            _ => None,
+        match self.component_field(component, 4) {
+            None => None,
+            Some((tag, ComponentValue::RateDown(rate))) => Some((tag, rate)),
+            Some(_) => None,
         }
     }
 
@@ -389,12 +352,10 @@ impl AfRec {
         ensures { entry_by values.Filters (option_map (λ e. (e.0, e.1.now)) result)
             ≡ entry_shown self.now (OfFlow component flow places.FlowDescriptions) }
     {
-        let Some((tag, value)) = self.flow_field(component, flow, 1) else {
-            return None;
-        };
-        match value {
-            FlowValue::Descriptions(filters) => Some((tag, filters)),
-            _ => None,
+        match self.flow_field(component, flow, 1) {
+            None => None,
+            Some((tag, FlowValue::Descriptions(filters))) => Some((tag, filters)),
+            Some(_) => None,
         }
     }
 
@@ -403,12 +364,10 @@ impl AfRec {
         ensures { entry_by Number (option_map (λ e. (e.0, e.1.now)) result)
             ≡ entry_shown self.now (OfFlow component flow places.FlowUsage) }
     {
-        let Some((tag, value)) = self.flow_field(component, flow, 2) else {
-            return None;
-        };
-        match value {
-            FlowValue::Usage(usage) => Some((tag, usage)),
-            _ => None,
+        match self.flow_field(component, flow, 2) {
+            None => None,
+            Some((tag, FlowValue::Usage(usage))) => Some((tag, usage)),
+            Some(_) => None,
         }
     }
 
@@ -421,12 +380,10 @@ impl AfRec {
         ensures { entry_by Number (option_map (λ e. (e.0, e.1.now)) result)
             ≡ entry_shown self.now (OfFlow component flow places.FlowStatus) }
     {
-        let Some((tag, value)) = self.flow_field(component, flow, 3) else {
-            return None;
-        };
-        match value {
-            FlowValue::Status(status) => Some((tag, status)),
-            _ => None,
+        match self.flow_field(component, flow, 3) {
+            None => None,
+            Some((tag, FlowValue::Status(status))) => Some((tag, status)),
+            Some(_) => None,
         }
     }
 
@@ -435,12 +392,10 @@ impl AfRec {
         ensures { entry_by Number (option_map (λ e. (e.0, e.1.now)) result)
             ≡ entry_shown self.now (OfFlow component flow places.FlowRateUp) }
     {
-        let Some((tag, value)) = self.flow_field(component, flow, 4) else {
-            return None;
-        };
-        match value {
-            FlowValue::RateUp(rate) => Some((tag, rate)),
-            _ => None,
+        match self.flow_field(component, flow, 4) {
+            None => None,
+            Some((tag, FlowValue::RateUp(rate))) => Some((tag, rate)),
+            Some(_) => None,
         }
     }
 
@@ -449,12 +404,10 @@ impl AfRec {
         ensures { entry_by Number (option_map (λ e. (e.0, e.1.now)) result)
             ≡ entry_shown self.now (OfFlow component flow places.FlowRateDown) }
     {
-        let Some((tag, value)) = self.flow_field(component, flow, 5) else {
-            return None;
-        };
-        match value {
-            FlowValue::RateDown(rate) => Some((tag, rate)),
-            _ => None,
+        match self.flow_field(component, flow, 5) {
+            None => None,
+            Some((tag, FlowValue::RateDown(rate))) => Some((tag, rate)),
+            Some(_) => None,
         }
     }
 
@@ -520,16 +473,12 @@ fn status_of(
     ensures { flow_status_number result ≡ unwrap_or
         (words.or_else (held_number (option_map (λ e. (e.0, e.1.now)) own.entry)) (held_number (option_map (λ e. (e.0, e.1.now)) whole.entry))) 2 }
 {
-    let told = match own {
-        Some(told) => Some(*told.1),
+    match own {
+        Some(told) => told.1.value(),
         None => match whole {
-            Some(told) => Some(*told.1),
-            None => None,
+            Some(told) => told.1.value(),
+            None => FlowStatus::Enabled,
         },
-    };
-    match told {
-        Some(told) => told.value(),
-        None => FlowStatus::Enabled,
     }
 }
 

@@ -68,10 +68,6 @@ fn removed_part(fact: &AfFact) -> Option<RemovedPart>
     match fact {
         AfFact::ComponentRemoved(component) => Some(RemovedPart::Component(*component)),
         AfFact::FlowRemoved(component, flow) => Some(RemovedPart::Flow(*component, *flow)),
-        AfFact::End => None,
-        AfFact::Aborted => None,
-        AfFact::Session(_, _) => None,
-        AfFact::Component(_, _, _) => None,
-        AfFact::Flow(_, _, _, _) => None,
+        _ => None,
     }
 }

@@ -53,27 +53,13 @@ fn compare_flow(one: &FlowValue, other: &FlowValue) -> Ordering
     requires { flow_number one.now ≡ flow_number other.now }
     ensures { result ≡ value_cmp (flow_value one.now) (flow_value other.now) }
 {
-    match one {
-        FlowValue::Descriptions(one) => match other {
-            FlowValue::Descriptions(other) => one.cmp(other),
-            _ => Ordering::Equal,
-        },
-        FlowValue::Usage(one) => match other {
-            FlowValue::Usage(other) => one.cmp(other),
-            _ => Ordering::Equal,
-        },
-        FlowValue::Status(one) => match other {
-            FlowValue::Status(other) => one.cmp(other),
-            _ => Ordering::Equal,
-        },
-        FlowValue::RateUp(one) => match other {
-            FlowValue::RateUp(other) => one.cmp(other),
-            _ => Ordering::Equal,
-        },
-        FlowValue::RateDown(one) => match other {
-            FlowValue::RateDown(other) => one.cmp(other),
-            _ => Ordering::Equal,
-        },
+    match (one, other) {
+        (FlowValue::Descriptions(one), FlowValue::Descriptions(other)) => one.cmp(other),
+        (FlowValue::Usage(one), FlowValue::Usage(other)) => one.cmp(other),
+        (FlowValue::Status(one), FlowValue::Status(other)) => one.cmp(other),
+        (FlowValue::RateUp(one), FlowValue::RateUp(other)) => one.cmp(other),
+        (FlowValue::RateDown(one), FlowValue::RateDown(other)) => one.cmp(other),
+        _ => Ordering::Equal,
     }
 }
 
@@ -81,26 +67,14 @@ fn compare_flow(one: &FlowValue, other: &FlowValue) -> Ordering
 pub(crate) fn component_position<'a>(component: u32, field: u8) -> Position<'a>
     ensures { result ≡ (5, (component, (0, (field, [])))) }
 {
-    Position {
-        code: COMPONENT_FIELD,
-        component,
-        flow: 0,
-        field,
-        name: &[],
-    }
+    Position::of(COMPONENT_FIELD, component, 0, field)
 }
 
 /// Where the field of that number of a flow stands.
 pub(crate) fn flow_position<'a>(component: u32, flow: u32, field: u8) -> Position<'a>
     ensures { result ≡ (6, (component, (flow, (field, [])))) }
 {
-    Position {
-        code: FLOW_FIELD,
-        component,
-        flow,
-        field,
-        name: &[],
-    }
+    Position::of(FLOW_FIELD, component, flow, field)
 }
 
 impl TypedFact for AfFact {
@@ -126,13 +100,8 @@ impl TypedFact for AfFact {
 
     fn is_field(&self) -> bool {
         match self {
-            AfFact::End => false,
-            AfFact::ComponentRemoved(_) => false,
-            AfFact::FlowRemoved(_, _) => false,
-            AfFact::Aborted => false,
-            AfFact::Session(_, _) => true,
-            AfFact::Component(_, _, _) => true,
-            AfFact::Flow(_, _, _, _) => true,
+            AfFact::Session(_, _) | AfFact::Component(_, _, _) | AfFact::Flow(_, _, _, _) => true,
+            _ => false,
         }
     }
 
@@ -149,10 +118,6 @@ impl TypedFact for AfFact {
 
     fn compare_entry(&self, other: &AfFact) -> Ordering {
         match self {
-            AfFact::End => Ordering::Equal,
-            AfFact::ComponentRemoved(_) => Ordering::Equal,
-            AfFact::FlowRemoved(_, _) => Ordering::Equal,
-            AfFact::Aborted => Ordering::Equal,
             AfFact::Session(tag, value) => match other {
                 AfFact::Session(other_tag, other_value) => {
                     tag.cmp(other_tag).then(compare_values(value, other_value))
@@ -172,6 +137,7 @@ impl TypedFact for AfFact {
                 }
                 _ => Ordering::Equal,
             },
+            _ => Ordering::Equal,
         }
     }
 

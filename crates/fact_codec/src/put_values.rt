@@ -1,17 +1,11 @@
-//! Writes numbers, texts and what facts say at the end of bytes.
+//! Writes numbers, texts and values at the end of bytes.
 ghost use Rattle.std.specs.Prelude.{◌≡◌, ◌++◌, ◌∷◌, ◌<◌, ◌^◌, [], length, OnOk};
 ghost use Rattle.std.specs.List.{flat_map};
-ghost use Rattle.pcrf_facts.specs.Places.{session_field_number, component_field_number, flow_field_number};
 ghost use Rattle.fact_codec.specs.Spelling.{short_bytes, word_bytes, long_bytes, text_bytes, subscriber_bytes, filters_bytes, class_bytes, prefix_bytes, rule_bytes, value_bytes};
-ghost use Rattle.fact_codec.specs.Values.{session_says, component_says, flow_says};
 ghost use Rattle.gx_records.specs.GxFacts as gx_facts;
 ghost use Rattle.fact_records.specs.SessionFacts.{address_value};
 
-use af_records::{ComponentValue, FlowValue};
-use fact_records::SessionValue;
-use pcrf_values::{
-    Enumerated, Enumeration, Filters, Ipv6Prefix, Rule, RuleQos, Subscriber, Subscribers,
-};
+use pcrf_values::{Filters, Ipv6Prefix, Rule, RuleQos, Subscriber, Subscribers};
 use std::alloc::AllocError;
 use std::net::Ipv4Addr;
 
@@ -62,7 +56,10 @@ fn put_subscriber(out: &mut Vec<u8>, subscriber: &Subscriber) -> Result<(), Allo
 
 /// Adds subscribers, and before them how many they are.
 #[tactic(auto, using(crate::proofs::Added::added))]
-fn put_subscribers(out: &mut Vec<u8>, subscribers: &Subscribers) -> Result<(), AllocError>
+pub(crate) fn put_subscribers(
+    out: &mut Vec<u8>,
+    subscribers: &Subscribers,
+) -> Result<(), AllocError>
     ensures { OnOk result (out.new.items
         ≡ out.old.items ++ (short_bytes (length subscribers.now)
         ++ flat_map subscriber_bytes subscribers.now)) }
@@ -77,7 +74,7 @@ fn put_subscribers(out: &mut Vec<u8>, subscribers: &Subscribers) -> Result<(), A
 
 /// Adds filters, and before them how many they are.
 #[tactic(auto, using(crate::proofs::Added::added))]
-fn put_filters(out: &mut Vec<u8>, filters: &Filters) -> Result<(), AllocError>
+pub(crate) fn put_filters(out: &mut Vec<u8>, filters: &Filters) -> Result<(), AllocError>
     ensures { OnOk result (out.new.items ≡ out.old.items ++ filters_bytes filters.now) }
 {
     let list = filters.as_slice();
@@ -90,7 +87,7 @@ fn put_filters(out: &mut Vec<u8>, filters: &Filters) -> Result<(), AllocError>
 
 /// Adds an IPv4 address, and before it how many octets it has.
 #[tactic(auto, using(crate::proofs::Added::added), unfolding(crate::specs::Spelling::value_bytes))]
-fn put_address(out: &mut Vec<u8>, address: &Ipv4Addr) -> Result<(), AllocError>
+pub(crate) fn put_address(out: &mut Vec<u8>, address: &Ipv4Addr) -> Result<(), AllocError>
     ensures { OnOk result (out.new.items
         ≡ out.old.items ++ value_bytes (address_value address.now)) }
 {
@@ -102,7 +99,7 @@ fn put_address(out: &mut Vec<u8>, address: &Ipv4Addr) -> Result<(), AllocError>
 
 /// Adds an IPv6 prefix.
 #[tactic(auto, using(crate::proofs::Added::added))]
-fn put_prefix(out: &mut Vec<u8>, prefix: &Ipv6Prefix) -> Result<(), AllocError>
+pub(crate) fn put_prefix(out: &mut Vec<u8>, prefix: &Ipv6Prefix) -> Result<(), AllocError>
     ensures { OnOk result (out.new.items ≡ out.old.items ++ prefix_bytes prefix.now) }
 {
     out.push(prefix.bits())?;
@@ -154,108 +151,4 @@ pub(crate) fn put_told(out: &mut Vec<u8>, rule: &Option<Rule>) -> Result<(), All
     out.push(1)?;
     put_rule(out, rule)?;
     Ok(())
-}
-
-/// Adds what a field of a session says.
-#[tactic(auto, using(crate::proofs::Added::added), unfolding(crate::specs::Spelling::value_bytes))]
-fn put_session_said<E: Enumeration>(
-    out: &mut Vec<u8>,
-    value: &SessionValue<Enumerated<E>>,
-) -> Result<(), AllocError>
-    ensures { OnOk result (out.new.items
-        ≡ out.old.items ++ value_bytes (session_says value.now).1) }
-{
-    match value {
-        SessionValue::Address(address) => put_address(out, address),
-        SessionValue::Apn(apn) => put_text(out, apn.as_slice()),
-        SessionValue::Subscribers(subscribers) => put_subscribers(out, subscribers),
-        SessionValue::Host(host) => put_text(out, host.as_slice()),
-        SessionValue::Realm(realm) => put_text(out, realm.as_slice()),
-        SessionValue::Last(last) => put_word(out, last.number()),
-        SessionValue::Prefix(prefix) => put_prefix(out, prefix),
-    }
-}
-
-/// The number of a field of a session.
-fn session_number<E: Enumeration>(value: &SessionValue<Enumerated<E>>) -> u8
-    ensures { result ≡ session_field_number (session_says value.now).0 }
-{
-    match value {
-        SessionValue::Address(_) => 1,
-        SessionValue::Apn(_) => 2,
-        SessionValue::Subscribers(_) => 3,
-        SessionValue::Host(_) => 4,
-        SessionValue::Realm(_) => 5,
-        SessionValue::Last(_) => 6,
-        SessionValue::Prefix(_) => 7,
-    }
-}
-
-/// Adds a field of a session by its number, and what it says.
-#[tactic(auto, using(crate::proofs::Added::added))]
-pub(crate) fn put_session_value<E: Enumeration>(
-    out: &mut Vec<u8>,
-    value: &SessionValue<Enumerated<E>>,
-) -> Result<(), AllocError>
-    ensures { OnOk result (out.new.items ≡ out.old.items
-        ++ (session_field_number (session_says value.now).0 ∷ []
-        ++ value_bytes (session_says value.now).1)) }
-{
-    out.push(session_number(value))?;
-    put_session_said(out, value)?;
-    Ok(())
-}
-
-/// Adds a field of a component by its number, and what it says.
-#[tactic(auto, using(crate::proofs::Added::added), unfolding(crate::specs::Spelling::value_bytes))]
-pub(crate) fn put_component_value(
-    out: &mut Vec<u8>,
-    value: &ComponentValue,
-) -> Result<(), AllocError>
-    ensures { OnOk result (out.new.items ≡ out.old.items
-        ++ (component_field_number (component_says value.now).0 ∷ []
-        ++ value_bytes (component_says value.now).1)) }
-{
-    match value {
-        ComponentValue::MediaType(kind) => put_numbered(out, 1, *kind),
-        ComponentValue::Status(status) => put_numbered(out, 2, status.number()),
-        ComponentValue::RateUp(rate) => put_numbered(out, 3, *rate),
-        ComponentValue::RateDown(rate) => put_numbered(out, 4, *rate),
-    }
-}
-
-/// Adds a field by its number, and the number that it says.
-#[tactic(auto, using(crate::proofs::Added::added))]
-fn put_numbered(out: &mut Vec<u8>, field: u8, number: u32) -> Result<(), AllocError>
-    ensures { OnOk result (out.new.items ≡ out.old.items ++ (field ∷ [] ++ word_bytes number)) }
-{
-    out.push(field)?;
-    put_word(out, number)?;
-    Ok(())
-}
-
-/// Adds the filters of a flow, as a field of it.
-#[tactic(auto, using(crate::proofs::Added::added))]
-fn put_descriptions(out: &mut Vec<u8>, filters: &Filters) -> Result<(), AllocError>
-    ensures { OnOk result (out.new.items ≡ out.old.items ++ (1 ∷ [] ++ filters_bytes filters.now)) }
-{
-    out.push(1)?;
-    put_filters(out, filters)?;
-    Ok(())
-}
-
-/// Adds a field of a flow by its number, and what it says.
-#[tactic(auto, unfolding(crate::specs::Spelling::value_bytes))]
-pub(crate) fn put_flow_value(out: &mut Vec<u8>, value: &FlowValue) -> Result<(), AllocError>
-    ensures { OnOk result (out.new.items ≡ out.old.items
-        ++ (flow_field_number (flow_says value.now).0 ∷ []
-        ++ value_bytes (flow_says value.now).1)) }
-{
-    match value {
-        FlowValue::Descriptions(filters) => put_descriptions(out, filters),
-        FlowValue::Usage(usage) => put_numbered(out, 2, usage.number()),
-        FlowValue::Status(status) => put_numbered(out, 3, status.number()),
-        FlowValue::RateUp(rate) => put_numbered(out, 4, *rate),
-        FlowValue::RateDown(rate) => put_numbered(out, 5, *rate),
-    }
 }

@@ -1,20 +1,23 @@
-//! What facts say of fields: a field by its number, and a value of its kind.
-ghost use Rattle.std.specs.Prelude.{◌≡◌, ◌++◌, ◌∷◌, [], IfOk, Some, None};
+//! What facts say of fields: a field by its number, and a value of its kind, read and written.
+ghost use Rattle.std.specs.Prelude.{◌≡◌, ◌++◌, ◌∷◌, [], IfOk, OnOk, Some, None};
 ghost use Rattle.pcrf_facts.specs.Places.{session_field_number, component_field_number, flow_field_number};
-ghost use Rattle.fact_codec.specs.Spelling.{value_bytes};
+ghost use Rattle.fact_codec.specs.Spelling.{filters_bytes, value_bytes, word_bytes};
 ghost use Rattle.fact_codec.specs.Reading.{Gives};
 ghost use Rattle.fact_codec.specs.Said.{session_said, component_said, flow_said};
 ghost use Rattle.fact_codec.specs.Values.{session_says, component_says, flow_says};
 
 use crate::fault::Unread;
 use crate::numbers::{byte_at, word_at};
+use crate::put_values::{
+    put_address, put_filters, put_prefix, put_subscribers, put_text, put_word,
+};
 use crate::texts::{apn_at, text_at};
 use crate::values::{address_at, filters_at, prefix_at, subscribers_at};
 use crate::version::{LetterVersion, has_prefixes};
 use af_records::{ComponentValue, FlowValue};
 use fact_records::SessionValue;
-use pcrf_values::{Enumerated, Enumeration};
-use std::alloc::Global;
+use pcrf_values::{Enumerated, Enumeration, Filters};
+use std::alloc::{AllocError, Global};
 
 /// A value of a field of a session, in whichever kind of session the type of the last request is that.
 #[tactic(auto, unfolding(crate::specs::Said::session_said, crate::specs::Said::word_within, crate::specs::Spelling::value_bytes))]
@@ -133,5 +136,109 @@ pub(crate) fn flow_value_at(alloc: Global, bytes: &[u8]) -> Result<(FlowValue, &
             Ok((FlowValue::RateDown(rate), rest))
         }
         _ => Err(Unread::BadShape),
+    }
+}
+
+/// Adds what a field of a session says.
+#[tactic(auto, using(crate::proofs::Added::added), unfolding(crate::specs::Spelling::value_bytes))]
+fn put_session_said<E: Enumeration>(
+    out: &mut Vec<u8>,
+    value: &SessionValue<Enumerated<E>>,
+) -> Result<(), AllocError>
+    ensures { OnOk result (out.new.items
+        ≡ out.old.items ++ value_bytes (session_says value.now).1) }
+{
+    match value {
+        SessionValue::Address(address) => put_address(out, address),
+        SessionValue::Apn(apn) => put_text(out, apn.as_slice()),
+        SessionValue::Subscribers(subscribers) => put_subscribers(out, subscribers),
+        SessionValue::Host(host) => put_text(out, host.as_slice()),
+        SessionValue::Realm(realm) => put_text(out, realm.as_slice()),
+        SessionValue::Last(last) => put_word(out, last.number()),
+        SessionValue::Prefix(prefix) => put_prefix(out, prefix),
+    }
+}
+
+/// The number of a field of a session.
+fn session_number<E: Enumeration>(value: &SessionValue<Enumerated<E>>) -> u8
+    ensures { result ≡ session_field_number (session_says value.now).0 }
+{
+    match value {
+        SessionValue::Address(_) => 1,
+        SessionValue::Apn(_) => 2,
+        SessionValue::Subscribers(_) => 3,
+        SessionValue::Host(_) => 4,
+        SessionValue::Realm(_) => 5,
+        SessionValue::Last(_) => 6,
+        SessionValue::Prefix(_) => 7,
+    }
+}
+
+/// Adds a field of a session by its number, and what it says.
+#[tactic(auto, using(crate::proofs::Added::added))]
+pub(crate) fn put_session_value<E: Enumeration>(
+    out: &mut Vec<u8>,
+    value: &SessionValue<Enumerated<E>>,
+) -> Result<(), AllocError>
+    ensures { OnOk result (out.new.items ≡ out.old.items
+        ++ (session_field_number (session_says value.now).0 ∷ []
+        ++ value_bytes (session_says value.now).1)) }
+{
+    out.push(session_number(value))?;
+    put_session_said(out, value)?;
+    Ok(())
+}
+
+/// Adds a field of a component by its number, and what it says.
+#[tactic(auto, using(crate::proofs::Added::added), unfolding(crate::specs::Spelling::value_bytes))]
+pub(crate) fn put_component_value(
+    out: &mut Vec<u8>,
+    value: &ComponentValue,
+) -> Result<(), AllocError>
+    ensures { OnOk result (out.new.items ≡ out.old.items
+        ++ (component_field_number (component_says value.now).0 ∷ []
+        ++ value_bytes (component_says value.now).1)) }
+{
+    match value {
+        ComponentValue::MediaType(kind) => put_numbered(out, 1, *kind),
+        ComponentValue::Status(status) => put_numbered(out, 2, status.number()),
+        ComponentValue::RateUp(rate) => put_numbered(out, 3, *rate),
+        ComponentValue::RateDown(rate) => put_numbered(out, 4, *rate),
+    }
+}
+
+/// Adds a field by its number, and the number that it says.
+#[tactic(auto, using(crate::proofs::Added::added))]
+fn put_numbered(out: &mut Vec<u8>, field: u8, number: u32) -> Result<(), AllocError>
+    ensures { OnOk result (out.new.items ≡ out.old.items ++ (field ∷ [] ++ word_bytes number)) }
+{
+    out.push(field)?;
+    put_word(out, number)?;
+    Ok(())
+}
+
+/// Adds the filters of a flow, as a field of it.
+#[tactic(auto, using(crate::proofs::Added::added))]
+fn put_descriptions(out: &mut Vec<u8>, filters: &Filters) -> Result<(), AllocError>
+    ensures { OnOk result (out.new.items ≡ out.old.items ++ (1 ∷ [] ++ filters_bytes filters.now)) }
+{
+    out.push(1)?;
+    put_filters(out, filters)?;
+    Ok(())
+}
+
+/// Adds a field of a flow by its number, and what it says.
+#[tactic(auto, unfolding(crate::specs::Spelling::value_bytes))]
+pub(crate) fn put_flow_value(out: &mut Vec<u8>, value: &FlowValue) -> Result<(), AllocError>
+    ensures { OnOk result (out.new.items ≡ out.old.items
+        ++ (flow_field_number (flow_says value.now).0 ∷ []
+        ++ value_bytes (flow_says value.now).1)) }
+{
+    match value {
+        FlowValue::Descriptions(filters) => put_descriptions(out, filters),
+        FlowValue::Usage(usage) => put_numbered(out, 2, usage.number()),
+        FlowValue::Status(status) => put_numbered(out, 3, status.number()),
+        FlowValue::RateUp(rate) => put_numbered(out, 4, *rate),
+        FlowValue::RateDown(rate) => put_numbered(out, 5, *rate),
     }
 }

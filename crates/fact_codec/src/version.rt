@@ -4,7 +4,10 @@ ghost use Rattle.fact_codec.specs.Said.{first_with_aborts, first_with_prefixes};
 
 use pcrf_values::BoundedNumber;
 
-/// The version of a letter. The last one is written, and all are read.
+/// The version of letters that is written, and the last of those that are read.
+pub const LETTER_VERSION: u8 = 3;
+
+/// The version of a letter.
 pub type LetterVersion = BoundedNumber<1, 3>;
 
 /// The first version that has prefixes of sessions.

@@ -69,7 +69,7 @@ pub fn call_of(alloc: Global, aar: &Aar, counter: u64, site: u8) -> Result<AfRec
     let components = aar.components.as_slice();
     let mut facts = fields_of(alloc, aar, tag)?;
     put_components(&mut facts, tag, components)?;
-    AfRec::of_facts(alloc, facts.as_slice())
+    AfRec::of(facts)
 }
 
 /// The fact that an accepted session termination request makes: its session has ended (TS 29.214, 4.4.4).

@@ -8,17 +8,17 @@ use Rattle.ranked.specs.declared.tag.Tag.{Tag}
 use Rattle.ranked.specs.Sets.{In, Same}
 use Rattle.ranked.proofs.Plain.{clash, is_false, none_some, or_left, some_same}
 use Rattle.ranked.proofs.SetLaws.{any-In, none-any}
-use Rattle.pcrf_facts.specs.Places.{Place, OfSession, OfComponent, OfFlow, OfRuleName, Removable, Component, Flow, Position, position_cmp, place_position, place_cmp}
+use Rattle.pcrf_facts.specs.Places.{Place, Component, Flow, Position, position_cmp, place_position}
 use Rattle.pcrf_facts.specs.Values.{Value, Entry}
 use Rattle.pcrf_facts.specs.Facts.{Fact, End, Removed, Field, Aborted, position, entry, fact_cmp, is_shaded_by}
-use Rattle.pcrf_facts.specs.Held.{kept_set, kept_list, entry_shown, aborts, is_aborted}
+use Rattle.pcrf_facts.specs.Held.{kept_set, kept_list, entry_shown}
 use Rattle.pcrf_facts.proofs.FactLaws.{fact_ranked, position_ranked, place_ranked}
 use Rattle.pcrf_facts.proofs.JoinedLaws.{sorted-In}
 use Rattle.pcrf_facts.proofs.ShownLaws.{shown_alone}
 use Rattle.fact_records.specs.declared.fact.Beneath.TheVariants as beneath
 use Rattle.fact_records.specs.Beneath.{stands_at, removes}
 use Rattle.fact_records.specs.Found.{IsFound, entry_found}
-use Rattle.fact_records.proofs.BeneathLaws.{any_agrees, field_removes}
+use Rattle.fact_records.proofs.BeneathLaws.{field_removes}
 use Rattle.fact_records.proofs.KeepLaws.{kept_free, kept_places, lower}
 use Rattle.fact_records.proofs.SearchLaws.{found_by_search}
 
@@ -121,23 +121,6 @@ ended_first x xs k = by (stands_at (position End) x) refl
         both_false : (a b : Bool) → a ≡ false → b ≡ false → (a || b) ≡ false
         both_false true b h k = h
         both_false false b h k = k
-
--- only that the session was aborted stands at its position
-abort_there : (f : Fact) → stands_at (position Aborted) f ≡ aborts f
-abort_there End = refl
-abort_there (Removed (Component c)) = refl
-abort_there (Removed (Flow c n)) = refl
-abort_there (Field (OfSession x) t v) = refl
-abort_there (Field (OfComponent c x) t v) = refl
-abort_there (Field (OfFlow c n x) t v) = refl
-abort_there (Field (OfRuleName x) t v) = refl
-abort_there Aborted = refl
-
--- so what stands there says whether it was
-pub aborted_there : (zs : List Fact) → kept_list zs ≡ zs → list_any (stands_at (position Aborted)) zs ≡ is_aborted zs
-aborted_there zs k =
-    any_agrees (stands_at (position Aborted)) aborts zs (λ f i. abort_there f)
-    ∙ sym (ap (list_any aborts) k)
 
 -- the same of typed facts
 pub ended_mapped : {A : Type 0} (fact : A → Fact) (xs rest : List A) (x : A) → xs ≡ x ∷ rest → kept_list (map fact xs) ≡ map fact xs → stands_at (position End) (fact x) ≡ list_any (removes beneath.Session) (map fact xs)

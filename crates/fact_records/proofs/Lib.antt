@@ -4,7 +4,6 @@ pub mod FoundLaws
 pub mod KeepLaws
 pub mod MergeLaws
 pub mod Ordered
-pub mod PartLaws
 pub mod PutLaws
 pub mod RecordLaws
 pub mod SearchLaws

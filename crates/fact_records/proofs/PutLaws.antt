@@ -17,11 +17,12 @@ use Rattle.pcrf_facts.specs.Facts.{Fact, End, Removed, Field, Aborted, position,
 use Rattle.pcrf_facts.specs.Held.{kept_list, join_of}
 use Rattle.pcrf_facts.proofs.FactLaws.{fact_ranked, position_ranked, shaded_irr, shaded_trans}
 use Rattle.pcrf_facts.proofs.JoinedLaws.{held-Same, joined-held}
-use Rattle.fact_records.specs.Beneath.{beneath_of, removes}
+use Rattle.fact_records.specs.Beneath.{beneath_of, removes, stands_at}
 use Rattle.fact_records.specs.Orders.{AtOrUnder, IsGap, is_field}
 use Rattle.fact_records.proofs.BeneathLaws.{shades_beneath}
 use Rattle.fact_records.proofs.MergeLaws.{join_none}
 use Rattle.fact_records.proofs.SearchLaws.{searchable}
+use Rattle.fact_records.proofs.ThereLaws.{cut, gap_none}
 use Rattle.fact_records.proofs.KeepLaws.{kept_places, covered_gone, covered_joins, kept_when, kept_rises, kept_free, held_drop, same_position, position_first, rises_front, front_below, lower}
 
 -- ---- lists with one in their middle
@@ -151,12 +152,6 @@ module _ (js ks : List Fact) (f : Fact) (is : is_field f ≡ true) (gap : IsGap 
 
 -- ---- the same of typed facts
 
--- the parts of a list
-cut : {A : Type 0} (i : ℕ) (xs : List A) → take i xs ++ drop i xs ≡ xs
-cut zero xs = refl
-cut (suc i) [] = refl
-cut (suc i) (x ∷ xs) = ap (λ l. x ∷ l) (cut i xs)
-
 module _ {A : Type 0} (fact : A → Fact) where
   -- what a search saw before a place
   pub seen_low : (p : Position) (xs : List A) (at : ℕ) → ((k : ℕ) (d : A) → k < at → position_cmp (position (fact (get_or xs k d))) p ≡ Less) → (g : Fact) → In g (map fact (take at xs)) → position_cmp (position g) p ≡ Less
@@ -234,21 +229,9 @@ module _ {A : Type 0} (fact : A → Fact) where
       → list_any (removes (beneath_of (fact f))) (map fact xs) ≡ true → map fact xs ≡ join_of (map fact xs) (fact f ∷ [])
   put_gone xs at f gap k gone = sym (covered_joins (map fact xs) [] (fact f) k (covered_gone (map fact xs) (fact f) none gone) ∙ join_none (map fact xs) k)
     where
-      parts : map fact xs ≡ map fact (take at xs) ++ map fact (drop at xs)
-      parts = sym (sym (map-append fact (take at xs) (drop at xs)) ∙ ap (map fact) (cut at xs))
-
-      same : (g : Fact) → position g ≡ position (fact f) → position_cmp (position g) (position (fact f)) ≡ Equal
-      same g e = ap (position_cmp (position g)) (sym e) ∙ tied_itself position_ranked.total (position g)
-
-      back : (g : Fact) → position g ≡ position (fact f) → position_cmp (position (fact f)) (position g) ≡ Equal
-      back g e = ap (position_cmp (position (fact f))) e ∙ tied_itself position_ranked.total (position (fact f))
-
-      none_by : (g : Fact) → position g ≡ position (fact f) → In g (map fact (take at xs)) ⊎ In g (map fact (drop at xs)) → ⊥
-      none_by g e (inl i) = clash (is_lt (position_cmp (position g) (position (fact f)))) (ap is_lt (gap.below g i)) (ap is_lt (same g e))
-      none_by g e (inr i) = clash (is_lt (position_cmp (position (fact f)) (position g))) (ap is_lt (gap.above g i)) (ap is_lt (back g e))
-
       none : (g : Fact) → In g (map fact xs) → position g ≡ position (fact f) → ⊥
-      none g i e = none_by g e (In-cases g (map fact (take at xs)) (map fact (drop at xs)) (subst (λ (l : List Fact). In g l) parts i))
+      none g i e = clash (stands_at (position (fact f)) g) (ap is_eq (ap (position_cmp (position g)) (sym e) ∙ tied_itself position_ranked.total (position g)))
+          (none-any (stands_at (position (fact f))) (map fact xs) (gap_none fact xs at (position (fact f)) gap) g i)
 
   -- the last of a list is in it
   pub last_in : (xs ys : List A) (x : A) → xs ≡ ys ++ x ∷ [] → In (fact x) (map fact xs)

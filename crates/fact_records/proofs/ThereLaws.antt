@@ -4,7 +4,6 @@ use Rattle.std.proofs.lemmas.List.{map-append}
 use Rattle.std.specs.Ordering.{is_eq, ordering_reverse}
 use Rattle.std.specs.List.{list_any}
 use Rattle.ranked.specs.Sets.{In}
-use Rattle.ranked.proofs.Plain.{clash}
 use Rattle.ranked.proofs.SetLaws.{In-cases, any-none}
 use Rattle.pcrf_facts.specs.Places.{Position, position_cmp}
 use Rattle.pcrf_facts.specs.Facts.{Fact, position}
@@ -21,15 +20,15 @@ gap_empty p ls hs gap = any-none (stands_at p) (ls ++ hs) (λ f i. by f (In-case
     by f (inr i) = ap is_eq (position_ranked.total.antisymm (position f) p ∙ ap ordering_reverse (gap.above f i))
 
 -- both parts of a list
-cut : {A : Type 0} (at : ℕ) (xs : List A) → take at xs ++ drop at xs ≡ xs
+pub cut : {A : Type 0} (at : ℕ) (xs : List A) → take at xs ++ drop at xs ≡ xs
 cut zero xs = refl
 cut (suc at) [] = refl
 cut (suc at) (x ∷ xs) = ap (λ l. x ∷ l) (cut at xs)
 
--- where something stands there is no gap
-pub gap_there : {A : Type 0} (fact : A → Fact) (xs : List A) (at : ℕ) (p : Position) → IsGap p (map fact (take at xs)) (map fact (drop at xs)) → list_any (stands_at p) (map fact xs) ≡ true → ⊥
-gap_there {A} fact xs at p gap h = clash (list_any (stands_at p) (map fact xs)) h
-    (ap (list_any (stands_at p)) (sym (ap (map fact) (cut at xs)) ∙ map-append fact (take at xs) (drop at xs)) ∙ gap_empty p (map fact (take at xs)) (map fact (drop at xs)) gap)
+-- nor in that of typed facts
+pub gap_none : {A : Type 0} (fact : A → Fact) (xs : List A) (at : ℕ) (p : Position) → IsGap p (map fact (take at xs)) (map fact (drop at xs)) → list_any (stands_at p) (map fact xs) ≡ false
+gap_none {A} fact xs at p gap =
+    ap (list_any (stands_at p)) (sym (ap (map fact) (cut at xs)) ∙ map-append fact (take at xs) (drop at xs)) ∙ gap_empty p (map fact (take at xs)) (map fact (drop at xs)) gap
 
 -- the positions tell whether something stands there
 pub same_places : (p : Position) (xs ys : List Fact) → map position xs ≡ map position ys → list_any (stands_at p) xs ≡ list_any (stands_at p) ys

@@ -1,5 +1,6 @@
 -- Facts one after another, as a merge takes them.
 use Rattle.std.specs.Prelude.{◌≡◌, ℕ, ◌⊎◌, Bool, true, false, List, [], ◌∷◌}
+use Rattle.std.specs.List.{list_any}
 use Rattle.std.specs.Ordering.{is_lt, nat_cmp}
 use Rattle.std.specs.declared.cmp.Ordering.{Ordering}
 use Rattle.ranked.specs.Orders.{pair_cmp, text_cmp}
@@ -79,3 +80,7 @@ AreKept zs = kept_list zs ≡ zs
 -- they are not
 abbrev pub AreNotKept : List Fact → Type 0
 AreNotKept zs = AreKept zs → ⊥
+
+-- a fact stands where each of these does
+abbrev pub AreThere : List Fact → List Fact → Type 0
+AreThere fs zs = (f : Fact) → In f fs → list_any (stands_at (position f)) zs ≡ true

@@ -1,5 +1,5 @@
 //! Facts of one kind of session, by their types.
-ghost use Rattle.std.specs.Prelude.{◌≡◌, IfOk};
+ghost use Rattle.std.specs.Prelude.{◌≡◌, [], IfOk};
 ghost use Rattle.std.specs.Option.{option_cmp};
 ghost use Rattle.pcrf_facts.specs.Places.{Component, Flow, position_cmp, removed_position};
 ghost use Rattle.pcrf_facts.specs.Values.{entry_cmp};
@@ -84,56 +84,45 @@ impl<'a> Position<'a> {
         }
     }
 
+    /// The position of these parts, without a name.
+    pub fn of(code: u8, component: u32, flow: u32, field: u8) -> Position<'a>
+        ensures { result ≡ (code, (component, (flow, (field, [])))) }
+    {
+        Position {
+            code,
+            component,
+            flow,
+            field,
+            name: &[],
+        }
+    }
+
     /// Where the end stands.
     pub fn of_end() -> Position<'a>
         ensures { result ≡ position End }
     {
-        Position {
-            code: END,
-            component: 0,
-            flow: 0,
-            field: 0,
-            name: &[],
-        }
+        Position::of(END, 0, 0, 0)
     }
 
     /// Where it stands that the session was aborted.
     pub fn of_abort() -> Position<'a>
         ensures { result ≡ position Aborted }
     {
-        Position {
-            code: ABORTED,
-            component: 0,
-            flow: 0,
-            field: 0,
-            name: &[],
-        }
+        Position::of(ABORTED, 0, 0, 0)
     }
 
     /// Where the removal of a component stands.
     pub fn of_component_removal(component: u32) -> Position<'a>
         ensures { result ≡ removed_position (Component component) }
     {
-        Position {
-            code: COMPONENT_REMOVED,
-            component,
-            flow: 0,
-            field: 0,
-            name: &[],
-        }
+        Position::of(COMPONENT_REMOVED, component, 0, 0)
     }
 
     /// Where the removal of a flow stands.
     pub fn of_flow_removal(component: u32, flow: u32) -> Position<'a>
         ensures { result ≡ removed_position (Flow component flow) }
     {
-        Position {
-            code: FLOW_REMOVED,
-            component,
-            flow,
-            field: 0,
-            name: &[],
-        }
+        Position::of(FLOW_REMOVED, component, flow, 0)
     }
 }
 

@@ -1,15 +1,16 @@
 //! A few fields put where they stand among kept facts, in place.
-ghost use Rattle.std.specs.Prelude.{◌≡◌, ◌+◌, ◌<◌, ◌≤◌, [], ◌∷◌, drop, length, map, slice_index_or, take, true};
+ghost use Rattle.std.specs.Prelude.{◌≡◌, ◌+◌, ◌<◌, ◌≤◌, ◌⊎◌, [], ◌∷◌, drop, false, length, map, OnOk, slice_index_or, take, true};
 ghost use Rattle.std.specs.List.{list_any};
 ghost use Rattle.std.specs.Vec.{vec_len, vec_capacity};
 ghost use Rattle.ranked.specs.Sets.{In};
 ghost use Rattle.pcrf_facts.specs.Facts.{Fact, position};
 ghost use Rattle.pcrf_facts.specs.Held.{kept_list, join_of};
 ghost use Rattle.fact_records.specs.Beneath.{stands_at};
-ghost use Rattle.fact_records.specs.Orders.{IsGap, is_field};
+ghost use Rattle.fact_records.specs.Orders.{AreThere, IsGap, is_field};
 
 use crate::fact::TypedFact;
 use crate::search::{has_at, is_removed, seek};
+use std::alloc::AllocError;
 
 /// Each of the facts is a field.
 pub(crate) fn are_fields<F: TypedFact>(facts: &[F]) -> bool
@@ -63,13 +64,16 @@ fn put_new<F: TypedFact>(kept: &mut Vec<F>, at: usize, fact: F)
     let _ = kept.insert(at, fact);
 }
 
-/// Adds a field. There is room for it.
+/// Adds a field. There is room for it, or one stands where it does.
 fn put<F: TypedFact>(kept: &mut Vec<F>, fact: F)
     requires held { kept_list (map F.fact kept.old.items) ≡ map F.fact kept.old.items }
-    requires room { vec_len kept.old < vec_capacity kept.old }
+    requires room { list_any (stands_at (position (F.fact fact))) (map F.fact kept.old.items) ≡ false
+        → vec_len kept.old < vec_capacity kept.old }
     requires field { is_field (F.fact fact) ≡ true }
     ensures joins { map F.fact kept.new.items
         ≡ join_of (map F.fact kept.old.items) (F.fact fact ∷ []) }
+    ensures places { list_any (stands_at (position (F.fact fact))) (map F.fact kept.old.items) ≡ true
+        → map position (map F.fact kept.new.items) ≡ map position (map F.fact kept.old.items) }
     ensures len { vec_len kept.new ≤ vec_len kept.old + 1 }
     ensures capacity { vec_capacity kept.old ≤ vec_capacity kept.new }
 {
@@ -79,10 +83,11 @@ fn put<F: TypedFact>(kept: &mut Vec<F>, fact: F)
     }
 }
 
-/// Adds fields, the last one first. There is room for all.
+/// Adds fields, the last one first. One stands where each of them does, or there is room for all.
 pub(crate) fn put_all<F: TypedFact>(kept: &mut Vec<F>, fields: Vec<F>)
     requires held { kept_list (map F.fact kept.old.items) ≡ map F.fact kept.old.items }
-    requires room { vec_len kept.old + vec_len fields ≤ vec_capacity kept.old }
+    requires room { AreThere (map F.fact fields.items) (map F.fact kept.old.items)
+        ⊎ (vec_len kept.old + vec_len fields ≤ vec_capacity kept.old) }
     requires fields { (f : Fact) → In f (map F.fact fields.items) → is_field f ≡ true }
     ensures { map F.fact kept.new.items
         ≡ join_of (map F.fact kept.old.items) (map F.fact fields.items) }
@@ -94,10 +99,9 @@ pub(crate) fn put_all<F: TypedFact>(kept: &mut Vec<F>, fields: Vec<F>)
 }
 
 /// A fact stands where each of these does.
-pub(crate) fn are_there<F: TypedFact>(kept: &[F], facts: &[F]) -> bool
+fn are_there<F: TypedFact>(kept: &[F], facts: &[F]) -> bool
     requires { kept_list (map F.fact kept.now) ≡ map F.fact kept.now }
-    ensures { result ≡ true → (f : Fact) → In f (map F.fact facts.now)
-        → list_any (stands_at (position f)) (map F.fact kept.now) ≡ true }
+    ensures { result ≡ true → AreThere (map F.fact facts.now) (map F.fact kept.now) }
 {
     let mut left = facts;
     'each: while let Some((first, rest)) = left.split_first() {
@@ -109,33 +113,16 @@ pub(crate) fn are_there<F: TypedFact>(kept: &[F], facts: &[F]) -> bool
     true
 }
 
-/// Adds a field where there is one.
-fn put_there<F: TypedFact>(kept: &mut Vec<F>, fact: F)
-    requires held { kept_list (map F.fact kept.old.items) ≡ map F.fact kept.old.items }
-    requires field { is_field (F.fact fact) ≡ true }
-    requires there { list_any (stands_at (position (F.fact fact))) (map F.fact kept.old.items) ≡ true }
-    ensures joins { map F.fact kept.new.items
-        ≡ join_of (map F.fact kept.old.items) (F.fact fact ∷ []) }
-    ensures places { map position (map F.fact kept.new.items)
-        ≡ map position (map F.fact kept.old.items) }
+/// Makes room for fields, unless one stands where each of them does: so what only changes takes no memory.
+pub(crate) fn make_room<F: TypedFact>(kept: &mut Vec<F>, fields: &Vec<F>) -> Result<(), AllocError>
+    requires { kept_list (map F.fact kept.old.items) ≡ map F.fact kept.old.items }
+    ensures items { kept.new.items ≡ kept.old.items }
+    ensures room { OnOk result (AreThere (map F.fact fields.now.items) (map F.fact kept.old.items)
+        ⊎ (vec_len kept.new + vec_len fields.now ≤ vec_capacity kept.new)) }
 {
-    let Ok(at) = seek(kept.as_slice(), &fact.position()) else {
-        return;
-    };
-    put_over(kept, at, fact);
-}
-
-/// Adds fields where there is one for each, the last one first. It takes no memory.
-pub(crate) fn put_all_there<F: TypedFact>(kept: &mut Vec<F>, fields: Vec<F>)
-    requires held { kept_list (map F.fact kept.old.items) ≡ map F.fact kept.old.items }
-    requires fields { (f : Fact) → In f (map F.fact fields.items) → is_field f ≡ true }
-    requires there { (f : Fact) → In f (map F.fact fields.items)
-        → list_any (stands_at (position f)) (map F.fact kept.old.items) ≡ true }
-    ensures { map F.fact kept.new.items
-        ≡ join_of (map F.fact kept.old.items) (map F.fact fields.items) }
-{
-    let mut left = fields;
-    'each: while let Some(fact) = left.pop() {
-        put_there(kept, fact);
+    if are_there(kept.as_slice(), fields.as_slice()) {
+        return Ok(());
     }
+    kept.reserve(fields.len())?;
+    Ok(())
 }

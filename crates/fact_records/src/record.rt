@@ -2,17 +2,17 @@
 ghost use Rattle.std.specs.Prelude.{◌≡◌, ◌+◌, ◌≤◌, List, [], IfOk, length, map, option_map};
 ghost use Rattle.std.specs.Option.{option_copied};
 ghost use Rattle.std.specs.Ordering.{is_eq};
-ghost use Rattle.std.specs.List.{filter, list_any};
+ghost use Rattle.std.specs.List.{list_any};
 ghost use Rattle.std.specs.Vec.{vec_len, vec_capacity};
 ghost use Rattle.pcrf_facts.specs.Facts.{Fact, fact_cmp};
 ghost use Rattle.pcrf_facts.specs.Held.{kept_list, is_ended, is_aborted, entry_shown};
 ghost use Rattle.pcrf_facts.specs.Places.{Place, place_position};
-ghost use Rattle.fact_records.specs.Found.{IsFound, entry_found, stands_in};
+ghost use Rattle.fact_records.specs.Found.{IsFound, entry_found};
 ghost use Rattle.fact_records.specs.Sets.{facts_subset};
 
 use crate::fact::{Position, TypedFact, compare};
 use crate::keeping::{adds_nothing, are_kept, merge, merge_of};
-use crate::placing::{are_fields, are_there, put_all, put_all_there};
+use crate::placing::{are_fields, make_room, put_all};
 use crate::search;
 use lattice_core::{FactSet, Join};
 use std::alloc::{AllocError, Global};
@@ -106,15 +106,6 @@ fn room_for<F: TypedFact>(ours: &Vec<F>, theirs: &Vec<F>) -> Result<Vec<F>, Allo
 }
 
 impl<F: TypedFact> Record<F> {
-    /// No facts.
-    pub fn start(alloc: Global) -> Record<F>
-        ensures { result ≡ [] }
-    {
-        Record {
-            items: Vec::new(alloc),
-        }
-    }
-
     /// What is kept of these facts, which move into the record. It takes no memory where all are kept and stand in their order, as those of
     /// an operation do.
     pub fn of_facts(facts: Vec<F>) -> Result<Record<F>, AllocError>
@@ -143,13 +134,6 @@ impl<F: TypedFact> Record<F> {
         self.items.as_slice()
     }
 
-    /// The facts, in order, out of the record.
-    pub fn into_facts(self) -> Vec<F>
-        ensures { map F.fact result.items ≡ self }
-    {
-        self.items
-    }
-
     /// The fact at the position: what the place there shows.
     pub fn at(&self, sought: &Position<'_>) -> Option<&F>
         ensures found { IsFound sought.now self.now (option_map F.fact (option_copied result)) }
@@ -157,13 +141,6 @@ impl<F: TypedFact> Record<F> {
             → entry_found (option_map F.fact (option_copied result)) ≡ entry_shown self.now p }
     {
         search::find(self.items.as_slice(), sought)
-    }
-
-    /// The facts of one kind in one component, in order.
-    pub fn part(&self, kind: u8, component: u32) -> &[F]
-        ensures { map F.fact result.now ≡ filter (stands_in kind component) self.now }
-    {
-        search::part(self.items.as_slice(), kind, component)
     }
 
     /// The session is ended.
@@ -215,11 +192,7 @@ impl<F: TypedFact> Join for Record<F> {
         }
         if other.items.len() <= FEW && are_fields(other.items.as_slice()) {
             let few = other.items;
-            if are_there(self.items.as_slice(), few.as_slice()) {
-                put_all_there(&mut self.items, few);
-                return Ok(());
-            }
-            if let Err(refused) = self.items.reserve(few.len()) {
+            if let Err(refused) = make_room(&mut self.items, &few) {
                 return Err((refused, Record { items: few }));
             }
             put_all(&mut self.items, few);

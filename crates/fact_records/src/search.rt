@@ -1,15 +1,14 @@
 //! Kept facts, searched by position.
-ghost use Rattle.std.specs.Prelude.{◌≡◌, ◌-◌, ◌<◌, ◌≤◌, IfErr, IfOk, MatchResult, not, drop, length, map, option_map, slice_index_or, take};
-ghost use Rattle.std.specs.Ordering.{is_gt, is_lt};
+ghost use Rattle.std.specs.Prelude.{◌≡◌, ◌<◌, ◌≤◌, IfErr, IfOk, MatchResult, drop, length, map, option_map, slice_index_or, take};
 ghost use Rattle.std.specs.Option.{option_copied};
-ghost use Rattle.std.specs.List.{filter, list_any};
+ghost use Rattle.std.specs.List.{list_any};
 ghost use Rattle.pcrf_facts.specs.Places.{Component, Flow, position_cmp, removed_position};
 ghost use Rattle.pcrf_facts.specs.Facts.{position};
 ghost use Rattle.pcrf_facts.specs.Held.{kept_list};
 ghost use Rattle.fact_records.specs.declared.fact.Beneath.TheVariants as beneath;
 ghost use Rattle.fact_records.specs.Beneath.{removes, stands_at};
 ghost use Rattle.fact_records.specs.Orders.{IsGap};
-ghost use Rattle.fact_records.specs.Found.{IsFound, part_cmp, stands_in};
+ghost use Rattle.fact_records.specs.Found.{IsFound};
 
 use crate::fact::{Beneath, Position, TypedFact};
 use std::cmp::Ordering;
@@ -58,46 +57,6 @@ pub(crate) fn seek<F: TypedFact>(facts: &[F], sought: &Position<'_>) -> Result<u
             ensures { result ≡ position_cmp (position (F.fact fact.now)) sought.entry.now }
         { fact.position().compare(sought) },
     )
-}
-
-/// How the position stands to those of that kind in that component.
-fn compare_part(position: &Position<'_>, kind: u8, component: u32) -> Ordering
-    ensures { result ≡ part_cmp position.now kind component }
-{
-    position
-        .code
-        .cmp(&kind)
-        .then(position.component.cmp(&component))
-}
-
-/// Where the facts of one kind in one component begin and end.
-fn bounds<F: TypedFact>(facts: &[F], kind: u8, component: u32) -> (usize, usize)
-    requires { kept_list (map F.fact facts.now) ≡ map F.fact facts.now }
-    ensures ordered { result.0 ≤ result.1 }
-    ensures within { result.1 ≤ length facts.now }
-    ensures facts { map F.fact (take (result.1 - result.0) (drop result.0 facts.now))
-        ≡ filter (stands_in kind component) (map F.fact facts.now) }
-{
-    let low = facts.partition_point(
-        |fact: &F| -> bool
-            ensures { result ≡ is_lt (part_cmp (position (F.fact fact.now)) kind component) }
-        { compare_part(&fact.position(), kind, component).is_lt() },
-    );
-    let high = facts.partition_point(
-        |fact: &F| -> bool
-            ensures { result ≡ not (is_gt (part_cmp (position (F.fact fact.now)) kind component)) }
-        { !compare_part(&fact.position(), kind, component).is_gt() },
-    );
-    (low, high)
-}
-
-/// The facts of one kind in one component, which stand one after another.
-pub(crate) fn part<F: TypedFact>(facts: &[F], kind: u8, component: u32) -> &[F]
-    requires { kept_list (map F.fact facts.now) ≡ map F.fact facts.now }
-    ensures { map F.fact result.now ≡ filter (stands_in kind component) (map F.fact facts.now) }
-{
-    let (low, high) = bounds(facts, kind, component);
-    &facts[low..high]
 }
 
 /// One of the facts ends the session: it stands alone, since it overshadows all else.

@@ -68,13 +68,7 @@ fn number_of<E: Enumeration>(value: &SessionValue<Enumerated<E>>) -> u8
 pub fn position_of_field<'a>(field: u8) -> Position<'a>
     ensures { result ≡ (2, (0, (0, (field, [])))) }
 {
-    Position {
-        code: SESSION_FIELD,
-        component: 0,
-        flow: 0,
-        field,
-        name: &[],
-    }
+    Position::of(SESSION_FIELD, 0, 0, field)
 }
 
 /// Where a field of a session stands.
@@ -92,34 +86,14 @@ pub fn compare_values<E: Enumeration>(
     requires { session_number one.now ≡ session_number other.now }
     ensures { result ≡ value_cmp (session_value one.now) (session_value other.now) }
 {
-    match one {
-        SessionValue::Address(one) => match other {
-            SessionValue::Address(other) => one.cmp(other),
-            _ => Ordering::Equal,
-        },
-        SessionValue::Apn(one) => match other {
-            SessionValue::Apn(other) => one.cmp(other),
-            _ => Ordering::Equal,
-        },
-        SessionValue::Subscribers(one) => match other {
-            SessionValue::Subscribers(other) => one.cmp(other),
-            _ => Ordering::Equal,
-        },
-        SessionValue::Host(one) => match other {
-            SessionValue::Host(other) => one.cmp(other),
-            _ => Ordering::Equal,
-        },
-        SessionValue::Realm(one) => match other {
-            SessionValue::Realm(other) => one.cmp(other),
-            _ => Ordering::Equal,
-        },
-        SessionValue::Last(one) => match other {
-            SessionValue::Last(other) => one.cmp(other),
-            _ => Ordering::Equal,
-        },
-        SessionValue::Prefix(one) => match other {
-            SessionValue::Prefix(other) => one.cmp(other),
-            _ => Ordering::Equal,
-        },
+    match (one, other) {
+        (SessionValue::Address(one), SessionValue::Address(other)) => one.cmp(other),
+        (SessionValue::Apn(one), SessionValue::Apn(other)) => one.cmp(other),
+        (SessionValue::Subscribers(one), SessionValue::Subscribers(other)) => one.cmp(other),
+        (SessionValue::Host(one), SessionValue::Host(other)) => one.cmp(other),
+        (SessionValue::Realm(one), SessionValue::Realm(other)) => one.cmp(other),
+        (SessionValue::Last(one), SessionValue::Last(other)) => one.cmp(other),
+        (SessionValue::Prefix(one), SessionValue::Prefix(other)) => one.cmp(other),
+        _ => Ordering::Equal,
     }
 }

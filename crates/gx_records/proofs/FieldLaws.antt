@@ -6,7 +6,7 @@ use Rattle.ranked.specs.declared.tag.Tag.{Tag}
 use Rattle.pcrf_values.specs.RuleValues.{RuleValue, rule_cmp}
 use Rattle.pcrf_facts.specs.Places.{ComponentField, FlowField, Place, OfComponent, OfFlow}
 use Rattle.pcrf_facts.specs.Values.{Value, Entry, value_cmp, entry_cmp}
-use Rattle.pcrf_facts.specs.Facts.{Fact, position, entry}
+use Rattle.pcrf_facts.specs.Facts.{Fact, entry}
 use Rattle.pcrf_facts.specs.Held.{kept_list, is_gone, entry_at, entry_shown}
 use Rattle.pcrf_facts.proofs.JoinedLaws.{held-Same}
 use Rattle.pcrf_facts.specs.ToldWords.{told_entry, told_rule, ToldRule}
@@ -15,7 +15,7 @@ use Rattle.pcrf_model.specs.Sessions.{Gx}
 use Rattle.pcrf_model.proofs.RecordForms.{joined_record}
 use Rattle.ranked.specs.Sets.{greatest}
 use Rattle.ranked.proofs.SetLaws.{Same-twice}
-use Rattle.fact_records.specs.SessionValues.{entry_by, session_number, session_value}
+use Rattle.fact_records.specs.SessionValues.{entry_by, session_value}
 use Rattle.gx_records.specs.declared.fact.GxFact.{GxFact}
 use Rattle.gx_records.specs.declared.fact.GxFact.TheVariants.{End, Field, Told}
 use Rattle.fact_records.specs.SessionFacts.{session_fact}
@@ -29,19 +29,6 @@ told_order None None = refl
 told_order None (Some s) = refl
 told_order (Some r) None = refl
 told_order (Some r) (Some s) = refl
-
--- values at one position are of one field
-pub one_number : (t u : Tag) (x y : SessionValue ℕ) → position (session_fact t x) ≡ position (session_fact u y) → session_number x ≡ session_number y
-one_number t u x y e = sym (number_at t x) ∙ ap (λ p. p.1.1.1.0) e ∙ number_at u y
-  where
-    number_at : (t : Tag) (x : SessionValue ℕ) → (position (session_fact t x)).1.1.1.0 ≡ session_number x
-    number_at t (Address x) = refl
-    number_at t (Apn x) = refl
-    number_at t (Subscribers x) = refl
-    number_at t (Host x) = refl
-    number_at t (Realm x) = refl
-    number_at t (Last x) = refl
-    number_at t (Prefix x) = refl
 
 -- the entry of a field's fact
 pub entry_of_field : (t : Tag) (x : SessionValue ℕ) → Some (t, session_value x) ≡ entry (session_fact t x)

@@ -27,9 +27,7 @@ impl GxFact {
             GxFact::End => Ok(GxFact::End),
             GxFact::Field(tag, value) => Ok(GxFact::Field(*tag, value.try_copy()?)),
             GxFact::Told(tag, name, rule) => {
-                let name = name.try_copy()?;
-                let rule = rule.try_copy()?;
-                Ok(GxFact::Told(*tag, name, rule))
+                Ok(GxFact::Told(*tag, name.try_copy()?, rule.try_copy()?))
             }
         }
     }

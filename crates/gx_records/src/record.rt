@@ -171,9 +171,8 @@ impl GxRec {
     {
         match self.facts.at(&position_of_field(number)) {
             None => None,
-            Some(GxFact::End) => None,
             Some(GxFact::Field(tag, value)) => Some((*tag, value)),
-            Some(GxFact::Told(_, _, _)) => None,
+            Some(_) => None,
         }
     }
 
@@ -191,12 +190,10 @@ impl GxRec {
         ensures { entry_by address_value (option_map (λ e. (e.0, e.1.now)) result)
             ≡ entry_shown self.now places.address }
     {
-        let Some((tag, value)) = self.field(1) else {
-            return None;
-        };
-        match value {
-            SessionValue::Address(address) => Some((tag, address)),
-            _ => None,
+        match self.field(1) {
+            None => None,
+            Some((tag, SessionValue::Address(address))) => Some((tag, address)),
+            Some(_) => None,
         }
     }
 
@@ -205,12 +202,10 @@ impl GxRec {
         ensures { entry_by Text (option_map (λ e. (e.0, e.1.now)) result)
             ≡ entry_shown self.now places.apn }
     {
-        let Some((tag, value)) = self.field(2) else {
-            return None;
-        };
-        match value {
-            SessionValue::Apn(apn) => Some((tag, apn)),
-            _ => None,
+        match self.field(2) {
+            None => None,
+            Some((tag, SessionValue::Apn(apn))) => Some((tag, apn)),
+            Some(_) => None,
         }
     }
 
@@ -219,12 +214,10 @@ impl GxRec {
         ensures { entry_by values.Subscribers (option_map (λ e. (e.0, e.1.now)) result)
             ≡ entry_shown self.now places.subscribers }
     {
-        let Some((tag, value)) = self.field(3) else {
-            return None;
-        };
-        match value {
-            SessionValue::Subscribers(subscribers) => Some((tag, subscribers)),
-            _ => None,
+        match self.field(3) {
+            None => None,
+            Some((tag, SessionValue::Subscribers(subscribers))) => Some((tag, subscribers)),
+            Some(_) => None,
         }
     }
 
@@ -233,12 +226,10 @@ impl GxRec {
         ensures { entry_by Text (option_map (λ e. (e.0, e.1.now)) result)
             ≡ entry_shown self.now places.host }
     {
-        let Some((tag, value)) = self.field(4) else {
-            return None;
-        };
-        match value {
-            SessionValue::Host(host) => Some((tag, host)),
-            _ => None,
+        match self.field(4) {
+            None => None,
+            Some((tag, SessionValue::Host(host))) => Some((tag, host)),
+            Some(_) => None,
         }
     }
 
@@ -247,12 +238,10 @@ impl GxRec {
         ensures { entry_by Text (option_map (λ e. (e.0, e.1.now)) result)
             ≡ entry_shown self.now places.realm }
     {
-        let Some((tag, value)) = self.field(5) else {
-            return None;
-        };
-        match value {
-            SessionValue::Realm(realm) => Some((tag, realm)),
-            _ => None,
+        match self.field(5) {
+            None => None,
+            Some((tag, SessionValue::Realm(realm))) => Some((tag, realm)),
+            Some(_) => None,
         }
     }
 
@@ -261,12 +250,10 @@ impl GxRec {
         ensures { entry_by Number (option_map (λ e. (e.0, e.1.now)) result)
             ≡ entry_shown self.now places.last }
     {
-        let Some((tag, value)) = self.field(6) else {
-            return None;
-        };
-        match value {
-            SessionValue::Last(last) => Some((tag, last)),
-            _ => None,
+        match self.field(6) {
+            None => None,
+            Some((tag, SessionValue::Last(last))) => Some((tag, last)),
+            Some(_) => None,
         }
     }
 
@@ -275,12 +262,10 @@ impl GxRec {
         ensures { entry_by values.Prefix (option_map (λ e. (e.0, e.1.now)) result)
             ≡ entry_shown self.now places.prefix }
     {
-        let Some((tag, value)) = self.field(7) else {
-            return None;
-        };
-        match value {
-            SessionValue::Prefix(prefix) => Some((tag, prefix)),
-            _ => None,
+        match self.field(7) {
+            None => None,
+            Some((tag, SessionValue::Prefix(prefix))) => Some((tag, prefix)),
+            Some(_) => None,
         }
     }
 
@@ -326,9 +311,8 @@ fn add_fact(pairs: &mut Vec<(RuleName, Rule)>, fact: &GxFact) -> Result<(), Allo
     ensures { OnOk result (pairs.new.items ≡ pairs.old.items ++ rules_told fact.now) }
 {
     match fact {
-        GxFact::End => Ok(()),
-        GxFact::Field(_, _) => Ok(()),
         GxFact::Told(_, name, told) => add_rule(pairs, name, told),
+        _ => Ok(()),
     }
 }
 

@@ -57,15 +57,13 @@ impl TypedFact for GxFact {
                 GxFact::Field(other_tag, other_value) => {
                     tag.cmp(other_tag).then(compare_values(value, other_value))
                 }
-                GxFact::End => Ordering::Equal,
-                GxFact::Told(_, _, _) => Ordering::Equal,
+                _ => Ordering::Equal,
             },
             GxFact::Told(tag, _, rule) => match other {
                 GxFact::Told(other_tag, _, other_rule) => {
                     tag.cmp(other_tag).then(compare_told(rule, other_rule))
                 }
-                GxFact::End => Ordering::Equal,
-                GxFact::Field(_, _) => Ordering::Equal,
+                _ => Ordering::Equal,
             },
         }
     }

@@ -3,6 +3,7 @@
 
 mod books;
 mod dialing;
+mod epochs;
 mod frames;
 mod growth;
 mod letters;

@@ -9,3 +9,4 @@ pub use Rattle.site_lock.specs.Limits
 pub use Rattle.site_lock.specs.Sites
 pub use Rattle.site_lock.specs.Values
 pub use Rattle.shared_site.specs.Deeds
+pub use Rattle.shared_site.specs.Epochs

@@ -11,7 +11,7 @@ pub use demand::Demand;
 pub use end::LinkEnd;
 pub use gate::Gate;
 pub use pushes::Pushes;
-pub use shared_site::SharedSite;
+pub use shared_site::{Dated, Grown, SharedSite};
 pub use site_lock::{
     Event, HISTORY_LIMIT, LockedSite, Reply, Request, SEAT_LIMIT, Seat, Site, StepFault,
 };

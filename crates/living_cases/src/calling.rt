@@ -1,6 +1,6 @@
 //! Calls at a site of either kind, by the one trait that workers know both by.
 use crate::checks::{check, check_same};
-use shared_site::SharedSite;
+use shared_site::{Grown, SharedSite};
 use site_machine::{Event, Reply, StepFault};
 use std::process::Abort;
 use std::sync::Wait;
@@ -18,6 +18,8 @@ pub enum Told {
     NothingPushed,
     /// So many of the site's own operations, of how many.
     Own(usize, u64),
+    /// That the site has begun anew so often.
+    BegunAnew(u16),
     Other,
     Fault(StepFault),
 }
@@ -73,6 +75,46 @@ pub fn ask_past<S: SharedSite, R: Threads + Wait + Sync>(
     let told = told_by(&reply);
     drop(reply);
     told
+}
+
+/// What it is told, and how often the site had begun anew by then.
+pub fn ask_dated<S: SharedSite, R: Threads + Wait + Sync>(
+    rt: &R,
+    site: &S,
+    seat: &mut S::Seat,
+    event: &Event,
+) -> (Told, u16) {
+    match site.call_dated(rt, seat, event) {
+        Ok(dated) => {
+            let begun = dated.begun;
+            let reply = Ok(dated.reply);
+            let told = told_by(&reply);
+            drop(reply);
+            (told, begun)
+        }
+        Err(fault) => (Told::Fault(fault), 0),
+    }
+}
+
+/// What it is told once the site has made more operations than so many since it began anew for so many times.
+pub fn ask_since<S: SharedSite, R: Threads + Wait + Sync>(
+    rt: &R,
+    site: &S,
+    seat: &mut S::Seat,
+    event: &Event,
+    past: u64,
+    begun: u16,
+) -> Told {
+    match site.call_grown_since(rt, seat, event, past, begun) {
+        Ok(Grown::BegunAnew(now)) => Told::BegunAnew(now),
+        Ok(Grown::Told(reply)) => {
+            let reply = Ok(reply);
+            let told = told_by(&reply);
+            drop(reply);
+            told
+        }
+        Err(fault) => Told::Fault(fault),
+    }
 }
 
 /// A seat has an event happen, and is told this of it.

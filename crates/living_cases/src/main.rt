@@ -13,11 +13,15 @@ mod compared;
 #[cfg(test)]
 mod counting;
 #[cfg(test)]
+mod epochs;
+#[cfg(test)]
 mod events;
 #[cfg(test)]
 mod growing;
 #[cfg(test)]
 mod renewing;
+#[cfg(test)]
+mod settling;
 #[cfg(test)]
 mod sites;
 #[cfg(test)]

@@ -1,5 +1,5 @@
 //! Sites of both kinds, opened over a site that took nothing, and what stays of each when all seats have come back.
-ghost use Rattle.std.specs.Prelude.{◌≡◌, ◌<◌, ◌≤◌};
+ghost use Rattle.std.specs.Prelude.{◌≡◌, ◌<◌, ◌≤◌, []};
 ghost use Rattle.pcrf_values.specs.Limits.{site_limit};
 ghost use Rattle.site_book.specs.Limits.{most_entries, most_seats};
 ghost use Rattle.living_site.specs.Sound.{AreNames};
@@ -46,6 +46,7 @@ pub fn living<L: Roll>(
     requires names { AreNames L.name_of L.seats roster.seats }
     requires keeper { roster.keeper ≡ L.keeper }
     requires opening { site.state ≡ L.opening }
+    ensures { result.2.beginnings ≡ [] }
 {
     let Ok(opened) = LivingSite::<L>::start(alloc, roster, site) else {
         rt.abort()

@@ -80,12 +80,12 @@ at_set P (y ∷ ys) (suc k) x lt here others (suc j) d l =
     at_set (λ n. P (suc n)) ys k x (omega (arith, lt)) here (λ i e m apart. others (suc i) e (omega (arith, m)) (λ q. apart (omega (arith, q)))) j d (omega (arith, l))
 
 -- one call more
-pub sound_called : (name : ℕ → ℕ) (seats keeper : ℕ) (opening : SiteState) (site left : SiteValue) (n m : ℕ) (h h' : Original (List Deed)) (b b' : Duplicate (List Deed)) (cs : List (Original (List ReceiptValue))) (o : Original (List ℕ)) (x : EntryValue) (c : Original (List ReceiptValue))
-    → IsSound name seats keeper opening site n h b cs o → x.seat < seats → SiteMayReply site x.event x.reply → left ≡ after_event site x.event x.reply
+pub sound_called : (name : ℕ → ℕ) (seats keeper : ℕ) (opening : SiteState) (site left : SiteValue) (n m times : ℕ) (h h' : Original (List Deed)) (b b' : Duplicate (List Deed)) (cs : List (Original (List ReceiptValue))) (o : Original (List ℕ)) (x : EntryValue) (c : Original (List ReceiptValue))
+    → IsSound name seats keeper opening site n times h b cs o → x.seat < seats → SiteMayReply site x.event x.reply → left ≡ after_event site x.event x.reply
     → m ≡ min (n + 1) (2 ^ 64 - 1) → h'.note ≡ h.note ++ Entered x ∷ [] → b'.name ≡ h'.name
     → c.name ≡ name x.seat → c.note ≡ account x.seat h.note ++ receipt_of (length (calls h.note)) x.event x.reply ∷ []
-    → IsSound name seats keeper opening left m h' b' (slice_set cs x.seat c) o
-sound_called name seats keeper opening site left n m h h' b b' cs o x c sound lt may leaves raised grown named chair received =
+    → IsSound name seats keeper opening left m times h' b' (slice_set cs x.seat c) o
+sound_called name seats keeper opening site left n m times h h' b b' cs o x c sound lt may leaves raised grown named chair received =
     let k : ℕ = x.seat in
     let inside : k < length cs = omega (arith, lt, sound.many) in
     let as_many : length (slice_set cs k c) ≡ length cs = length-set cs k c in
@@ -108,14 +108,15 @@ sound_called name seats keeper opening site left n m h h' b b' cs o x c sound lt
       seated = rw (grown, entries) (seats_more seats (calls h.note) x lt sound.seated);
       keeper_is = sound.keeper_is;
       begun_are = rw grown (sound.begun_are ∙ sym (beginnings_called 0 h.note x));
+      times_are = sound.times_are;
     }
 
 -- one new beginning more
-pub sound_begun : (name : ℕ → ℕ) (seats keeper : ℕ) (opening : SiteState) (site left : SiteValue) (n : ℕ) (h h' : Original (List Deed)) (b b' : Duplicate (List Deed)) (cs : List (Original (List ReceiptValue))) (o o' : Original (List ℕ))
-    → IsSound name seats keeper opening site n h b cs o → left ≡ site_begun_anew site
+pub sound_begun : (name : ℕ → ℕ) (seats keeper : ℕ) (opening : SiteState) (site left : SiteValue) (n times more : ℕ) (h h' : Original (List Deed)) (b b' : Duplicate (List Deed)) (cs : List (Original (List ReceiptValue))) (o o' : Original (List ℕ))
+    → IsSound name seats keeper opening site n times h b cs o → left ≡ site_begun_anew site → more ≡ length o.note + 1
     → h'.note ≡ h.note ++ BegunAnew ∷ [] → b'.name ≡ h'.name → o'.name ≡ keeper → o'.note ≡ beginnings h.note ++ length (calls h.note) ∷ []
-    → IsSound name seats keeper opening left n h' b' cs o'
-sound_begun name seats keeper opening site left n h h' b b' cs o o' sound leaves grown named is begun =
+    → IsSound name seats keeper opening left n more h' b' cs o'
+sound_begun name seats keeper opening site left n times more h h' b b' cs o o' sound leaves raised grown named is begun =
     let H : List Deed = h.note ++ BegunAnew ∷ [] in
     let entries : calls H ≡ calls h.note = calls_begun h.note in
     let at : 0 + length (calls h.note) ≡ length (calls h.note) = omega arith in
@@ -130,4 +131,5 @@ sound_begun name seats keeper opening site left n h h' b b' cs o o' sound leaves
       seated = rw (grown, entries) sound.seated;
       keeper_is = is;
       begun_are = rw grown (begun ∙ sym all);
+      times_are = raised ∙ ap (λ (ns : List ℕ). length ns + 1) sound.begun_are ∙ sym (ap length begun ∙ length-append (beginnings h.note) (length (calls h.note) ∷ []));
     }

@@ -5,3 +5,4 @@ pub mod Gains
 pub mod Taking
 pub mod Telling
 pub mod Counting
+pub mod Beginning

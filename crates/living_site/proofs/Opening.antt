@@ -62,7 +62,7 @@ named_notes name seats cs ds all names =
 -- a history that begins
 pub opened : (name : ℕ → ℕ) (seats keeper : ℕ) (opening : SiteState) (site : SiteValue) (h : Original (List Deed)) (b : Duplicate (List Deed)) (cs : List (Original (List ReceiptValue))) (ds : List (Duplicate (List ReceiptValue))) (o : Original (List ℕ)) (e : Duplicate (List ℕ))
     → AreBlank cs ds → IsBlank o e → AreNames name seats (names_of cs) → o.name ≡ keeper → site.state ≡ opening → kept_of site.state.holding ≡ site.state.holding → h.note ≡ [] → b.name ≡ h.name
-    → IsSound name seats keeper opening site 0 h b cs o
+    → IsSound name seats keeper opening site 0 0 h b cs o
 opened name seats keeper opening site h b cs ds o e all one names is begins kept empty same =
     let many = counted seats cs ds all names.0 in
     let H : List Deed = [] in
@@ -77,6 +77,7 @@ opened name seats keeper opening site h b cs ds o e all one names is begins kept
       seated = rw empty tt;
       keeper_is = is;
       begun_are = rw empty one.1;
+      times_are = rw one.1 refl;
     }
 
 -- what is so of an item is so of each of a list of one

@@ -1,13 +1,13 @@
 -- What a call through the lock gives.
-use Rattle.std.specs.Prelude.{◌≡◌, ℕ, List, [], ◌∷◌, ◌++◌}
+use Rattle.std.specs.Prelude.{◌≡◌, ℕ, List}
 use Rattle.pcrf_model.specs.Steps.{SiteState}
 use Rattle.site_machine.specs.Sites.{SiteValue}
 use Rattle.site_book.specs.Books.{SeatValue}
-use Rattle.living_site.specs.Deeds.{Deed, KeeperValue, LeadsTo, IsAccountOf}
+use Rattle.living_site.specs.Deeds.{Deed, KeeperValue, LeadsTo, IsAccountOf, begun_at}
 
 -- one new beginning more, with so many calls before it
 abbrev pub GainsBeginning : KeeperValue → KeeperValue → Type 0
-GainsBeginning before after = (place : ℕ) × (after.beginnings ≡ before.beginnings ++ place ∷ [])
+GainsBeginning before after = (place : ℕ) × (after ≡ begun_at before place)
 
 -- the history leads a site from its opening to something, and the seat has just a receipt for each of its entries in it
 abbrev pub IsAccount : ℕ → SiteState → List Deed → SeatValue → Type 0

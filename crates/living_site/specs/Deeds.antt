@@ -1,5 +1,5 @@
 -- What is done at a site, and the history of it. Entries, receipts and seats are those of a book.
-use Rattle.std.specs.Prelude.{◌≡◌, ℕ, suc, ◌<◌, ◌==◌, cond, min, ◌^◌, ◌-◌, List, [], ◌∷◌, ◌++◌, length, Option, option_map, slice_get}
+use Rattle.std.specs.Prelude.{◌≡◌, ℕ, suc, ◌+◌, ◌<◌, ◌==◌, cond, min, ◌^◌, ◌-◌, List, [], ◌∷◌, ◌++◌, length, Option, option_map, slice_get}
 use Rattle.pcrf_values.specs.Limits.{delta_limit}
 use Rattle.pcrf_model.specs.Tables.{Tables}
 use Rattle.pcrf_model.specs.Steps.{SiteState, SiteEvent, MayReply, kept_state_after}
@@ -17,9 +17,18 @@ pub record ChronicleValue : Type 0 where
   pub site : SiteValue
   pub history : List Deed
 
--- who may have the site begin anew: of each new beginning, how many calls came before it
+-- who may have the site begin anew: the epoch that the site started in, and of each new beginning how many calls came before it
 pub record KeeperValue : Type 0 where
+  pub first : ℕ
   pub beginnings : List ℕ
+
+-- the epoch of the site: one more with each new beginning
+abbrev pub epoch_of : KeeperValue → ℕ
+epoch_of k = k.first + length k.beginnings
+
+-- with one new beginning more, with so many calls before it
+abbrev pub begun_at : KeeperValue → ℕ → KeeperValue
+begun_at k place = record { first = k.first; beginnings = k.beginnings ++ place ∷ [] }
 
 -- all that it holds, and no operation of its own
 abbrev pub begun_anew : SiteState → SiteState
@@ -58,6 +67,10 @@ beginnings_from p (BegunAnew ∷ ds) = p ∷ beginnings_from p ds
 
 abbrev pub beginnings : List Deed → List ℕ
 beginnings history = beginnings_from 0 history
+
+-- how often the site began anew
+abbrev pub times_begun : List Deed → ℕ
+times_begun history = length (beginnings history)
 
 -- the receipts for the entries of a seat, of which the first stands at place p
 abbrev pub receipts_from : ℕ → ℕ → List EntryValue → List ReceiptValue

@@ -13,8 +13,8 @@ abbrev pub IsChair : (ℕ → ℕ) → List Deed → ℕ → Original (List Rece
 IsChair name history k c = (c.name ≡ name k) × (c.note ≡ account k history)
 
 -- The history leads from the opening to the site, and the count is that of its entries. Each seat has a chair, and no entry is of
--- another seat. The keeper's note says just the new beginnings.
-pub record IsSound (name : ℕ → ℕ) (seats keeper : ℕ) (opening : SiteState) (site : SiteValue) (count : ℕ) (history : Original (List Deed)) (beside : Duplicate (List Deed)) (chairs : List (Original (List ReceiptValue))) (begun : Original (List ℕ)) : Type 0 where
+-- another seat. The keeper's note says just the new beginnings, and their count is theirs.
+pub record IsSound (name : ℕ → ℕ) (seats keeper : ℕ) (opening : SiteState) (site : SiteValue) (count times : ℕ) (history : Original (List Deed)) (beside : Duplicate (List Deed)) (chairs : List (Original (List ReceiptValue))) (begun : Original (List ℕ)) : Type 0 where
   pub kept : kept_of opening.holding ≡ opening.holding
   pub replays : LeadsTo opening history.note site
   pub counted : count ≡ counted_to (length (calls history.note))
@@ -24,6 +24,7 @@ pub record IsSound (name : ℕ → ℕ) (seats keeper : ℕ) (opening : SiteStat
   pub seated : OfSeats seats (calls history.note)
   pub keeper_is : begun.name ≡ keeper
   pub begun_are : begun.note ≡ beginnings history.note
+  pub times_are : times ≡ length begun.note
 
 -- the two copies of each note, which is empty
 abbrev pub AreBlank : List (Original (List ReceiptValue)) → List (Duplicate (List ReceiptValue)) → Type 0

@@ -1,5 +1,6 @@
 //! A site with a history that stands in the proofs alone.
-ghost use Rattle.std.specs.Prelude.{◌≡◌, ◌≢◌, ◌≤◌, ◌<◌, length, true, [], IfOk, IfErr, OnOk, OnErr, All, vec_capacity, leb};
+ghost use Rattle.std.specs.Prelude.{◌≡◌, ◌≢◌, ◌≤◌, ◌<◌, ◌==◌, ◌&&◌, length, true, [], Err, IfOk, IfErr, OnOk, OnErr, All, vec_capacity, leb};
+ghost use Rattle.pcrf_values.specs.Limits.{last_epoch};
 ghost use Rattle.pcrf_model.specs.Views.{view};
 ghost use Rattle.site_machine.specs.Kept.{AreKept};
 ghost use Rattle.site_machine.specs.Many.{AreFresh};
@@ -9,14 +10,18 @@ ghost use Rattle.site_book.specs.Books.{new_seats, with_receipt};
 ghost use Rattle.site_book.specs.Gains.{HoldsAll};
 ghost use Rattle.site_book.specs.Settling.{EachOnce, Settles};
 ghost use Rattle.living_site.specs.Calls.{GainsBeginning};
-ghost use Rattle.living_site.specs.Deeds.{ChronicleValue, LeadsTo, OfSeats, IsAccountOf, as_book, beginnings, calls, counted_to, new_chronicle, with_call, with_beginning};
+ghost use Rattle.living_site.specs.Deeds.{ChronicleValue, LeadsTo, OfSeats, IsAccountOf, as_book, beginnings, calls, counted_to, epoch_of, new_chronicle, times_begun, with_call, with_beginning};
+ghost use Rattle.living_site.specs.Epochs.{HasBegun, IsAnswered};
 ghost use Rattle.living_site.specs.Sound.{AreNames, AreSeatNotes};
 
 use crate::anew::begun_anew;
+use crate::dated::Dated;
+use crate::fault::BeginFault;
 use crate::keeper::Keeper;
 use crate::notes::{Begin, Beginning, Beginnings, Call, Deeds, Enter, Receipts, Receive, Stay};
 use crate::roll::{Roll, Roster};
 use crate::seat::Seat;
+use pcrf_values::limits::LAST_EPOCH;
 use site_machine::{Event, Reply, Rules, Site, StepFault};
 use std::alloc::{AllocError, Global};
 use std::marker::{Model, PhantomData};
@@ -24,8 +29,11 @@ use std::snapshot::Snapshot;
 use std::thread::Threads;
 use twin_notes::{Duplicate, Original};
 
+/// The epoch that a site starts in, unless its keeper says otherwise.
+const FIRST_EPOCH: u16 = 1;
+
 /// A site, and the history that led to it, which clauses alone see. Beside it stand copies of the notes that the seats and the
-/// keeper have, and how many entries the history has.
+/// keeper have, how many entries the history has, and how often the site began anew.
 #[derive(Drop)]
 pub struct Chronicle<L: Roll> {
     alloc: Global,
@@ -35,6 +43,7 @@ pub struct Chronicle<L: Roll> {
     beside: Duplicate<Deeds>,
     chairs: Vec<Original<Receipts>>,
     begun: Original<Beginnings>,
+    times: u16,
     of: PhantomData<L>,
 }
 
@@ -47,7 +56,7 @@ impl<L: Roll> Model for Chronicle<L> {
     ghost view = { λ c. record { site = c.site; history = c.history.note } };
 
     ghost invariant = { λ c. IsSound L.name_of L.seats L.keeper L.opening
-        c.site c.entries c.history c.beside c.chairs.items c.begun };
+        c.site c.entries c.times c.history c.beside c.chairs.items c.begun };
 }
 
 impl<L: Roll> Chronicle<L> {
@@ -77,6 +86,7 @@ impl<L: Roll> Chronicle<L> {
         ensures chronicle { IfOk result (λ r. r.0 ≡ new_chronicle site) }
         ensures seats { IfOk result (λ r. r.1.items ≡ new_seats L.seats) }
         ensures keeper { IfOk result (λ r. r.2.beginnings ≡ []) }
+        ensures first { IfOk result (λ r. r.2.first ≡ 1) }
         ensures roster { IfErr result (λ r. r.1 ≡ roster) }
         ensures site { IfErr result (λ r. r.2 ≡ site) }
     {
@@ -94,6 +104,8 @@ impl<L: Roll> Chronicle<L> {
         let seats = seated(receipts, room);
         let keeper = Keeper {
             begun: beginnings,
+            first: FIRST_EPOCH,
+            times: 0,
             of: PhantomData,
         };
         let chronicle = Chronicle {
@@ -104,6 +116,7 @@ impl<L: Roll> Chronicle<L> {
             beside,
             chairs,
             begun,
+            times: 0,
             of: PhantomData,
         };
         Ok((chronicle, seats, keeper))
@@ -116,12 +129,41 @@ impl<L: Roll> Chronicle<L> {
         self.entries
     }
 
+    /// How often the site began anew.
+    pub fn begun(&self) -> u16
+        ensures { result ≡ times_begun self.now.history }
+    {
+        self.times
+    }
+
+    /// How often the site began anew, as a seat finds it: a history has so many new beginnings in which the seat has just a receipt
+    /// for each of its entries. It changes nothing.
+    pub fn begun_beside(&mut self, seat: &mut Seat<L>) -> u16
+        ensures times { result ≡ times_begun self.old.history }
+        ensures found { HasBegun L.seats L.opening seat.old result }
+        ensures same { self.new ≡ self.old }
+        ensures seat { seat.new ≡ seat.old }
+    {
+        self.audit(seat);
+        let _ = self.site();
+        self.begun()
+    }
+
     /// Whether the site made no more operations itself than so many since it last began anew: who waits for more of them has to
     /// wait.
     pub fn is_short(&self, past: u64) -> bool
         ensures { result ≡ leb (length self.now.site.state.log) past }
     {
         self.site.logged() <= past
+    }
+
+    /// Whether the site has begun anew just so often, and made no more operations itself since than so many: who waits for more of
+    /// those that it makes in this epoch has to wait.
+    pub fn is_short_since(&self, past: u64, begun: u16) -> bool
+        ensures { result ≡ (times_begun self.now.history == begun
+            && leb (length self.now.site.state.log) past) }
+    {
+        self.times == begun && self.site.logged() <= past
     }
 
     /// The history, of which nothing is there when the program runs.
@@ -178,16 +220,46 @@ impl<L: Roll> Chronicle<L> {
         Ok(reply)
     }
 
-    /// Forgets which operations the site made itself; all that it holds stays. It is a deed of the history, and the keeper has
-    /// it. Where memory is refused nothing changes. It takes a copy of all that is held, which takes the site's place: so the
-    /// site takes twice its memory for a moment, and derives rules anew that it kept.
-    pub fn begin_anew(&mut self, keeper: &mut Keeper<L>) -> Result<(), AllocError>
+    /// What `step` does, and how often the site had begun anew when it replied.
+    pub fn step_dated(&mut self, seat: &mut Seat<L>, event: &Event) -> Result<Dated, StepFault>
+        ensures reply { IfOk result (λ told.
+            SiteMayReply self.old.site (event_value event.now) (reply_value told.reply)) }
+        ensures entry { IfOk result (λ told. self.new
+            ≡ with_call self.old seat.old.number (event_value event.now) (reply_value told.reply)) }
+        ensures receipt { IfOk result (λ told. seat.new ≡ with_receipt seat.old
+            (length (calls self.old.history)) (event_value event.now) (reply_value told.reply)) }
+        ensures begun { IfOk result (λ told. told.begun ≡ times_begun self.old.history) }
+        ensures answered { IfOk result (λ told.
+            IsAnswered L.seats L.opening seat.new told.begun) }
+        ensures room { IfErr result (λ fault. fault ≢ StepFault.HistoryFull) }
+        ensures err { OnErr result (self.new ≡ self.old) }
+        ensures err_seat { OnErr result (seat.new ≡ seat.old) }
+    {
+        let begun = self.begun();
+        let reply = self.step(seat, event)?;
+        self.audit(seat);
+        let _ = self.site();
+        Ok(Dated { reply, begun })
+    }
+
+    /// Forgets which operations the site made itself; all that it holds stays, and its next epoch begins. It is a deed of the
+    /// history, and the keeper has it. In the last epoch, and where memory is refused, nothing changes. It takes a copy of all
+    /// that is held, which takes the site's place: so the site takes twice its memory for a moment, and derives rules anew that
+    /// it kept.
+    pub fn begin_anew(&mut self, keeper: &mut Keeper<L>) -> Result<(), BeginFault>
         ensures deed { OnOk result (self.new ≡ with_beginning self.old) }
         ensures keeper { OnOk result (GainsBeginning keeper.old keeper.new) }
+        ensures full { IfErr result (λ fault. fault ≡ BeginFault.EpochFull
+            → epoch_of keeper.old ≡ last_epoch) }
+        ensures last { epoch_of keeper.old ≡ last_epoch → result ≡ Err BeginFault.EpochFull }
         ensures err { OnErr result (self.new ≡ self.old) }
         ensures err_keeper { OnErr result (keeper.new ≡ keeper.old) }
     {
+        if keeper.epoch() == LAST_EPOCH {
+            return Err(BeginFault::EpochFull);
+        }
         let site = begun_anew(self.alloc, &self.site)?;
+        let times = keeper.times + 1;
         let beginning = Beginning {
             past: Snapshot::of(&self.history),
         };
@@ -195,6 +267,8 @@ impl<L: Roll> Chronicle<L> {
             .turn::<Beginning, Begin>(&mut keeper.begun, &beginning);
         self.history
             .turn::<Beginning, Enter>(&mut self.beside, &beginning);
+        keeper.times = times;
+        self.times = times;
         self.site = site;
         Ok(())
     }

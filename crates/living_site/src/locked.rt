@@ -1,5 +1,6 @@
 //! A site under one lock, whose history stands in the proofs alone.
-ghost use Rattle.std.specs.Prelude.{◌≡◌, ◌≢◌, false, [], length, All, IfOk, IfErr, OnOk, OnErr};
+ghost use Rattle.std.specs.Prelude.{◌≡◌, ◌≢◌, false, [], length, All, Err, IfOk, IfErr, OnOk, OnErr};
+ghost use Rattle.pcrf_values.specs.Limits.{last_epoch};
 ghost use Rattle.site_machine.specs.Values.{event_value, reply_value};
 ghost use Rattle.site_book.specs.Books.{new_seats};
 ghost use Rattle.site_book.specs.Gains.{HoldsAll};
@@ -7,11 +8,14 @@ ghost use Rattle.site_book.specs.Settling.{EachOnce, Settles};
 ghost use Rattle.site_lock.specs.Calls.{FindsNoneAbandoned, FindsNothingDue, GainsReceipt, TellsPast};
 ghost use Rattle.site_lock.specs.Locked.{beside};
 ghost use Rattle.living_site.specs.Calls.{GainsBeginning, IsAccount, IsFound};
-ghost use Rattle.living_site.specs.Deeds.{IsAccountOf, LeadsTo, OfSeats, as_book, beginnings, calls};
+ghost use Rattle.living_site.specs.Deeds.{IsAccountOf, LeadsTo, OfSeats, as_book, beginnings, calls, epoch_of};
+ghost use Rattle.living_site.specs.Epochs.{HasBegun, IfBegun, IfTold, IsAnswered};
 ghost use Rattle.living_site.specs.Sound.{AreNames};
 
 use crate::anew::names_of;
 use crate::chronicle::Chronicle;
+use crate::dated::{Dated, Grown};
+use crate::fault::BeginFault;
 use crate::keeper::Keeper;
 use crate::notes::Deeds;
 use crate::roll::{Roll, Roster};
@@ -28,7 +32,7 @@ use twin_notes::Original;
 
 /// A site that threads share, under one lock, with what never changes of it beside that. Whenever the lock is free, the history
 /// that led to the site replays, and each seat has just a receipt for each of its entries. Nothing is kept of either when the
-/// program runs. Each call wakes those that wait for the site to grow.
+/// program runs. Each call, and each new beginning, wakes those that wait for the site to grow.
 #[derive(Drop)]
 pub struct LivingSite<L: Roll> {
     chronicle: Mutex<Chronicle<L>>,
@@ -52,11 +56,14 @@ fn renew_after<L: Roll>(
     rt: &(impl Threads + Sync),
     chronicle: &mut Chronicle<L>,
     event: &Event,
-    reply: &Result<Reply, StepFault>,
+    told: &Result<Dated, StepFault>,
 )
     ensures { chronicle.new ≡ chronicle.old }
 {
-    if let (Event::Whole(_), Ok(Reply::Done)) = (event, reply) {
+    let Ok(dated) = told else {
+        return;
+    };
+    if let (Event::Whole(_), Reply::Done) = (event, &dated.reply) {
         let _ = chronicle.renew(rt);
     }
 }
@@ -74,6 +81,7 @@ impl<L: Roll> LivingSite<L> {
         ensures beside { IfOk result (λ r. r.0 ≡ beside site) }
         ensures seats { IfOk result (λ r. r.1.items ≡ new_seats L.seats) }
         ensures keeper { IfOk result (λ r. r.2.beginnings ≡ []) }
+        ensures first { IfOk result (λ r. r.2.first ≡ 1) }
         ensures roster { IfErr result (λ r. r.1 ≡ roster) }
         ensures site { IfErr result (λ r. r.2 ≡ site) }
     {
@@ -154,14 +162,35 @@ impl<L: Roll> LivingSite<L> {
         ensures room { IfErr result (λ fault. fault ≢ StepFault.HistoryFull) }
         ensures err { OnErr result (seat.new ≡ seat.old) }
     {
-        let mut chronicle = self.chronicle.lock(rt);
-        let reply = chronicle.step(seat, event);
-        renew_after(rt, &mut chronicle, event, &reply);
-        self.grown.notify_all();
-        reply
+        match self.call_dated(rt, seat, event) {
+            Ok(dated) => Ok(dated.reply),
+            Err(fault) => Err(fault),
+        }
     }
 
-    /// The same in the caller's thread alone: the rules of a whole state that the site takes are made when they are asked for.
+    /// What `call` does, and how often the site had begun anew when it replied: a history that leads to just this call has so many
+    /// new beginnings before it.
+    pub fn call_dated<R: Threads + Wait + Sync>(
+        &self,
+        rt: &R,
+        seat: &mut Seat<L>,
+        event: &Event,
+    ) -> Result<Dated, StepFault>
+        ensures receipt { IfOk result (λ told. GainsReceipt
+            seat.old (event_value event.now) (reply_value told.reply) seat.new) }
+        ensures answered { IfOk result (λ told.
+            IsAnswered L.seats L.opening seat.new told.begun) }
+        ensures room { IfErr result (λ fault. fault ≢ StepFault.HistoryFull) }
+        ensures err { OnErr result (seat.new ≡ seat.old) }
+    {
+        let mut chronicle = self.chronicle.lock(rt);
+        let told = chronicle.step_dated(seat, event);
+        renew_after(rt, &mut chronicle, event, &told);
+        self.grown.notify_all();
+        told
+    }
+
+    /// What `call` does, in the caller's thread alone: the rules of a whole state that the site takes are made when they are asked for.
     pub fn call_alone<R: Wait>(
         &self,
         rt: &R,
@@ -197,17 +226,63 @@ impl<L: Roll> LivingSite<L> {
             self.chronicle.lock(rt),
             |chronicle| chronicle.is_short(past),
         );
-        let answer = chronicle.step(seat, event);
-        renew_after(rt, &mut chronicle, event, &answer);
+        let told = chronicle.step_dated(seat, event);
+        renew_after(rt, &mut chronicle, event, &told);
         self.grown.notify_all();
-        answer
+        match told {
+            Ok(dated) => Ok(dated.reply),
+            Err(fault) => Err(fault),
+        }
     }
 
-    /// Has the site begin anew, once the lock is free: it forgets which operations it made itself, and all that it holds stays.
-    /// The keeper has that it happened. Where memory is refused nothing changes. `Chronicle::begin_anew` says what it costs.
-    /// Whoever waits in `call_grown` is woken, and waits on for as many operations as before.
-    pub fn begin_anew<R: Wait>(&self, rt: &R, keeper: &mut Keeper<L>) -> Result<(), AllocError>
+    /// What `call` does, once the site has made more operations itself than so many since it began anew for so many times. Who
+    /// waits is woken by the next new beginning, or finds that it was, and is told so: no call is made then.
+    pub fn call_grown_since<R: Threads + Wait + Sync>(
+        &self,
+        rt: &R,
+        seat: &mut Seat<L>,
+        event: &Event,
+        past: u64,
+        begun: u16,
+    ) -> Result<Grown, StepFault>
+        ensures receipt { IfOk result (λ grown. IfTold grown (λ reply. GainsReceipt
+            seat.old (event_value event.now) reply seat.new)) }
+        ensures answered { IfOk result (λ grown. IfTold grown (λ reply.
+            IsAnswered L.seats L.opening seat.new begun)) }
+        ensures past { IfOk result (λ grown. IfTold grown (TellsPast past)) }
+        ensures begun { IfOk result (λ grown. IfBegun grown (λ now.
+            (now ≢ begun) × HasBegun L.seats L.opening seat.old now)) }
+        ensures same { IfOk result (λ grown. IfBegun grown (λ now. seat.new ≡ seat.old)) }
+        ensures room { IfErr result (λ fault. fault ≢ StepFault.HistoryFull) }
+        ensures err { OnErr result (seat.new ≡ seat.old) }
+    {
+        let mut chronicle = self.grown.wait_while(
+            rt,
+            self.chronicle.lock(rt),
+            |chronicle| chronicle.is_short_since(past, begun),
+        );
+        let now = chronicle.begun_beside(seat);
+        if now != begun {
+            return Ok(Grown::BegunAnew(now));
+        }
+        let told = chronicle.step_dated(seat, event);
+        renew_after(rt, &mut chronicle, event, &told);
+        self.grown.notify_all();
+        match told {
+            Ok(dated) => Ok(Grown::Told(dated.reply)),
+            Err(fault) => Err(fault),
+        }
+    }
+
+    /// Has the site begin anew, once the lock is free: it forgets which operations it made itself, all that it holds stays, and its
+    /// next epoch begins. The keeper has that it happened. In the last epoch, and where memory is refused, nothing changes.
+    /// `Chronicle::begin_anew` says what it costs. Whoever waits for the site to grow is woken: in `call_grown_since` for being told
+    /// so, in `call_grown` for waiting on, for as many operations as before.
+    pub fn begin_anew<R: Wait>(&self, rt: &R, keeper: &mut Keeper<L>) -> Result<(), BeginFault>
         ensures keeper { OnOk result (GainsBeginning keeper.old keeper.new) }
+        ensures full { IfErr result (λ fault. fault ≡ BeginFault.EpochFull
+            → epoch_of keeper.old ≡ last_epoch) }
+        ensures last { epoch_of keeper.old ≡ last_epoch → result ≡ Err BeginFault.EpochFull }
         ensures err { OnErr result (keeper.new ≡ keeper.old) }
     {
         let begun = self.chronicle.lock(rt).begin_anew(keeper);

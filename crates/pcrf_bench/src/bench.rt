@@ -2,6 +2,7 @@
 use crate::book::{Load, measure_threads, time_steps};
 use crate::figures::Figures;
 use crate::listings::count_listings;
+use crate::living::measure_living;
 use crate::pushes::{measure_whole, time_pushes};
 use crate::states::{
     count_sessions, letter_of, measure_carrying, measure_taking, operations_of, time_merge,
@@ -179,6 +180,26 @@ impl Bench {
         stepped
     }
 
+    /// A site like this one that lives takes the events so often.
+    fn live_events(
+        &mut self,
+        rt: &impl Host,
+        events: &[Event],
+        rounds: u32,
+        name: &str,
+    ) -> io::Result<()> {
+        let like = site_like(self.alloc, &self.site)?;
+        measure_living(rt, like, events, rounds, name, &mut self.figures)
+    }
+
+    /// A site like this one that lives takes the messages so often.
+    fn live(&mut self, rt: &impl Host, rounds: u32, name: &str) -> io::Result<()> {
+        let events = events_of(self.alloc, self.block.as_slice())?;
+        let lived = self.live_events(rt, events.as_slice(), rounds, name);
+        drop(events);
+        lived
+    }
+
     /// A locked site like this one takes the events.
     fn call_events(
         &mut self,
@@ -299,6 +320,7 @@ impl Bench {
         match verb {
             "calls" => self.call(rt, count, words),
             "listed" => self.list(count, words),
+            "living" => self.live(rt, count, words),
             "look" => self.look(rt, count, words),
             "read" => self.read(rt, count, words),
             "records" => self.record(rt, count, words),

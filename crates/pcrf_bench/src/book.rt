@@ -30,7 +30,7 @@ fn step_each(site: &mut Site, events: &[Event], rounds: u32) -> usize {
 }
 
 /// How often so many events are made in so many rounds.
-fn times_of(events: &[Event], rounds: u32) -> usize {
+pub fn times_of(events: &[Event], rounds: u32) -> usize {
     events.len().saturating_mul(rounds as usize)
 }
 

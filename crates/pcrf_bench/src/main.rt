@@ -15,6 +15,7 @@
 //! - `listed COUNT NAME`: the sessions that the site's index lists under so many addresses and subscribers are counted
 //! - `renew NAME`: the rules of all sessions of the site are made, one by one and at once
 //! - `steps COUNT NAME`: a site like this one takes the messages so often
+//! - `living COUNT NAME`: a site like this one that lives takes them so often, by one seat
 //! - `calls THREADS COUNT settled NAME`, `calls THREADS COUNT left NAME`: by threads that share a locked site like this one,
 //!   whose history settles then, or doesn't
 //! - `take state NAME`, `take site NAME`: the state, or the site, takes the operations of the letters
@@ -34,6 +35,7 @@ mod bench;
 mod book;
 mod figures;
 mod listings;
+mod living;
 mod pushes;
 mod records;
 mod renewals;

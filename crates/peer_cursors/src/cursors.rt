@@ -53,14 +53,16 @@ impl Cursors {
 
     /// The site.
     pub fn site(&self) -> u8
-        ensures { result ≡ self.now.site }
+        ensures site { result ≡ self.now.site }
+        ensures within { result < site_limit }
     {
         self.site
     }
 
     /// The epoch of the site, from 1.
     pub fn epoch(&self) -> u16
-        ensures { result ≡ self.now.epoch }
+        ensures epoch { result ≡ self.now.epoch }
+        ensures began { 1 ≤ result }
     {
         self.epoch
     }

@@ -5,6 +5,3 @@ pub(crate) const LENGTH_BYTES: usize = 4;
 
 /// The most bytes of a letter.
 pub(crate) const MOST_BYTES: u32 = 1 << 30;
-
-/// The version of letters that is written, and the last of those that are read.
-pub(crate) const VERSION: u8 = 3;

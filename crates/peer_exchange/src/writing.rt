@@ -12,10 +12,9 @@ ghost use Rattle.peer_exchange.specs.Values.{body_value};
 use crate::body::{Acknowledgement, Body, Range, Snapshot};
 use crate::fault::LetterFault;
 use crate::letter::Letter;
-use crate::limits::{LENGTH_BYTES, MOST_BYTES, VERSION};
+use crate::limits::{LENGTH_BYTES, MOST_BYTES};
 use fact_codec::{
-    Unwritten, put_af_facts, put_gx_facts, put_held_af_facts, put_held_gx_facts, put_long,
-    put_short, put_text, put_word,
+    LETTER_VERSION, Unwritten, put_facts, put_held_facts, put_long, put_short, put_text, put_word,
 };
 use site_join::{Operation, SessionFacts};
 use std::alloc::{AllocError, Global};
@@ -32,12 +31,12 @@ fn put_session_facts(out: &mut Vec<u8>, facts: &SessionFacts) -> Result<(), Unwr
         SessionFacts::Gx(id, facts) => {
             out.push(1)?;
             put_text(out, id.as_slice())?;
-            put_gx_facts(out, facts.as_slice())
+            put_facts(out, facts.as_slice())
         }
         SessionFacts::Af(id, facts) => {
             out.push(2)?;
             put_text(out, id.as_slice())?;
-            put_af_facts(out, facts.as_slice())
+            put_facts(out, facts.as_slice())
         }
     }
 }
@@ -100,12 +99,12 @@ fn put_group(out: &mut Vec<u8>, group: &SessionFacts) -> Result<(), Unwritten>
         SessionFacts::Gx(id, facts) => {
             out.push(1)?;
             put_text(out, id.as_slice())?;
-            put_held_gx_facts(out, facts.as_slice())
+            put_held_facts(out, facts.as_slice())
         }
         SessionFacts::Af(id, facts) => {
             out.push(2)?;
             put_text(out, id.as_slice())?;
-            put_held_af_facts(out, facts.as_slice())
+            put_held_facts(out, facts.as_slice())
         }
     }
 }
@@ -194,7 +193,7 @@ fn put_letter(out: &mut Vec<u8>, letter: &Letter) -> Result<(), Unwritten>
     ensures too_long { IsErrOf result Unwritten.TooLong
         → 2 ^ 32 ≤ length (letter_bytes letter.now) }
 {
-    out.push(VERSION)?;
+    out.push(LETTER_VERSION)?;
     put_word(out, letter.edition())?;
     out.push(letter.site())?;
     put_short(out, letter.epoch())?;

@@ -3,13 +3,11 @@ use Rattle.std.proofs.Common.{◌≡◌, ℕ, Bool, true, false, cond, ◌==◌,
 use Rattle.std.proofs.lemmas.Bool.Decides.{nat_tests}
 use Rattle.pcrf_model.specs.Letters.{AckValue}
 use Rattle.pcrf_model.specs.Cursors.{Cursor, CursorsValue, ask, peer_entry, question_past}
-use Rattle.pcrf_model.specs.Replies.{ReplyValue}
 use Rattle.pcrf_model.specs.Steps.{SiteEvent, AskOwn, AskWhole}
 use Rattle.link_ends.specs.Books.{ReceiptValue, SeatValue}
-use Rattle.link_ends.specs.Calls.{GainsReceipt}
-use Rattle.link_ends.specs.Earlier.{Gains}
+use Rattle.link_ends.specs.Earlier.{Adds, Gains}
 use Rattle.link_ends.specs.Events.{IsExchange}
-use Rattle.link_ends.proofs.Chains.{gains_called}
+use Rattle.link_ends.proofs.Chains.{gains_weaker}
 use Rattle.peer_links.specs.Exchanging.{IsIdle, takes_whole}
 use Rattle.peer_links.specs.Turns.{asked_event, asked_position, said_taken}
 
@@ -43,7 +41,7 @@ asked_idle : (c : CursorsValue) (first : Option AckValue) (r : ReceiptValue) →
 asked_idle c None r e = idle_of r AskWhole e tt refl
 asked_idle c (Some first) r e = idle_entry r (peer_entry c first.sender) e
 
--- a call that asks
-pub asked_gains : (c : CursorsValue) (first : Option AckValue) (s t : SeatValue) (event : SiteEvent) (reply : ReplyValue)
-    → event ≡ asked_event c first → GainsReceipt s event reply t → Gains IsIdle s t
-asked_gains c first s t event reply is g = gains_called IsIdle s t event reply g (λ r e _. asked_idle c first r (e ∙ is))
+-- calls that ask
+pub asked_gains : (c : CursorsValue) (first : Option AckValue) (s t : SeatValue) (event : SiteEvent)
+    → event ≡ asked_event c first → Adds (λ asked. asked ≡ event) s t → Gains IsIdle s t
+asked_gains c first s t event is g = gains_weaker (λ r. r.event ≡ event) IsIdle s t (λ r e. asked_idle c first r (e ∙ is)) g

@@ -1,5 +1,5 @@
 -- Exchanges one after the other.
-use Rattle.std.proofs.Common.{◌≡◌, ℕ, Bool, true, false, cond, inl, inr, ◌==◌, ◌&&◌, List, [], ◌∷◌, ◌++◌, Option, Result, Ok, Err, IfOk, OnErr, All, filter, fold, refl, sym, ap, subst, ◌∙◌, append_assoc}
+use Rattle.std.proofs.Common.{◌≡◌, ℕ, Bool, true, false, cond, inl, inr, ◌==◌, ◌&&◌, List, [], ◌∷◌, ◌++◌, Option, All, filter, fold, refl, sym, ap, subst, ◌∙◌, append_assoc}
 use Rattle.std.specs.List.{AllZip}
 use Rattle.std.proofs.lemmas.List.Elements.{All-nil, All-cons, All-head, All-tail, All-append, All-weaker, filter-append}
 use Rattle.std.proofs.lemmas.List.Sums.{fold-append}
@@ -71,17 +71,12 @@ exchanged_pushed s t u makers after a h =
     exchanged_then s t u makers after after a (exchanged_idle t u after after (gains_weaker (λ r. IsPushToHost r.event) IsIdle t u push_idle h) refl)
 
 -- an acknowledgement changes no maker's entry
-acked_makers : (c : CursorsValue) (a : AckValue) → (cursors_after_ack c a).makers ≡ c.makers
+pub acked_makers : (c : CursorsValue) (a : AckValue) → (cursors_after_ack c a).makers ≡ c.makers
 acked_makers c a = of_test (a.maker == c.site && a.maker_epoch == c.epoch) _
   where
     of_test : (counts : Bool) (peers : List (Option Cursor)) → (cond counts (record c { peers = peers }) c).makers ≡ c.makers
     of_test true peers = refl
     of_test false peers = refl
-
--- whether one was read or not
-pub acked_either : {E : Type 0} (c d : CursorsValue) (read : Result AckValue E) → IfOk read (λ a. d ≡ cursors_after_ack c a) → OnErr read (d ≡ c) → d.makers ≡ c.makers
-acked_either c d (Ok a) counted same = ap (λ (x : CursorsValue). x.makers) counted ∙ acked_makers c a
-acked_either c d (Err e) counted same = ap (λ (x : CursorsValue). x.makers) same
 
 -- a letter that isn't one raises its maker's
 took_makers : (c : CursorsValue) (l : LetterValue) → is_acknowledgement l.body ≡ false → (cursors_after_letter c l).makers ≡ makers_after c.makers l

@@ -1,3 +1,4 @@
 pub mod Exchanging
 pub mod Headings
+pub mod Lives
 pub mod Turns

@@ -19,6 +19,19 @@ impl<A, P, G: Gate> Link<'_, A, P, G> {
         }
     }
 
+    /// A message is let in unless it is in already, or ends the connection.
+    pub(crate) fn enter_once(
+        &self,
+        connection: usize,
+        message: u32,
+        is_in: bool,
+    ) -> Result<(), LinkEnd> {
+        if is_in {
+            return Ok(());
+        }
+        self.enter(connection, message)
+    }
+
     /// It was answered, and is let out, or ends the connection.
     pub(crate) fn leave(&self, connection: usize, message: u32) -> Result<(), LinkEnd> {
         if self.gate.leave(connection, u64::from(message)) {

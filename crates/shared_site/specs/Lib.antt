@@ -1,4 +1,5 @@
 pub use Rattle.living_site.specs.Deeds
+pub use Rattle.living_site.specs.Epochs
 pub use Rattle.site_book.specs.Books
 pub use Rattle.site_lock.specs.Calls
 pub use Rattle.site_lock.specs.Locked

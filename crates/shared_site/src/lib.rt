@@ -5,5 +5,6 @@ mod living;
 mod locked;
 mod shared;
 
+pub use living_site::{Dated, Grown};
 pub use shared::SharedSite;
 pub use site_machine::{Event, Reply, Request, StepFault};

@@ -1,7 +1,7 @@
 //! A site whose history stands in the proofs alone.
 use crate::shared::SharedSite;
 use dia_base::Identity;
-use living_site::{LivingSite, Roll, Seat};
+use living_site::{Dated, Grown, LivingSite, Roll, Seat};
 use pcrf_values::DiameterIdentity;
 use site_machine::{Event, Reply, StepFault};
 use std::sync::Wait;
@@ -9,6 +9,7 @@ use std::thread::Threads;
 
 impl<L: Roll> SharedSite for LivingSite<L> {
     ghost use Rattle.living_site.specs.Calls.{IsFound};
+    ghost use Rattle.living_site.specs.Epochs.{HasBegun, IsAnswered};
 
     type Seat = Seat<L>;
 
@@ -17,6 +18,10 @@ impl<L: Roll> SharedSite for LivingSite<L> {
     ghost beside = { λ s. s };
 
     ghost found = { IsFound L.seats L.opening };
+
+    ghost answered = { IsAnswered L.seats L.opening };
+
+    ghost has_begun = { HasBegun L.seats L.opening };
 
     fn identity(&self) -> &Identity {
         self.identity()
@@ -59,6 +64,15 @@ impl<L: Roll> SharedSite for LivingSite<L> {
         self.call(rt, seat, event)
     }
 
+    fn call_dated<R: Threads + Wait + Sync>(
+        &self,
+        rt: &R,
+        seat: &mut Seat<L>,
+        event: &Event,
+    ) -> Result<Dated, StepFault> {
+        self.call_dated(rt, seat, event)
+    }
+
     fn call_alone<R: Wait>(
         &self,
         rt: &R,
@@ -76,5 +90,16 @@ impl<L: Roll> SharedSite for LivingSite<L> {
         past: u64,
     ) -> Result<Reply, StepFault> {
         self.call_grown(rt, seat, event, past)
+    }
+
+    fn call_grown_since<R: Threads + Wait + Sync>(
+        &self,
+        rt: &R,
+        seat: &mut Seat<L>,
+        event: &Event,
+        past: u64,
+        begun: u16,
+    ) -> Result<Grown, StepFault> {
+        self.call_grown_since(rt, seat, event, past, begun)
     }
 }

@@ -1,6 +1,7 @@
 //! A site whose history is kept when the program runs: a book under a lock.
 use crate::shared::SharedSite;
 use dia_base::Identity;
+use living_site::{Dated, Grown};
 use pcrf_values::DiameterIdentity;
 use site_lock::{LockedSite, Seat};
 use site_machine::{Event, Reply, StepFault};
@@ -9,6 +10,8 @@ use std::sync::ledger::Ledger;
 use std::thread::Threads;
 
 impl<L: Ledger> SharedSite for LockedSite<L> {
+    ghost use Rattle.std.specs.Prelude.{◌≡◌};
+
     type Seat = Seat<L>;
 
     ghost seen = { λ s. s };
@@ -16,6 +19,10 @@ impl<L: Ledger> SharedSite for LockedSite<L> {
     ghost beside = { λ s. s };
 
     ghost found = { λ seat site. ⊥ };
+
+    ghost answered = { λ seat begun. begun ≡ 0 };
+
+    ghost has_begun = { λ seat begun. begun ≡ 0 };
 
     fn identity(&self) -> &Identity {
         self.identity()
@@ -62,6 +69,16 @@ impl<L: Ledger> SharedSite for LockedSite<L> {
         self.call(rt, seat, event)
     }
 
+    fn call_dated<R: Threads + Wait + Sync>(
+        &self,
+        rt: &R,
+        seat: &mut Seat<L>,
+        event: &Event,
+    ) -> Result<Dated, StepFault> {
+        let reply = self.call(rt, seat, event)?;
+        Ok(Dated { reply, begun: 0 })
+    }
+
     fn call_alone<R: Wait>(
         &self,
         rt: &R,
@@ -79,5 +96,21 @@ impl<L: Ledger> SharedSite for LockedSite<L> {
         past: u64,
     ) -> Result<Reply, StepFault> {
         self.call_grown(rt, seat, event, past)
+    }
+
+    /// It never begins anew: who waits for what it made after it had is told so at once.
+    fn call_grown_since<R: Threads + Wait + Sync>(
+        &self,
+        rt: &R,
+        seat: &mut Seat<L>,
+        event: &Event,
+        past: u64,
+        begun: u16,
+    ) -> Result<Grown, StepFault> {
+        if begun != 0 {
+            return Ok(Grown::BegunAnew(0));
+        }
+        let reply = self.call_grown(rt, seat, event, past)?;
+        Ok(Grown::Told(reply))
     }
 }

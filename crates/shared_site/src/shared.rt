@@ -1,14 +1,16 @@
 //! A site that threads share.
-ghost use Rattle.std.specs.Prelude.{◌≡◌, false, length, IfOk, OnErr};
+ghost use Rattle.std.specs.Prelude.{◌≡◌, ◌≢◌, ℕ, false, length, IfOk, OnErr};
 ghost use Rattle.std.specs.Thread.{IsSync};
 ghost use Rattle.site_machine.specs.Sites.{SiteValue};
 ghost use Rattle.site_machine.specs.Values.{event_value, reply_value};
 ghost use Rattle.site_book.specs.Books.{SeatValue};
 ghost use Rattle.living_site.specs.Deeds.{counted_to, last_place};
+ghost use Rattle.living_site.specs.Epochs.{IfBegun, IfTold};
 ghost use Rattle.site_lock.specs.Calls.{FindsNoneAbandoned, FindsNothingDue, GainsReceipt, TellsPast};
 ghost use Rattle.site_lock.specs.Locked.{LockedValue};
 
 use dia_base::Identity;
+use living_site::{Dated, Grown};
 use pcrf_values::DiameterIdentity;
 use site_machine::{Event, Reply, StepFault};
 use std::sync::Wait;
@@ -28,6 +30,12 @@ pub trait SharedSite {
 
     /// How a seat may find the site without a call: never, where each call is to have its entry.
     ghost found: { SeatValue → SiteValue → Type 0 };
+
+    /// How often the site can have begun anew when a seat's last call was answered: never, where it can't.
+    ghost answered: { SeatValue → ℕ → Type 0 };
+
+    /// How often a seat may find that the site began anew, without a call.
+    ghost has_begun: { SeatValue → ℕ → Type 0 };
 
     /// The names that the site answers under. It waits for nobody.
     fn identity(&self) -> &Identity
@@ -81,7 +89,21 @@ pub trait SharedSite {
             (seen seat.old) (event_value event.now) (reply_value reply) (seen seat.new)) }
         ensures err { OnErr result (seat.new ≡ seat.old) };
 
-    /// The same in the caller's thread alone: the rules of a whole state that the site takes are made when they are asked for.
+    /// What `call` does, and how often the site had begun anew when it replied. The epoch that the site started in and this many
+    /// more are the epoch of the reply, and of a letter that is made of it.
+    fn call_dated<R: Threads + Wait + Sync>(
+        &self,
+        rt: &R,
+        seat: &mut Self::Seat,
+        event: &Event,
+    ) -> Result<Dated, StepFault>
+        requires { IsSync R.row }
+        ensures receipt { IfOk result (λ told. GainsReceipt
+            (seen seat.old) (event_value event.now) (reply_value told.reply) (seen seat.new)) }
+        ensures answered { IfOk result (λ told. answered (seen seat.new) told.begun) }
+        ensures err { OnErr result (seat.new ≡ seat.old) };
+
+    /// What `call` does, in the caller's thread alone: the rules of a whole state that the site takes are made when they are asked for.
     fn call_alone<R: Wait>(
         &self,
         rt: &R,
@@ -105,5 +127,27 @@ pub trait SharedSite {
         ensures receipt { IfOk result (λ reply. GainsReceipt
             (seen seat.old) (event_value event.now) (reply_value reply) (seen seat.new)) }
         ensures past { IfOk result (λ reply. TellsPast past (reply_value reply)) }
+        ensures err { OnErr result (seat.new ≡ seat.old) };
+
+    /// What `call` does, once the site has made more operations itself than so many since it began anew for so many times, or its
+    /// history is full, if it is one that can be. Who waits is woken by the next new beginning, or finds that it was, and is told
+    /// so: no call is made then.
+    fn call_grown_since<R: Threads + Wait + Sync>(
+        &self,
+        rt: &R,
+        seat: &mut Self::Seat,
+        event: &Event,
+        past: u64,
+        begun: u16,
+    ) -> Result<Grown, StepFault>
+        requires { IsSync R.row }
+        ensures receipt { IfOk result (λ grown. IfTold grown (λ reply. GainsReceipt
+            (seen seat.old) (event_value event.now) reply (seen seat.new))) }
+        ensures answered { IfOk result (λ grown. IfTold grown (λ reply.
+            answered (seen seat.new) begun)) }
+        ensures past { IfOk result (λ grown. IfTold grown (TellsPast past)) }
+        ensures begun { IfOk result (λ grown. IfBegun grown (λ now.
+            (now ≢ begun) × has_begun (seen seat.old) now)) }
+        ensures same { IfOk result (λ grown. IfBegun grown (λ now. seat.new ≡ seat.old)) }
         ensures err { OnErr result (seat.new ≡ seat.old) };
 }

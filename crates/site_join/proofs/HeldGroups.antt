@@ -124,12 +124,6 @@ module _ (clock : ℕ) (gs : List Group) (form : HaveForm clock gs) where
         (both (is_session a.0.0 && fits a.0.0.kind x.1) (is_counted a.0.0.kind clock x.1) (both (is_session a.0.0) (fits a.0.0.kind x.1) g.session (first_so (fits a.0.0.kind x.1) (is_counted a.0.0.kind clock x.1) e)) (second_so (fits a.0.0.kind x.1) (is_counted a.0.0.kind clock x.1) e));
   })
 
-  -- of which all is kept
-  pub groups_kept : kept_of (held_in clock gs) ≡ held_in clock gs
-  groups_kept =
-      let same = sorted-Same (kept_facts (facts_of_groups gs)) (facts_of_groups gs) (Same-back (facts_of_groups gs) (kept_facts (facts_of_groups gs)) all_kept) ∙ ascending-itself session_fact_cmp session_fact_ranked (facts_of_groups gs) facts_rise in
-      λ i. record { facts = same i; clock = clock }
-
   -- and records that have these facts hold them
   pub records_hold : (gxs afs : Records) → Same (facts_of gxs afs) (facts_of_groups gs) → held_by gxs afs clock ≡ held_in clock gs
   records_hold gxs afs s =

@@ -1,3 +1,4 @@
 pub mod Formed
 pub mod Groups
 pub mod States
+pub mod TagForms

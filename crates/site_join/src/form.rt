@@ -4,11 +4,14 @@
 ghost use Rattle.std.specs.Prelude.{◌≡◌, ◌&&◌, map};
 ghost use Rattle.std.specs.List.{list_all};
 ghost use Rattle.pcrf_model.specs.Sessions.{Kind};
-ghost use Rattle.pcrf_model.specs.Forms.{fits, is_counted, is_operation, is_record, is_recorded, is_stamp, is_tagged, stand_together};
+ghost use Rattle.pcrf_model.specs.Forms.{fits, is_counted, is_operation, is_record, is_stamp, is_tagged, stand_together};
 ghost use Rattle.site_join.specs.Formed.{operation_of};
+ghost use Rattle.site_join.specs.TagForms.{has_tag};
 
 use crate::operation::SessionFacts;
+use crate::tag_form::TagForm;
 use fact_records::{TypedFact, are_kept};
+use lattice_core::Tag;
 use pcrf_model::ranges::note_text;
 use pcrf_values::limits::{LAST_COUNTER, SITE_LIMIT};
 
@@ -17,19 +20,10 @@ pub(crate) trait FormFact: TypedFact {
     /// The kind of the sessions.
     ghost kind: { Kind };
 
-    /// The fact is one of its kind, with the tag that an operation gives it.
-    fn is_made(&self, counter: u64, site: u8, number: u32) -> bool
+    /// The fact is one of its kind, and its tag of that form.
+    fn has_form(&self, form: TagForm) -> bool
         ensures { result ≡ (fits kind (Self.fact self.now)
-            && is_tagged kind counter site number (Self.fact self.now)) };
-
-    /// The fact is one of its kind, with the tag of some operation.
-    fn is_recorded(&self) -> bool
-        ensures { result ≡ is_recorded kind (Self.fact self.now) };
-
-    /// The fact is one of its kind, with the tag of some operation whose counter is not above the clock.
-    fn is_counted(&self, clock: u64) -> bool
-        ensures { result ≡ (fits kind (Self.fact self.now)
-            && is_counted kind clock (Self.fact self.now)) };
+            && has_tag form kind (Self.fact self.now)) };
 }
 
 /// A stamp that a site may give.
@@ -46,44 +40,14 @@ fn stand_together<F: FormFact>(facts: &[F]) -> bool
     !facts.is_empty() && are_kept(facts)
 }
 
-/// Each fact is one that an operation of that stamp and number makes.
-fn are_made<F: FormFact>(facts: &[F], counter: u64, site: u8, number: u32) -> bool
-    ensures { result
-        ≡ list_all (λ f. fits F.kind f && is_tagged F.kind counter site number f)
+/// Each fact is one of its kind, and its tag of that form.
+fn have_form<F: FormFact>(facts: &[F], form: TagForm) -> bool
+    ensures { result ≡ list_all (λ f. fits F.kind f && has_tag form F.kind f)
         (map F.fact facts.now) }
 {
     let mut left = facts;
     while let Some((first, rest)) = left.split_first() {
-        if !first.is_made(counter, site, number) {
-            return false;
-        }
-        left = rest;
-    }
-    true
-}
-
-/// Each fact is one of some operation.
-fn are_recorded<F: FormFact>(facts: &[F]) -> bool
-    ensures { result ≡ list_all (is_recorded F.kind) (map F.fact facts.now) }
-{
-    let mut left = facts;
-    while let Some((first, rest)) = left.split_first() {
-        if !first.is_recorded() {
-            return false;
-        }
-        left = rest;
-    }
-    true
-}
-
-/// Each fact is one of some operation whose counter is not above the clock.
-fn are_counted<F: FormFact>(facts: &[F], clock: u64) -> bool
-    ensures { result ≡ list_all (λ f. fits F.kind f && is_counted F.kind clock f)
-        (map F.fact facts.now) }
-{
-    let mut left = facts;
-    while let Some((first, rest)) = left.split_first() {
-        if !first.is_counted(clock) {
+        if !first.has_form(form) {
             return false;
         }
         left = rest;
@@ -95,7 +59,7 @@ fn are_counted<F: FormFact>(facts: &[F], clock: u64) -> bool
 pub(crate) fn is_record<F: FormFact>(facts: &[F]) -> bool
     ensures { result ≡ is_record F.kind (map F.fact facts.now) }
 {
-    !facts.is_empty() && are_recorded(facts)
+    !facts.is_empty() && have_form(facts, TagForm::Recorded)
 }
 
 /// A state with that clock may hold the facts of one session.
@@ -103,21 +67,16 @@ pub(crate) fn are_held<F: FormFact>(facts: &[F], clock: u64) -> bool
     ensures { result ≡ (stand_together (map F.fact facts.now)
         && list_all (λ f. fits F.kind f && is_counted F.kind clock f) (map F.fact facts.now)) }
 {
-    stand_together(facts) && are_counted(facts, clock)
+    stand_together(facts) && have_form(facts, TagForm::Counted(clock))
 }
 
 /// The facts are those of an operation of that stamp and number.
-pub(crate) fn are_of_operation<F: FormFact>(
-    facts: &[F],
-    counter: u64,
-    site: u8,
-    number: u32,
-) -> bool
+fn are_of_operation<F: FormFact>(facts: &[F], made: Tag) -> bool
     ensures { result ≡ (stand_together (map F.fact facts.now)
-        && list_all (λ f. fits F.kind f && is_tagged F.kind counter site number f)
-        (map F.fact facts.now)) }
+        && list_all (λ f. fits F.kind f
+        && is_tagged F.kind made.counter made.site made.number f) (map F.fact facts.now)) }
 {
-    stand_together(facts) && are_made(facts, counter, site, number)
+    stand_together(facts) && have_form(facts, TagForm::Made(made))
 }
 
 /// The parts are those of an operation that a site may make.
@@ -127,14 +86,19 @@ pub(crate) fn is_operation(counter: u64, site: u8, number: u32, facts: &SessionF
     if !is_stamp(counter, site) {
         return false;
     }
+    let made = Tag {
+        number,
+        counter,
+        site,
+    };
     match facts {
         SessionFacts::Gx(id, facts) => {
             note_text(id.id());
-            are_of_operation(facts.as_slice(), counter, site, number)
+            are_of_operation(facts.as_slice(), made)
         }
         SessionFacts::Af(id, facts) => {
             note_text(id.id());
-            number == 0 && are_of_operation(facts.as_slice(), counter, site, number)
+            number == 0 && are_of_operation(facts.as_slice(), made)
         }
     }
 }

@@ -8,6 +8,7 @@ pub mod laws;
 mod operation;
 mod ranges;
 mod state;
+mod tag_form;
 
 pub use groups::are_groups;
 pub use operation::{Operation, SessionFacts, are_af_facts, are_gx_facts};

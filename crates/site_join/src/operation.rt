@@ -97,12 +97,7 @@ impl Operation {
         if !is_operation(counter, site, number, &facts) {
             return None;
         }
-        Some(Operation {
-            counter,
-            site,
-            number,
-            facts,
-        })
+        Some(Operation::with_stamp(counter, site, number, facts))
     }
 
     /// The operation of these parts, which the caller knows that a site may make: nothing is judged.
@@ -161,11 +156,6 @@ impl Operation {
         ensures { IfOk result (λ r. r ≡ self.now) }
     {
         let facts = self.facts.try_copy()?;
-        Ok(Operation {
-            counter: self.counter,
-            site: self.site,
-            number: self.number,
-            facts,
-        })
+        Ok(Operation::with_stamp(self.counter, self.site, self.number, facts))
     }
 }

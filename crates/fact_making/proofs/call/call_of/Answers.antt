@@ -7,7 +7,6 @@ use Rattle.pcrf_model.specs.Sessions.{Af}
 use Rattle.pcrf_model.specs.Forms.{is_record}
 use Rattle.pcrf_model.proofs.ServedForms.{call_in_form}
 use Rattle.af_records.specs.RecordFacts.{fact_of}
-use Rattle.af_records.specs.declared.fact.AfFact.{AfFact}
 use Rattle.rx_profile.specs.Requests.{aar_view}
 use Rattle.fact_making.specs.Call.{call_fields, call_facts}
 use Rattle.fact_making.proofs.Apart.{call_is_whole}
@@ -20,17 +19,15 @@ returns-clause-all c =
     let fields = ap (λ (fs : List Fact). fs ++ flat_map (component_facts tag) c.as_slice-components.result.now) c.in_ok-facts.ensures in
     let components = ap (λ cs. call_fields view tag ++ flat_map (component_facts tag) cs) c.as_slice-components.ensures.components in
     let made : map fact_of c.put_components.new.facts.items ≡ call_facts c.args.site c.args.counter view = c.in_ok-put_components.ensures ∙ (fields ∙ components) in
-    let facts = ap (λ (fs : List AfFact). kept_list (map fact_of fs)) c.as_slice.ensures.value ∙ ap kept_list made in
-    subst (λ (fs : List Fact). IfOk c.of_facts.result (λ call. call ≡ fs))
-    (facts ∙ call_is_whole view c.args.site c.args.counter c.as_slice-components.ensures.apart)
-    c.of_facts.ensures
+    subst (λ (fs : List Fact). IfOk c.of.result (λ call. call ≡ fs))
+    (ap kept_list made ∙ call_is_whole view c.args.site c.args.counter c.as_slice-components.ensures.apart)
+    c.of.ensures
 
-pub of_facts-requires : goal.of_facts-requires
-of_facts-requires c =
+pub of-requires : goal.of-requires
+of-requires c =
     let view = aar_view c.args.aar.now in
     let tag : Tag = record { number = 0; counter = c.args.counter; site = c.args.site } in
     let fields = ap (λ (fs : List Fact). fs ++ flat_map (component_facts tag) c.as_slice-components.result.now) c.in_ok-facts.ensures in
     let components = ap (λ cs. call_fields view tag ++ flat_map (component_facts tag) cs) c.as_slice-components.ensures.components in
     let made : map fact_of c.put_components.new.facts.items ≡ call_facts c.args.site c.args.counter view = c.in_ok-put_components.ensures ∙ (fields ∙ components) in
-    let facts = ap (λ (fs : List AfFact). is_record Af (map fact_of fs)) c.as_slice.ensures.value ∙ ap (is_record Af) made in
-    facts ∙ call_in_form c.args.counter c.args.site view c.requires.first c.requires.within c.note_aar.ensures
+    ap (is_record Af) made ∙ call_in_form c.args.counter c.args.site view c.requires.first c.requires.within c.note_aar.ensures

@@ -1,20 +1,31 @@
-use Rattle.peer_links.proofs.Following.{exchanged_then}
+use Rattle.link_ends.proofs.Chains.{gains_then}
+use Rattle.peer_links.specs.Exchanging.{IsIdle}
+use Rattle.peer_links.proofs.Following.{exchanged_idle}
 use Rattle.peer_links.proofs.dialing.send_letters.Goals as goal
 
-pub returns-in_err-ack : goal.returns-in_err-ack
-returns-in_err-ack g c =
-    exchanged_then (g.A.SharedSite.seen c.args.seat.now) (g.A.SharedSite.seen c.loop-message.seat) (g.A.SharedSite.seen c.send_letter.new.seat)
-    c.args.cursors.now.makers c.loop-message.cursors.makers c.send_letter.new.cursors.makers
-    c.loop-message.invariant c.send_letter.ensures.exchanged
+pub returns-in_err-next : goal.returns-in_err-next
+returns-in_err-next g c =
+    exchanged_idle (g.A.SharedSite.seen c.args.seat.now) (g.A.SharedSite.seen c.send_in_epoch.new.seat) c.args.cursors.now.makers c.send_in_epoch.new.cursors.makers
+    c.send_in_epoch.ensures.idle c.send_in_epoch.ensures.makers
 
-pub returns-in_err-leave : goal.returns-in_err-leave
-returns-in_err-leave g c =
-    exchanged_then (g.A.SharedSite.seen c.args.seat.now) (g.A.SharedSite.seen c.loop-message.seat) (g.A.SharedSite.seen c.send_letter.new.seat)
-    c.args.cursors.now.makers c.loop-message.cursors.makers c.send_letter.new.cursors.makers
-    c.loop-message.invariant c.send_letter.ensures.exchanged
+pub returns-in_err-next-2 : goal.returns-in_err-next-2
+returns-in_err-next-2 g c =
+    exchanged_idle (g.A.SharedSite.seen c.args.seat.now) (g.A.SharedSite.seen c.go_on.new.seat) c.args.cursors.now.makers c.send_in_epoch.new.cursors.makers
+    (gains_then IsIdle (g.A.SharedSite.seen c.args.seat.now) (g.A.SharedSite.seen c.loop.seat) (g.A.SharedSite.seen c.go_on.new.seat) c.loop.invariant.idle c.go_on.ensures)
+    c.loop.invariant.makers
 
-pub loop-message-preserved : goal.loop-message-preserved
-loop-message-preserved g c =
-    exchanged_then (g.A.SharedSite.seen c.args.seat.now) (g.A.SharedSite.seen c.loop-message.seat) (g.A.SharedSite.seen c.send_letter.new.seat)
-    c.args.cursors.now.makers c.loop-message.cursors.makers c.send_letter.new.cursors.makers
-    c.loop-message.invariant c.send_letter.ensures.exchanged
+pub loop-preserved : goal.loop-preserved
+loop-preserved g c = record {
+  idle = gains_then IsIdle (g.A.SharedSite.seen c.args.seat.now) (g.A.SharedSite.seen c.loop.seat) (g.A.SharedSite.seen c.go_on.new.seat) c.loop.invariant.idle c.go_on.ensures;
+  makers = c.loop.invariant.makers;
+}
+
+pub returns-after-loop : goal.returns-after-loop
+returns-after-loop g c =
+    exchanged_idle (g.A.SharedSite.seen c.args.seat.now) (g.A.SharedSite.seen c.loop.seat) c.args.cursors.now.makers c.send_in_epoch.new.cursors.makers
+    c.loop.invariant.idle c.loop.invariant.makers
+
+pub returns-in_default : goal.returns-in_default
+returns-in_default g c =
+    exchanged_idle (g.A.SharedSite.seen c.args.seat.now) (g.A.SharedSite.seen c.loop.seat) c.args.cursors.now.makers c.send_in_epoch.new.cursors.makers
+    c.loop.invariant.idle c.loop.invariant.makers

@@ -1,5 +1,10 @@
-use Rattle.peer_links.specs.Exchanging.{Exchanged}
+use Rattle.std.proofs.Common.{◌≡◌}
+use Rattle.link_ends.specs.Earlier.{Gains}
+use Rattle.peer_links.specs.Exchanging.{IsIdle}
 use Rattle.peer_links.proofs.dialing.send_letters.Given as goal
 
-abbrev pub invariant-loop-message : goal.invariant-loop-message
-invariant-loop-message g l = Exchanged (g.A.SharedSite.seen l.fn.seat) (g.A.SharedSite.seen l.seat) l.fn.cursors.makers l.cursors.makers
+abbrev pub invariant-loop : goal.invariant-loop
+invariant-loop g l = record {
+  idle : Gains IsIdle (g.A.SharedSite.seen l.fn.seat) (g.A.SharedSite.seen l.seat);
+  makers : l.cursors.makers ≡ l.fn.cursors.makers;
+}

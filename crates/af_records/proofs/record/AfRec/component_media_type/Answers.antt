@@ -1,8 +1,6 @@
-use Rattle.std.proofs.Common.{Some, refl, ap, sym, ◌∙◌}
+use Rattle.std.proofs.Common.{refl}
 use Rattle.pcrf_facts.specs.Places.{MediaType}
-use Rattle.pcrf_facts.specs.Values.{Number}
-use Rattle.af_records.specs.FieldValues.{component_value}
 use Rattle.af_records.proofs.record.AfRec.component_media_type.Goals as goal
 
-pub returns-in-MediaType : goal.returns-in-MediaType
-returns-in-MediaType c = ap (λ v. Some (c.in-Some.tag, Number (component_value v))) (sym c.in-MediaType.is) ∙ c.in-Some.ensures.shown MediaType refl
+pub returns-in-Some-default-MediaType : goal.returns-in-Some-default-MediaType
+returns-in-Some-default-MediaType c = let said = rw c.in-Some-default-MediaType.field-0-1-is at c.in-Some-default-MediaType.ensures in said.shown MediaType refl

@@ -1,8 +1,6 @@
-use Rattle.std.proofs.Common.{Some, refl, ap, sym, ◌∙◌}
+use Rattle.std.proofs.Common.{refl}
 use Rattle.pcrf_facts.specs.Places.{ComponentRateDown}
-use Rattle.pcrf_facts.specs.Values.{Number}
-use Rattle.af_records.specs.FieldValues.{component_value}
 use Rattle.af_records.proofs.record.AfRec.component_rate_down.Goals as goal
 
-pub returns-in-RateDown : goal.returns-in-RateDown
-returns-in-RateDown c = ap (λ v. Some (c.in-Some.tag, Number (component_value v))) (sym c.in-RateDown.is) ∙ c.in-Some.ensures.shown ComponentRateDown refl
+pub returns-in-Some-default-RateDown : goal.returns-in-Some-default-RateDown
+returns-in-Some-default-RateDown c = let said = rw c.in-Some-default-RateDown.field-0-1-is at c.in-Some-default-RateDown.ensures in said.shown ComponentRateDown refl

@@ -1,7 +1,6 @@
-use Rattle.std.proofs.Common.{Some, refl, ap, sym, ◌∙◌}
+use Rattle.std.proofs.Common.{refl}
 use Rattle.pcrf_facts.specs.Places.{FlowUsage}
-use Rattle.af_records.specs.FieldValues.{flow_value}
 use Rattle.af_records.proofs.record.AfRec.flow_usage.Goals as goal
 
-pub returns-in-Usage : goal.returns-in-Usage
-returns-in-Usage c = ap (λ v. Some (c.in-Some.tag, flow_value v)) (sym c.in-Usage.is) ∙ c.in-Some.ensures.shown FlowUsage refl
+pub returns-in-Some-default-Usage : goal.returns-in-Some-default-Usage
+returns-in-Some-default-Usage c = let said = rw c.in-Some-default-Usage.field-0-1-is at c.in-Some-default-Usage.ensures in said.shown FlowUsage refl

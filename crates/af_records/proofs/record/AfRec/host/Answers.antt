@@ -1,7 +1,6 @@
-use Rattle.std.proofs.Common.{Some, refl, ap, sym, ◌∙◌}
+use Rattle.std.proofs.Common.{refl}
 use Rattle.pcrf_facts.specs.Places.{OriginHost}
-use Rattle.fact_records.specs.SessionValues.{session_value}
 use Rattle.af_records.proofs.record.AfRec.host.Goals as goal
 
-pub returns-in-Host : goal.returns-in-Host
-returns-in-Host c = ap (λ v. Some (c.in-Some.tag, session_value v)) (sym c.in-Host.is) ∙ c.in-Some.ensures.shown OriginHost refl
+pub returns-in-Some-default-Host : goal.returns-in-Some-default-Host
+returns-in-Some-default-Host c = let said = rw c.in-Some-default-Host.field-0-1-is at c.in-Some-default-Host.ensures in said.shown OriginHost refl

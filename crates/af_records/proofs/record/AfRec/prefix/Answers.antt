@@ -1,7 +1,6 @@
-use Rattle.std.proofs.Common.{Some, refl, ap, sym, ◌∙◌}
+use Rattle.std.proofs.Common.{refl}
 use Rattle.pcrf_facts.specs.Places.{FramedIpv6Prefix}
-use Rattle.fact_records.specs.SessionValues.{session_value}
 use Rattle.af_records.proofs.record.AfRec.prefix.Goals as goal
 
-pub returns-in-Prefix : goal.returns-in-Prefix
-returns-in-Prefix c = ap (λ v. Some (c.in-Some.tag, session_value v)) (sym c.in-Prefix.is) ∙ c.in-Some.ensures.shown FramedIpv6Prefix refl
+pub returns-in-Some-default-Prefix : goal.returns-in-Some-default-Prefix
+returns-in-Some-default-Prefix c = let said = rw c.in-Some-default-Prefix.field-0-1-is at c.in-Some-default-Prefix.ensures in said.shown FramedIpv6Prefix refl

@@ -1,7 +1,6 @@
-use Rattle.std.proofs.Common.{Some, refl, ap, sym, ◌∙◌}
+use Rattle.std.proofs.Common.{refl}
 use Rattle.pcrf_facts.specs.Places.{OriginRealm}
-use Rattle.fact_records.specs.SessionValues.{session_value}
 use Rattle.af_records.proofs.record.AfRec.realm.Goals as goal
 
-pub returns-in-Realm : goal.returns-in-Realm
-returns-in-Realm c = ap (λ v. Some (c.in-Some.tag, session_value v)) (sym c.in-Realm.is) ∙ c.in-Some.ensures.shown OriginRealm refl
+pub returns-in-Some-default-Realm : goal.returns-in-Some-default-Realm
+returns-in-Some-default-Realm c = let said = rw c.in-Some-default-Realm.field-0-1-is at c.in-Some-default-Realm.ensures in said.shown OriginRealm refl

@@ -1,7 +1,6 @@
-use Rattle.std.proofs.Common.{Some, refl, ap, sym, ◌∙◌}
+use Rattle.std.proofs.Common.{refl}
 use Rattle.pcrf_facts.specs.Places.{SubscriptionIds}
-use Rattle.fact_records.specs.SessionValues.{session_value}
 use Rattle.af_records.proofs.record.AfRec.subscribers.Goals as goal
 
-pub returns-in-Subscribers : goal.returns-in-Subscribers
-returns-in-Subscribers c = ap (λ v. Some (c.in-Some.tag, session_value v)) (sym c.in-Subscribers.is) ∙ c.in-Some.ensures.shown SubscriptionIds refl
+pub returns-in-Some-default-Subscribers : goal.returns-in-Some-default-Subscribers
+returns-in-Some-default-Subscribers c = let said = rw c.in-Some-default-Subscribers.field-0-1-is at c.in-Some-default-Subscribers.ensures in said.shown SubscriptionIds refl

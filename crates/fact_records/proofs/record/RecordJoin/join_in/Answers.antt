@@ -28,11 +28,8 @@ merge-requires-clause-theirs g c =
 pub invariant_of-self-2 : goal.invariant_of-self-2
 invariant_of-self-2 g c = subst (λ (l : List Fact). kept_list l ≡ l) (sym c.merge.ensures) (held_twice (map g.F.TypedFact.fact c.from.result.items ++ map g.F.TypedFact.fact c.from-2.result.items))
 
-pub invariant_of-self-in-Err : goal.invariant_of-self-in-Err
-invariant_of-self-in-Err g c = subst (λ l. kept_list (map g.F.TypedFact.fact l) ≡ map g.F.TypedFact.fact l) (sym c.reserve.ensures.items) c.self.invariant
+pub invariant_of-self : goal.invariant_of-self
+invariant_of-self g c = subst (λ l. kept_list (map g.F.TypedFact.fact l) ≡ map g.F.TypedFact.fact l) (sym c.in-Err.ensures.items) c.self.invariant
 
 pub invariant_of-self-then-are_fields : goal.invariant_of-self-then-are_fields
-invariant_of-self-then-are_fields g c = subst (λ (l : List Fact). kept_list l ≡ l) (sym c.put_all.ensures) (held_twice (map g.F.TypedFact.fact c.reserve.new.self.items ++ map g.F.TypedFact.fact c.other.inside.items.items))
-
-pub invariant_of-self : goal.invariant_of-self
-invariant_of-self g c = subst (λ (l : List Fact). kept_list l ≡ l) (sym c.put_all_there.ensures) (held_twice (map g.F.TypedFact.fact c.self.inside.items.items ++ map g.F.TypedFact.fact c.other.inside.items.items))
+invariant_of-self-then-are_fields g c = subst (λ (l : List Fact). kept_list l ≡ l) (sym c.put_all.ensures) (held_twice (map g.F.TypedFact.fact c.make_room.new.kept.items ++ map g.F.TypedFact.fact c.other.inside.items.items))

@@ -1,7 +1,6 @@
-use Rattle.std.proofs.Common.{Some, refl, ap, sym, ◌∙◌}
+use Rattle.std.proofs.Common.{refl}
 use Rattle.pcrf_facts.specs.Places.{FramedIpAddress}
-use Rattle.fact_records.specs.SessionValues.{session_value}
 use Rattle.gx_records.proofs.record.GxRec.address.Goals as goal
 
-pub returns-in-Address : goal.returns-in-Address
-returns-in-Address c = ap (λ v. Some (c.in-Some.tag, session_value v)) (sym c.in-Address.is) ∙ c.in-Some.ensures.shown FramedIpAddress refl
+pub returns-in-Some-default-Address : goal.returns-in-Some-default-Address
+returns-in-Some-default-Address c = let said = rw c.in-Some-default-Address.field-0-1-is at c.in-Some-default-Address.ensures in said.shown FramedIpAddress refl

@@ -1,4 +1,4 @@
-use Rattle.std.proofs.Common.{rules, ◌≡◌}
+use Rattle.std.proofs.Common.{rules, arith, ◌≡◌, length, sym, ap, ◌∙◌}
 use Rattle.pcrf_model.specs.Holdings.{kept_of}
 use Rattle.living_site.specs.Sound.{AreNames}
 use Rattle.living_site.proofs.Opening.{counted, named_notes, opened, names_of}
@@ -24,3 +24,10 @@ invariant_of-chronicle g c =
     let is : r.begun.name ≡ g.L.Roll.keeper = search rules in
     opened g.L.Roll.name_of g.L.Roll.seats g.L.Roll.keeper g.L.Roll.opening c.args.site c.new-history.result.0 c.new-history.result.1 r.chairs.items r.receipts.items r.begun r.beginnings
     c.roster.invariant.0 c.roster.invariant.1 names is c.requires.opening kept c.new-history.ensures.original c.new-history.ensures.name
+
+pub invariant_of-keeper : goal.invariant_of-keeper
+invariant_of-keeper g c =
+    let r = c.roster.inside in
+    let is : r.begun.name ≡ g.L.Roll.keeper = search rules in
+    let blank = c.roster.invariant.1 in
+    (blank.0 ∙ is, sym (ap length blank.2), omega arith, omega arith)

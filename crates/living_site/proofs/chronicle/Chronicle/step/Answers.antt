@@ -25,5 +25,5 @@ invariant_of-self-2 g c =
     let chair : c.turn.new.self.name ≡ g.L.Roll.name_of k = c.turn.ensures.original_name ∙ (ap (λ (o : Original (List ReceiptValue)). o.name) is_old ∙ (inv.chairs_are k old inside).0) in
     let noted : old.note ≡ account k b.history.note = ap (λ (o : Original (List ReceiptValue)). o.note) is_old ∙ (inv.chairs_are k old inside).1 in
     let received : c.turn.new.self.note ≡ account k b.history.note ++ receipt_of (length (calls b.history.note)) x.event x.reply ∷ [] = rw (← noted) (search rules) in
-    sound_called g.L.Roll.name_of g.L.Roll.seats g.L.Roll.keeper g.L.Roll.opening b.site c.step.new.self b.entries c.saturating_add-self-inside.result b.history c.turn-2.new.self b.beside c.turn-2.new.other b.chairs.items b.begun x c.turn.new.self
+    sound_called g.L.Roll.name_of g.L.Roll.seats g.L.Roll.keeper g.L.Roll.opening b.site c.step.new.self b.entries c.saturating_add-self-inside.result b.times b.history c.turn-2.new.self b.beside c.turn-2.new.other b.chairs.items b.begun x c.turn.new.self
     inv lt may left raised grown named chair received

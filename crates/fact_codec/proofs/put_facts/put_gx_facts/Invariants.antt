@@ -1,8 +1,0 @@
-use Rattle.std.proofs.Common.{◌≡◌, ◌++◌, take, map}
-use Rattle.std.specs.List.{flat_map}
-use Rattle.gx_records.specs.GxFacts as gx_facts
-use Rattle.fact_codec.specs.Spelling.{fact_bytes}
-use Rattle.fact_codec.proofs.put_facts.put_gx_facts.Given as goal
-
-abbrev pub invariant-loop-fact : goal.invariant-loop-fact
-invariant-loop-fact l = l.out.items ≡ l.initial.out.items ++ flat_map fact_bytes (map gx_facts.fact_of (take l.fact-index l.facts))

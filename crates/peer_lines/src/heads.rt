@@ -1,0 +1,157 @@
+//! The heads of letters in a stream, judged as soon as they are there (docs/LETTERS.md, "The frame and the head").
+use pcrf_values::limits::SITE_LIMIT;
+use std::alloc::Global;
+use thiserror::Error;
+
+/// How many bytes the length and the head of a letter have.
+pub const HEAD_BYTES: usize = 13;
+
+/// How many of them the length doesn't count.
+const LENGTH_BYTES: usize = 4;
+
+/// The most that a length says.
+const MOST: usize = 1 << 30;
+
+/// The last version of letters that is read.
+const VERSION: u8 = 3;
+
+/// The last kind of letter.
+const LAST_KIND: u8 = 3;
+
+/// Why a link of a peer site is closed.
+#[derive(Clone, Copy, Debug, PartialEq, Eq, Error)]
+pub enum HeadFault {
+    #[error("it sent what is no letter")]
+    NoLetter,
+    #[error("its letters are of version {0}, and this site reads those of versions 1 to 3: run the same program at all sites")]
+    Version(u8),
+    #[error("its operator tables are of edition {0}: run all sites with the same tables")]
+    Edition(u32),
+    #[error("it says that it is this very site: give each site another number")]
+    OwnNumber,
+    #[error("its letters are of more than one site")]
+    OtherSite,
+    #[error("memory ran out")]
+    NoMemory,
+}
+
+/// What a site is judged by.
+#[derive(Clone, Copy)]
+pub struct Expected {
+    /// The edition of this site's operator tables.
+    pub edition: u32,
+    /// The number of this site.
+    pub number: u8,
+}
+
+/// Who sends letters: the number of a site, and its epoch.
+#[derive(Clone, Copy, Debug, PartialEq, Eq)]
+pub struct Sender {
+    pub site: u8,
+    pub epoch: u16,
+}
+
+/// The length that the front of a letter says.
+fn length_of(head: &[u8; HEAD_BYTES]) -> usize {
+    u32::from_be_bytes([head[0], head[1], head[2], head[3]]) as usize
+}
+
+/// Who sends the letter with that head.
+fn judge_head(head: &[u8; HEAD_BYTES], expected: Expected) -> Result<Sender, HeadFault> {
+    let length = length_of(head);
+    if length < HEAD_BYTES - LENGTH_BYTES || length > MOST {
+        return Err(HeadFault::NoLetter);
+    }
+    if head[4] == 0 || head[4] > VERSION {
+        return Err(HeadFault::Version(head[4]));
+    }
+    let edition = u32::from_be_bytes([head[5], head[6], head[7], head[8]]);
+    if edition != expected.edition {
+        return Err(HeadFault::Edition(edition));
+    }
+    let (site, epoch, kind) = (head[9], u16::from_be_bytes([head[10], head[11]]), head[12]);
+    if site == expected.number {
+        return Err(HeadFault::OwnNumber);
+    }
+    if site >= SITE_LIMIT || epoch == 0 || kind == 0 || kind > LAST_KIND {
+        return Err(HeadFault::NoLetter);
+    }
+    Ok(Sender { site, epoch })
+}
+
+/// Where a stream of letters stands.
+#[derive(Drop)]
+pub struct Heads {
+    expected: Expected,
+    /// A head that isn't whole yet.
+    begun: Vec<u8>,
+    /// How many bytes of a letter's body come next.
+    left: usize,
+    /// Who sent the letters so far.
+    sender: Option<Sender>,
+}
+
+/// So many bytes at most.
+fn up_to(bytes: &[u8], most: usize) -> &[u8] {
+    bytes.get(..most).unwrap_or(bytes)
+}
+
+impl Heads {
+    /// Before the first letter.
+    pub fn start(alloc: Global, expected: Expected) -> Heads {
+        Heads {
+            expected,
+            begun: Vec::new(alloc),
+            left: 0,
+            sender: None,
+        }
+    }
+
+    /// Who sent the letters so far.
+    pub fn sender(&self) -> Option<Sender> {
+        self.sender
+    }
+
+    /// Judges the heads among the bytes that come next.
+    pub fn judge(&mut self, bytes: &[u8]) -> Result<(), HeadFault> {
+        let mut rest = bytes;
+        for _ in 0..bytes.len() {
+            if rest.is_empty() {
+                return Ok(());
+            }
+            let count = self.take(rest)?;
+            rest = rest.get(count..).unwrap_or(&[]);
+        }
+        Ok(())
+    }
+
+    /// Takes some of the next bytes, and tells how many.
+    fn take(&mut self, bytes: &[u8]) -> Result<usize, HeadFault> {
+        if self.left > 0 {
+            let piece = up_to(bytes, self.left);
+            self.left = self.left.saturating_sub(piece.len());
+            return Ok(piece.len());
+        }
+        let piece = up_to(bytes, HEAD_BYTES.saturating_sub(self.begun.len()));
+        if self.begun.extend_from_slice(piece).is_err() {
+            return Err(HeadFault::NoMemory);
+        }
+        self.finish_head()?;
+        Ok(piece.len())
+    }
+
+    /// Judges a head, if it is whole.
+    fn finish_head(&mut self) -> Result<(), HeadFault> {
+        let Some(head) = self.begun.as_slice().first_chunk::<HEAD_BYTES>() else {
+            return Ok(());
+        };
+        let sender = judge_head(head, self.expected)?;
+        if self.sender.is_some_and(|first| first.site != sender.site) {
+            return Err(HeadFault::OtherSite);
+        }
+        self.left = length_of(head).saturating_sub(HEAD_BYTES - LENGTH_BYTES);
+        self.sender = Some(sender);
+        self.begun.clear();
+        Ok(())
+    }
+}

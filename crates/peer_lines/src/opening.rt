@@ -1,0 +1,83 @@
+//! A link is opened: both ends prove that they have the secret, where there is one.
+use crate::ends::Ends;
+use crate::heads::Expected;
+use crate::line::{Line, Timely};
+use crate::link::Link;
+use sealed_links::{
+    CHALLENGE_BYTES, Course, Greeting, Key, SealFault, SealedReader, SealedWriter, Side,
+    prove_dialling, prove_listening,
+};
+use std::alloc::Global;
+use std::random::RandomSource;
+use std::sync::Arc;
+use std::time::Clock;
+
+/// How links of a site are opened.
+#[derive(Clone, Copy)]
+pub struct Opening {
+    pub alloc: Global,
+    /// What letters are judged by.
+    pub expected: Expected,
+    /// The secret that all sites have, if they have one.
+    pub secret: Option<Key>,
+}
+
+impl Opening {
+    /// What this end says first.
+    fn greeting<R: RandomSource>(&self, rt: &R) -> Result<Greeting, SealFault> {
+        let mut challenge = [0u8; CHALLENGE_BYTES];
+        if rt.fill_bytes(&mut challenge).is_err() {
+            return Err(SealFault::ReadFailed);
+        }
+        Ok(Greeting {
+            site: self.expected.number,
+            challenge,
+        })
+    }
+
+    /// The two directions of a line under a secret, of which this end is that one.
+    fn sealed<'r, R: Clock + RandomSource>(
+        &self,
+        rt: &'r R,
+        line: &Arc<Line>,
+        secret: &Key,
+        side: Side,
+    ) -> Result<Ends<'r, R>, SealFault> {
+        let mut reader = Timely {
+            clock: rt,
+            line: Arc::try_clone(line)?,
+        };
+        let mut writer = Timely {
+            clock: rt,
+            line: Arc::try_clone(line)?,
+        };
+        let own = self.greeting(rt)?;
+        let both = match side {
+            Side::Dialler => prove_dialling(&mut reader, &mut writer, secret, own)?,
+            Side::Listener => prove_listening(&mut reader, &mut writer, secret, own)?,
+        };
+        let key = both.key(secret);
+        Ok(Ends::Sealed(
+            SealedReader::start(self.alloc, reader, Course::start(key, side.other())),
+            SealedWriter::start(self.alloc, writer, Course::start(key, side)),
+        ))
+    }
+
+    /// A link over a line, of which this end is that one.
+    pub fn link<'r, R: Clock + RandomSource>(
+        &self,
+        rt: &'r R,
+        line: &Arc<Line>,
+        side: Side,
+    ) -> Result<Link<'r, R>, SealFault> {
+        let ends = match &self.secret {
+            Some(secret) => self.sealed(rt, line, secret, side)?,
+            None => Ends::Plain(Timely {
+                clock: rt,
+                line: Arc::try_clone(line)?,
+            }),
+        };
+        let line = Arc::try_clone(line)?;
+        Ok(Link::of(self.alloc, ends, line, self.expected))
+    }
+}

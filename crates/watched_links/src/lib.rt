@@ -1,0 +1,26 @@
+//! Connections of a server that stays: who waits for a seat, what waits to be written to a peer and who writes it, and the order of a
+//! connection's life, which its peer has to keep: a capabilities exchange first, no other host later, and some byte now and then.
+#![tactic(auto)]
+
+mod avps;
+mod cause;
+mod desk;
+mod frames;
+mod hall;
+mod own;
+mod post;
+mod printable;
+mod pushes;
+mod quiet;
+mod watching;
+
+pub use avps::{AvpBytes, first_avp};
+pub use cause::Cause;
+pub use desk::{Desk, desks};
+pub use hall::{Arrived, Hall};
+pub use own::Own;
+pub use post::{Post, Posting};
+pub use printable::Printable;
+pub use pushes::SentPushes;
+pub use quiet::Quiet;
+pub use watching::Watched;
