@@ -54,7 +54,7 @@ fn dialed<L: Roll, R: Threads + Wait + Abort + Sync, G: Gate>(
         told: &mut written,
         writes: usize::MAX,
     };
-    let turns = said.len() as u32;
+    let turns = u32::try_from(said.len()).ok().expect(rt, "few turns");
     let mut cursors = Cursors::start(0, 1);
     let end = exchange_with(
         rt,
