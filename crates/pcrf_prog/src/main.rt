@@ -1,10 +1,14 @@
 //! The program `pcrf`.
 #![tactic(auto)]
 
+mod files;
+mod kept_files;
 mod operator_tables;
 mod run;
 mod server;
 mod socket_server;
+mod stamped;
+mod staying;
 mod told;
 mod words;
 

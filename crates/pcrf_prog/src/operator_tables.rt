@@ -1,8 +1,8 @@
 //! The operator tables of a run: those of a file, or those that the program holds.
+use crate::files::read_file;
 use op_tables::{PlacedFault, TableFault, Tables, read_placed};
 use std::alloc::Global;
-use std::fs::{self, OpenFile};
-use std::io::{self, ErrorKind, Read};
+use std::io::{self, ErrorKind};
 use std::rt::Files;
 use std::str;
 use thiserror::Error;
@@ -47,22 +47,6 @@ fn fault_of(error: &io::Error) -> TablesFault {
     TablesFault::Unreadable
 }
 
-/// The bytes of a file. They are counted again as they are read, since the file may have grown, or may be a pipe,
-/// which tells no length.
-fn read_file<H: Files + AllocGlobal>(rt: &H, path: &str) -> io::Result<Vec<u8>> {
-    let file = fs::open(rt, path)?;
-    let told = file.metadata()?;
-    if told.is_dir() || told.len() > FILE_LIMIT {
-        return Err(io::Error::from(ErrorKind::InvalidInput));
-    }
-    let mut bytes = Vec::new(rt.alloc());
-    let count = file.take(FILE_LIMIT + 1).read_to_end(&mut bytes)?;
-    if count as u64 > FILE_LIMIT {
-        return Err(io::Error::from(ErrorKind::InvalidInput));
-    }
-    Ok(bytes)
-}
-
 /// The tables of a text.
 fn of_text(alloc: Global, text: &str) -> Result<Tables, TablesFault> {
     read_placed(alloc, text).map_err(|refused| match refused.fault {
@@ -73,7 +57,7 @@ fn of_text(alloc: Global, text: &str) -> Result<Tables, TablesFault> {
 
 /// The tables of a file.
 pub fn of_file<H: Files + AllocGlobal>(rt: &H, path: &str) -> Result<Tables, TablesFault> {
-    let bytes = match read_file(rt, path) {
+    let bytes = match read_file(rt, path, FILE_LIMIT) {
         Ok(bytes) => bytes,
         Err(error) => return Err(fault_of(&error)),
     };

@@ -1,20 +1,24 @@
 //! A run of the program over words, a reader and writers that are handed in.
+use crate::kept_files::{EpochFiles, FileFault, next_epoch, secret_of_file};
 use crate::operator_tables::{self, TablesFault};
-use crate::server::{Start, serve, start_of};
+use crate::server::{Start, serve, start_of, stay};
 use crate::socket_server::ServerFault;
+use crate::stamped::Stamped;
+use crate::staying::{Console, Input, Output};
 use crate::told::{tell_line, tell_tables};
-use crate::words::{Asked, ServeWords, read_words};
+use crate::words::{Asked, ServeWords, StayWords, read_words};
 use clap::Error;
 use clap::error::ErrorKind;
 use dia_codec::Counted;
-use log::sink::Console;
 use log::{LevelFilter, Log, Logged};
 use op_tables::Tables;
 use pcrf_script::{ScriptEnd, ScriptRun, run_told};
+use sealed_links::Key;
 use std::alloc::Global;
 use std::env;
 use std::io::{self, Eprint, Read, Write};
 use std::net::{Net, TcpListener, TcpStream};
+use std::random::RandomSource;
 use std::rt::{Env, Files};
 use std::sync::Wait;
 use std::thread::Threads;
@@ -38,6 +42,9 @@ const UNSETTLED: u8 = 5;
 /// The status where memory ran out.
 const NO_MEMORY: u8 = 6;
 
+/// The status where the secret or the epoch of a server can't be had of its file.
+const KEPT_FILES: u8 = 7;
+
 /// What a run needs of its machine.
 pub trait Host: Files
     + AllocGlobal
@@ -45,6 +52,8 @@ pub trait Host: Files
     + Threads
     + Wait
     + Clock
+    + RandomSource
+    + EpochFiles
     + Sync {}
 
 impl<
@@ -54,6 +63,8 @@ impl<
         + Threads
         + Wait
         + Clock
+        + RandomSource
+        + EpochFiles
         + Sync,
 > Host for H {}
 
@@ -62,15 +73,15 @@ pub fn words<R: Env + AllocGlobal>(rt: &R) -> io::Result<Vec<String>> {
     Ok(env::args(rt)?.collect(rt.alloc())?)
 }
 
-/// How much an operator is told on standard error beside faults: nothing, or what the environment asks for. A text that names no
-/// level asks for all.
-fn level<R: Env + AllocGlobal>(rt: &R) -> LevelFilter {
+/// How much an operator is told on standard error beside faults: what the environment asks for, or else as much as that. A text that
+/// names no level asks for all.
+fn level_or<R: Env + AllocGlobal>(rt: &R, otherwise: LevelFilter) -> LevelFilter {
     match env::var(rt, "PCRF_LOG") {
         Ok(text) => text
             .as_str()
             .parse::<LevelFilter>()
             .unwrap_or(LevelFilter::Info),
-        Err(_) => LevelFilter::Off,
+        Err(_) => otherwise,
     }
 }
 
@@ -161,35 +172,98 @@ fn settled<W: Write + Drop, F: Write>(mut writer: W, faults: &mut F, entries: us
     0
 }
 
+/// Tells why a file of a site can't be used, and answers the status.
+fn refused_file<F: Write>(faults: &mut F, why: FileFault) -> u8 {
+    let _ = writeln!(faults, "pcrf: {why}");
+    match why {
+        FileFault::NoMemory => NO_MEMORY,
+        _ => KEPT_FILES,
+    }
+}
+
+/// The secret that the words name, if they name one.
+fn secret_of<H: Host>(rt: &H, words: StayWords<'_>) -> Result<Option<Key>, FileFault> {
+    match words.secret {
+        Some(path) => Ok(Some(secret_of_file(rt, path)?)),
+        None => Ok(None),
+    }
+}
+
+/// The epoch that the words say, or the next one of the file that they name.
+fn epoch_of<H: Host>(rt: &H, words: &ServeWords<'_>) -> Result<u16, FileFault> {
+    match words.stay.and_then(|stay| stay.epoch_file) {
+        Some(path) => next_epoch(rt, path),
+        None => Ok(words.epoch),
+    }
+}
+
+/// Serves as one that stays, and answers the status.
+fn run_staying<H: Host, G: Log + Sync, R: Input, W: Output, F: Write>(
+    rt: &H,
+    log: &G,
+    words: &ServeWords<'_>,
+    staying: StayWords<'_>,
+    start: Start,
+    tables: Tables,
+    console: Console<R, W>,
+    faults: &mut F,
+) -> u8 {
+    let secret = match secret_of(rt, staying) {
+        Ok(secret) => secret,
+        Err(why) => return refused_file(faults, why),
+    };
+    match stay(
+        rt,
+        rt.alloc(),
+        words,
+        staying,
+        secret,
+        start,
+        tables,
+        console,
+        log,
+    ) {
+        Ok(()) => 0,
+        Err(why) => refused_server(faults, why),
+    }
+}
+
 /// Serves with the tables of the words, and answers the status.
-fn run_started<H: Host, G: Log + Sync, W: Write + Drop, F: Write>(
+fn run_started<H: Host, G: Log + Sync, R: Input, W: Output, F: Write>(
     rt: &H,
     log: &G,
     words: &ServeWords<'_>,
     start: Start,
-    writer: W,
+    console: Console<R, W>,
     faults: &mut F,
 ) -> u8 {
     let tables = match operator_tables::of_file(rt, words.tables) {
         Ok(tables) => tables,
         Err(why) => return refused_tables(log, faults, why),
     };
+    if let Some(staying) = words.stay {
+        return run_staying(rt, log, words, staying, start, tables, console, faults);
+    }
     match serve(rt, rt.alloc(), words, start, tables, log) {
-        Ok(entries) => settled(writer, faults, entries),
+        Ok(entries) => settled(console.writer, faults, entries),
         Err(why) => refused_server(faults, why),
     }
 }
 
 /// Runs a server, and answers the status.
-fn run_server<H: Host, G: Log + Sync, W: Write + Drop, F: Write>(
+fn run_server<H: Host, G: Log + Sync, R: Input, W: Output, F: Write>(
     rt: &H,
     log: &G,
     words: &ServeWords<'_>,
-    writer: W,
+    console: Console<R, W>,
     faults: &mut F,
 ) -> u8 {
-    match start_of(rt.alloc(), words) {
-        Ok(Some(start)) => run_started(rt, log, words, start, writer, faults),
+    let epoch = match epoch_of(rt, words) {
+        Ok(epoch) => epoch,
+        Err(why) => return refused_file(faults, why),
+    };
+    match start_of(rt.alloc(), words, epoch) {
+        Ok(Some(start)) => run_started(rt, log, words, start, console, faults),
         Ok(None) => fault(faults, "pcrf: command line\n", COMMAND_LINE),
         Err(_) => fault(faults, "pcrf: no memory\n", NO_MEMORY),
     }
@@ -211,49 +285,59 @@ fn run_script_with<G: Log, R: Read + Drop, W: Write + Drop, F: Write>(
 }
 
 /// Does what the words ask for, and answers the status.
-fn run_words<H: Host, G: Log + Sync, R: Read + Drop, W: Write + Drop, F: Write>(
+fn run_asked<H: Host, G: Log + Sync, R: Input, W: Output, F: Write>(
     rt: &H,
     log: &G,
-    words: &[String],
+    asked: Asked<'_>,
     reader: R,
     writer: W,
     faults: &mut F,
 ) -> u8 {
-    match read_words(rt.alloc(), words) {
-        Ok(Asked::World(file)) => {
+    match asked {
+        Asked::Held => {
+            let tables = operator_tables::held(rt.alloc());
+            run_script_with(rt.alloc(), log, tables, reader, writer, faults)
+        }
+        Asked::World(file) => {
             let tables = operator_tables::of_file(rt, file);
             run_script_with(rt.alloc(), log, tables, reader, writer, faults)
         }
-        Ok(Asked::Serve(serve)) => run_server(rt, log, &serve, writer, faults),
-        Err(error) => refused_words(faults, &error),
+        Asked::Serve(serve) => { run_server(rt, log, &serve, Console { reader, writer }, faults) }
     }
 }
 
-/// Runs the program, and answers its exit status. Faults are found in the order words, tables, sockets, run. The log is told what
-/// happens at a server, where tables are at fault, and why a line of a script is refused.
-pub fn run<H: Host, G: Log + Sync, R: Read + Drop, W: Write + Drop, F: Write + Drop>(
+/// Whether a server is asked for that stays.
+fn is_staying(asked: &Asked<'_>) -> bool {
+    match asked {
+        Asked::Serve(words) => words.stay.is_some(),
+        Asked::Held | Asked::World(_) => false,
+    }
+}
+
+/// How much an operator is told where nobody says: of a server that stays all, of any other run nothing but faults.
+fn level_of(is_staying: bool) -> LevelFilter {
+    match is_staying {
+        true => LevelFilter::Info,
+        false => LevelFilter::Off,
+    }
+}
+
+/// Runs the program with a log on standard error, as the environment asks for it, and answers its exit status. Faults are found in
+/// the order words, tables, sockets, run. The log is told what happens at a server, where tables are at fault, and why a line of a
+/// script is refused; its lines have the time where a server stays.
+pub fn run_logged<H: Host + Env + Eprint, R: Input, W: Output, F: Write + Drop>(
     rt: &H,
-    log: &G,
     words: &[String],
     reader: R,
     writer: W,
     mut faults: F,
 ) -> u8 {
-    if words.len() > 1 {
-        return run_words(rt, log, words, reader, writer, &mut faults);
-    }
-    let tables = operator_tables::held(rt.alloc());
-    run_script_with(rt.alloc(), log, tables, reader, writer, &mut faults)
-}
-
-/// Runs the program with a log on standard error, as the environment asks for it, and answers its exit status.
-pub fn run_logged<H: Host + Env + Eprint, R: Read + Drop, W: Write + Drop, F: Write + Drop>(
-    rt: &H,
-    words: &[String],
-    reader: R,
-    writer: W,
-    faults: F,
-) -> u8 {
-    let log = Logged::new(rt, level(rt), Console(rt));
-    run(rt, &log, words, reader, writer, faults)
+    let asked = match read_words(rt.alloc(), words) {
+        Ok(asked) => asked,
+        Err(error) => return refused_words(&mut faults, &error),
+    };
+    let is_timed = is_staying(&asked);
+    let level = level_or(rt, level_of(is_timed));
+    let log = Logged::new(rt, level, Stamped { rt, is_timed });
+    run_asked(rt, &log, asked, reader, writer, &mut faults)
 }

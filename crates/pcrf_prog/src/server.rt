@@ -1,10 +1,12 @@
 //! A run that serves.
 use crate::socket_server::{Addresses, SeatPlan, ServerFault, Settings, SiteEpoch, run_server};
-use crate::words::{Names, ServeWords};
+use crate::staying::{Console, Input, Machine, Output, StaySettings, run_staying};
+use crate::words::{Names, ServeWords, StayWords};
 use dia_base::Identity;
 use log::Log;
 use op_tables::Tables;
 use pcrf_values::DiameterIdentity;
+use sealed_links::Key;
 use std::alloc::{AllocError, Global};
 use std::net::{Ipv4Addr, Net, TcpListener, TcpStream};
 use std::sync::Wait;
@@ -37,9 +39,13 @@ fn identity_of(alloc: Global, names: Names<'_>) -> Result<Option<Identity>, Allo
     }))
 }
 
-/// What the words ask for; `None` where they ask for more seats than there are, or for names that can't be.
-pub fn start_of(alloc: Global, words: &ServeWords<'_>) -> Result<Option<Start>, AllocError> {
-    let Some(place) = SiteEpoch::of(words.site, words.epoch) else {
+/// What the words ask for in that epoch; `None` where they ask for more seats than there are, or for names that can't be.
+pub fn start_of(
+    alloc: Global,
+    words: &ServeWords<'_>,
+    epoch: u16,
+) -> Result<Option<Start>, AllocError> {
+    let Some(place) = SiteEpoch::of(words.site, epoch) else {
         return Ok(None);
     };
     let Some(plan) = SeatPlan::of(words.connections as usize, words.peers.len()) else {
@@ -83,4 +89,38 @@ pub fn serve<
         },
     };
     run_server(rt, alloc, identity, tables, &settings, log)
+}
+
+/// Serves as one that stays. The log is told what happens meanwhile.
+pub fn stay<M: Machine, G: Log + Sync, R: Input, W: Output>(
+    rt: &M,
+    alloc: Global,
+    words: &ServeWords<'_>,
+    stay: StayWords<'_>,
+    secret: Option<Key>,
+    start: Start,
+    tables: Tables,
+    console: Console<R, W>,
+    log: &G,
+) -> Result<(), ServerFault> {
+    let Start {
+        identity,
+        place,
+        plan,
+    } = start;
+    let settings = StaySettings {
+        place,
+        connections: plan.connections,
+        watchdog: stay.watchdog,
+        wait: stay.wait,
+        log_limit: stay.log,
+        epoch_file: stay.epoch_file,
+        secret,
+        addresses: Addresses {
+            listen: words.listen,
+            exchange: words.exchange,
+            peers: words.peers.as_slice(),
+        },
+    };
+    run_staying(rt, alloc, identity, tables, &settings, console, log)
 }

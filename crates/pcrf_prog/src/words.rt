@@ -10,18 +10,52 @@ const SITES: i64 = SITE_LIMIT as i64;
 /// One more connection than a server has seats.
 const CONNECTIONS: i64 = SEAT_LIMIT as i64 + 1;
 
+/// The fewest seconds after which a watchdog may be sent (RFC 3539, 3.4.1), and one more than the most.
+const WATCHDOGS: (i64, i64) = (6, 3601);
+
+/// After how many seconds it is, where nobody says.
+const WATCHDOG: u16 = 30;
+
+/// One more second than a server may wait before it serves.
+const WAITS: i64 = 3601;
+
+/// How many it waits, where nobody says.
+const WAIT: u16 = 10;
+
+/// How many operations of its own a site makes in an epoch at most before it begins the next, where nobody says.
+const LOG: u64 = 1_000_000;
+
 /// What a run is asked to do.
 #[derive(Drop)]
 pub enum Asked<'a> {
-    /// To run the script of standard input with the tables of that file.
+    /// To run the script of standard input with the tables that the program holds.
+    Held,
+    /// To run it with the tables of that file.
     World(&'a str),
     /// To serve.
     Serve(ServeWords<'a>),
 }
 
+/// The words of a server that stays.
+#[derive(Clone, Copy)]
+pub struct StayWords<'a> {
+    /// After how many seconds without a byte a peer is asked whether it is there.
+    pub watchdog: u16,
+    /// How many seconds it waits at most before it serves, until a peer site told it all.
+    pub wait: u16,
+    /// How many operations of its own it makes in an epoch at most before it begins the next.
+    pub log: u64,
+    /// The file that says how often the site has started, in place of its epoch.
+    pub epoch_file: Option<&'a str>,
+    /// The file of the secret that all sites have.
+    pub secret: Option<&'a str>,
+}
+
 /// The words of a server, whose numbers are in their ranges.
 #[derive(Drop)]
 pub struct ServeWords<'a> {
+    /// Those of one that stays, if it is to.
+    pub stay: Option<StayWords<'a>>,
     /// The site's number.
     pub site: u8,
     /// The epoch that it begins.
@@ -53,13 +87,17 @@ pub struct Names<'a> {
     pub address: &'a str,
 }
 
-/// An option that has to be there.
-fn option<'a>(alloc: Global, name: &'a str, value: &'a str, help: &'a str) -> Arg<'a> {
+/// An option that may be there.
+fn choice<'a>(alloc: Global, name: &'a str, value: &'a str, help: &'a str) -> Arg<'a> {
     Arg::new(alloc, name)
         .long(name)
         .value_name(value)
-        .required(true)
         .help(help)
+}
+
+/// An option that has to be there.
+fn option<'a>(alloc: Global, name: &'a str, value: &'a str, help: &'a str) -> Arg<'a> {
+    choice(alloc, name, value, help).required(true)
 }
 
 /// The file of operator tables.
@@ -75,14 +113,14 @@ fn with_numbers<'a>(alloc: Global, serve: Command<'a>) -> Result<Command<'a>, Al
         u8
     ).range(..SITES));
     let serve = serve.arg(site)?;
-    let epoch = option(
+    let epoch = choice(
         alloc,
         "epoch",
         "E",
         "How often the site has started, from 1",
     )
-    .value_parser(value_parser!(u16).range(1..));
-    let serve = serve.arg(epoch)?;
+    .required_unless_present("epoch-file")?;
+    let serve = serve.arg(epoch.value_parser(value_parser!(u16).range(1..)))?;
     let connections = option(
         alloc,
         "connections",
@@ -91,14 +129,75 @@ fn with_numbers<'a>(alloc: Global, serve: Command<'a>) -> Result<Command<'a>, Al
     )
     .value_parser(value_parser!(u8).range(1..CONNECTIONS));
     let serve = serve.arg(connections)?;
-    let turns = option(
+    let turns = choice(
         alloc,
         "turns",
         "T",
-        "How many letters each exchange with a peer has",
+        "How many letters each exchange with a peer has; with --stay there is no end, and it is passed over",
     )
-    .value_parser(value_parser!(u32));
-    serve.arg(turns)
+    .required_unless_present("stay")?;
+    serve.arg(turns.value_parser(value_parser!(u32)))
+}
+
+/// Adds the options of a server that stays.
+fn with_stay<'a>(alloc: Global, serve: Command<'a>) -> Result<Command<'a>, AllocError> {
+    let stay = Arg::new(alloc, "stay")
+        .long("stay")
+        .action(ArgAction::SetTrue)
+        .help("Serves until a signal ends it: connections, K at once, come and go");
+    let serve = serve.arg(stay)?;
+    let watchdog = choice(
+        alloc,
+        "watchdog",
+        "SECONDS",
+        "After how many seconds without a byte a peer is asked whether it is there, 6 to 3600, with --stay; 30 by default",
+    )
+    .requires_arg("stay")?;
+    let watchdog = watchdog.value_parser(value_parser!(u16).range(WATCHDOGS.0..WATCHDOGS.1));
+    let serve = serve.arg(watchdog)?;
+    let wait = choice(
+        alloc,
+        "wait",
+        "SECONDS",
+        "How many seconds a site with peers waits at most before it serves, until one told it all, 0 to 3600, with --stay; 10 by default",
+    )
+    .requires_arg("stay")?;
+    let serve = serve.arg(wait.value_parser(value_parser!(u16).range(..WAITS)))?;
+    let serve = with_log(alloc, serve)?;
+    with_files(alloc, serve)
+}
+
+/// Adds the option of a server that stays which says how long its log may be.
+fn with_log<'a>(alloc: Global, serve: Command<'a>) -> Result<Command<'a>, AllocError> {
+    let log = choice(
+        alloc,
+        "log",
+        "ENTRIES",
+        "Behind how many operations of its own a site begins its next epoch in place, from 1, with --stay; 1000000 by default",
+    )
+    .requires_arg("stay")?;
+    serve.arg(log.value_parser(value_parser!(u64).range(1..)))
+}
+
+/// Adds the options of a server that stays which are files.
+fn with_files<'a>(alloc: Global, serve: Command<'a>) -> Result<Command<'a>, AllocError> {
+    let epoch = choice(
+        alloc,
+        "epoch-file",
+        "PATH",
+        "The file that says how often the site has started, in place of --epoch, with --stay; it then says one more",
+    )
+    .requires_arg("stay")?
+    .conflicts_with("epoch")?;
+    let serve = serve.arg(epoch)?;
+    let secret = choice(
+        alloc,
+        "secret",
+        "FILE",
+        "The file with the secret that all sites have, 32 bytes or more in hexadecimal digits, with --stay",
+    )
+    .requires_arg("stay")?;
+    serve.arg(secret)
 }
 
 /// Adds the options that are names and addresses.
@@ -121,6 +220,7 @@ fn serve_command<'a>(alloc: Global) -> Result<Command<'a>, AllocError> {
     );
     let serve = with_numbers(alloc, serve)?;
     let serve = with_names(alloc, serve)?;
+    let serve = with_stay(alloc, serve)?;
     let serve = serve.arg(tables(alloc))?;
     let peers = Arg::new(alloc, "PEER")
         .action(ArgAction::Append)
@@ -157,9 +257,24 @@ fn peers_of<'a>(alloc: Global, matches: &ArgMatches<'a>) -> Result<Vec<&'a str>,
     }
 }
 
+/// The words of a server that stays, if it is to.
+fn stay_words<'a>(matches: &ArgMatches<'a>) -> Option<StayWords<'a>> {
+    if !matches.get_flag("stay") {
+        return None;
+    }
+    Some(StayWords {
+        watchdog: matches.get_one::<u16>("watchdog").unwrap_or(WATCHDOG),
+        wait: matches.get_one::<u16>("wait").unwrap_or(WAIT),
+        log: matches.get_one::<u64>("log").unwrap_or(LOG),
+        epoch_file: matches.get_str("epoch-file"),
+        secret: matches.get_str("secret"),
+    })
+}
+
 /// The words of a server.
 fn serve_words<'a>(alloc: Global, matches: &ArgMatches<'a>) -> Result<ServeWords<'a>, AllocError> {
     Ok(ServeWords {
+        stay: stay_words(matches),
         site: matches.get_one::<u8>("site").unwrap_or_default(),
         epoch: matches.get_one::<u16>("epoch").unwrap_or_default(),
         connections: matches.get_one::<u8>("connections").unwrap_or_default(),
@@ -176,8 +291,11 @@ fn serve_words<'a>(alloc: Global, matches: &ArgMatches<'a>) -> Result<ServeWords
     })
 }
 
-/// Reads the words, and answers what they ask for. `clap` demands each option, and reads the numbers.
+/// Reads the words, the program's name first, and answers what they ask for. `clap` demands each option, and reads the numbers.
 pub fn read_words<'a>(alloc: Global, words: &'a [String]) -> Result<Asked<'a>, Error> {
+    if words.len() <= 1 {
+        return Ok(Asked::Held);
+    }
     let matches = command(alloc)?.try_get_matches_from(words)?;
     if let Some(serve) = matches.subcommand_matches("serve") {
         return Ok(Asked::Serve(serve_words(alloc, serve)?));

@@ -1,9 +1,13 @@
-//! The seats at which letters of peer sites are taken, one for each site, and the link of each.
+//! The seats at which letters of peer sites are taken, one for each site, and the link of each; and which sites are gone that may have told
+//! something to this site alone.
 use crate::heads::Sender;
 use crate::line::Line;
 use std::alloc::AllocError;
 use std::sync::{Arc, Condvar, CondvarTimeouts, Mutex, Wait};
-use std::time::{Clock, Duration};
+use std::time::{Clock, Duration, Instant};
+
+/// For how many seconds a peer site whose link ended may begin another one, before it counts as gone.
+const RETURN_SECONDS: u64 = 5;
 
 /// The seat of a peer site.
 #[derive(Drop)]
@@ -14,6 +18,8 @@ pub struct Slot<S: Drop> {
     link: Option<(u64, Arc<Line>)>,
     /// The seat, while nobody uses it.
     seat: Option<S>,
+    /// When its link ended, as long as its site may come back.
+    ended: Option<Instant>,
 }
 
 impl<S: Drop> Slot<S> {
@@ -23,13 +29,34 @@ impl<S: Drop> Slot<S> {
             sender: None,
             link: None,
             seat: Some(seat),
+            ended: None,
         }
+    }
+
+    /// Whether its site counts as gone from now on.
+    fn is_given_up(&mut self, now: Instant) -> bool {
+        let Some(ended) = self.ended else {
+            return false;
+        };
+        if now.duration_since(ended) < Duration::from_secs(RETURN_SECONDS) {
+            return false;
+        }
+        self.ended = None;
+        true
     }
 
     /// Whether a link of that site may have it.
     fn is_for(&self, site: u8) -> bool {
         match self.sender {
             Some(sender) => sender.site == site,
+            None => false,
+        }
+    }
+
+    /// Whether that one is its site in another epoch.
+    fn began_again(&self, sender: Sender) -> bool {
+        match self.sender {
+            Some(before) => before.epoch != sender.epoch,
             None => false,
         }
     }
@@ -51,6 +78,8 @@ struct Peers<S: Drop> {
     links: u64,
     /// A peer site told all that it holds.
     is_told: bool,
+    /// How often a peer site was gone.
+    losses: u64,
 }
 
 /// The seats at which letters are taken.
@@ -77,6 +106,7 @@ impl<S: Drop> Board<S> {
                 slots,
                 links: 0,
                 is_told: false,
+                losses: 0,
             }),
             changed: Condvar::new(),
         }
@@ -104,6 +134,10 @@ impl<S: Drop> Board<S> {
             Some(before) if before.epoch > sender.epoch => Some(before.epoch),
             _ => None,
         };
+        if place.began_again(sender) {
+            peers.losses = peers.losses.saturating_add(1);
+        }
+        place.ended = None;
         if let Some((_, old)) = &place.link {
             old.end();
         }
@@ -126,15 +160,33 @@ impl<S: Drop> Board<S> {
     }
 
     /// A link has ended, and gives its seat back.
-    pub fn give_back(&self, rt: &impl Wait, claim: Claim, seat: S) {
+    pub fn give_back<R: Wait + Clock>(&self, rt: &R, claim: Claim, seat: S) {
+        let now = Instant::now(rt).ok();
         let mut peers = self.peers.lock(rt);
         if let Some(slot) = peers.slots.get_mut(claim.slot) {
             slot.seat = Some(seat);
             if slot.has_link(claim.link) {
                 slot.link = None;
+                slot.ended = now;
             }
         }
         self.changed.notify_all();
+    }
+
+    /// How often a peer site was gone so far: its link ended, and it began no other one in its epoch for some seconds. What it told last may
+    /// be known to this site alone, which tells the others then all that it holds.
+    pub fn losses<R: Wait + Clock>(&self, rt: &R) -> u64 {
+        let mut guard = self.peers.lock(rt);
+        let peers = &mut *guard;
+        let Ok(now) = Instant::now(rt) else {
+            return peers.losses;
+        };
+        for slot in &mut peers.slots {
+            if slot.is_given_up(now) {
+                peers.losses = peers.losses.saturating_add(1);
+            }
+        }
+        peers.losses
     }
 
     /// A peer site told all that it holds.

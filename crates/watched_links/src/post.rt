@@ -12,6 +12,13 @@ use std::sync::{Arc, Condvar, Mutex, Wait};
 /// How many bytes may wait: 1 MiB. No further ones are left behind more than these.
 const MOST: u32 = 1 << 20;
 
+/// How many bytes of requests may wait for the connection to be settled: 256 KiB. It counts as settled where more are left.
+const MOST_EARLY: u32 = 1 << 18;
+
+/// How many bytes wait for the worker at most, while it is awake: 64 KiB. The writer beside it writes them where there are more, so that what
+/// a peer is asked that comes back after long doesn't wait until it is too much.
+const MOST_AWAKE: usize = 1 << 16;
+
 /// What waits, and where the connection stands.
 #[derive(Drop)]
 struct Waiting {
@@ -42,10 +49,14 @@ fn is_request(bytes: &[u8]) -> bool {
 
 impl Waiting {
     /// Puts bytes behind those that wait. Whoever has a host asked for something may be quicker than the answer by which the host is reached,
-    /// and a peer may pass over what comes right behind that: a request waits until the connection is settled.
-    fn put(&mut self, bytes: &[u8]) -> Result<(), PutFault> {
+    /// and a peer may pass over what comes right behind that: a request waits until the connection is settled, which it is where no more can
+    /// wait for that.
+    fn put(&mut self, alloc: Global, bytes: &[u8]) -> Result<(), PutFault> {
         if !self.is_settled && is_request(bytes) {
-            return self.early.put(bytes);
+            match self.early.put(bytes) {
+                Err(PutFault::Full) => self.settle(alloc)?,
+                put => return put,
+            }
         }
         self.outbox.put(bytes)
     }
@@ -65,7 +76,11 @@ impl Waiting {
         if self.is_busy {
             return false;
         }
-        self.is_broken || self.is_closing || (!self.is_awake && !self.outbox.is_empty())
+        if self.is_broken || self.is_closing {
+            return true;
+        }
+        let most = if self.is_awake { MOST_AWAKE } else { 0 };
+        self.outbox.len() > most
     }
 
     /// Takes what waits, to write it.
@@ -112,7 +127,7 @@ impl Post {
             stream,
             waiting: Mutex::new(Waiting {
                 outbox: Outbox::with_room(alloc, MOST),
-                early: Outbox::with_room(alloc, MOST),
+                early: Outbox::with_room(alloc, MOST_EARLY),
                 is_settled: false,
                 is_awake: true,
                 is_busy: false,
@@ -178,7 +193,7 @@ impl Post {
         if waiting.is_broken || waiting.is_closing {
             return Err(PutFault::Full);
         }
-        waiting.put(bytes)
+        waiting.put(self.alloc, bytes)
     }
 
     /// Writes what waits, as its worker, who waits for bytes then. False where nothing more can be written.

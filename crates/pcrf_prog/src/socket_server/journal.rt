@@ -1,6 +1,5 @@
 //! What an operator is told of a server: a line for each thing, if anybody listens.
 use crate::socket_server::ending::Ending;
-use crate::socket_server::printable::Printable;
 use dia_base::Origin;
 use dia_base::codes::results::SUCCESS;
 use log::{Log, error, info, warn};
@@ -8,6 +7,7 @@ use pcrf_serve::{LinkEnd, Observer};
 use pcrf_values::{DiameterIdentity, GxSid};
 use std::net::SocketAddr;
 use std::sync::atomic::{AtomicBool, Ordering};
+use watched_links::Printable;
 
 /// What stands before each line as its target.
 const TARGET: &str = "pcrf";
@@ -71,7 +71,12 @@ impl<G: Log> Observer for Journal<'_, G> {
 }
 
 /// A peer's capabilities exchange was answered by that Result-Code.
-fn tell_exchanged<G: Log>(log: &G, host: &DiameterIdentity, realm: &DiameterIdentity, code: u32) {
+pub fn tell_exchanged<G: Log>(
+    log: &G,
+    host: &DiameterIdentity,
+    realm: &DiameterIdentity,
+    code: u32,
+) {
     let (host, realm) = (Printable(host.as_slice()), Printable(realm.as_slice()));
     if code == SUCCESS {
         info!(log; target: TARGET, "{host} of {realm} exchanged capabilities");
@@ -81,7 +86,7 @@ fn tell_exchanged<G: Log>(log: &G, host: &DiameterIdentity, realm: &DiameterIden
 }
 
 /// A gateway didn't do what a push asks for. The site counts the rules as told all the same.
-fn tell_refused_push<G: Log>(log: &G, session: &GxSid, code: Option<u32>) {
+pub fn tell_refused_push<G: Log>(log: &G, session: &GxSid, code: Option<u32>) {
     let session = Printable(session.as_slice());
     match code {
         Some(code) => {
@@ -94,7 +99,7 @@ fn tell_refused_push<G: Log>(log: &G, session: &GxSid, code: Option<u32>) {
 }
 
 /// A re-authorisation request can't be written.
-fn tell_unreached<G: Log>(log: &G, host: &DiameterIdentity) {
+pub fn tell_unreached<G: Log>(log: &G, host: &DiameterIdentity) {
     let host = Printable(host.as_slice());
     warn!(log; target: TARGET, "a re-authorisation request to {host} could not be written; it gets none until it connects again");
 }

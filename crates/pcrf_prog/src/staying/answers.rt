@@ -1,0 +1,98 @@
+//! Answers that are kept for requests which are repeated.
+use dia_codec::{HEADER_BYTES, Header, read_header};
+use kept_messages::{KeptMessage, KeptMessages, with_hop_id};
+use pcrf_serve::Repeats;
+use std::alloc::{AllocError, Global};
+use std::sync::{Mutex, Wait};
+use std::time::Clock;
+use watched_links::first_avp;
+
+/// How much room answers have: 64 MiB.
+const ROOM: u32 = 1 << 26;
+
+/// How many seconds they are kept.
+const KEPT_SECONDS: u64 = 240;
+
+/// The AVP Origin-Host (RFC 6733, 6.3).
+const ORIGIN_HOST: u32 = 264;
+
+/// The application of the base protocol, whose messages make no event that counts (RFC 6733, 2.4).
+const BASE: u32 = 0;
+
+/// Answers to requests that were served, each under the host that asked and its End-to-End Identifier.
+#[derive(Drop)]
+pub struct KeptAnswers<'r, C> {
+    clock: &'r C,
+    kept: Mutex<KeptMessages>,
+}
+
+/// The value of the first Origin-Host of a message.
+fn origin_host(message: &[u8]) -> Option<&[u8]> {
+    let mut rest = message.get(HEADER_BYTES..)?;
+    for _ in 0..message.len() {
+        let avp = first_avp(rest)?;
+        if !avp.has_vendor && avp.code == ORIGIN_HOST {
+            return Some(avp.value);
+        }
+        rest = avp.rest;
+    }
+    None
+}
+
+impl<'r, C: Clock> KeptAnswers<'r, C> {
+    /// None yet.
+    pub fn start(alloc: Global, clock: &'r C) -> KeptAnswers<'r, C> {
+        KeptAnswers {
+            clock,
+            kept: Mutex::new(KeptMessages::with_room(alloc, ROOM)),
+        }
+    }
+
+    /// The time in seconds, from 1.
+    fn now(&self) -> Option<u64> {
+        let elapsed = self.clock.monotonic().ok()?;
+        Some(elapsed.as_secs().saturating_add(1))
+    }
+}
+
+/// An answer, as it is kept.
+fn kept_answer(alloc: Global, at: u64, request: &[u8], answer: &[u8]) -> Option<KeptMessage> {
+    let header = read_header(request.first_chunk()?);
+    if header.application == BASE {
+        return None;
+    }
+    let name = Vec::from_slice(alloc, origin_host(request)?).ok()?;
+    let bytes = Vec::from_slice(alloc, answer).ok()?;
+    KeptMessage::of(header.end_id, name, at, bytes)
+}
+
+impl<C: Clock> Repeats for KeptAnswers<'_, C> {
+    fn answer_again<R: Wait>(
+        &self,
+        rt: &R,
+        alloc: Global,
+        header: &Header,
+        request: &[u8],
+    ) -> Result<Option<Vec<u8>>, AllocError> {
+        let (Some(host), Some(now)) = (origin_host(request), self.now()) else {
+            return Ok(None);
+        };
+        let kept = self.kept.lock(rt);
+        let behind = now.saturating_sub(KEPT_SECONDS);
+        match kept.find(header.end_id, host, behind) {
+            Some(answer) if answer.len() >= HEADER_BYTES => {
+                Ok(Some(with_hop_id(alloc, answer, header.hop_id)?))
+            }
+            _ => Ok(None),
+        }
+    }
+
+    fn keep<R: Wait>(&self, rt: &R, alloc: Global, request: &[u8], answer: &[u8]) {
+        let Some(now) = self.now() else {
+            return;
+        };
+        if let Some(message) = kept_answer(alloc, now, request, answer) {
+            let _ = self.kept.lock(rt).keep(message);
+        }
+    }
+}

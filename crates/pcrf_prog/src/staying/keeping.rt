@@ -1,0 +1,160 @@
+//! What is looked at once a second at a site that stays: it begins its next epoch in place, where the log of its own operations has become too
+//! long, so that doesn't grow for ever; and it is told which hosts are away while something may wait for them.
+ghost use Rattle.std.specs.Prelude.{◌≡◌, []};
+
+use crate::kept_files::FileFault;
+use crate::socket_server::SiteEpoch;
+use crate::staying::journal::{tell_begun_anew, tell_missed, tell_not_begun};
+use crate::staying::machine::Machine;
+use crate::staying::own_log::log_length;
+use crate::staying::working::Shared;
+use link_ends::SharedSite;
+use living_site::{BeginFault, Keeper, LivingSite, Roll};
+use log::Log;
+use std::alloc::Global;
+use std::sync::atomic::Ordering;
+use std::thread;
+use std::time::Duration;
+use thiserror::Error;
+use watched_links::Quiet;
+
+/// How many seconds lie between two looks at how long the log is.
+const LOOK_SECONDS: u64 = 1;
+
+/// For how many seconds it isn't told again that the next epoch isn't begun.
+const UNBEGUN_SECONDS: u64 = 60;
+
+/// Why the next epoch isn't begun.
+#[derive(Clone, Copy, Debug, PartialEq, Eq, Error)]
+pub enum Unbegun {
+    /// The epoch is the last.
+    #[error("65535 is the last epoch")]
+    LastEpoch,
+    /// The file of the epoch can't be made to say it.
+    #[error("the file of the epoch can't be written")]
+    Unwritten,
+    /// Memory ran out.
+    #[error("no memory")]
+    NoMemory,
+}
+
+/// Who has a site of that kind begin its next epoch, in a thread of its own.
+pub trait Housekeeper<S>: Drop {
+    /// Has the site begin its next epoch, and answers which that is. All that the site holds stays, and the log of its own operations is
+    /// empty then. Where there is a fault the site is in the epoch in which it was, also where a file says the next one already.
+    fn begin_next<M: Machine>(&mut self, rt: &M, site: &S) -> Result<u16, Unbegun>;
+}
+
+/// The keeper of a site that lives, and the file that says its epoch, if one does.
+#[derive(Drop)]
+pub struct EpochKeeper<'r, L: Roll> {
+    alloc: Global,
+    keeper: Keeper<L>,
+    file: Option<&'r str>,
+}
+
+impl<'r, L: Roll> EpochKeeper<'r, L> {
+    /// That of a site which starts in its epoch.
+    pub fn starting(
+        alloc: Global,
+        keeper: Keeper<L>,
+        place: SiteEpoch,
+        file: Option<&'r str>,
+    ) -> EpochKeeper<'r, L>
+        requires { keeper.beginnings ≡ [] }
+    {
+        EpochKeeper {
+            alloc,
+            keeper: keeper.starting_in(place.epoch),
+            file,
+        }
+    }
+}
+
+impl<L: Roll + Send + Sync> Housekeeper<LivingSite<L>> for EpochKeeper<'_, L> {
+    /// The file says the epoch before the site begins it.
+    fn begin_next<M: Machine>(&mut self, rt: &M, site: &LivingSite<L>) -> Result<u16, Unbegun> {
+        let Some(epoch) = self.keeper.epoch().checked_add(1) else {
+            return Err(Unbegun::LastEpoch);
+        };
+        if let Some(path) = self.file {
+            match rt.keep_epoch(self.alloc, path, epoch) {
+                Ok(()) => {}
+                Err(FileFault::NoMemory) => return Err(Unbegun::NoMemory),
+                Err(_) => return Err(Unbegun::Unwritten),
+            }
+        }
+        match site.begin_anew(rt, &mut self.keeper) {
+            Ok(()) => Ok(epoch),
+            Err(BeginFault::EpochFull) => Err(Unbegun::LastEpoch),
+            Err(BeginFault::NoMemory) => Err(Unbegun::NoMemory),
+        }
+    }
+}
+
+/// Has the site begin its next epoch if it made more operations in its epoch than so many. That it can't isn't told too often.
+fn keep_log_short<'s, 'r, S: SharedSite, M: Machine, G: Log, K: Housekeeper<S>>(
+    rt: &'s M,
+    all: &'s Shared<'s, 'r, S, M, G>,
+    seat: &mut S::Seat,
+    limit: u64,
+    keeper: &mut K,
+    unbegun: &mut Quiet,
+) {
+    let Some(made) = log_length(rt, all.server.site, seat) else {
+        return;
+    };
+    if made <= limit {
+        return;
+    }
+    match keeper.begin_next(rt, all.server.site) {
+        Ok(epoch) => {
+            all.furniture.beginnings.fetch_add(1, Ordering::SeqCst);
+            tell_begun_anew(all.log, epoch, made);
+        }
+        Err(why) => {
+            if unbegun.is_due(rt) {
+                tell_not_begun(all.log, made, why);
+            }
+        }
+    }
+}
+
+/// Tells, once for each time that it went, which gateways' host is away while a push may wait for it.
+fn tell_all_missed<'s, 'r, S: SharedSite, M: Machine, G: Log>(
+    rt: &'s M,
+    all: &'s Shared<'s, 'r, S, M, G>,
+    seat: &mut S::Seat,
+) {
+    let site = all.server.site;
+    let guests = &all.furniture.guests;
+    let mut from = 0;
+    for _ in rt.forever() {
+        let Some((number, host)) = guests.missed(rt, from) else {
+            break;
+        };
+        if site.wants_push(rt, seat, &host) {
+            tell_missed(all.log, &host);
+            guests.tell(rt, number);
+        }
+        from = number.saturating_add(1);
+    }
+}
+
+/// Looks again and again how long the log is, and who is away, as long as the server runs: the site begins its next epoch behind so many
+/// operations.
+pub fn keep_house<'s, 'r, S: SharedSite, M: Machine, G: Log, K: Housekeeper<S>>(
+    rt: &'s M,
+    all: &'s Shared<'s, 'r, S, M, G>,
+    seat: S::Seat,
+    limit: u64,
+    keeper: K,
+) {
+    let (mut seat, mut keeper) = (seat, keeper);
+    let mut unbegun = Quiet::of(UNBEGUN_SECONDS);
+    for _ in rt.forever() {
+        thread::sleep(rt, Duration::from_secs(LOOK_SECONDS));
+        tell_all_missed(rt, all, &mut seat);
+        keep_log_short(rt, all, &mut seat, limit, &mut keeper, &mut unbegun);
+    }
+}
