@@ -241,6 +241,21 @@ class Relay:
         self.cut()
 
 
+class Altering(Relay):
+    """One that changes the next piece of what the site says that dialled, where it is told how."""
+    change = None
+
+    def pass_letters(self, near, far):
+        """Hands on what the site says that dialled, a piece of it changed."""
+        try:
+            while piece := near.recv(1 << 16):
+                change, self.change = self.change, None
+                far.sendall(piece if change is None else change(piece))
+        except OSError:
+            pass
+        self.end(near, far)
+
+
 class Pair:
     """Two sites that exchange letters, under a secret unless they are to be read, each with a file of its epoch."""
 
