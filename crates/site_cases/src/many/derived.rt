@@ -23,8 +23,11 @@ const FEW: u16 = 256;
 /// Of the few, one in so many has a call.
 const STEP: u16 = 16;
 
-/// Those of the many for which a pass over all calls is made where each has a call.
-const ASKED: [u16; 6] = [2_999, 2_500, 1_501, 1_000, 17, 0];
+/// So many sessions, each with a call, are there where a pass over all calls is made for each of six.
+const SOME: u16 = 500;
+
+/// The six of them for which it is made.
+const ASKED: [u16; 6] = [499, 400, 251, 100, 17, 0];
 
 /// The index of a state.
 fn index_of(rt: &impl Abort, alloc: Global, state: &State) -> Index {
@@ -145,7 +148,7 @@ fn some_by_pass(
 #[test]
 fn some_of_many_by_a_pass_are_those_of_each(rt: HostRuntime) {
     let alloc = rt.alloc();
-    let state = state_of(&rt, alloc, MANY, 1);
+    let state = state_of(&rt, alloc, SOME, 1);
     let tables = telephony(alloc).expect(&rt, "tables");
     let mut asked = Vec::new(alloc);
     for number in ASKED {
