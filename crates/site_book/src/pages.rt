@@ -7,6 +7,7 @@ ghost use Rattle.site_machine.specs.Sites.{SiteMayReply};
 ghost use Rattle.site_machine.specs.Values.{event_value, reply_value, event_lacks_counter};
 ghost use Rattle.site_book.specs.Books.{with_entry, with_receipt, is_full, IsHistoryOf};
 
+use crate::copies::{Copies, twice};
 use crate::entry::{Entry, Receipt};
 use crate::seat::Seat;
 use site_join::{Operation, State};
@@ -118,28 +119,19 @@ impl<L: Ledger> Pages<L> {
         let Ok((entered, received)) = twice(event) else {
             return Err(StepFault::NoMemory);
         };
-        let (reply, second, third) = self.site.step_thrice(event)?;
+        let mut copies = Copies::none();
+        let reply = self.site.step_seen_by(event, &mut copies)?;
         self.history.push_reserved(Entry {
             seat: seat.number,
             event: entered,
-            reply: second,
+            reply: copies.entered,
         });
         seat.receipts.push_reserved(Receipt {
             place,
             event: received,
-            reply: third,
+            reply: copies.received,
         });
         self.calls.add(&mut seat.share, 1);
         Ok(reply)
     }
-}
-
-/// Two copies of an event.
-fn twice(event: &Event) -> Result<(Event, Event), AllocError>
-    ensures one { IfOk result (λ r. event_value r.0 ≡ event_value event.now) }
-    ensures other { IfOk result (λ r. event_value r.1 ≡ event_value event.now) }
-{
-    let one = event.try_copy()?;
-    let other = event.try_copy()?;
-    Ok((one, other))
 }

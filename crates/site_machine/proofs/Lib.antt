@@ -7,5 +7,6 @@ pub mod Pushes
 pub mod Replies
 pub mod Restoring
 pub mod SameFacts
+pub mod Shown
 pub mod Taking
 pub mod Telling

@@ -1,5 +1,5 @@
 -- Replies as the definitions have them.
-use Rattle.std.specs.Prelude.{Bool, true, false, if◌then◌else◌, Option, Some, None}
+use Rattle.std.specs.Prelude.{Bool, true, false}
 use Rattle.pcrf_values.specs.Limits.{delta_limit}
 use Rattle.pcrf_model.specs.Sessions.{Session}
 use Rattle.pcrf_model.specs.Views.{View}
@@ -19,10 +19,6 @@ gx_reply_value r = OnGx (gx_reply_view r)
 -- the reply to an accepted initial request or update, by what is read with its fields
 abbrev pub told_reply : Tables → View → Session → ReplyValue
 told_reply t v s = OnGx (Granted (delta_of delta_limit t v s) (quality_of t v s))
-
--- two more of a reply that is wanted three times
-abbrev pub spares : {A : Type 0} → Bool → A → Option (A × A)
-spares thrice a = if thrice then Some (a, a) else None
 
 -- a reply that takes no memory
 abbrev pub is_plain : Reply → Bool

@@ -7,11 +7,11 @@ ghost use Rattle.pcrf_model.specs.Forms.{is_operation};
 ghost use Rattle.pcrf_model.specs.Replies.{Aborted};
 ghost use Rattle.pcrf_model.specs.Views.{view};
 ghost use Rattle.rx_profile.specs.Aborts.{abort_view};
-ghost use Rattle.site_machine.specs.Replies.{spares};
 
+use crate::event::Reply;
 use crate::fault::StepFault;
 use crate::site::Site;
-use crate::spare::spare_aborts;
+use crate::witness::{Witness, shown};
 use af_records::AfFact;
 use pcrf_model::ranges::note_text;
 use pcrf_values::AfSid;
@@ -42,24 +42,21 @@ impl Site {
         ensures memory { IfErr result (λ fault. fault ≢ StepFault.HistoryFull) }
         ensures err { OnErr result (self.new ≡ self.old) }
     {
-        match self.abort_told(host, false)? {
-            Some((abort, _)) => Ok(Some(abort)),
-            None => Ok(None),
-        }
+        self.abort_seen_by(host, &mut ())
     }
 
-    /// Aborts; where the abort is wanted three times, two spare ones come with it. An error changes nothing.
-    pub(crate) fn abort_told(
+    /// Aborts as `abort` does, and shows a witness the reply before anything is changed.
+    pub(crate) fn abort_seen_by<W: Witness>(
         &mut self,
         host: Option<&[u8]>,
-        thrice: bool,
-    ) -> Result<Option<(AbortOut, Option<(AbortOut, AbortOut)>)>, StepFault>
-        ensures abort { IfOk result (λ found. Aborted (option_map (λ told. abort_view told.0) found)
+        witness: &mut W,
+    ) -> Result<Option<AbortOut>, StepFault>
+        ensures abort { IfOk result (λ abort. Aborted (option_map abort_view abort)
             ≡ (abort_outcome_at self.old (option_copied host.entry)).reply) }
+        ensures saw { IfOk result (λ abort.
+            W.saw witness.new (Aborted (option_map abort_view abort))) }
         ensures ok { OnOk result (self.new
             ≡ with_made self.old (abort_outcome_at self.old (option_copied host.entry)).added) }
-        ensures spare { IfOk result (λ found. IfSome found (λ told.
-            told.1 ≡ spares thrice told.0)) }
         ensures room { OnOk result (lacks_counter_to_abort self.old.number
             self.old.state.holding (option_copied host.entry) ≡ false) }
         ensures full { IfErr result (λ fault. fault ≡ StepFault.ClockFull → lacks_counter_to_abort
@@ -70,6 +67,9 @@ impl Site {
         let Ok(found) = self.next_abort(host) else {
             return Err(StepFault::NoMemory);
         };
+        let Ok(Reply::Aborted(found)) = shown(Reply::Aborted(found), witness) else {
+            return Err(StepFault::NoMemory);
+        };
         let Some(abort) = found else {
             return Ok(None);
         };
@@ -78,13 +78,10 @@ impl Site {
         };
         note_text(abort.session.id());
         self.note_number();
-        let Ok(spare) = spare_aborts(&abort, thrice) else {
-            return Err(StepFault::NoMemory);
-        };
         if self.add_abort(&abort.session, counter).is_err() {
             return Err(StepFault::NoMemory);
         }
-        Ok(Some((abort, spare)))
+        Ok(Some(abort))
     }
 
     /// The abort that is due for a host, any where none is given.

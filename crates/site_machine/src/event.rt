@@ -1,5 +1,6 @@
 //! What happens at a site, and what it replies.
-ghost use Rattle.std.specs.Prelude.{◌≡◌, ◌↔◌, IfOk, IsTrue};
+ghost use Rattle.std.specs.Prelude.{◌≡◌, ◌↔◌, true, IfOk, IsOk, IsTrue};
+ghost use Rattle.site_machine.specs.Replies.{is_plain};
 ghost use Rattle.site_machine.specs.Values.{event_value, reply_value};
 
 use crate::operations::same_operations;
@@ -92,9 +93,10 @@ impl Event {
 }
 
 impl Reply {
-    /// An equal reply.
+    /// An equal reply. One that takes no memory is always copied.
     pub fn try_copy(&self) -> Result<Reply, AllocError>
-        ensures { IfOk result (λ copy. reply_value copy ≡ reply_value self.now) }
+        ensures equal { IfOk result (λ copy. reply_value copy ≡ reply_value self.now) }
+        ensures plain { is_plain self.now ≡ true → IsOk result }
     {
         match self {
             Reply::Gx(reply) => Ok(Reply::Gx(reply.try_copy()?)),

@@ -13,12 +13,12 @@ mod refusals;
 mod renewing;
 mod request;
 mod site;
-mod spare;
 mod steps;
-mod thrice;
+mod witness;
 
 pub use event::{Event, Reply};
 pub use fault::StepFault;
 pub use indexed_state::Rules;
 pub use request::Request;
 pub use site::Site;
+pub use witness::Witness;

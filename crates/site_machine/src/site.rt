@@ -28,14 +28,14 @@ ghost use Rattle.gx_records.specs.GxFacts.{fact_of};
 ghost use Rattle.gx_profile.specs.Requests.{ccr_view};
 ghost use Rattle.base_profile.specs.Requests.{base_view};
 ghost use Rattle.site_join.specs.States.{record_facts};
-ghost use Rattle.site_machine.specs.Replies.{gx_reply_value, is_plain, spares};
+ghost use Rattle.site_machine.specs.Replies.{gx_reply_value, is_plain};
 ghost use Rattle.site_machine.specs.Values.{reply_value, request_value};
 
 use crate::event::Reply;
 use crate::fault::StepFault;
 use crate::refusals::{has_ended, is_live, lacks, row_refusal};
 use crate::request::Request;
-use crate::spare::{nothing_told, refused, spare_pushes, spare_replies};
+use crate::witness::{Witness, shown, shown_plain, shown_to_gateway};
 use base_profile::{BaseRequest, base_refusal};
 use dia_base::Identity;
 use dia_base::codes::results::{INITIAL_PARAMETERS, SUCCESS, UNABLE_TO_COMPLY, UNKNOWN_SESSION_ID};
@@ -214,84 +214,96 @@ impl Site {
             LacksTheRest self.old (fields_added self.old q) self.new (gx q.session))) }
         ensures err { OnErr result (self.new ≡ self.old) }
     {
+        self.serve_seen_by(request, &mut ())
+    }
+
+    /// Serves a request as `serve` does, and shows a witness the reply before anything is changed.
+    pub(crate) fn serve_seen_by<W: Witness>(
+        &mut self,
+        request: &Request,
+        witness: &mut W,
+    ) -> Result<Reply, AllocError>
+        ensures reply { IfOk result (λ reply.
+            reply_value reply ≡ (serve_outcome self.old (request_value request.now)).reply) }
+        ensures saw { IfOk result (λ reply. W.saw witness.new (reply_value reply)) }
+        ensures ok { OnOk result (self.new
+            ≡ with_made self.old (serve_outcome self.old (request_value request.now)).added) }
+        ensures left { IfOk result (λ reply. IfSome (granted_request request.now reply) (λ q.
+            LacksTheRest self.old (fields_added self.old q) self.new (gx q.session))) }
+        ensures err { OnErr result (self.new ≡ self.old) }
+    {
         match request {
-            Request::Ccr(ccr) => {
-                let (reply, _) = self.serve_ccr(ccr, false)?;
-                Ok(Reply::Gx(reply))
-            }
-            Request::Aar(aar) => self.serve_aar(aar),
-            Request::Str(call) => self.serve_str(call),
-            Request::Base(base) => Ok(reply_to_base(base)),
+            Request::Ccr(ccr) => Ok(Reply::Gx(self.serve_ccr(ccr, witness)?)),
+            Request::Aar(aar) => Ok(shown_plain(self.serve_aar(aar)?, witness)),
+            Request::Str(call) => Ok(shown_plain(self.serve_str(call)?, witness)),
+            Request::Base(base) => Ok(shown_plain(reply_to_base(base), witness)),
         }
     }
 
-    /// Serves a credit control request; where its reply is wanted three times, two spare ones come with it. An error changes
-    /// nothing.
-    pub(crate) fn serve_ccr(
-        &mut self,
-        ccr: &Ccr,
-        thrice: bool,
-    ) -> Result<(GxReply, Option<(GxReply, GxReply)>), AllocError>
-        ensures reply { IfOk result (λ told. gx_reply_value told.0
+    /// Serves a credit control request, and shows a witness the reply before anything is changed. An error changes nothing.
+    fn serve_ccr<W: Witness>(&mut self, ccr: &Ccr, witness: &mut W) -> Result<GxReply, AllocError>
+        ensures reply { IfOk result (λ reply. gx_reply_value reply
             ≡ (ccr_served self.old (ccr_view ccr.now)).reply) }
-        ensures spare { IfOk result (λ told. told.1 ≡ spares thrice told.0) }
+        ensures saw { IfOk result (λ reply. W.saw witness.new (gx_reply_value reply)) }
         ensures ok { OnOk result (self.new
             ≡ with_made self.old (ccr_served self.old (ccr_view ccr.now)).added) }
-        ensures left { IfOk result (λ told.
-            IfSome (granted_opening (ccr_view ccr.now) told.0) (λ q.
+        ensures left { IfOk result (λ reply.
+            IfSome (granted_opening (ccr_view ccr.now) reply) (λ q.
             LacksTheRest self.old (fields_added self.old q) self.new (gx q.session))) }
         ensures err { OnErr result (self.new ≡ self.old) }
     {
         if let Some(refusal) = self.standing_refusal(ccr) {
-            return Ok(refused(refusal, thrice));
+            return shown_to_gateway(GxReply::Refused(refusal), witness);
         }
         let Some(counter) = self.next_counter() else {
-            return Ok(refused(Refusal::base(UNABLE_TO_COMPLY), thrice));
+            return shown_to_gateway(GxReply::Refused(Refusal::base(UNABLE_TO_COMPLY)), witness);
         };
         match ccr.kind {
-            RequestKind::Termination => self.close(ccr, counter, thrice),
-            RequestKind::Initial | RequestKind::Update => self.provision(ccr, counter, thrice),
+            RequestKind::Termination => self.close(ccr, counter, witness),
+            RequestKind::Initial | RequestKind::Update => self.provision(ccr, counter, witness),
         }
     }
 
     /// Ends the session of an accepted request, or changes nothing.
-    fn close(
+    fn close<W: Witness>(
         &mut self,
         ccr: &Ccr,
         counter: u64,
-        thrice: bool,
-    ) -> Result<(GxReply, Option<(GxReply, GxReply)>), AllocError>
+        witness: &mut W,
+    ) -> Result<GxReply, AllocError>
         requires within { counter ≤ last_counter }
         requires first { 1 ≤ counter }
         requires later { length self.old.state.log < counter }
         requires kind { ccr.now.kind ≡ Termination }
-        ensures reply { IfOk result (λ told.
-            gx_reply_value told.0 ≡ OnGx (Granted empty_delta None)) }
-        ensures spare { IfOk result (λ told. told.1 ≡ spares thrice told.0) }
+        ensures reply { IfOk result (λ reply.
+            gx_reply_value reply ≡ OnGx (Granted empty_delta None)) }
+        ensures saw { IfOk result (λ reply. W.saw witness.new (gx_reply_value reply)) }
         ensures ok { OnOk result (self.new ≡ with_made self.old (Some
             (operation_made self.old.number counter (ccr_view ccr.now) ccr.now.kind))) }
         ensures err { OnErr result (self.new ≡ self.old) }
     {
+        let nothing = GxReply::Granted(FirstEntries::none(self.alloc), None);
+        let reply = shown_to_gateway(nothing, witness)?;
         let operation = self.fields_made(ccr, counter)?;
         let ended = ended_gateway(self.alloc)?;
         self.add_to_gateway(operation, &ccr.session, ended)?;
-        Ok(nothing_told(self.alloc, thrice))
+        Ok(reply)
     }
 
     /// Sets the fields of an accepted request and tells the gateway what it lacks then, or changes nothing.
-    fn provision(
+    fn provision<W: Witness>(
         &mut self,
         ccr: &Ccr,
         counter: u64,
-        thrice: bool,
-    ) -> Result<(GxReply, Option<(GxReply, GxReply)>), AllocError>
+        witness: &mut W,
+    ) -> Result<GxReply, AllocError>
         requires within { counter ≤ last_counter }
         requires next { counter ≡ self.old.state.holding.clock + 1 }
         requires opens { opens ccr.now.kind ≡ true }
         requires alive { (view self.old.state.holding.facts).ended (gx ccr.now.session) ≡ false }
-        ensures reply { IfOk result (λ told. gx_reply_value told.0 ≡ (provision_outcome delta_limit
+        ensures reply { IfOk result (λ reply. gx_reply_value reply ≡ (provision_outcome delta_limit
             self.old.tables self.old.number self.old.state.holding (ccr_view ccr.now)).reply) }
-        ensures spare { IfOk result (λ told. told.1 ≡ spares thrice told.0) }
+        ensures saw { IfOk result (λ reply. W.saw witness.new (gx_reply_value reply)) }
         ensures ok { OnOk result (self.new ≡ with_made self.old (provision_outcome delta_limit
             self.old.tables self.old.number self.old.state.holding (ccr_view ccr.now)).added) }
         ensures left { OnOk result (LacksTheRest self.old (fields_added self.old (ccr_view ccr.now))
@@ -304,8 +316,8 @@ impl Site {
         let clock = self.held.clock();
         let facts = facts_made(self.alloc, ccr, self.tag(ccr.number, counter))?;
         let stood = self.set_fields(ccr, counter, facts.as_slice())?;
-        match self.tell(ccr, counter, facts, thrice) {
-            Ok(told) => Ok(told),
+        match self.tell(ccr, counter, facts, witness) {
+            Ok(reply) => Ok(reply),
             Err(refused) => {
                 self.put_back(&ccr.session, stood, clock);
                 Err(refused)
@@ -365,13 +377,13 @@ impl Site {
 
     /// Tells the gateway, whose request made these facts, what it lacks of the rules that its session has now, or changes
     /// nothing.
-    fn tell(
+    fn tell<W: Witness>(
         &mut self,
         ccr: &Ccr,
         counter: u64,
         facts: Vec<GxFact>,
-        thrice: bool,
-    ) -> Result<(GxReply, Option<(GxReply, GxReply)>), AllocError>
+        witness: &mut W,
+    ) -> Result<GxReply, AllocError>
         requires within { counter ≤ last_counter }
         requires later { length self.old.state.log < counter }
         requires opens { opens ccr.now.kind ≡ true }
@@ -380,7 +392,7 @@ impl Site {
         requires set { kept_of (with_operation self.old.state.holding
             (operation_made self.old.number counter (ccr_view ccr.now) ccr.now.kind))
             ≡ self.old.state.holding }
-        ensures reply { IfOk result (λ told. gx_reply_value told.0
+        ensures reply { IfOk result (λ reply. gx_reply_value reply
             ≡ told_reply self.old.tables (view self.old.state.holding.facts) (gx ccr.now.session)) }
         ensures ok { OnOk result (self.new ≡ with_made self.old (Some (operation_told
             self.old.number counter (ccr_view ccr.now) ccr.now.kind
@@ -388,7 +400,7 @@ impl Site {
             self.old.tables (view self.old.state.holding.facts) (gx ccr.now.session))))) }
         ensures names { OnOk result (Distinct (map rule_name_of
             (rules self.old.tables (view self.old.state.holding.facts) (gx ccr.now.session)))) }
-        ensures spare { IfOk result (λ told. told.1 ≡ spares thrice told.0) }
+        ensures saw { IfOk result (λ reply. W.saw witness.new (gx_reply_value reply)) }
         ensures err { OnErr result (self.new ≡ self.old) }
     {
         let quality = self.quality_of(&ccr.session);
@@ -401,10 +413,9 @@ impl Site {
         let told = self.facts_told(counter, &delta)?;
         let known = self.with_told(&ccr.session, told.as_slice())?;
         let operation = self.all_made(ccr, counter, facts, told)?;
-        let reply = GxReply::Granted(delta, quality);
-        let spare = spare_replies(&reply, thrice)?;
+        let reply = shown_to_gateway(GxReply::Granted(delta, quality), witness)?;
         self.add_told(operation, &ccr.session, known)?;
-        Ok((reply, spare))
+        Ok(reply)
     }
 
     /// The facts that tell a gateway of the first entries of a difference.
@@ -563,27 +574,22 @@ impl Site {
         ensures memory { IfErr result (λ fault. fault ≢ StepFault.HistoryFull) }
         ensures err { OnErr result (self.new ≡ self.old) }
     {
-        match self.push_told(host, false)? {
-            Some((push, _)) => Ok(Some(push)),
-            None => Ok(None),
-        }
+        self.push_seen_by(host, &mut ())
     }
 
-    /// Pushes; where the push is wanted three times, two spare ones come with it. An error changes nothing.
-    pub(crate) fn push_told(
+    /// Pushes as `push` does, and shows a witness the reply before anything is changed.
+    pub(crate) fn push_seen_by<W: Witness>(
         &mut self,
         host: Option<&[u8]>,
-        thrice: bool,
-    ) -> Result<Option<(PushOut, Option<(PushOut, PushOut)>)>, StepFault>
-        ensures push { IfOk result (λ found. Pushed (option_map (λ told. push_view told.0) found)
+        witness: &mut W,
+    ) -> Result<Option<PushOut>, StepFault>
+        ensures push { IfOk result (λ push. Pushed (option_map push_view push)
             ≡ (push_outcome_at self.old (option_copied host.entry)).reply) }
+        ensures saw { IfOk result (λ push. W.saw witness.new (Pushed (option_map push_view push))) }
         ensures ok { OnOk result (self.new
             ≡ with_made self.old (push_outcome_at self.old (option_copied host.entry)).added) }
-        ensures left { IfOk result (λ found. IfSome found (λ told.
-            LacksTheRest self.old self.old.state.holding.facts self.new
-            (gx told.0.session))) }
-        ensures spare { IfOk result (λ found. IfSome found (λ told.
-            told.1 ≡ spares thrice told.0)) }
+        ensures left { IfOk result (λ push. IfSome push (λ p.
+            LacksTheRest self.old self.old.state.holding.facts self.new (gx p.session))) }
         ensures room { OnOk result (lacks_counter self.old.tables self.old.number
             self.old.state.holding (option_copied host.entry) ≡ false) }
         ensures full { IfErr result (λ fault. fault ≡ StepFault.ClockFull → lacks_counter
@@ -593,6 +599,9 @@ impl Site {
         ensures err { OnErr result (self.new ≡ self.old) }
     {
         let Ok(found) = self.next_push(host) else {
+            return Err(StepFault::NoMemory);
+        };
+        let Ok(Reply::Pushed(found)) = shown(Reply::Pushed(found), witness) else {
             return Err(StepFault::NoMemory);
         };
         let Some(push) = found else {
@@ -605,13 +614,10 @@ impl Site {
         note_entries(&push.delta);
         note_text(push.session.id());
         self.note_number();
-        let Ok(spare) = spare_pushes(&push, thrice) else {
-            return Err(StepFault::NoMemory);
-        };
         if self.tell_push(&push, counter).is_err() {
             return Err(StepFault::NoMemory);
         }
-        Ok(Some((push, spare)))
+        Ok(Some(push))
     }
 
     /// The push that is due for a host, any where none is given.

@@ -8,6 +8,7 @@ use crate::event::{Event, Reply};
 use crate::fault::StepFault;
 use crate::request::Request;
 use crate::site::Site;
+use crate::witness::{Witness, shown, shown_plain};
 use pcrf_values::DiameterIdentity;
 use site_join::{Operation, State};
 
@@ -25,37 +26,69 @@ impl Site {
         ensures memory { IfErr result (λ fault. fault ≢ StepFault.HistoryFull) }
         ensures err { OnErr result (self.new ≡ self.old) }
     {
+        self.step_seen_by(event, &mut ())
+    }
+
+    /// Makes an event happen as `step` does, and shows a witness the reply before anything is changed: where memory for what the
+    /// witness keeps is refused, the event does not happen. Of the witness a fault tells nothing.
+    pub fn step_seen_by<W: Witness>(
+        &mut self,
+        event: &Event,
+        witness: &mut W,
+    ) -> Result<Reply, StepFault>
+        ensures reply { IfOk result (λ reply. SiteMayReply self.old
+            (event_value event.now) (reply_value reply)) }
+        ensures saw { IfOk result (λ reply. W.saw witness.new (reply_value reply)) }
+        ensures ok { IfOk result (λ reply. self.new
+            ≡ after_event self.old (event_value event.now) (reply_value reply)) }
+        ensures full { IfErr result (λ fault. fault ≡ StepFault.ClockFull → event_lacks_counter
+            self.old.tables self.old.number self.old.state.holding (event_value event.now) ≡ true) }
+        ensures memory { IfErr result (λ fault. fault ≢ StepFault.HistoryFull) }
+        ensures err { OnErr result (self.new ≡ self.old) }
+    {
         match event {
-            Event::Serve(request) => self.step_serve(request),
-            Event::Push(host) => self.step_push(host),
-            Event::Abort(host) => self.step_abort(host),
-            Event::Ops(operations) => Ok(self.step_take(operations.as_slice())),
-            Event::Whole(state) => self.step_whole(state),
-            Event::AskOwn(from) => self.step_ask_own(*from),
-            Event::AskWhole => self.step_ask_whole(),
+            Event::Serve(request) => self.step_serve(request, witness),
+            Event::Push(host) => self.step_push(host, witness),
+            Event::Abort(host) => self.step_abort(host, witness),
+            Event::Ops(operations) => {
+                Ok(shown_plain(self.step_take(operations.as_slice()), witness))
+            }
+            Event::Whole(state) => Ok(shown_plain(self.step_whole(state)?, witness)),
+            Event::AskOwn(from) => self.step_ask_own(*from, witness),
+            Event::AskWhole => self.step_ask_whole(witness),
         }
     }
 
     /// Serves the request of an event.
-    fn step_serve(&mut self, request: &Request) -> Result<Reply, StepFault>
+    fn step_serve<W: Witness>(
+        &mut self,
+        request: &Request,
+        witness: &mut W,
+    ) -> Result<Reply, StepFault>
         ensures reply { IfOk result (λ reply. SiteMayReply self.old
             (Serve (request_value request.now)) (reply_value reply)) }
+        ensures saw { IfOk result (λ reply. W.saw witness.new (reply_value reply)) }
         ensures ok { IfOk result (λ reply. self.new
             ≡ after_event self.old (Serve (request_value request.now)) (reply_value reply)) }
         ensures memory { IfErr result (λ fault. fault ≡ StepFault.NoMemory) }
         ensures err { OnErr result (self.new ≡ self.old) }
     {
         self.note_kept();
-        match self.serve(request) {
+        match self.serve_seen_by(request, witness) {
             Ok(reply) => Ok(reply),
             Err(_) => Err(StepFault::NoMemory),
         }
     }
 
     /// Pushes as an event asks for it.
-    fn step_push(&mut self, host: &Option<DiameterIdentity>) -> Result<Reply, StepFault>
+    fn step_push<W: Witness>(
+        &mut self,
+        host: &Option<DiameterIdentity>,
+        witness: &mut W,
+    ) -> Result<Reply, StepFault>
         ensures reply { IfOk result (λ reply. SiteMayReply self.old
             (Push host.now) (reply_value reply)) }
+        ensures saw { IfOk result (λ reply. W.saw witness.new (reply_value reply)) }
         ensures ok { IfOk result (λ reply. self.new
             ≡ after_event self.old (Push host.now) (reply_value reply)) }
         ensures full { IfErr result (λ fault. fault ≡ StepFault.ClockFull → event_lacks_counter
@@ -65,13 +98,18 @@ impl Site {
     {
         self.note_kept();
         let host = host.as_ref().map(|host| host.as_slice());
-        Ok(Reply::Pushed(self.push(host)?))
+        Ok(Reply::Pushed(self.push_seen_by(host, witness)?))
     }
 
     /// Aborts as an event asks for it.
-    fn step_abort(&mut self, host: &Option<DiameterIdentity>) -> Result<Reply, StepFault>
+    fn step_abort<W: Witness>(
+        &mut self,
+        host: &Option<DiameterIdentity>,
+        witness: &mut W,
+    ) -> Result<Reply, StepFault>
         ensures reply { IfOk result (λ reply. SiteMayReply self.old
             (Abort host.now) (reply_value reply)) }
+        ensures saw { IfOk result (λ reply. W.saw witness.new (reply_value reply)) }
         ensures ok { IfOk result (λ reply. self.new
             ≡ after_event self.old (Abort host.now) (reply_value reply)) }
         ensures full { IfErr result (λ fault. fault ≡ StepFault.ClockFull → event_lacks_counter
@@ -81,11 +119,11 @@ impl Site {
     {
         self.note_kept();
         let host = host.as_ref().map(|host| host.as_slice());
-        Ok(Reply::Aborted(self.abort(host)?))
+        Ok(Reply::Aborted(self.abort_seen_by(host, witness)?))
     }
 
     /// Takes the operations of an event.
-    pub(crate) fn step_take(&mut self, operations: &[Operation]) -> Reply
+    fn step_take(&mut self, operations: &[Operation]) -> Reply
         ensures plain { is_plain result ≡ true }
         ensures reply { SiteMayReply self.old (Ops operations.now) (reply_value result) }
         ensures ok { self.new ≡ after_event self.old (Ops operations.now) (reply_value result) }
@@ -97,7 +135,7 @@ impl Site {
     }
 
     /// Takes the state of an event.
-    pub(crate) fn step_whole(&mut self, state: &State) -> Result<Reply, StepFault>
+    fn step_whole(&mut self, state: &State) -> Result<Reply, StepFault>
         ensures plain { IfOk result (λ reply. is_plain reply ≡ true) }
         ensures reply { IfOk result (λ reply. SiteMayReply self.old
             (Whole state.now) (reply_value reply)) }
@@ -113,30 +151,38 @@ impl Site {
     }
 
     /// Tells the operations that an event asks for.
-    pub(crate) fn step_ask_own(&self, from: u64) -> Result<Reply, StepFault>
+    fn step_ask_own<W: Witness>(&self, from: u64, witness: &mut W) -> Result<Reply, StepFault>
         ensures reply { IfOk result (λ reply. SiteMayReply self.now
             (AskOwn from) (reply_value reply)) }
+        ensures saw { IfOk result (λ reply. W.saw witness.new (reply_value reply)) }
         ensures ok { IfOk result (λ reply. self.now
             ≡ after_event self.now (AskOwn from) (reply_value reply)) }
         ensures memory { IfErr result (λ fault. fault ≡ StepFault.NoMemory) }
     {
         self.note_kept();
-        match self.own_since(from) {
-            Ok((operations, length)) => Ok(Reply::Own(operations, length)),
+        let Ok((operations, length)) = self.own_since(from) else {
+            return Err(StepFault::NoMemory);
+        };
+        match shown(Reply::Own(operations, length), witness) {
+            Ok(reply) => Ok(reply),
             Err(_) => Err(StepFault::NoMemory),
         }
     }
 
     /// Tells all that the site holds.
-    pub(crate) fn step_ask_whole(&self) -> Result<Reply, StepFault>
+    fn step_ask_whole<W: Witness>(&self, witness: &mut W) -> Result<Reply, StepFault>
         ensures reply { IfOk result (λ reply. SiteMayReply self.now AskWhole (reply_value reply)) }
+        ensures saw { IfOk result (λ reply. W.saw witness.new (reply_value reply)) }
         ensures ok { IfOk result (λ reply. self.now
             ≡ after_event self.now AskWhole (reply_value reply)) }
         ensures memory { IfErr result (λ fault. fault ≡ StepFault.NoMemory) }
     {
         self.note_kept();
-        match self.whole() {
-            Ok((state, length)) => Ok(Reply::Copy(state, length)),
+        let Ok((state, length)) = self.whole() else {
+            return Err(StepFault::NoMemory);
+        };
+        match shown(Reply::Copy(state, length), witness) {
+            Ok(reply) => Ok(reply),
             Err(_) => Err(StepFault::NoMemory),
         }
     }

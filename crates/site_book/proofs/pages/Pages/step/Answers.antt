@@ -16,7 +16,7 @@ invariant_of-self-2 g c =
     let r : ReplyValue = reply_value c.in_ok-reply.reply in
     let opening : SiteState = record { holding = b.opening; log = b.opening_log.items } in
     let grown : c.push_reserved.new.self.items ≡ b.history.items ++ entry_of c.seat.inside.number e r ∷ [] = search rules in
-    let left : c.step_thrice.new.self ≡ after_event b.site e r = search rules in
+    let left : c.step_seen_by.new.self ≡ after_event b.site e r = search rules in
     let many : length c.push_reserved.new.self.items ≡ length b.history.items + 1 = rw grown (simp length-append) in
     let short : length b.history.items < b.limit = search rules in
     record {
@@ -28,7 +28,7 @@ invariant_of-self-2 g c =
 pub returns-in_err-reply-clause-room : goal.returns-in_err-reply-clause-room
 returns-in_err-reply-clause-room g c =
     let p = err_from_is_err_and c.from_residual.result c.from_residual.ensures.1 in
-    rw (p.1, p.2) (λ full. absurd (c.in_err-reply.ensures.room full))
+    rw (p.1, p.2) (λ full. absurd (c.in_err-reply.ensures.memory full))
 
 pub returns-in_err-reply-clause-counter : goal.returns-in_err-reply-clause-counter
 returns-in_err-reply-clause-counter g c =

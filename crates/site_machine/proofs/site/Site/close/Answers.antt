@@ -11,7 +11,7 @@ use Rattle.site_machine.proofs.Telling.{end_joins}
 use Rattle.site_machine.proofs.site.Site.close.Goals as goal
 
 pub add_to_gateway-requires-clause-joins : goal.add_to_gateway-requires-clause-joins
-add_to_gateway-requires-clause-joins c =
+add_to_gateway-requires-clause-joins g c =
     let s = c.args.self.now in
     let q = ccr_view c.args.ccr.now in
     let own = facts_on s.state.holding.facts (gx q.session) in

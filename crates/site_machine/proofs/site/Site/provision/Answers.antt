@@ -26,7 +26,7 @@ use Rattle.site_machine.proofs.Left.{shown_fields, provisioned_leaves}
 use Rattle.site_machine.proofs.site.Site.provision.Goals as goal
 
 pub tell-requires-clause-set : goal.tell-requires-clause-set
-tell-requires-clause-set c =
+tell-requires-clause-set g c =
     let s = c.args.self.now in
     let q = ccr_view c.args.ccr.now in
     let o = operation_made s.number c.args.counter q q.kind in
@@ -34,7 +34,7 @@ tell-requires-clause-set c =
     (once_more s.state.holding o o refl refl (λ (f : Fact) i. i))
 
 pub put_back-requires-clause-known : goal.put_back-requires-clause-known
-put_back-requires-clause-known c = λ none.
+put_back-requires-clause-known g c = λ none.
     let s = c.args.self.now in
     let q = ccr_view c.args.ccr.now in
     let o = operation_made s.number c.args.counter q q.kind in
@@ -43,7 +43,7 @@ put_back-requires-clause-known c = λ none.
     (sym (ap (λ (x : SiteValue). facts_on x.state.holding.facts (gx q.session)) after) ∙ none)
 
 pub put_back-requires-clause-back : goal.put_back-requires-clause-back
-put_back-requires-clause-back c =
+put_back-requires-clause-back g c =
     let s = c.args.self.now in
     let h = s.state.holding in
     let q = ccr_view c.args.ccr.now in
@@ -57,7 +57,7 @@ put_back-requires-clause-back c =
     subst (λ (x : SiteValue). are_up_to x.state.holding.clock x.state.holding.facts ≡ true) (sym is) (put_back_up_to h o c.note_kept.ensures c.note_form.ensures)
 
 pub returns-in-Ok-clause-reply : goal.returns-in-Ok-clause-reply
-returns-in-Ok-clause-reply c =
+returns-in-Ok-clause-reply g c =
     let s = c.args.self.now in
     let h = s.state.holding in
     let q = ccr_view c.args.ccr.now in
@@ -68,7 +68,7 @@ returns-in-Ok-clause-reply c =
     ∙ sym (ap (λ (o : Outcome). o.reply) (provisioned_is t s.number h q q.kind c.requires.opens))
 
 pub returns-in-Ok-clause-ok : goal.returns-in-Ok-clause-ok
-returns-in-Ok-clause-ok c =
+returns-in-Ok-clause-ok g c =
     let s = c.args.self.now in
     let h = s.state.holding in
     let q = ccr_view c.args.ccr.now in
@@ -85,7 +85,7 @@ returns-in-Ok-clause-ok c =
     ∙ sym (ap (λ (o : Outcome). with_made s o.added) (provisioned_is t s.number h q q.kind c.requires.opens))
 
 pub returns-in-Ok-clause-left : goal.returns-in-Ok-clause-left
-returns-in-Ok-clause-left c =
+returns-in-Ok-clause-left g c =
     let s = c.args.self.now in
     let h = s.state.holding in
     let q = ccr_view c.args.ccr.now in
@@ -94,10 +94,10 @@ returns-in-Ok-clause-left c =
     let names = subst apart (ap one c.requires.next) (subst apart c.in_ok-stood.ensures.ok c.in-Ok.ensures.names) in
     provisioned_leaves s c.note_told.ensures q c.requires.alive
     (subst (λ (v : View). Distinct (map rule_name_of (rules s.tables v (gx q.session)))) (shown_fields s.number h q q.kind c.requires.opens) names)
-    _ (returns-in-Ok-clause-ok c)
+    _ (returns-in-Ok-clause-ok g c)
 
 pub returns-in-Err-clause-err : goal.returns-in-Err-clause-err
-returns-in-Err-clause-err c =
+returns-in-Err-clause-err g c =
     let s = c.args.self.now in
     let h = s.state.holding in
     let q = ccr_view c.args.ccr.now in

@@ -16,46 +16,50 @@ use Rattle.site_machine.proofs.Left.{accepted_open, granted_lacks, ended_lacks}
 use Rattle.site_machine.proofs.site.Site.serve_ccr.Goals as goal
 
 pub returns-in-Some-clause-reply : goal.returns-in-Some-clause-reply
-returns-in-Some-clause-reply c =
+returns-in-Some-clause-reply g c =
     let s = c.args.self.now in
     let q = ccr_view c.args.ccr.now in
     let refused = c.standing_refusal.ensures ∙ ap (λ (x : Option Refusal). or_else x (by_clock s.state.holding)) c.in-Some.is in
-    c.refused.ensures.reply ∙ sym (ap (λ (o : Outcome). o.reply) (served_refused s q c.in-Some.refusal refused))
+    let served = sym (ap (λ (o : Outcome). o.reply) (served_refused s q c.in-Some.refusal refused)) in
+    IfOk-weaker c.shown_to_gateway.result _ _ (λ reply is. ap gx_reply_value is ∙ served) c.shown_to_gateway.ensures.reply
 
 pub returns-in-Some-clause-ok : goal.returns-in-Some-clause-ok
-returns-in-Some-clause-ok c =
+returns-in-Some-clause-ok g c =
     let s = c.args.self.now in
     let q = ccr_view c.args.ccr.now in
     let refused = c.standing_refusal.ensures ∙ ap (λ (x : Option Refusal). or_else x (by_clock s.state.holding)) c.in-Some.is in
-    sym (ap (λ (o : Outcome). with_made s o.added) (served_refused s q c.in-Some.refusal refused))
+    let served = sym (ap (λ (o : Outcome). with_made s o.added) (served_refused s q c.in-Some.refusal refused)) in
+    IfOk-weaker c.shown_to_gateway.result _ _ (λ reply _. served) c.shown_to_gateway.ensures.reply
 
 pub returns-in_default-next_counter-clause-reply : goal.returns-in_default-next_counter-clause-reply
-returns-in_default-next_counter-clause-reply c =
+returns-in_default-next_counter-clause-reply g c =
     let s = c.args.self.now in
     let q = ccr_view c.args.ccr.now in
     let full = ap (λ (b : Bool). cond b (Some unable_to_comply) None) (c.next_counter.ensures.full c.in_default-next_counter.is) in
     let refused = c.standing_refusal.ensures ∙ ap (λ (x : Option Refusal). or_else x (by_clock s.state.holding)) c.in_default.is ∙ full ∙ ap Some (sym c.base.ensures) in
-    c.refused-in_default-next_counter.ensures.reply ∙ sym (ap (λ (o : Outcome). o.reply) (served_refused s q c.base.result refused))
+    let served = sym (ap (λ (o : Outcome). o.reply) (served_refused s q c.base.result refused)) in
+    IfOk-weaker c.shown_to_gateway-in_default-next_counter.result _ _ (λ reply is. ap gx_reply_value is ∙ served) c.shown_to_gateway-in_default-next_counter.ensures.reply
 
 pub returns-in_default-next_counter-clause-ok : goal.returns-in_default-next_counter-clause-ok
-returns-in_default-next_counter-clause-ok c =
+returns-in_default-next_counter-clause-ok g c =
     let s = c.args.self.now in
     let q = ccr_view c.args.ccr.now in
     let full = ap (λ (b : Bool). cond b (Some unable_to_comply) None) (c.next_counter.ensures.full c.in_default-next_counter.is) in
     let refused = c.standing_refusal.ensures ∙ ap (λ (x : Option Refusal). or_else x (by_clock s.state.holding)) c.in_default.is ∙ full in
-    sym (ap (λ (o : Outcome). with_made s o.added) (served_refused s q unable_to_comply refused))
+    let served = sym (ap (λ (o : Outcome). with_made s o.added) (served_refused s q unable_to_comply refused)) in
+    IfOk-weaker c.shown_to_gateway-in_default-next_counter.result _ _ (λ reply _. served) c.shown_to_gateway-in_default-next_counter.ensures.reply
 
 pub returns-in-Termination-clause-reply : goal.returns-in-Termination-clause-reply
-returns-in-Termination-clause-reply c =
+returns-in-Termination-clause-reply g c =
     let s = c.args.self.now in
     let q = ccr_view c.args.ccr.now in
     let room = ap (λ (b : Bool). cond b (Some unable_to_comply) None) c.in-Some-next_counter.ensures.open in
     let none = c.standing_refusal.ensures ∙ ap (λ (x : Option Refusal). or_else x (by_clock s.state.holding)) c.in_default.is ∙ room in
     let served = ap (λ (o : Outcome). o.reply) (served_accepted s q Termination c.in-Termination.is none) in
-    subst (λ (r : ReplyValue). IfOk c.close.result (λ told. gx_reply_value told.0 ≡ r)) (sym served) c.close.ensures.reply
+    subst (λ (r : ReplyValue). IfOk c.close.result (λ reply. gx_reply_value reply ≡ r)) (sym served) c.close.ensures.reply
 
 pub returns-in-Termination-clause-ok : goal.returns-in-Termination-clause-ok
-returns-in-Termination-clause-ok c =
+returns-in-Termination-clause-ok g c =
     let s = c.args.self.now in
     let q = ccr_view c.args.ccr.now in
     let room = ap (λ (b : Bool). cond b (Some unable_to_comply) None) c.in-Some-next_counter.ensures.open in
@@ -66,10 +70,10 @@ returns-in-Termination-clause-ok c =
     subst (λ (x : SiteValue). OnOk c.close.result (c.close.new.self ≡ x)) (made ∙ next ∙ sym served) c.close.ensures.ok
 
 pub returns-in-Termination-clause-left : goal.returns-in-Termination-clause-left
-returns-in-Termination-clause-left c = IfOk-weaker c.close.result _ _ (λ told _. ended_lacks c.args.self.now c.close.new.self (ccr_view c.args.ccr.now) told.0 c.in-Termination.is) c.close.ensures.reply
+returns-in-Termination-clause-left g c = IfOk-weaker c.close.result _ _ (λ reply _. ended_lacks c.args.self.now c.close.new.self (ccr_view c.args.ccr.now) reply c.in-Termination.is) c.close.ensures.reply
 
 pub provision-requires-clause-alive : goal.provision-requires-clause-alive
-provision-requires-clause-alive c =
+provision-requires-clause-alive g c =
     let s = c.args.self.now in
     let q = ccr_view c.args.ccr.now in
     let room = ap (λ (b : Bool). cond b (Some unable_to_comply) None) c.in-Some-next_counter.ensures.open in
@@ -78,7 +82,7 @@ provision-requires-clause-alive c =
     accepted_open s.tables s.state.holding q opening none
 
 pub returns-in-Initial : goal.returns-in-Initial
-returns-in-Initial c =
+returns-in-Initial g c =
     let s = c.args.self.now in
     let q = ccr_view c.args.ccr.now in
     let room = ap (λ (b : Bool). cond b (Some unable_to_comply) None) c.in-Some-next_counter.ensures.open in
@@ -86,9 +90,9 @@ returns-in-Initial c =
     let opening : opens q.kind ≡ true = search rules in
     let served = served_accepted s q q.kind refl none ∙ opening_is s.tables s.number s.state.holding q q.kind opening in
     record {
-      reply = subst (λ (o : Outcome). IfOk c.provision.result (λ told. gx_reply_value told.0 ≡ o.reply)) (sym served) c.provision.ensures.reply;
+      reply = subst (λ (o : Outcome). IfOk c.provision.result (λ reply. gx_reply_value reply ≡ o.reply)) (sym served) c.provision.ensures.reply;
       ok = subst (λ (o : Outcome). OnOk c.provision.result (c.provision.new.self ≡ with_made s o.added)) (sym served) c.provision.ensures.ok;
-      left = IfOk-weaker c.provision.result _ _ (λ told leaves. granted_lacks s c.provision.new.self q told.0 leaves) c.provision.ensures.left;
-      spare = c.provision.ensures.spare;
+      left = IfOk-weaker c.provision.result _ _ (λ reply leaves. granted_lacks s c.provision.new.self q reply leaves) c.provision.ensures.left;
+      saw = c.provision.ensures.saw;
       err = c.provision.ensures.err;
     }

@@ -22,7 +22,7 @@ use Rattle.site_machine.proofs.Telling.{told_joins, told_nothing, told_record, t
 use Rattle.site_machine.proofs.site.Site.tell.Goals as goal
 
 pub with_told-requires : goal.with_told-requires
-with_told-requires c = λ some.
+with_told-requires g c = λ some.
     let s = c.untold_difference.new.self in
     let q = ccr_view c.args.ccr.now in
     let d = c.of-delta.result in
@@ -36,7 +36,7 @@ with_told-requires c = λ some.
     (λ none. some (told ∙ none)))
 
 pub all_made-requires : goal.all_made-requires
-all_made-requires c =
+all_made-requires g c =
     let s = c.untold_difference.new.self in
     let q = ccr_view c.args.ccr.now in
     let d = c.of-delta.result in
@@ -49,7 +49,7 @@ all_made-requires c =
     (entries_tell s.tables s.state.holding.facts q.session d is c.in_ok-missing.ensures.names c.note_entries.ensures.names c.note_entries.ensures.rule_names c.note_entries.ensures.rules)
 
 pub add_told-requires-clause-nothing : goal.add_told-requires-clause-nothing
-add_told-requires-clause-nothing c = λ none.
+add_told-requires-clause-nothing g c = λ none.
     let s = c.untold_difference.new.self in
     let h = s.state.holding in
     let q = ccr_view c.args.ccr.now in
@@ -62,7 +62,7 @@ add_told-requires-clause-nothing c = λ none.
     (ap (λ (fs : List Fact). kept_of (with_operation h (operation_with s.number c.args.counter q fs))) fields ∙ set)
 
 pub add_told-requires-clause-joins : goal.add_told-requires-clause-joins
-add_told-requires-clause-joins c =
+add_told-requires-clause-joins g c =
     let s = c.untold_difference.new.self in
     let h = s.state.holding in
     let q = ccr_view c.args.ccr.now in
@@ -77,7 +77,7 @@ add_told-requires-clause-joins c =
     (λ k is. is ∙ same ∙ more ∙ all) c.in_ok-known.ensures.joins
 
 pub add_told-requires-clause-told : goal.add_told-requires-clause-told
-add_told-requires-clause-told c =
+add_told-requires-clause-told g c =
     let s = c.untold_difference.new.self in
     let h = s.state.holding in
     let q = ccr_view c.args.ccr.now in
@@ -87,7 +87,7 @@ add_told-requires-clause-told c =
     (λ k is. record { told = told; each = each; joins = is }) c.in_ok-known.ensures.joins
 
 pub returns-clause-ok : goal.returns-clause-ok
-returns-clause-ok c =
+returns-clause-ok g c =
     let s = c.untold_difference.new.self in
     let q = ccr_view c.args.ccr.now in
     let d = c.of-delta.result in
