@@ -54,7 +54,8 @@ pub(crate) fn af_fact_at(
     tag: Tag,
     bytes: &[u8],
 ) -> Result<(AfFact, &[u8]), Unread>
-    ensures read { Gives (λ x. (af_facts.fact_of x.0, x.1.now)) result (af_fact version tag bytes.now) }
+    ensures read { Gives (λ x. (af_facts.fact_of x.0, x.1.now)) result
+        (af_fact version tag bytes.now) }
     ensures spelled { IfOk result (λ x. bytes.now
         ≡ fact_bytes (af_facts.fact_of x.0) ++ x.1.now) }
 {

@@ -232,7 +232,8 @@ pub(crate) fn merge_of<'a, F: TypedFact>(kept: &mut Vec<&'a F>, ours: &'a [F], t
     requires empty { kept.old.items ≡ [] }
     requires ours { Climbs (map F.fact ours.now) }
     requires theirs { Climbs (map F.fact theirs.now) }
-    requires room { vec_len kept.old + (length ours.now + length theirs.now) ≤ vec_capacity kept.old }
+    requires room { vec_len kept.old + (length ours.now + length theirs.now)
+        ≤ vec_capacity kept.old }
     ensures { map (λ f. F.fact f.now) kept.new.items
         ≡ join_of (map F.fact ours.now) (map F.fact theirs.now) }
 {

@@ -67,13 +67,13 @@ fn put_new<F: TypedFact>(kept: &mut Vec<F>, at: usize, fact: F)
 /// Adds a field. There is room for it, or one stands where it does.
 fn put<F: TypedFact>(kept: &mut Vec<F>, fact: F)
     requires held { kept_list (map F.fact kept.old.items) ≡ map F.fact kept.old.items }
-    requires room { list_any (stands_at (position (F.fact fact))) (map F.fact kept.old.items) ≡ false
-        → vec_len kept.old < vec_capacity kept.old }
+    requires room { list_any (stands_at (position (F.fact fact))) (map F.fact kept.old.items)
+        ≡ false → vec_len kept.old < vec_capacity kept.old }
     requires field { is_field (F.fact fact) ≡ true }
     ensures joins { map F.fact kept.new.items
         ≡ join_of (map F.fact kept.old.items) (F.fact fact ∷ []) }
-    ensures places { list_any (stands_at (position (F.fact fact))) (map F.fact kept.old.items) ≡ true
-        → map position (map F.fact kept.new.items) ≡ map position (map F.fact kept.old.items) }
+    ensures places { list_any (stands_at (position (F.fact fact))) (map F.fact kept.old.items)
+        ≡ true → map position (map F.fact kept.new.items) ≡ map position (map F.fact kept.old.items) }
     ensures len { vec_len kept.new ≤ vec_len kept.old + 1 }
     ensures capacity { vec_capacity kept.old ≤ vec_capacity kept.new }
 {

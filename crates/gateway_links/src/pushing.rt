@@ -154,8 +154,10 @@ fn push_once<R: Threads + Wait + Sync, S: SharedSite>(
     event: &Event,
 ) -> Result<Reply, StepFault>
     ensures adds { Adds (λ e. e ≡ event_value event.now) (S.seen seat.old) (S.seen seat.new) }
-    ensures last { IfOk result (λ reply. WasReplied (S.seen seat.new).receipts (reply_value reply)) }
-    ensures asked { IfOk result (λ reply. WasAsked (S.seen seat.new).receipts (event_value event.now)) }
+    ensures last { IfOk result (λ reply.
+        WasReplied (S.seen seat.new).receipts (reply_value reply)) }
+    ensures asked { IfOk result (λ reply.
+        WasAsked (S.seen seat.new).receipts (event_value event.now)) }
 {
     site.call(rt, seat, event)
 }

@@ -227,6 +227,49 @@ impl Bench {
         called
     }
 
+    /// The whole state of the site, which is to be taken, or the question for one.
+    fn passed(&self, is_taken: bool) -> io::Result<Event> {
+        if !is_taken {
+            return Ok(Event::AskWhole);
+        }
+        let (state, _) = self.site.whole()?;
+        Ok(Event::Whole(state))
+    }
+
+    /// A site of a kind like this one takes the events so often.
+    fn pass_events(
+        &mut self,
+        rt: &impl Host,
+        kind: &str,
+        events: &[Event],
+        rounds: u32,
+        name: &str,
+    ) -> io::Result<()> {
+        let load = Load {
+            threads: 1,
+            rounds,
+            is_settled: false,
+        };
+        match kind {
+            "bare" => self.step_events(rt, events, rounds, name),
+            "locked" => self.call_events(rt, events, load, name),
+            "living" => self.live_events(rt, events, rounds, name),
+            _ => Err(io::Error::other("there is no such kind of site")),
+        }
+    }
+
+    /// A site of a kind like this one takes the whole state of the site, or tells its own.
+    fn pass(&mut self, rt: &impl Host, words: &str) -> io::Result<()> {
+        let (kind, words) = word_before(words)?;
+        let (is_taken, words) = choice_before(words, "taken", "told")?;
+        let (rounds, name) = number_before(words)?;
+        let mut events = Vec::new(self.alloc);
+        events.push(self.passed(is_taken)?)?;
+        let passed = self.pass_events(rt, kind, events.as_slice(), rounds, name);
+        drop(events);
+        passed
+    }
+
     /// The edition of the operator tables.
     fn edition(&self) -> u32 {
         self.site.tables().edition()
@@ -339,6 +382,7 @@ impl Bench {
             "carry" => self.carry(rt, words),
             "merge" => self.merge(rt, words),
             "part" => self.part(rt, words),
+            "pass" => self.pass(rt, words),
             "print" => self.print(rt, words),
             "push" => self.push(rt, words),
             "renew" => self.renew(rt, words),

@@ -18,6 +18,8 @@
 //! - `living COUNT NAME`: a site like this one that lives takes them so often, by one seat
 //! - `calls THREADS COUNT settled NAME`, `calls THREADS COUNT left NAME`: by threads that share a locked site like this one,
 //!   whose history settles then, or doesn't
+//! - `pass KIND taken COUNT NAME`, `pass KIND told COUNT NAME`: a site like this one, alone (`bare`), under the lock of one that keeps
+//!   its history (`locked`) or of one that lives (`living`), takes the whole state of this one so often, or tells its own
 //! - `take state NAME`, `take site NAME`: the state, or the site, takes the operations of the letters
 //! - `records COUNT NAME`: records of the facts of two operations of one session are made, and joined, so often
 //! - `merge NAME`: the state is merged with an equal one

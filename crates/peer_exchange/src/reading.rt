@@ -199,7 +199,8 @@ fn held_group_at(
     version: LetterVersion,
     bytes: &[u8],
 ) -> Result<(SessionFacts, &[u8]), Unread>
-    ensures read { parts.Gives (λ x. (group_of x.0, x.1.now)) result (held_group version bytes.now) }
+    ensures read { parts.Gives (λ x. (group_of x.0, x.1.now)) result
+        (held_group version bytes.now) }
     ensures spelled { IfOk result (λ x. bytes.now ≡ held_group_bytes (group_of x.0) ++ x.1.now) }
 {
     let (kind, rest) = byte_at(bytes)?;
@@ -237,7 +238,8 @@ fn list_of_groups(
 /// clock.
 #[tactic(auto, using(crate::proofs::Added::added), unfolding(crate::specs::Reading::snapshot))]
 fn snapshot_at(alloc: Global, version: LetterVersion, bytes: &[u8]) -> Result<(Body, &[u8]), Unread>
-    ensures read { parts.Gives (λ x. (body_value x.0, x.1.now)) result (snapshot version bytes.now) }
+    ensures read { parts.Gives (λ x. (body_value x.0, x.1.now)) result
+        (snapshot version bytes.now) }
     ensures spelled { IfOk result (λ x. 2 ∷ bytes.now ≡ body_bytes (body_value x.0) ++ x.1.now) }
 {
     let (clock, rest) = long_at(bytes)?;

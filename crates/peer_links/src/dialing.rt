@@ -113,7 +113,8 @@ fn ask_at_once<T: Threads + Wait + Sync, A: SharedSite>(
         (A.seen seat.old) (event_value event.now) reply (A.seen seat.new))) }
     ensures answered { IfOk result (λ grown. IfTold grown (λ reply.
         A.answered (A.seen seat.new) begun)) }
-    ensures asked { Adds (λ asked. asked ≡ event_value event.now) (A.seen seat.old) (A.seen seat.new) }
+    ensures asked { Adds (λ asked. asked ≡ event_value event.now)
+        (A.seen seat.old) (A.seen seat.new) }
 {
     let told = site.call_dated(rt, seat, event)?;
     if told.begun != begun {

@@ -37,8 +37,10 @@ fn take_whole<T: Threads + Wait + Sync, A: SharedSite>(
     seat: &mut A::Seat,
     event: &Event,
 ) -> Result<(), LinkEnd>
-    ensures whole { OnOk result (GainsWhole (A.seen seat.old) (A.seen seat.new) (event_value event.now)) }
-    ensures part { OnErr result (GainsPart (A.seen seat.old) (A.seen seat.new) (event_value event.now)) }
+    ensures whole { OnOk result
+        (GainsWhole (A.seen seat.old) (A.seen seat.new) (event_value event.now)) }
+    ensures part { OnErr result
+        (GainsPart (A.seen seat.old) (A.seen seat.new) (event_value event.now)) }
 {
     let reply = match site.call(rt, seat, event) {
         Ok(reply) => reply,
@@ -63,9 +65,11 @@ fn take_brought<T: Threads + Wait + Sync, A: SharedSite>(
     ensures counted { OnOk result (cursors.new
         ≡ cursors_after_letter cursors.old (letter_with heading (event_value event))) }
     ensures ack { IfOk result (λ ack. ack ≡ ack_of cursors.new heading.site) }
-    ensures whole { OnOk result (GainsWhole (A.seen seat.old) (A.seen seat.new) (event_value event)) }
+    ensures whole { OnOk result
+        (GainsWhole (A.seen seat.old) (A.seen seat.new) (event_value event)) }
     ensures not_counted { OnErr result (cursors.new ≡ cursors.old) }
-    ensures part { OnErr result (GainsPart (A.seen seat.old) (A.seen seat.new) (event_value event)) }
+    ensures part { OnErr result
+        (GainsPart (A.seen seat.old) (A.seen seat.new) (event_value event)) }
 {
     take_whole(rt, site, seat, &event)?;
     let letter = heading.close(event);
@@ -85,7 +89,8 @@ fn take<T: Threads + Wait + Sync, A: SharedSite>(
     ensures whole { OnOk result (TakesIn (A.seen seat.old) (A.seen seat.new) letter.body) }
     ensures not_counted { OnErr result (cursors.new ≡ cursors.old) }
     ensures part { OnErr result (Gains IsIdle (A.seen seat.old) (A.seen seat.new)) }
-    ensures exchanged { Exchanged (A.seen seat.old) (A.seen seat.new) cursors.old.makers cursors.new.makers }
+    ensures exchanged { Exchanged (A.seen seat.old) (A.seen seat.new)
+        cursors.old.makers cursors.new.makers }
 {
     if let Some(ack) = Ack::carried_by(&letter) {
         cursors.take_ack(&ack);

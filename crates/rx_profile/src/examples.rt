@@ -7,5 +7,6 @@ ghost use Rattle.rx_profile.specs.Samples.{abort_bytes, call_abort, own_names};
 
 /// The request of the site `s0` under the identifiers 7 and 8.
 pub fn abort_is_written()
-    ensures { (address : Ipv4Addr) → written_spelling (asr (own_names address) 7 8 call_abort) ≡ abort_bytes }
+    ensures { (address : Ipv4Addr) → written_spelling (asr (own_names address) 7 8 call_abort)
+        ≡ abort_bytes }
 {}

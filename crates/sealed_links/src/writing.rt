@@ -40,7 +40,8 @@ pub struct SealedWriter<W> {
 impl<W: Write> SealedWriter<W> {
     /// A writer of the records of that course, of which none was written yet.
     pub fn start(alloc: Global, writer: W, course: Course) -> SealedWriter<W>
-        ensures { result ≡ record { writer = writer; course = course; fault = None; alloc = alloc } }
+        ensures { result
+            ≡ record { writer = writer; course = course; fault = None; alloc = alloc } }
     {
         SealedWriter {
             writer,
