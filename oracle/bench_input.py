@@ -5,6 +5,7 @@ The lines are messages and letters, in hexadecimal digits, and what is done with
 operator tables of examples/telephony.toml; for the measure `tables N` under those that `bench_input.py points N` writes. Without a
 name it writes each kind of measure at a small size, which the gate runs.
 """
+import functools
 import pathlib
 import re
 import sys
@@ -261,6 +262,18 @@ def whole_site_kept(sessions):
     print(f"print whole: {sessions} sessions")
 
 
+PASSES = [(deed, kind) for deed in ("taken", "told") for kind in ("bare", "locked", "living")]
+
+
+def whole_passed(sessions, passes=PASSES, rounds=5):
+    """A whole state, taken and told by a site of each kind, which holds it already."""
+    print("site")
+    taken([attached_told(place, 1) for place in range(sessions)], into="site", at_once=False)
+    for deed, kind in passes:
+        print(f"pass {kind} {deed} {rounds} whole: {deed}, {kind}")
+    print(f"print whole: {sessions} sessions")
+
+
 def rounds_of(sessions):
     """How often what is measured once for each session is done, so that it is done a hundred thousand times."""
     return max(100_000 // sessions, 1) if sessions >= 1000 else 1
@@ -394,8 +407,9 @@ def points(count):
 
 
 MEASURES = {made.__name__: made for made in (
-    streams, streams_called, streams_prefixed, come_and_go, pushes, whole, whole_state_kept, whole_site_kept, states, states_kept, renew, records, records_kept, rx,
-    rx_kept, book, book_updates_kept, book_bare_kept, book_pushes_kept, living, living_idle, tables, points)} | {"letters": carried}
+    streams, streams_called, streams_prefixed, come_and_go, pushes, whole, whole_state_kept, whole_site_kept, whole_passed, states, states_kept, renew,
+    records, records_kept, rx, rx_kept, book, book_updates_kept, book_bare_kept, book_pushes_kept, living, living_idle, tables, points)} | {"letters": carried} | {
+    f"whole_{deed}_{kind}": functools.partial(whole_passed, passes=[(deed, kind)], rounds=1) for deed, kind in PASSES}
 
 
 def every_measure():
@@ -405,6 +419,7 @@ def every_measure():
     pushes(2, vain=3, due=2)
     whole(2)
     whole_site_kept(2)
+    whole_passed(2, rounds=2)
     states(3)
     carried(3)
     renew(2, rounds=1)
