@@ -18,7 +18,7 @@ use std::thread::Threads;
 const MANY: u16 = 3_000;
 
 /// So few of the many are there where a pass over all calls is made for each.
-const FEW: u16 = 256;
+const FEW: u16 = 128;
 
 /// Of the few, one in so many has a call.
 const STEP: u16 = 16;
