@@ -161,7 +161,7 @@ def lines(tables):
 
 # ---- what is printed
 
-CALLS = [*OTHER, "abort", "request", "call", "push", "whole", "own", "grown", "updates"]
+CALLS = [*OTHER, "abort", "request", "call", "push", "whole", "own", "updates"]
 CONNECTION = ["a connection", "an exchange, and a push between its operation and its request's bytes"] + ["a message"] * 3
 
 
@@ -190,10 +190,12 @@ def prints(tables):
             yield from done("World::run", "the events of a script")
     yield from done("State::merge", "two states of one session")
     yield from done("read_letter and write_letter", "end") + done("read_letter and write_letter", "snapshot")
-    yield from done("derive_many", "three sessions") + done("Site::renew", "three sessions")
-    yield from done("LockedSite::start", "a site")
-    for word in CALLS:
-        yield from done("LockedSite::call", word)
+    for call in ("Site::sessions_of", "derive_many", "Site::renew"):
+        yield from done(call, "three sessions")
+    for start, call, words in (("SiteBook::start", "SiteBook::step", CALLS), ("LockedSite::start", "LockedSite::call", CALLS + ["grown"])):
+        yield from done(start, "a site")
+        for word in words:
+            yield from done(call, word)
     yield from done("serve_connection", *CONNECTION)
     yield from done("LockedSite::call", "whole") + done("LockedSite::call", "own")
 

@@ -1,12 +1,10 @@
 //! A connection that a seat serves in memory, from its first message to its end.
 use crate::given::Given;
-use crate::trial::{begin, end, judge};
+use crate::seats::{Keeper, Room};
 use gateway_links::Half;
 use pcrf_serve::{Gate, Gateways, LinkEnd, Server, Unrepeated, serve_connection};
 use site_book::{Receipt, Seat};
-use site_core::{Reply, Site};
-use site_lock::LockedSite;
-use std::alloc::Global;
+use site_core::Reply;
 use std::io::{self, Print, Write};
 use std::sync::ledger::Ledger;
 use std::sync::{Arc, Mutex, Wait};
@@ -19,19 +17,16 @@ const FIRST: &str = "an exchange, and a push between its operation and its reque
 /// R and P, and Re-Auth, in the header of a re-authorisation request (TS 29.212, 5.6.4).
 const REQUEST: &[u8] = &[0xC0, 0, 1, 2];
 
-/// Where what is written is kept, with room for it.
-pub type Place = Mutex<Vec<u8>>;
-
-/// Keeps what is written, but for the identifiers of a re-authorisation request, which are its place in the history.
+/// A peer, which keeps what is written, but for the identifiers of a re-authorisation request: these are its place in the history.
 #[derive(Drop)]
-struct Keeping<'a, R> {
-    rt: &'a R,
-    place: &'a Place,
+struct Peer<'a, R> {
+    given: &'a Given<'a, R>,
+    place: &'a Mutex<Vec<u8>>,
 }
 
-impl<R: Wait> Write for Keeping<'_, R> {
+impl<R: Wait> Write for Peer<'_, R> {
     fn write(&mut self, buf: &[u8]) -> io::Result<usize> {
-        let mut guard = self.place.lock(self.rt);
+        let mut guard = self.place.lock(self.given.rt);
         let held = &mut *guard;
         if buf.len() < 20 || &buf[4..8] != REQUEST {
             held.extend_from_slice(buf)?;
@@ -48,16 +43,11 @@ impl<R: Wait> Write for Keeping<'_, R> {
     }
 }
 
-/// Tells of each message that comes, and lets it through.
-#[derive(Drop)]
-struct Telling<'a, R> {
-    rt: &'a R,
-}
-
-impl<R: Print> Gate for Telling<'_, R> {
+/// It tells of each message that it sends.
+impl<R: Print> Gate for Peer<'_, R> {
     fn enter(&self, _connection: usize, message: u64) -> bool {
         let what = if message == 0 { FIRST } else { "a message" };
-        begin(self.rt, "serve_connection", what);
+        self.given.begin("serve_connection", what);
         true
     }
 
@@ -66,81 +56,57 @@ impl<R: Print> Gate for Telling<'_, R> {
     }
 }
 
-/// The writing half of a connection.
-fn half_of<'a, R: Wait>(
-    rt: &'a R,
-    alloc: Global,
-    place: &'a Place,
-) -> Option<Arc<Half<Keeping<'a, R>>>> {
-    let half = Arc::new(alloc, Half::start()).ok()?;
-    half.open(rt, Keeping { rt, place });
-    Some(half)
-}
-
-/// A seat serves messages to their end, and comes back with how they ended.
-fn serve<'a, R: Threads + Wait + Sync + Print, L: Ledger>(
-    rt: &'a R,
-    alloc: Global,
-    site: &LockedSite<L>,
-    seat: Seat<L>,
-    messages: &[u8],
-    half: Arc<Half<Keeping<'a, R>>>,
-) -> (Seat<L>, LinkEnd) {
-    let gateways = Gateways::start(alloc);
-    let gate = Telling { rt };
-    let server = Server {
-        alloc,
-        site,
-        gateways: &gateways,
-        gate: &gate,
-        repeats: &Unrepeated,
-    };
-    begin(rt, "serve_connection", "a connection");
-    let (seat, how) = serve_connection(rt, &server, seat, messages, half);
-    end(rt, how == LinkEnd::NoMemory);
-    (seat, how)
-}
-
-/// The word of what is written to a seat that made these calls: what was pushed is pushed no more.
-fn word_of(receipts: &[Receipt]) -> &'static str {
-    for receipt in receipts {
-        if let Reply::Pushed(Some(_)) = receipt.reply() {
-            return "answers-alone";
-        }
+impl<R: Threads + Wait + Sync + Print, L: Ledger> Room<'_, R, L> {
+    /// A seat serves messages to their end, and comes back with how they ended.
+    fn serve(&self, seat: Seat<L>, messages: &[u8]) -> Option<(Seat<L>, LinkEnd)> {
+        let Keeper::Locked(site) = &self.keeper else {
+            return None;
+        };
+        let (given, place) = (self.given, &self.place);
+        let half = Arc::new(given.alloc, Half::start()).ok()?;
+        half.open(given.rt, Peer { given, place });
+        let server = Server {
+            alloc: given.alloc,
+            site,
+            gateways: &Gateways::start(given.alloc),
+            gate: &Peer { given, place },
+            repeats: &Unrepeated,
+        };
+        given.begin("serve_connection", "a connection");
+        let (seat, how) = serve_connection(given.rt, &server, seat, messages, half);
+        given.end(how == LinkEnd::NoMemory);
+        Some((seat, how))
     }
-    "answers"
-}
 
-/// This was written, or a part of it where memory was refused; it is kept no more.
-fn is_written(rt: &impl Wait, place: &Place, wanted: &[u8], how: LinkEnd) -> bool {
-    let mut guard = place.lock(rt);
-    let held = &mut *guard;
-    let is_part = wanted.starts_with(held.as_slice());
-    let is_all = held.len() == wanted.len() && how == LinkEnd::Disconnected;
-    held.clear();
-    is_part && (is_all || how == LinkEnd::NoMemory)
-}
+    /// This was written, or a part of it where memory was refused; it is kept no more.
+    fn is_written(&self, wanted: &[u8], how: LinkEnd) -> bool {
+        let mut guard = self.place.lock(self.given.rt);
+        let held = &mut *guard;
+        let is_part = wanted.starts_with(held.as_slice());
+        let is_all = held.len() == wanted.len() && how == LinkEnd::Disconnected;
+        held.clear();
+        is_part && (is_all || how == LinkEnd::NoMemory)
+    }
 
-/// The seat serves a connection, of which it may have made calls past so many; whether memory was refused.
-pub fn connect<'a, R: Threads + Wait + Sync + Print, L: Ledger>(
-    rt: &'a R,
-    given: &Given,
-    site: &LockedSite<L>,
-    seats: &mut Vec<Seat<L>>,
-    sound: &mut Site,
-    from: usize,
-    place: &'a Place,
-) -> Option<bool> {
-    let messages = given.bytes("messages")?;
-    let half = half_of(rt, given.alloc, place)?;
-    let seat = seats.pop()?;
-    let before = seat.receipts().len();
-    let word = word_of(seat.receipts().get(from..).unwrap_or(&[]));
-    let answers = given.bytes(word)?;
-    let (seat, how) = serve(rt, given.alloc, site, seat, messages.as_slice(), half);
-    let made = seat.receipts().get(before..).unwrap_or(&[]);
-    judge(rt, follows(sound, made));
-    seats.push(seat).ok()?;
-    judge(rt, Some(is_written(rt, place, answers.as_slice(), how)));
-    Some(how == LinkEnd::NoMemory)
+    /// The seat serves a connection, whether nothing was refused: what it pushed past so many receipts is pushed no more.
+    pub fn connect(&mut self, from: usize) -> Option<bool> {
+        let given = self.given;
+        let messages = given.bytes("messages")?;
+        let receipts = self.seats.first()?.receipts();
+        let before = receipts.len();
+        let mut word = "answers";
+        for receipt in receipts.get(from..)? {
+            if let Reply::Pushed(Some(_)) = receipt.reply() {
+                word = "answers-alone";
+            }
+        }
+        let answers = given.bytes(word)?;
+        let seat = self.seats.pop()?;
+        let (seat, how) = self.serve(seat, messages.as_slice())?;
+        let made = seat.receipts().get(before..).unwrap_or(&[]);
+        given.judge(follows(&mut self.sound, made));
+        self.seats.push(seat).ok()?;
+        given.judge(Some(self.is_written(answers.as_slice(), how)));
+        Some(self.try_call("whole")? && self.try_call("own")? && how != LinkEnd::NoMemory)
+    }
 }

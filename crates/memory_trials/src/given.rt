@@ -1,28 +1,37 @@
-//! What the trials are made of, which other programs wrote: operator tables, scripts of worlds, and messages and letters as bytes.
+//! What the trials are given: a machine with memory, and what other programs wrote: operator tables, scripts of worlds, and messages
+//! and letters as bytes.
+//!
+//! The allocations between a line that begins with `# ` and the next line are those of the call that the line names:
+//! `.ci/refused-memory` counts them, refuses each in turn, and leaves all others alone. So what a call is made of, and what it is
+//! compared with, is made outside. A call that was refused is made again, once, under its line again. A line that can't be written is
+//! missed where what is printed is compared.
 use op_tables::Tables;
 use peer_exchange::{Body, read_letter};
 use samples::names;
 use site_core::{Event, Site};
 use site_join::State;
 use std::alloc::Global;
+use std::io::Print;
 use world_checks::request_of;
 
 /// The edition of the operator tables, and of who writes letters.
 pub const EDITION: u32 = 7;
 
-/// Memory, the operator tables, and the texts of the files.
+/// The machine, its memory, the operator tables, lines of a word and bytes each, and scripts of worlds, each from its `sites N` on.
 #[derive(Drop)]
-pub struct Given {
+pub struct Given<'a, R> {
+    pub rt: &'a R,
     pub alloc: Global,
     pub tables: Tables,
-    /// A word in each line, and bytes.
     pub lines: String,
-    /// Scripts of worlds, each from its line `sites N` on.
     pub scripts: String,
 }
 
-/// That what a letter says is taken.
-fn taking(alloc: Global, bytes: &[u8]) -> Option<Event> {
+/// That a request is served, or what a letter says is taken.
+fn event_of(alloc: Global, bytes: &[u8]) -> Option<Event> {
+    if let Some(request) = request_of(alloc, bytes) {
+        return Some(Event::Serve(request));
+    }
     match read_letter(alloc, bytes, EDITION).ok()?.into_body() {
         Body::Range(range) => Some(Event::Ops(range.operations)),
         Body::Snapshot(snapshot) => Some(Event::Whole(snapshot.state)),
@@ -30,7 +39,7 @@ fn taking(alloc: Global, bytes: &[u8]) -> Option<Event> {
     }
 }
 
-impl Given {
+impl<R> Given<'_, R> {
     /// The bytes of the line that begins with a word.
     pub fn bytes(&self, word: &str) -> Option<Vec<u8>> {
         for line in self.lines.lines() {
@@ -42,19 +51,14 @@ impl Given {
         None
     }
 
-    /// What happens by a word: the request or the letter of its line, or what the word itself says.
+    /// What happens by a word: what it says itself, or that of the request or the letter of its line.
     pub fn event(&self, word: &str) -> Option<Event> {
         match word {
-            "push" => return Some(Event::Push(None)),
-            "abort" => return Some(Event::Abort(None)),
-            "whole" => return Some(Event::AskWhole),
-            "own" | "grown" => return Some(Event::AskOwn(0)),
-            _ => {}
-        }
-        let bytes = self.bytes(word)?;
-        match request_of(self.alloc, bytes.as_slice()) {
-            Some(request) => Some(Event::Serve(request)),
-            None => taking(self.alloc, bytes.as_slice()),
+            "push" => Some(Event::Push(None)),
+            "abort" => Some(Event::Abort(None)),
+            "whole" => Some(Event::AskWhole),
+            "own" | "grown" => Some(Event::AskOwn(0)),
+            _ => event_of(self.alloc, self.bytes(word)?.as_slice()),
         }
     }
 
@@ -75,5 +79,25 @@ impl Given {
     pub fn site(&self) -> Option<Site> {
         let names = names(self.alloc, b"s0").ok()?;
         Some(Site::start(self.alloc, self.tables()?, names, 0))
+    }
+}
+
+impl<R: Print> Given<'_, R> {
+    /// A call follows, of something.
+    pub fn begin(&self, call: &str, what: &str) {
+        let _ = println!(self.rt; "# {call}: {what}");
+    }
+
+    /// The call gave something, or was refused.
+    pub fn end(&self, is_refused: bool) {
+        let word = if is_refused { "refused" } else { "done" };
+        let _ = println!(self.rt; "{word}");
+    }
+
+    /// Tells it where something is otherwise than it has to be, or couldn't be compared.
+    pub fn judge(&self, is_well: Option<bool>) {
+        if is_well != Some(true) {
+            let _ = println!(self.rt; "otherwise");
+        }
     }
 }

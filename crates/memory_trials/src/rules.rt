@@ -1,88 +1,86 @@
-//! The rules of three sessions, made at once, and those that a site keeps, renewed. So few are made in one thread: each allocation
-//! has the same place in every run.
+//! Three sessions of one subscriber: they are found by it, their rules made at once, and those that a site keeps renewed. So few are
+//! made in one thread: each allocation has the same place in every run.
 use crate::given::Given;
-use crate::trial::{begin, end, judge};
 use many_rules::derive_many;
-use pcrf_values::{GxSid, Rule};
+use pcrf_values::{GxSid, Rule, Subscriber, SubscriptionType};
 use ranked::Ranked;
+use samples::text;
 use site_core::Site;
-use std::alloc::Global;
 use std::io::Print;
 use std::thread::Threads;
 use world_checks::same_sites;
 
+/// The ids of the sessions.
+const IDS: [&[u8]; 3] = [b"gw;1;1", b"gw;1;2", b"gw;1;3"];
+
 /// The name of the rule of the call.
 const NAME: &[u8] = b"af/af;1;1/1/1";
 
-/// A site that took the requests of three sessions, and a call of the second.
-fn loaded(given: &Given) -> Option<Site> {
-    let mut site = given.site()?;
-    let event = given.event("sessions")?;
-    drop(site.step(&event).ok()?);
-    Some(site)
-}
-
-/// A site is the same as one that took these.
-fn is_loaded(given: &Given, site: &Site) -> Option<bool> {
-    let other = loaded(given)?;
-    same_sites(site, &other, &[])
-}
-
-/// The ids of the sessions.
-fn ids_of(alloc: Global, site: &Site) -> Option<Vec<GxSid>> {
-    let mut ids = Vec::new(alloc);
-    for (id, _) in site.sessions().all_gx() {
-        ids.push(id.try_copy().ok()?).ok()?;
-    }
-    Some(ids)
-}
-
 /// The session at this place has these rules: the second that of the call, and the others none.
-fn is_right(place: usize, rules: Option<&[Rule]>) -> Option<bool> {
-    match rules? {
-        [] => Some(place != 1),
-        [rule] => Some(place == 1 && rule.name().as_slice() == NAME),
-        _ => None,
-    }
-}
-
-/// Makes the rules of the sessions; whether that was refused.
-fn derive<R: Threads + Sync + Print>(rt: &R, alloc: Global, site: &Site, ids: &[GxSid]) -> bool {
-    begin(rt, "derive_many", "three sessions");
-    let Ok(lists) = derive_many(rt, alloc, site.tables(), site.sessions(), ids) else {
-        end(rt, true);
-        return true;
+fn is_right(place: usize, id: &GxSid, rules: Option<&[Rule]>) -> Option<bool> {
+    let has_its_own = match rules? {
+        [] => place != 1,
+        [rule] => place == 1 && rule.name().as_slice() == NAME,
+        _ => false,
     };
-    end(rt, false);
-    for (place, list) in lists.iter().enumerate() {
-        judge(rt, is_right(place, Some(list.as_slice())));
-    }
-    false
+    Some(has_its_own && id.as_slice() == *IDS.get(place)?)
 }
 
-/// Has a site renew what it keeps; whether that was refused.
-fn renew<R: Threads + Sync + Print>(rt: &R, site: &mut Site, ids: &[GxSid]) -> bool {
-    begin(rt, "Site::renew", "three sessions");
-    let is_refused = site.renew(rt).is_err();
-    end(rt, is_refused);
-    for (place, id) in ids.iter().enumerate() {
-        if !is_refused {
-            judge(rt, is_right(place, site.kept_rules().get(id)));
+impl<R: Threads + Sync + Print> Given<'_, R> {
+    /// A site that took the requests of three sessions, and a call of the second.
+    pub fn loaded(&self) -> Option<Site> {
+        let mut site = self.site()?;
+        let event = self.event("sessions")?;
+        drop(site.step(&event).ok()?);
+        Some(site)
+    }
+
+    /// The sessions, which their subscriber finds; none where that was refused.
+    fn find(&self, site: &Site, subscriber: &Subscriber) -> Option<Vec<GxSid>> {
+        self.begin("Site::sessions_of", "three sessions");
+        let found = site.sessions_of(subscriber);
+        self.end(found.is_err());
+        found.ok()
+    }
+
+    /// Makes the rules of the sessions; whether that was done.
+    fn derive(&self, site: &Site, ids: &[GxSid]) -> Option<bool> {
+        self.begin("derive_many", "three sessions");
+        let lists = derive_many(self.rt, self.alloc, site.tables(), site.sessions(), ids);
+        self.end(lists.is_err());
+        let Ok(lists) = lists else {
+            return Some(false);
+        };
+        for (place, id) in ids.iter().enumerate() {
+            self.judge(is_right(place, id, Some(lists.get(place)?.as_slice())));
         }
+        Some(lists.len() == IDS.len())
     }
-    is_refused
-}
 
-/// Tries to make the rules of the sessions, and to renew them, which changes nothing else of the site.
-pub fn try_rules<R: Threads + Sync + Print>(rt: &R, given: &Given) -> Option<bool> {
-    let mut site = loaded(given)?;
-    let ids = ids_of(given.alloc, &site)?;
-    if derive(rt, given.alloc, &site, ids.as_slice()) {
-        derive(rt, given.alloc, &site, ids.as_slice());
+    /// Has a site renew what it keeps; whether that was done. It changes nothing else of the site.
+    fn renew(&self, site: &mut Site, ids: &[GxSid]) -> Option<bool> {
+        self.begin("Site::renew", "three sessions");
+        let is_done = site.renew(self.rt).is_ok();
+        self.end(!is_done);
+        for (place, id) in ids.iter().enumerate() {
+            if is_done {
+                self.judge(is_right(place, id, site.kept_rules().get(id)));
+            }
+        }
+        let other = self.loaded()?;
+        self.judge(same_sites(site, &other, &[]));
+        Some(is_done)
     }
-    if renew(rt, &mut site, ids.as_slice()) {
-        judge(rt, is_loaded(given, &site));
-        renew(rt, &mut site, ids.as_slice());
+
+    /// Tries to find the sessions at such a site, to make their rules, and to renew them.
+    pub fn try_rules(&self, site: &mut Site) -> Option<bool> {
+        let one = Subscriber::of(SubscriptionType::EndUserE164, text(self.alloc, b"1").ok()?);
+        let found = match self.find(site, &one) {
+            Some(found) => found,
+            None => self.find(site, &one)?,
+        };
+        let ids = found.as_slice();
+        self.judge(Some(self.derive(site, ids)? || self.derive(site, ids)?));
+        Some(self.renew(site, ids)? || self.renew(site, ids)?)
     }
-    is_loaded(given, &site)
 }

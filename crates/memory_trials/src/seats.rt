@@ -1,18 +1,16 @@
-//! Calls of a seat at a locked site, one after the other. A sound site beside it, to which the same happens and nothing is refused,
-//! says what has to come of them. A call is a step of a book under the lock: each allocation of a step is one of a call.
-ghost use Rattle.std.specs.Prelude.{◌≡◌};
+//! Calls of a seat at a book and at a locked site. A sound site beside it, to which the same happens, says what has to come of them.
+ghost use Rattle.std.specs.Prelude.{◌≡◌, IfErr};
 
-use crate::connections::{Place, connect};
 use crate::given::Given;
-use crate::trial::{begin, end, judge};
-use site_book::Seat;
+use site_book::{Receipt, Seat, Settled, SiteBook};
 use site_core::{Event, Reply, Site, StepFault};
 use site_lock::LockedSite;
+use std::alloc::AllocError;
 use std::io::Print;
 use std::sync::ledger::{Blank, Ledger};
 use std::sync::{Mutex, Wait};
 use std::thread::Threads;
-use world_checks::{is_short, replies, same_sites};
+use world_checks::{follows, is_short, same_sites};
 
 /// How many entries the history has room for.
 const LIMIT: usize = 80;
@@ -21,178 +19,152 @@ const LIMIT: usize = 80;
 const ROOM: usize = 1 << 12;
 
 /// What is called, by words.
-const CALLS: [&str; 11] = [
-    "other-request",
-    "other-call",
-    "other-end",
-    "abort",
-    "request",
-    "call",
-    "push",
-    "whole",
-    "own",
-    "grown",
-    "updates",
-];
+const CALLS: &str = "other-request other-call other-end abort request call push whole own updates";
 
-/// What a seat was told of an event stands in its one receipt past so many, and is what the sound site replies; where memory was
-/// refused nothing stands there.
-fn is_told<L: Ledger>(
-    seat: &Seat<L>,
-    before: usize,
-    sound: &mut Site,
-    event: &Event,
-    reply: &Result<Reply, StepFault>,
-) -> Option<bool> {
-    let receipts = seat.receipts().get(before..)?;
-    let reply = match reply {
-        Ok(reply) => reply,
-        Err(fault) => return Some(receipts.is_empty() && *fault == StepFault::NoMemory),
-    };
-    let receipt = receipts.first()?;
-    if receipts.len() > 1 || !receipt.event().equal(event) || !receipt.reply().equal(reply) {
-        return Some(false);
+/// Where a seat calls.
+#[derive(Drop)]
+pub enum Keeper<L: Ledger> {
+    Book(SiteBook<L>),
+    Locked(LockedSite<L>),
+}
+
+/// A seat where it calls, beside a sound site.
+#[derive(Drop)]
+pub struct Room<'a, R, L: Ledger> {
+    pub given: &'a Given<'a, R>,
+    pub step: &'a str,
+    pub keeper: Keeper<L>,
+    pub seats: Vec<Seat<L>>,
+    pub sound: Site,
+    /// What was written to a connection.
+    pub place: Mutex<Vec<u8>>,
+}
+
+/// A keeper of a site with its one seat, or what it was to be made of.
+type Kept<L> = Result<(Keeper<L>, Vec<Seat<L>>), (AllocError, Blank, Site)>;
+
+/// What was told of an event stands in its one receipt; where memory was refused there is none.
+fn is_told(receipts: &[Receipt], event: &Event, told: &Result<Reply, StepFault>) -> bool {
+    match (receipts, told) {
+        ([one], Ok(reply)) => one.event().equal(event) && one.reply().equal(reply),
+        ([], Err(fault)) => *fault == StepFault::NoMemory,
+        _ => false,
     }
-    replies(sound, event, reply)
 }
 
-/// A seat makes a call; whether memory was refused.
-fn call<R: Threads + Wait + Sync + Print, L: Ledger>(
-    rt: &R,
-    given: &Given,
-    site: &LockedSite<L>,
-    seat: &mut Seat<L>,
-    sound: &mut Site,
-    word: &str,
-) -> Option<bool> {
-    let event = given.event(word)?;
-    let before = seat.receipts().len();
-    begin(rt, "LockedSite::call", word);
-    let reply = match word {
-        "grown" => site.call_grown(rt, seat, &event, 0),
-        _ => site.call(rt, seat, &event),
-    };
-    let is_refused = match &reply {
-        Ok(reply) => is_short(&event, reply),
-        Err(_) => true,
-    };
-    end(rt, is_refused);
-    judge(rt, is_told(seat, before, sound, &event, &reply));
-    drop(reply);
-    drop(event);
-    Some(is_refused)
-}
-
-/// Tries a call. After a refusal the site holds what it did, and made what it did.
-fn try_call<R: Threads + Wait + Sync + Print, L: Ledger>(
-    rt: &R,
-    given: &Given,
-    site: &LockedSite<L>,
-    seat: &mut Seat<L>,
-    sound: &mut Site,
-    word: &str,
-) -> Option<bool> {
-    if !call(rt, given, site, seat, sound, word)? {
-        return Some(true);
+impl<R: Threads + Wait + Sync + Print, L: Ledger> Room<'_, R, L> {
+    /// The seat makes a call, of which the sound site replies the same; whether nothing was refused.
+    fn call(&mut self, word: &str) -> Option<bool> {
+        let given = self.given;
+        let event = given.event(word)?;
+        let seat = self.seats.first_mut()?;
+        let before = seat.receipts().len();
+        given.begin(self.step, word);
+        let told = match &mut self.keeper {
+            Keeper::Book(book) => book.step(seat, &event),
+            Keeper::Locked(site) if word == "grown" => site.call_grown(given.rt, seat, &event, 0),
+            Keeper::Locked(site) => site.call(given.rt, seat, &event),
+        };
+        let is_done = matches!(&told, Ok(reply) if !is_short(&event, reply));
+        given.end(!is_done);
+        let receipts = seat.receipts().get(before..).unwrap_or(&[]);
+        given.judge(Some(is_told(receipts, &event, &told)));
+        given.judge(follows(&mut self.sound, receipts));
+        drop(told);
+        drop(event);
+        Some(is_done)
     }
-    call(rt, given, site, seat, sound, "whole")?;
-    call(rt, given, site, seat, sound, "own")?;
-    Some(!call(rt, given, site, seat, sound, word)?)
-}
 
-/// Tries to serve a connection. After a refusal the site holds and made what the seat's receipts say.
-fn try_connection<R: Threads + Wait + Sync + Print, L: Ledger>(
-    rt: &R,
-    given: &Given,
-    site: &LockedSite<L>,
-    seats: &mut Vec<Seat<L>>,
-    sound: &mut Site,
-) -> Option<bool> {
-    let place: Place = Mutex::new(Vec::with_capacity(given.alloc, ROOM).ok()?);
-    let from = seats.first()?.receipts().len();
-    for _ in 0..2 {
-        let is_refused = connect(rt, given, site, seats, sound, from, &place)?;
-        try_call(rt, given, site, seats.first_mut()?, sound, "whole")?;
-        try_call(rt, given, site, seats.first_mut()?, sound, "own")?;
-        if !is_refused {
+    /// Tries a call. After a refusal the site holds what it did, and made what it did, which the seat asks for.
+    pub fn try_call(&mut self, word: &str) -> Option<bool> {
+        Some(self.call(word)? || self.call("whole")? && self.call("own")? && self.call(word)?)
+    }
+
+    /// Tries all calls, and what a locked site has alone: a call at a log that has grown, and a connection.
+    fn try_calls(&mut self) -> Option<bool> {
+        for word in CALLS.split(' ') {
+            self.given.judge(self.try_call(word));
+        }
+        if let Keeper::Book(_) = &self.keeper {
             return Some(true);
         }
+        self.given.judge(self.try_call("grown"));
+        let from = self.seats.first()?.receipts().len();
+        Some(self.connect(from)? || self.connect(from)?)
     }
-    Some(false)
-}
 
-/// Tries all calls, and then a connection.
-fn try_calls<R: Threads + Wait + Sync + Print, L: Ledger>(
-    rt: &R,
-    given: &Given,
-    site: &LockedSite<L>,
-    seats: &mut Vec<Seat<L>>,
-    sound: &mut Site,
-) -> Option<bool> {
-    let seat = seats.first_mut()?;
-    for word in CALLS {
-        judge(rt, try_call(rt, given, site, seat, sound, word));
-    }
-    try_connection(rt, given, site, seats, sound)
-}
-
-/// A site under a lock, which may be refused once: then it is as it was.
-fn locked<R: Print, L: Ledger>(
-    rt: &R,
-    given: &Given,
-    blank: Blank,
-) -> Option<(LockedSite<L>, Vec<Seat<L>>)>
-    requires name { blank.name ≡ L.name }
-    requires parts { blank.parts ≡ L.parts }
-    requires one { blank.parts ≡ 1 }
-{
-    let site = given.site()?;
-    begin(rt, "LockedSite::start", "a site");
-    let (blank, site) = match LockedSite::<L>::start(given.alloc, blank, site, 1, LIMIT) {
-        Ok(started) => {
-            end(rt, false);
-            return Some(started);
-        }
-        Err((_, blank, site)) => (blank, site),
-    };
-    end(rt, true);
-    let other = given.site()?;
-    judge(rt, same_sites(&site, &other, &[]));
-    begin(rt, "LockedSite::start", "a site");
-    let started = LockedSite::<L>::start(given.alloc, blank, site, 1, LIMIT).ok();
-    end(rt, started.is_none());
-    started
-}
-
-/// A locked site settles with its one seat: the history is what the receipts of the seat say.
-fn settles<L: Ledger>(site: LockedSite<L>, seats: Vec<Seat<L>>) -> Option<bool> {
-    let receipts = seats.first()?.receipts().len();
-    match site.settle(seats) {
-        Ok(settled) => {
-            let entries = settled.pages().entries();
-            drop(settled);
-            Some(entries == receipts)
-        }
-        Err(unsettled) => {
-            drop(unsettled);
-            None
+    /// The site, settled.
+    fn settled(self) -> Option<Settled<L>> {
+        let (keeper, seats) = (self.keeper, self.seats);
+        match keeper {
+            Keeper::Book(book) => book.settle(seats).ok(),
+            Keeper::Locked(site) => site.settle(seats).ok(),
         }
     }
 }
 
-/// Tries to lock a site, all calls and a connection, and settles the site.
-pub fn try_seats<R: Threads + Wait + Sync + Print, L: Ledger>(
-    rt: &R,
-    given: &Given,
-    blank: Blank,
-) -> Option<bool>
-    requires name { blank.name ≡ L.name }
-    requires parts { blank.parts ≡ L.parts }
-    requires one { blank.parts ≡ 1 }
-{
-    let mut sound = given.site()?;
-    let (site, mut seats) = locked::<R, L>(rt, given, blank)?;
-    judge(rt, try_calls(rt, given, &site, &mut seats, &mut sound));
-    drop(sound);
-    settles(site, seats)
+impl<R: Threads + Wait + Sync + Print> Given<'_, R> {
+    /// A new site to which happens what the receipts of a settled one say becomes that one.
+    fn is_history<L: Ledger>(&self, settled: &Settled<L>) -> Option<bool> {
+        let mut other = self.site()?;
+        let is_replied = follows(&mut other, settled.receipts(0)?)?;
+        Some(is_replied && same_sites(settled.pages().site(), &other, &[])?)
+    }
+
+    /// Settles a room's site.
+    fn settles<L: Ledger>(&self, room: Room<'_, R, L>) -> Option<bool> {
+        let settled = room.settled()?;
+        let is_same = self.is_history(&settled);
+        drop(settled);
+        is_same
+    }
+
+    /// Has a book keep a site, or a lock.
+    fn keep<L: Ledger>(&self, is_locked: bool, blank: Blank, site: Site) -> Kept<L>
+        requires { (blank.name ≡ L.name) × (blank.parts ≡ L.parts) × (blank.parts ≡ 1) }
+        ensures { IfErr result (λ r. r.1 ≡ blank) }
+    {
+        if is_locked {
+            self.begin("LockedSite::start", "a site");
+            let kept = LockedSite::start(self.alloc, blank, site, 1, LIMIT);
+            self.end(kept.is_err());
+            let (locked, seats) = kept?;
+            return Ok((Keeper::Locked(locked), seats));
+        }
+        self.begin("SiteBook::start", "a site");
+        let kept = SiteBook::start(self.alloc, blank, site, 1, LIMIT);
+        self.end(kept.is_err());
+        let (book, seats) = kept?;
+        Ok((Keeper::Book(book), seats))
+    }
+
+    /// Tries to have a site kept, which stays as it was where that is refused, and then all calls of its seat.
+    pub fn try_seats<L: Ledger>(&self, is_locked: bool, blank: Blank) -> Option<bool>
+        requires { (blank.name ≡ L.name) × (blank.parts ≡ L.parts) × (blank.parts ≡ 1) }
+    {
+        let place = Mutex::new(Vec::with_capacity(self.alloc, ROOM).ok()?);
+        let (site, sound) = (self.site()?, self.site()?);
+        let (keeper, seats) = match self.keep::<L>(is_locked, blank, site) {
+            Ok(kept) => kept,
+            Err((_, blank, site)) => {
+                self.judge(same_sites(&site, &sound, &[]));
+                self.keep(is_locked, blank, site).ok()?
+            }
+        };
+        let step = if is_locked {
+            "LockedSite::call"
+        } else {
+            "SiteBook::step"
+        };
+        let mut room = Room {
+            given: self,
+            step,
+            keeper,
+            seats,
+            sound,
+            place,
+        };
+        self.judge(room.try_calls());
+        self.settles(room)
+    }
 }
