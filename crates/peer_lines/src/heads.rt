@@ -31,6 +31,8 @@ pub enum HeadFault {
     OwnNumber,
     #[error("its letters are of more than one site")]
     OtherSite,
+    #[error("it sent what is no notice")]
+    NoNotice,
     #[error("memory ran out")]
     NoMemory,
 }
@@ -92,7 +94,7 @@ pub struct Heads {
 }
 
 /// So many bytes at most.
-fn up_to(bytes: &[u8], most: usize) -> &[u8] {
+pub(crate) fn up_to(bytes: &[u8], most: usize) -> &[u8] {
     bytes.get(..most).unwrap_or(bytes)
 }
 
@@ -125,8 +127,13 @@ impl Heads {
         Ok(())
     }
 
+    /// Whether the next byte is the first of a letter.
+    pub(crate) fn is_between(&self) -> bool {
+        self.left == 0 && self.begun.is_empty()
+    }
+
     /// Takes some of the next bytes, and tells how many.
-    fn take(&mut self, bytes: &[u8]) -> Result<usize, HeadFault> {
+    pub(crate) fn take(&mut self, bytes: &[u8]) -> Result<usize, HeadFault> {
         if self.left > 0 {
             let piece = up_to(bytes, self.left);
             self.left = self.left.saturating_sub(piece.len());

@@ -1,16 +1,27 @@
 //! Links of peer sites as they come and go: a line is opened, under a secret or without one; the heads of its letters are judged as soon
-//! as they are there; and each peer site has one seat, of which its newest link takes the place of the one before.
+//! as they are there; each peer site has one seat, of which its newest link takes the place of the one before; and between letters a site
+//! tells which hosts it reaches.
 #![tactic(auto)]
 
 mod board;
 mod ends;
 mod heads;
+mod hearing;
 mod line;
 mod link;
+mod notice;
 mod opening;
+mod sieve;
+mod teller;
+#[cfg(test)]
+mod tests;
 
 pub use board::{Board, Claim, Slot};
 pub use heads::{Expected, HeadFault, Sender};
+pub use hearing::Hearing;
 pub use line::Line;
 pub use link::{Link, Unlinked};
+pub use notice::Notice;
 pub use opening::Opening;
+pub use reached_hosts::{Moment, ReachedHosts};
+pub use teller::Teller;

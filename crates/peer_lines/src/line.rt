@@ -85,7 +85,7 @@ impl Line {
     }
 }
 
-/// A line that is read and written, within its time.
+/// A line that is read, within its time.
 #[derive(Drop)]
 pub struct Timely<'r, C> {
     pub(crate) clock: &'r C,
@@ -106,7 +106,13 @@ impl<C: Clock> Read for Timely<'_, C> {
     }
 }
 
-impl<C: Clock> Write for Timely<'_, C> {
+/// A line that is written.
+#[derive(Drop)]
+pub struct Outward {
+    pub(crate) line: Arc<Line>,
+}
+
+impl Write for Outward {
     fn write(&mut self, buf: &[u8]) -> io::Result<usize> {
         let mut stream = &self.line.stream;
         stream.write(buf)

@@ -1,12 +1,17 @@
 //! A link as letters are exchanged over it: the heads of what comes are judged, and it is noted how far the letters tell that go.
 ghost use Rattle.std.specs.Prelude.{◌≤◌, length};
 
-use crate::ends::Ends;
-use crate::heads::{Expected, HeadFault, Heads, Sender};
+use crate::ends::{Ends, Input};
+use crate::heads::{Expected, HeadFault, Sender};
+use crate::hearing::Hearing;
 use crate::line::Line;
-use std::alloc::Global;
+use crate::notice::Notice;
+use crate::sieve::{Sieve, Sieved};
+use crate::teller::Teller;
+use std::alloc::{AllocError, Global};
 use std::io::{self, ErrorKind, Read, Write};
-use std::sync::Arc;
+use std::mem::replace;
+use std::sync::{Arc, Wait};
 use std::time::Clock;
 
 /// How many bytes are read at once before the first letter's head is judged.
@@ -51,13 +56,18 @@ fn told_by(letter: &[u8]) -> Option<u64> {
 /// A link.
 #[derive(Drop)]
 pub struct Link<'r, C: Clock> {
-    ends: Ends<'r, C>,
+    alloc: Global,
+    rt: &'r C,
+    input: Input<'r, C>,
+    teller: Arc<Teller>,
     line: Arc<Line>,
-    heads: Heads,
-    /// What came before the link was given to its worker.
-    begun: Vec<u8>,
-    /// How much of that was read.
+    sieve: Sieve,
+    /// What came and isn't given yet.
+    came: Sieved,
+    /// How much of its letters was given.
     given: usize,
+    /// Who hears the notices of a site, and of which.
+    hearing: Option<(&'r Hearing, u8)>,
     /// A letter is being written.
     is_writing: bool,
 }
@@ -94,24 +104,41 @@ impl<'r, C: Clock> Link<'r, C> {
     /// Over these directions of a line.
     pub(crate) fn of(
         alloc: Global,
+        rt: &'r C,
         ends: Ends<'r, C>,
         line: Arc<Line>,
         expected: Expected,
-    ) -> Link<'r, C> {
-        Link {
-            ends,
+    ) -> Result<Link<'r, C>, AllocError> {
+        let Ends { input, output } = ends;
+        let teller = Arc::new(alloc, Teller::of(output))?;
+        Ok(Link {
+            alloc,
+            rt,
+            input,
+            teller,
             line,
-            heads: Heads::start(alloc, expected),
-            begun: Vec::new(alloc),
+            sieve: Sieve::start(alloc, expected),
+            came: Sieved::nothing(alloc),
             given: 0,
+            hearing: None,
             is_writing: false,
-        }
+        })
+    }
+
+    /// By what notices go out over it.
+    pub fn teller(&self) -> Result<Arc<Teller>, AllocError> {
+        Arc::try_clone(&self.teller)
+    }
+
+    /// Has the notices that come heard as those of a site.
+    pub fn hear(&mut self, hearing: &'r Hearing, site: u8) {
+        self.hearing = Some((hearing, site));
     }
 
     /// Reads until the head of the first letter is there: who sends it.
     pub fn first_sender(&mut self) -> Result<Sender, Unlinked> {
         for _ in 0..READS {
-            if let Some(sender) = self.heads.sender() {
+            if let Some(sender) = self.sieve.sender() {
                 return Ok(sender);
             }
             self.begin()?;
@@ -122,26 +149,23 @@ impl<'r, C: Clock> Link<'r, C> {
     /// Reads some of what comes first.
     fn begin(&mut self) -> Result<(), Unlinked> {
         let mut piece = [0u8; PIECE_BYTES];
-        let count = match self.ends.read(&mut piece) {
+        let count = match self.input.read(&mut piece) {
             Ok(0) => return Err(Unlinked::Lost(ErrorKind::UnexpectedEof)),
             Ok(count) => count,
             Err(error) => return Err(Unlinked::Lost(error.kind())),
         };
         let bytes = piece.get(..count).unwrap_or(&[]);
-        if let Err(fault) = self.heads.judge(bytes) {
+        if let Err(fault) = self.sieve.take(bytes, &mut self.came) {
             return Err(Unlinked::Head(fault));
-        }
-        if self.begun.extend_from_slice(bytes).is_err() {
-            return Err(Unlinked::Head(HeadFault::NoMemory));
         }
         Ok(())
     }
 
-    /// Gives what came before, as much as there is room for.
+    /// Gives letters that came, as much as there is room for.
     fn give(&mut self, buf: &mut [u8]) -> usize
         ensures { result ≤ length buf.new }
     {
-        let Some(rest) = self.begun.as_slice().get(self.given..) else {
+        let Some(rest) = self.came.letters.as_slice().get(self.given..) else {
             return 0;
         };
         let count = copy_front(buf, rest);
@@ -150,20 +174,66 @@ impl<'r, C: Clock> Link<'r, C> {
     }
 }
 
-impl<C: Clock> Read for Link<'_, C> {
-    fn read(&mut self, buf: &mut [u8]) -> io::Result<usize> {
-        if self.given < self.begun.len() {
-            return Ok(self.give(buf));
+impl<C: Clock + Wait> Link<'_, C> {
+    /// Has what notices came be heard, if somebody hears them.
+    fn pass_notices(&mut self) -> Result<(), AllocError> {
+        if self.came.notices.is_empty() {
+            return Ok(());
         }
-        let count = self.ends.read(buf)?;
-        match self.heads.judge(buf.get(..count).unwrap_or(&[])) {
-            Ok(()) => Ok(count),
-            Err(_) => Err(io::Error::from(ErrorKind::InvalidData)),
+        let notices = replace(&mut self.came.notices, Vec::new(self.alloc));
+        match self.hearing {
+            Some((hearing, site)) => hear_all(self.rt, hearing, site, notices),
+            None => Ok(()),
+        }
+    }
+
+    /// Reads some of what comes next: whether something came.
+    fn go_on(&mut self, room: &mut [u8]) -> io::Result<bool> {
+        self.came.letters.clear();
+        self.given = 0;
+        let count = self.input.read(room)?;
+        let bytes = room.get(..count).unwrap_or(&[]);
+        if self.sieve.take(bytes, &mut self.came).is_err() {
+            return Err(io::Error::from(ErrorKind::InvalidData));
+        }
+        match self.pass_notices() {
+            Ok(()) => Ok(count > 0),
+            Err(_) => Err(io::Error::from(ErrorKind::OutOfMemory)),
         }
     }
 }
 
-impl<C: Clock> Write for Link<'_, C> {
+/// Has notices of a site be heard, in order.
+fn hear_all(
+    rt: &impl Wait,
+    hearing: &Hearing,
+    site: u8,
+    notices: Vec<Notice>,
+) -> Result<(), AllocError> {
+    for notice in notices {
+        hearing.hear(rt, site, notice)?;
+    }
+    Ok(())
+}
+
+impl<C: Clock + Wait> Read for Link<'_, C> {
+    fn read(&mut self, buf: &mut [u8]) -> io::Result<usize> {
+        if buf.is_empty() {
+            return Ok(0);
+        }
+        for _ in self.rt.forever() {
+            if self.given < self.came.letters.len() {
+                return Ok(self.give(buf));
+            }
+            if !self.go_on(buf)? {
+                return Ok(0);
+            }
+        }
+        unreachable!()
+    }
+}
+
+impl<C: Clock + Wait> Write for Link<'_, C> {
     fn write(&mut self, buf: &[u8]) -> io::Result<usize> {
         if !self.is_writing {
             self.is_writing = true;
@@ -171,11 +241,11 @@ impl<C: Clock> Write for Link<'_, C> {
                 self.line.tell(told);
             }
         }
-        self.ends.write(buf)
+        self.teller.write(self.rt, buf)
     }
 
     fn flush(&mut self) -> io::Result<()> {
         self.is_writing = false;
-        self.ends.flush()
+        self.teller.flush(self.rt)
     }
 }

@@ -1,15 +1,16 @@
 //! A link is opened: both ends prove that they have the secret, where there is one.
-use crate::ends::Ends;
+use crate::ends::{Ends, Input};
 use crate::heads::Expected;
-use crate::line::{Line, Timely};
+use crate::line::{Line, Outward, Timely};
 use crate::link::Link;
+use crate::teller::Output;
 use sealed_links::{
     CHALLENGE_BYTES, Course, Greeting, Key, SealFault, SealedReader, SealedWriter, Side,
     prove_dialling, prove_listening,
 };
 use std::alloc::Global;
 use std::random::RandomSource;
-use std::sync::Arc;
+use std::sync::{Arc, Wait};
 use std::time::Clock;
 
 /// How links of a site are opened.
@@ -47,8 +48,7 @@ impl Opening {
             clock: rt,
             line: Arc::try_clone(line)?,
         };
-        let mut writer = Timely {
-            clock: rt,
+        let mut writer = Outward {
             line: Arc::try_clone(line)?,
         };
         let own = self.greeting(rt)?;
@@ -57,14 +57,31 @@ impl Opening {
             Side::Listener => prove_listening(&mut reader, &mut writer, secret, own)?,
         };
         let key = both.key(secret);
-        Ok(Ends::Sealed(
-            SealedReader::start(self.alloc, reader, Course::start(key, side.other())),
-            SealedWriter::start(self.alloc, writer, Course::start(key, side)),
-        ))
+        let input = SealedReader::start(self.alloc, reader, Course::start(key, side.other()));
+        let output = SealedWriter::start(self.alloc, writer, Course::start(key, side));
+        Ok(Ends {
+            input: Input::Sealed(input),
+            output: Output::Sealed(output),
+        })
+    }
+
+    /// The two directions of a line as they are.
+    fn plain<'r, R: Clock>(&self, rt: &'r R, line: &Arc<Line>) -> Result<Ends<'r, R>, SealFault> {
+        let input = Timely {
+            clock: rt,
+            line: Arc::try_clone(line)?,
+        };
+        let output = Outward {
+            line: Arc::try_clone(line)?,
+        };
+        Ok(Ends {
+            input: Input::Plain(input),
+            output: Output::Plain(output),
+        })
     }
 
     /// A link over a line, of which this end is that one.
-    pub fn link<'r, R: Clock + RandomSource>(
+    pub fn link<'r, R: Clock + RandomSource + Wait>(
         &self,
         rt: &'r R,
         line: &Arc<Line>,
@@ -72,12 +89,9 @@ impl Opening {
     ) -> Result<Link<'r, R>, SealFault> {
         let ends = match &self.secret {
             Some(secret) => self.sealed(rt, line, secret, side)?,
-            None => Ends::Plain(Timely {
-                clock: rt,
-                line: Arc::try_clone(line)?,
-            }),
+            None => self.plain(rt, line)?,
         };
         let line = Arc::try_clone(line)?;
-        Ok(Link::of(self.alloc, ends, line, self.expected))
+        Ok(Link::of(self.alloc, rt, ends, line, self.expected)?)
     }
 }
