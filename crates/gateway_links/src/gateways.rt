@@ -4,6 +4,7 @@ use crate::observer::{Observer, Unobserved};
 use pcrf_values::DiameterIdentity;
 use ranked::Ranked;
 use std::alloc::{AllocError, Global};
+use std::collections::BTreeSet;
 use std::io::Write;
 use std::sync::{Arc, Mutex, Wait};
 
@@ -96,6 +97,37 @@ impl<W: Write + Drop, O: Observer> Gateways<W, O> {
     pub fn take_ended_out(&self, rt: &impl Wait) {
         let mut reached = self.reached.lock(rt);
         reached.retain(|gateway: &Reached<W>| !gateway.half.has_ended());
+    }
+
+    /// The hosts that are reached, each once.
+    pub fn hosts(
+        &self,
+        rt: &impl Wait,
+        alloc: Global,
+    ) -> Result<BTreeSet<DiameterIdentity>, AllocError> {
+        let mut hosts = BTreeSet::new(alloc);
+        let reached = self.reached.lock(rt);
+        for gateway in reached.as_slice() {
+            if !gateway.half.has_ended() && hosts.insert(gateway.host.try_copy()?).is_err() {
+                return Err(AllocError);
+            }
+        }
+        Ok(hosts)
+    }
+
+    /// The half by which a host is reached, if it is.
+    pub(crate) fn half_of(
+        &self,
+        rt: &impl Wait,
+        host: &DiameterIdentity,
+    ) -> Result<Option<Arc<Half<W>>>, AllocError> {
+        let reached = self.reached.lock(rt);
+        for gateway in reached.as_slice().iter().rev() {
+            if gateway.host == *host && !gateway.half.has_ended() {
+                return Ok(Some(Arc::try_clone(&gateway.half)?));
+            }
+        }
+        Ok(None)
     }
 
     /// How many connections reach a host.

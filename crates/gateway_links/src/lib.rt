@@ -1,8 +1,10 @@
-//! How gateways are reached: the writing halves of their connections, by host, and the pushes that go out by them.
+//! How gateways are reached: the writing halves of their connections, by host, the pushes that go out by them, and
+//! the sessions that are taken over from another site.
 #![tactic(auto)]
 
 mod counting;
 mod gateways;
+mod going_over;
 mod half;
 mod observer;
 mod outgoing;
@@ -10,6 +12,7 @@ mod pushing;
 
 pub use counting::first_end_id;
 pub use gateways::Gateways;
+pub use going_over::{GoneOver, go_over};
 pub use half::Half;
 pub use observer::{Observer, Unobserved};
 pub use outgoing::Outgoing;

@@ -47,7 +47,7 @@ enum Pushed {
 
 /// The bytes of a push's re-authorisation request with these identifiers.
 #[tactic(auto, unfolding(gx_profile::specs::Pushes::rar))]
-fn request_bytes(
+pub(crate) fn request_bytes(
     alloc: Global,
     identity: &Identity,
     hop_id: u32,
@@ -86,14 +86,14 @@ fn abort_bytes(
 }
 
 /// The Hop-by-Hop Identifier of a request that stands at this place.
-fn hop_id_at(place: u64) -> u32
+pub(crate) fn hop_id_at(place: u64) -> u32
     ensures { result ≡ identifier_at place }
 {
     (place % IDENTIFIERS) as u32
 }
 
 /// The End-to-End Identifier of a request that stands at this place.
-fn end_id_at(first: u32, place: u64) -> u32
+pub(crate) fn end_id_at(first: u32, place: u64) -> u32
     ensures { result ≡ identifier_at (first + place) }
 {
     ((u64::from(first) + place % IDENTIFIERS) % IDENTIFIERS) as u32
