@@ -14,6 +14,7 @@ from sites import SECONDS, TABLES, Site, free_ports
 
 ENDED = re.compile(r"connection \d+ from \S+ (ended|was lost|was closed):")
 STAMP = re.compile(r"\d{4}-\d\d-\d\dT\d\d:\d\d:\d\d\.\d{3}Z \[(INFO |WARN |ERROR) pcrf\] (.*)")
+NOTICE = 240  # what a notice has where a letter has its version
 FLOWS = [("Media-Sub-Component", [("Flow-Number", 1), ("Flow-Description", "permit out ip from any to any")])]
 MANY_FLOWS = [("Media-Sub-Component", [("Flow-Number", number), ("Flow-Description", f"permit out 17 from 192.0.2.{number} to any 4000")])
               for number in range(1, 31)]
@@ -196,16 +197,17 @@ class Relay:
             threading.Thread(target=self.pass_bytes, args=(far, near), daemon=True).start()
 
     def pass_letters(self, near, far):
-        """Hands on what the site says that dialled. Of each letter's head the epoch is noted."""
+        """Hands on what the site says that dialled. Of each letter's head the epoch is noted, and notices are passed over."""
         pending, left = b"", 0
 
         def look(piece):
             nonlocal pending, left
             pending += piece
-            while len(pending) > left + 12:
-                length, _version, _edition, _site, epoch, _kind = struct.unpack(">IBIBHB", pending[left : left + 13])
-                self.epochs.append(epoch)
-                pending, left = pending[left:], 4 + length
+            while len(pending) > left + 4 and (pending[left + 4] == NOTICE or len(pending) > left + 12):
+                pending = pending[left:]
+                left = 4 + struct.unpack(">I", pending[:4])[0]
+                if pending[4] != NOTICE:
+                    self.epochs.append(struct.unpack(">H", pending[10:12])[0])
             pending, left = pending[left:], max(0, left - len(pending))
 
         self.pass_bytes(near, far, look)

@@ -113,9 +113,11 @@ pub fn stay<M: Machine, G: Log + Sync, R: Input, W: Output>(
         connections: plan.connections,
         watchdog: stay.watchdog,
         wait: stay.wait,
+        over: stay.over,
         log_limit: stay.log,
         epoch_file: stay.epoch_file,
         secret,
+        status: stay.status,
         addresses: Addresses {
             listen: words.listen,
             exchange: words.exchange,

@@ -4,6 +4,7 @@ mod accepting;
 mod answers;
 mod chairs;
 mod exchange;
+mod going_over;
 mod journal;
 pub mod keeping;
 pub mod machine;
@@ -12,6 +13,7 @@ mod reach;
 mod serving;
 pub mod showing;
 mod sockets;
+mod status;
 mod working;
 
 pub use keeping::Housekeeper;

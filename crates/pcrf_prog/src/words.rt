@@ -22,6 +22,9 @@ const WAITS: i64 = 3601;
 /// How many it waits, where nobody says.
 const WAIT: u16 = 10;
 
+/// Behind how many seconds without a link to a peer sessions are taken over, where nobody says.
+const OVER: u16 = 5;
+
 /// How many operations of its own a site makes in an epoch at most before it begins the next, where nobody says.
 const LOG: u64 = 1_000_000;
 
@@ -43,12 +46,16 @@ pub struct StayWords<'a> {
     pub watchdog: u16,
     /// How many seconds it waits at most before it serves, until a peer site told it all.
     pub wait: u16,
+    /// For how many seconds a peer site may have no link before the sessions of its gateways are taken over.
+    pub over: u16,
     /// How many operations of its own it makes in an epoch at most before it begins the next.
     pub log: u64,
     /// The file that says how often the site has started, in place of its epoch.
     pub epoch_file: Option<&'a str>,
     /// The file of the secret that all sites have.
     pub secret: Option<&'a str>,
+    /// Where it can be asked over HTTP.
+    pub status: Option<&'a str>,
 }
 
 /// The words of a server, whose numbers are in their ranges.
@@ -163,8 +170,21 @@ fn with_stay<'a>(alloc: Global, serve: Command<'a>) -> Result<Command<'a>, Alloc
     )
     .requires_arg("stay")?;
     let serve = serve.arg(wait.value_parser(value_parser!(u16).range(..WAITS)))?;
+    let serve = with_over(alloc, serve)?;
     let serve = with_log(alloc, serve)?;
     with_files(alloc, serve)
+}
+
+/// Adds the option of a server that stays which says when it takes over what another site left.
+fn with_over<'a>(alloc: Global, serve: Command<'a>) -> Result<Command<'a>, AllocError> {
+    let over = choice(
+        alloc,
+        "over",
+        "SECONDS",
+        "Behind how many seconds without a link to a peer the sessions are taken over whose gateways went over from it, 0 to 3600, with --stay; 5 by default",
+    )
+    .requires_arg("stay")?;
+    serve.arg(over.value_parser(value_parser!(u16).range(..WAITS)))
 }
 
 /// Adds the option of a server that stays which says how long its log may be.
@@ -179,7 +199,7 @@ fn with_log<'a>(alloc: Global, serve: Command<'a>) -> Result<Command<'a>, AllocE
     serve.arg(log.value_parser(value_parser!(u64).range(1..)))
 }
 
-/// Adds the options of a server that stays which are files.
+/// Adds the options of a server that stays which are files, and the address at which it can be asked.
 fn with_files<'a>(alloc: Global, serve: Command<'a>) -> Result<Command<'a>, AllocError> {
     let epoch = choice(
         alloc,
@@ -197,7 +217,15 @@ fn with_files<'a>(alloc: Global, serve: Command<'a>) -> Result<Command<'a>, Allo
         "The file with the secret that all sites have, 32 bytes or more in hexadecimal digits, with --stay",
     )
     .requires_arg("stay")?;
-    serve.arg(secret)
+    let serve = serve.arg(secret)?;
+    let status = choice(
+        alloc,
+        "status",
+        "ADDRESS:PORT",
+        "Where its figures and its health can be asked over HTTP, with --stay; nowhere by default",
+    )
+    .requires_arg("stay")?;
+    serve.arg(status)
 }
 
 /// Adds the options that are names and addresses.
@@ -265,9 +293,11 @@ fn stay_words<'a>(matches: &ArgMatches<'a>) -> Option<StayWords<'a>> {
     Some(StayWords {
         watchdog: matches.get_one::<u16>("watchdog").unwrap_or(WATCHDOG),
         wait: matches.get_one::<u16>("wait").unwrap_or(WAIT),
+        over: matches.get_one::<u16>("over").unwrap_or(OVER),
         log: matches.get_one::<u64>("log").unwrap_or(LOG),
         epoch_file: matches.get_str("epoch-file"),
         secret: matches.get_str("secret"),
+        status: matches.get_str("status"),
     })
 }
 

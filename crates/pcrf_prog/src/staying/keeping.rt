@@ -11,10 +11,11 @@ use crate::staying::working::Shared;
 use link_ends::SharedSite;
 use living_site::{BeginFault, Keeper, LivingSite, Roll};
 use log::Log;
+use metered_site::MeteredSite;
 use std::alloc::Global;
 use std::sync::atomic::Ordering;
 use std::thread;
-use std::time::Duration;
+use std::time::{Clock, Duration};
 use thiserror::Error;
 use watched_links::Quiet;
 
@@ -71,9 +72,14 @@ impl<'r, L: Roll> EpochKeeper<'r, L> {
     }
 }
 
-impl<L: Roll + Send + Sync> Housekeeper<LivingSite<L>> for EpochKeeper<'_, L> {
+impl<L: Roll + Send + Sync, C: Clock> Housekeeper<MeteredSite<'_, LivingSite<L>, C>>
+    for EpochKeeper<'_, L> {
     /// The file says the epoch before the site begins it.
-    fn begin_next<M: Machine>(&mut self, rt: &M, site: &LivingSite<L>) -> Result<u16, Unbegun> {
+    fn begin_next<M: Machine>(
+        &mut self,
+        rt: &M,
+        site: &MeteredSite<'_, LivingSite<L>, C>,
+    ) -> Result<u16, Unbegun> {
         let Some(epoch) = self.keeper.epoch().checked_add(1) else {
             return Err(Unbegun::LastEpoch);
         };
@@ -84,7 +90,7 @@ impl<L: Roll + Send + Sync> Housekeeper<LivingSite<L>> for EpochKeeper<'_, L> {
                 Err(_) => return Err(Unbegun::Unwritten),
             }
         }
-        match site.begin_anew(rt, &mut self.keeper) {
+        match site.site().begin_anew(rt, &mut self.keeper) {
             Ok(()) => Ok(epoch),
             Err(BeginFault::EpochFull) => Err(Unbegun::LastEpoch),
             Err(BeginFault::NoMemory) => Err(Unbegun::NoMemory),
@@ -104,12 +110,15 @@ fn keep_log_short<'s, 'r, S: SharedSite, M: Machine, G: Log, K: Housekeeper<S>>(
     let Some(made) = log_length(rt, all.server.site, seat) else {
         return;
     };
+    let figures = &all.furniture.figures;
+    figures.site.operations.put(made);
     if made <= limit {
         return;
     }
     match keeper.begin_next(rt, all.server.site) {
         Ok(epoch) => {
             all.furniture.beginnings.fetch_add(1, Ordering::SeqCst);
+            figures.begin_anew();
             tell_begun_anew(all.log, epoch, made);
         }
         Err(why) => {
@@ -141,6 +150,21 @@ fn tell_all_missed<'s, 'r, S: SharedSite, M: Machine, G: Log>(
     }
 }
 
+/// Looks for which hosts something may wait.
+fn see_all_waiting<'s, 'r, S: SharedSite, M: Machine, G: Log>(
+    rt: &'s M,
+    all: &'s Shared<'s, 'r, S, M, G>,
+    seat: &mut S::Seat,
+) {
+    let guests = &all.furniture.guests;
+    for number in 0..guests.count(rt) {
+        if let Some(seen) = guests.seen(rt, number) {
+            let is_waiting = all.server.site.wants_push(rt, seat, &seen.host);
+            guests.set_waiting(rt, number, is_waiting);
+        }
+    }
+}
+
 /// Looks again and again how long the log is, and who is away, as long as the server runs: the site begins its next epoch behind so many
 /// operations.
 pub fn keep_house<'s, 'r, S: SharedSite, M: Machine, G: Log, K: Housekeeper<S>>(
@@ -155,6 +179,7 @@ pub fn keep_house<'s, 'r, S: SharedSite, M: Machine, G: Log, K: Housekeeper<S>>(
     for _ in rt.forever() {
         thread::sleep(rt, Duration::from_secs(LOOK_SECONDS));
         tell_all_missed(rt, all, &mut seat);
+        see_all_waiting(rt, all, &mut seat);
         keep_log_short(rt, all, &mut seat, limit, &mut keeper, &mut unbegun);
     }
 }

@@ -7,22 +7,25 @@ use crate::staying::accepting::accept_all;
 use crate::staying::answers::KeptAnswers;
 use crate::staying::chairs::{Doors, chairs};
 use crate::staying::exchange::{Exchange, accept_links, dial_on, take_links};
+use crate::staying::going_over::look_for_moved;
 use crate::staying::journal::{
-    Journal, tell_no_start, tell_unkept, tell_unlinked_peer, tell_unstaffed,
+    Journal, tell_no_start, tell_no_taking_over, tell_unkept, tell_unlinked_peer, tell_unstaffed,
 };
 use crate::staying::keeping::{EpochKeeper, Housekeeper, keep_house};
 use crate::staying::machine::Machine;
 use crate::staying::showing::{Console, Input, Output, show_on};
 use crate::staying::sockets::{address_of, bind};
+use crate::staying::status::{ASKS, Figures, accept_asks, answer_asks};
 use crate::staying::working::{Furniture, Shared, work};
 use dia_base::Identity;
 use gateway_links::first_end_id;
 use link_ends::SharedSite;
 use living_site::{LivingSite, Roll, Roster};
 use log::Log;
+use metered_site::MeteredSite;
 use op_tables::Tables;
 use pcrf_serve::{Gateways, Server, Site};
-use peer_lines::{Board, Expected, Opening, Slot};
+use peer_lines::{Board, Expected, Hearing, Opening, Slot};
 use ranked::Ranked;
 use sealed_links::Key;
 use std::alloc::{AllocError, Global};
@@ -47,12 +50,16 @@ pub struct StaySettings<'a> {
     pub watchdog: u16,
     /// How many seconds it waits at most before it serves, until a peer site told it all.
     pub wait: u16,
+    /// For how many seconds a peer site may have no link before the sessions of its gateways are taken over that are connected here.
+    pub over: u16,
     /// How many operations of its own it makes in an epoch at most before it begins the next.
     pub log_limit: u64,
     /// The file that says its epoch, if one does.
     pub epoch_file: Option<&'a str>,
     /// The secret that all sites have, if they have one.
     pub secret: Option<Key>,
+    /// Where it can be asked over HTTP, if it can.
+    pub status: Option<&'a str>,
     /// Where it and its peer sites are.
     pub addresses: Addresses<'a>,
 }
@@ -102,6 +109,8 @@ fn furnished<M: Machine, G: Log>(
         sent: SentPushes::start(alloc),
         guests: Guests::start(alloc),
         beginnings: AtomicU64::new(0),
+        asking: Hall::start(alloc, ASKS),
+        figures: Figures::start(rt, alloc, settings.addresses.peers.len())?,
     })
 }
 
@@ -112,10 +121,12 @@ struct Sockets {
     serving: TcpListener,
     /// Where peer sites connect.
     exchanging: TcpListener,
+    /// Where it can be asked over HTTP.
+    asking: Option<TcpListener>,
 }
 
-/// Seats of a server: of who serves, of who sends letters, of who asks for those how much there is, of who shows what the site holds, and
-/// of who looks how long its log is.
+/// Seats of a server: of who serves, of who sends letters, of who asks for those how much there is, of who shows what the site holds, of
+/// who looks how long its log is, and of who takes over sessions.
 #[derive(Drop)]
 struct Seats<S: Drop> {
     serving: Vec<S>,
@@ -123,6 +134,7 @@ struct Seats<S: Drop> {
     asking: Vec<S>,
     showing: Option<S>,
     keeping: Option<S>,
+    going: Option<S>,
 }
 
 impl<S: Drop> Seats<S> {
@@ -143,7 +155,7 @@ impl<S: Drop> Seats<S> {
 }
 
 /// How many seats there are beside those of connections and of peer sites.
-const OTHER_SEATS: usize = 2;
+const OTHER_SEATS: usize = 3;
 
 /// How many seats there are for each peer site.
 const SEATS_OF_A_PEER: usize = 3;
@@ -170,6 +182,7 @@ fn seated<S: SharedSite>(
         asking: Vec::new(alloc),
         showing: None,
         keeping: None,
+        going: None,
     };
     for seat in all {
         let number = site.number_of(&seat);
@@ -179,6 +192,8 @@ fn seated<S: SharedSite>(
             seats.showing = Some(seat);
         } else if number - connections == 1 {
             seats.keeping = Some(seat);
+        } else if number - connections == 2 {
+            seats.going = Some(seat);
         } else {
             seats.give(seat, number - connections, &mut taking)?;
         }
@@ -238,12 +253,12 @@ where
     S::Seat: Send,
 {
     let (mut sending, mut asking) = (sending, asking);
-    for peer in &all.exchange.peers {
+    for (place, peer) in all.exchange.peers.iter().enumerate() {
         let address = SocketAddr::V4(*peer);
         let (Some(seat), Some(probe)) = (sending.pop(), asking.pop()) else {
             continue;
         };
-        let begun = scope.spawn(move || dial_on(rt, all, seat, probe, address));
+        let begun = scope.spawn(move || dial_on(rt, all, seat, probe, address, place));
         if begun.is_err() {
             tell_unlinked_peer(all.log, address);
         }
@@ -300,6 +315,27 @@ where
     }
 }
 
+/// Starts who answers what is asked over HTTP.
+fn answer_all<'s, 'r, E, S: SharedSite + Sync + 's, M: Machine, G: Log + Sync>(
+    rt: &'s M,
+    scope: &Scope<'s, E>,
+    all: &'s Shared<'s, 'r, S, M, G>,
+    asking: &'s Option<TcpListener>,
+)
+where
+    S::Seat: Send,
+{
+    let Some(listener) = asking else {
+        return;
+    };
+    for _ in 0..ASKS {
+        if scope.spawn(move || answer_asks(rt, all)).is_err() {
+            all.furniture.asking.lose(rt);
+        }
+    }
+    let _ = scope.spawn(move || accept_asks(rt, all, listener));
+}
+
 /// Starts who has the site begin its next epoch.
 fn keep_all<
     's,
@@ -331,6 +367,27 @@ where
     }
 }
 
+/// Starts who takes over the sessions of gateways that went over to this site, where there are other sites.
+fn go_over_all<'s, 'r, E, S: SharedSite + Sync + 's, M: Machine, G: Log + Sync>(
+    rt: &'s M,
+    scope: &Scope<'s, E>,
+    all: &'s Shared<'s, 'r, S, M, G>,
+    going: Option<S::Seat>,
+)
+where
+    S::Seat: Send,
+{
+    if all.exchange.peers.is_empty() {
+        return;
+    }
+    if let Some(seat) = going {
+        let begun = scope.spawn(move || look_for_moved(rt, all, seat));
+        if begun.is_err() {
+            tell_no_taking_over(all.log);
+        }
+    }
+}
+
 /// Accepts connections as long as the server runs: at once, or where there are peer sites once one told it all.
 fn serve_all<'s, 'r, S: SharedSite, M: Machine, G: Log>(
     rt: &'s M,
@@ -343,13 +400,16 @@ fn serve_all<'s, 'r, S: SharedSite, M: Machine, G: Log>(
     let Sockets {
         serving,
         exchanging,
+        asking: _,
     } = &premises.sockets;
     if let (Ok(listen), Ok(exchange)) = (serving.local_addr(), exchanging.local_addr()) {
         tell_listens(all.log, listen, exchange);
     }
     let furniture = all.furniture;
     let count = furniture.desks.len();
-    accept_all(rt, &furniture.hall, count, serving, all.log);
+    furniture.figures.site.serving.put(1);
+    let refused = &furniture.figures.connections.refused;
+    accept_all(rt, &furniture.hall, count, serving, refused, all.log);
 }
 
 /// Starts all workers, and serves as long as the server runs.
@@ -381,9 +441,12 @@ where
         asking,
         showing,
         keeping,
+        going,
     } = seats;
+    answer_all(rt, scope, all, &premises.sockets.asking);
     show_all(rt, scope, all, showing, &premises.tables, console);
     keep_all(rt, scope, all, keeping, premises.log_limit, keeper);
+    go_over_all(rt, scope, all, going);
     staff_all(rt, scope, all, serving);
     send_all(rt, scope, all, sending, asking);
     take_all(rt, scope, all, &premises.sockets.exchanging);
@@ -465,6 +528,7 @@ where
         chairs,
         sent: &premises.furniture.sent,
         guests: &premises.furniture.guests,
+        figures: &premises.furniture.figures.site,
     };
     let gateways = Gateways::observed(alloc, journal);
     let repeats = KeptAnswers::start(alloc, rt);
@@ -494,8 +558,9 @@ fn serve_living<'r, L: Roll + Send + Sync, M: Machine, G: Log + Sync, R: Input, 
         return Err(ServerFault::NoMemory);
     };
     let keeper = EpochKeeper::starting(alloc, keeper, premises.exchange.place, epoch_file);
-    let served = serve_seated(rt, premises, &site, seats, console, log, keeper);
-    drop(site);
+    let metered = MeteredSite::of(site, rt, &premises.furniture.figures.calls);
+    let served = serve_seated(rt, premises, &metered, seats, console, log, keeper);
+    drop(metered);
     Ok(served?)
 }
 
@@ -513,7 +578,8 @@ fn peers_of<G: Log>(
 }
 
 /// What a server knows of the exchange with its peer sites.
-fn exchange_of<G: Log>(
+fn exchange_of<C: Clock, G: Log>(
+    rt: &C,
     alloc: Global,
     edition: u32,
     settings: &StaySettings<'_>,
@@ -532,6 +598,9 @@ fn exchange_of<G: Log>(
             secret: settings.secret,
         },
         peers,
+        hosts: Hearing::start(alloc, rt, settings.place.number)?,
+        patience: u64::from(settings.over).saturating_mul(1_000),
+        letters: AtomicU64::new(0),
         hall: Hall::start(alloc, links),
         closed: Mutex::new(Quiet::of(CLOSED_SECONDS)),
         ended: Mutex::new(Quiet::of(CLOSED_SECONDS)),
@@ -551,10 +620,14 @@ pub fn run_staying<M: Machine, G: Log + Sync, R: Input, W: Output>(
     console: Console<R, W>,
     log: &G,
 ) -> Result<(), ServerFault> {
-    let exchange = exchange_of(alloc, tables.edition(), settings, log)?;
+    let exchange = exchange_of(rt, alloc, tables.edition(), settings, log)?;
     let seats = exchange.peers.len().saturating_mul(SEATS_OF_A_PEER);
     let serving = bind(rt, settings.addresses.listen, log)?;
     let exchanging = bind(rt, settings.addresses.exchange, log)?;
+    let asking = match settings.status {
+        Some(address) => Some(bind(rt, address, log)?),
+        None => None,
+    };
     let furniture = furnished(rt, alloc, &identity, settings, log)?;
     let shown = tables.try_copy(alloc)?;
     let premises = Premises {
@@ -562,6 +635,7 @@ pub fn run_staying<M: Machine, G: Log + Sync, R: Input, W: Output>(
         sockets: Sockets {
             serving,
             exchanging,
+            asking,
         },
         furniture,
         tables: shown,

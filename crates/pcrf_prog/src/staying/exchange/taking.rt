@@ -8,6 +8,7 @@ use crate::staying::exchange::peers::{Exchange, LETTERS, LETTERS_SECONDS};
 use crate::staying::journal::{tell_no_memory, tell_unbegun};
 use crate::staying::machine::Machine;
 use crate::staying::reach::Reach;
+use crate::staying::status::SenderFigures;
 use crate::staying::working::Shared;
 use link_ends::{Gate, SharedSite};
 use log::Log;
@@ -28,7 +29,10 @@ struct Taking<'b, 'r, S: Drop, M, G> {
     board: &'b Board<S>,
     peer: SocketAddr,
     letters: AtomicU64,
+    /// Those of all peer sites.
+    all: &'r AtomicU64,
     quiet: Mutex<Quiet>,
+    figures: Option<&'r SenderFigures>,
 }
 
 impl<S: Drop, M: Machine, G: Log> Gate for Taking<'_, '_, S, M, G> {
@@ -42,6 +46,10 @@ impl<S: Drop, M: Machine, G: Log> Gate for Taking<'_, '_, S, M, G> {
             self.board.told(self.rt);
         }
         self.letters.store(letters, Ordering::SeqCst);
+        if let Some(sender) = self.figures {
+            sender.letters.add();
+        }
+        self.all.fetch_add(1, Ordering::SeqCst);
         tell_taken(self.log, self.peer, message);
         if self.quiet.lock(self.rt).is_due(self.rt) {
             tell_all_taken(self.log, self.peer, letters);
@@ -61,13 +69,19 @@ fn take<'s, 'r, S: SharedSite, M: Machine, G: Log>(
 ) {
     let place = all.exchange.place;
     let mut cursors = Cursors::start(place.number, place.epoch);
+    let figures = all.furniture.figures.senders.get(usize::from(sender.site));
+    if let Some(sender) = figures {
+        sender.linked.put(1);
+    }
     let taking = Taking {
         rt: all.rt,
         log: all.log,
         board: all.board,
         peer,
         letters: AtomicU64::new(0),
+        all: &all.exchange.letters,
         quiet: Mutex::new(Quiet::of(LETTERS_SECONDS)),
+        figures,
     };
     let reach = Reach {
         rt: all.rt,
@@ -85,6 +99,9 @@ fn take<'s, 'r, S: SharedSite, M: Machine, G: Log>(
         LETTERS,
         &taking,
     );
+    if let Some(sender) = figures {
+        sender.linked.put(0);
+    }
     let letters = taking.letters.load(Ordering::SeqCst);
     tell_taking_ended(all.log, sender.site, peer, end, letters);
 }
@@ -98,6 +115,8 @@ fn take_claimed<'s, 'r, S: SharedSite, M: Machine, G: Log>(
     sender: Sender,
     peer: SocketAddr,
 ) {
+    let mut link = link;
+    let hosts = &all.exchange.hosts;
     if let Some(before) = claim.later {
         if all.exchange.disagreed.lock(rt).is_due(rt) {
             tell_earlier(all.log, sender.site, sender.epoch, before);
@@ -108,7 +127,10 @@ fn take_claimed<'s, 'r, S: SharedSite, M: Machine, G: Log>(
     };
     let mut seat = taken;
     tell_taking(all.log, sender.site, sender.epoch, peer);
+    hosts.link(rt, sender.site);
+    link.hear(hosts, sender.site);
     take(rt, all, &mut seat, link, sender, peer);
+    hosts.unlink(rt, sender.site);
     all.board.give_back(rt, claim, seat);
 }
 
