@@ -1,0 +1,26 @@
+-- What is read of the head of a request (RFC 9112, sections 2 to 5), by the grammar of httparse.
+use Rattle.std.specs.Prelude.{◌≡◌, ◌≤◌, ℕ, List, length, ⊤}
+use Rattle.httparse.specs.Grammar.{ReadsRequest, RequestHead, print_request}
+use Rattle.site_status.specs.declared.head.TheConstants.{HEAD_LIMIT}
+use Rattle.site_status.specs.declared.head.Head.{Head}
+use Rattle.site_status.specs.declared.head.Head.TheVariants.{Begun, Whole, TooLong, Malformed}
+
+-- a whole head was read
+abbrev pub IsWhole : Head → Type 0
+IsWhole Begun = ⊥
+IsWhole (Whole method target) = ⊤
+IsWhole TooLong = ⊥
+IsWhole Malformed = ⊥
+
+-- if a whole head was read, this of its method and its target
+abbrev pub IfWhole : Head → (List ℕ → List ℕ → Type 0) → Type 0
+IfWhole Begun P = ⊤
+IfWhole (Whole method target) P = P method.now target.now
+IfWhole TooLong P = ⊤
+IfWhole Malformed P = ⊤
+
+-- a head within the limit stands at the front of the bytes, and has that method and that target
+abbrev pub IsHeadOf : List ℕ → List ℕ → List ℕ → Type 0
+IsHeadOf bytes method target =
+    (head : RequestHead) × (rest : List ℕ) × ReadsRequest bytes head rest
+    × (length (print_request head) ≤ HEAD_LIMIT) × (method ≡ head.method) × (target ≡ head.target)

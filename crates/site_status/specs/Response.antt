@@ -1,0 +1,46 @@
+-- Responses as bytes (RFC 9112, 4; RFC 9110, 15; RFC 6585, 5).
+use Rattle.std.specs.Prelude.{ℕ, List, [], ◌++◌, length, codes, decimal}
+use Rattle.site_status.specs.declared.response.Status.{Status}
+use Rattle.site_status.specs.declared.response.Status.TheVariants.{Ok, BadRequest, NotFound, MethodNotAllowed, HeadTooLong, Unavailable}
+
+-- a status's code
+abbrev pub status_code : Status → ℕ
+status_code Ok = 200
+status_code BadRequest = 400
+status_code NotFound = 404
+status_code MethodNotAllowed = 405
+status_code HeadTooLong = 431
+status_code Unavailable = 503
+
+-- a status's code and phrase
+abbrev pub status_text : Status → List ℕ
+status_text Ok = codes "200 OK"
+status_text BadRequest = codes "400 Bad Request"
+status_text NotFound = codes "404 Not Found"
+status_text MethodNotAllowed = codes "405 Method Not Allowed"
+status_text HeadTooLong = codes "431 Request Header Fields Too Large"
+status_text Unavailable = codes "503 Service Unavailable"
+
+-- the field that a refused method is answered with
+abbrev pub allow_text : Status → List ℕ
+allow_text Ok = []
+allow_text BadRequest = []
+allow_text NotFound = []
+allow_text MethodNotAllowed = codes "Allow: GET\r\n"
+allow_text HeadTooLong = []
+allow_text Unavailable = []
+
+-- a response's status and its fields but those that end its head
+unfoldable pub head_text : Status → List ℕ
+head_text status =
+    codes "HTTP/1.1 " ++ status_text status
+    ++ codes "\r\nContent-Type: text/plain; version=0.0.4; charset=utf-8\r\n" ++ allow_text status
+
+-- the fields that end a response's head, and its body
+unfoldable pub body_text : List ℕ → List ℕ
+body_text body =
+    codes "Connection: close\r\nContent-Length: " ++ decimal (length body) ++ codes "\r\n\r\n" ++ body
+
+-- a response, behind which the connection ends
+abbrev pub response_text : Status → List ℕ → List ℕ
+response_text status body = head_text status ++ body_text body

@@ -1,0 +1,22 @@
+//! What a running site can be asked over HTTP: its figures as Prometheus reads them, the heads of requests, the pages that there are, and the
+//! bytes of responses; and what threads count side by side.
+#![tactic(auto)]
+
+mod codes;
+mod counts;
+mod exposition;
+mod head;
+mod histogram;
+mod pages;
+mod response;
+#[cfg(test)]
+mod tests;
+mod times;
+
+pub use codes::{CODE_LIMIT, CodeCounts};
+pub use counts::Count;
+pub use exposition::{Exposition, Family, Kind, Label, Number};
+pub use head::{FIELD_LIMIT, HEAD_LIMIT, Head, read_head};
+pub use pages::{Page, page_of};
+pub use response::{Status, put_response};
+pub use times::{BOUNDS, Times, TimesTold, bucket_of};
