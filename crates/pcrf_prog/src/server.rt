@@ -116,6 +116,7 @@ pub fn stay<M: Machine, G: Log + Sync, R: Input, W: Output>(
         log_limit: stay.log,
         epoch_file: stay.epoch_file,
         secret,
+        status: stay.status,
         addresses: Addresses {
             listen: words.listen,
             exchange: words.exchange,

@@ -12,6 +12,7 @@ mod reach;
 mod serving;
 pub mod showing;
 mod sockets;
+mod status;
 mod working;
 
 pub use keeping::Housekeeper;

@@ -49,6 +49,8 @@ pub struct StayWords<'a> {
     pub epoch_file: Option<&'a str>,
     /// The file of the secret that all sites have.
     pub secret: Option<&'a str>,
+    /// Where it can be asked over HTTP.
+    pub status: Option<&'a str>,
 }
 
 /// The words of a server, whose numbers are in their ranges.
@@ -179,7 +181,7 @@ fn with_log<'a>(alloc: Global, serve: Command<'a>) -> Result<Command<'a>, AllocE
     serve.arg(log.value_parser(value_parser!(u64).range(1..)))
 }
 
-/// Adds the options of a server that stays which are files.
+/// Adds the options of a server that stays which are files, and the address at which it can be asked.
 fn with_files<'a>(alloc: Global, serve: Command<'a>) -> Result<Command<'a>, AllocError> {
     let epoch = choice(
         alloc,
@@ -197,7 +199,15 @@ fn with_files<'a>(alloc: Global, serve: Command<'a>) -> Result<Command<'a>, Allo
         "The file with the secret that all sites have, 32 bytes or more in hexadecimal digits, with --stay",
     )
     .requires_arg("stay")?;
-    serve.arg(secret)
+    let serve = serve.arg(secret)?;
+    let status = choice(
+        alloc,
+        "status",
+        "ADDRESS:PORT",
+        "Where its figures and its health can be asked over HTTP, with --stay; nowhere by default",
+    )
+    .requires_arg("stay")?;
+    serve.arg(status)
 }
 
 /// Adds the options that are names and addresses.
@@ -268,6 +278,7 @@ fn stay_words<'a>(matches: &ArgMatches<'a>) -> Option<StayWords<'a>> {
         log: matches.get_one::<u64>("log").unwrap_or(LOG),
         epoch_file: matches.get_str("epoch-file"),
         secret: matches.get_str("secret"),
+        status: matches.get_str("status"),
     })
 }
 

@@ -15,6 +15,18 @@ struct Guest {
     connections: u32,
     /// That something may wait for it was told since it went.
     is_told: bool,
+    /// Something may wait for it.
+    is_waiting: bool,
+}
+
+/// What is known of a host that came.
+#[derive(Drop)]
+pub struct GuestSeen {
+    pub host: DiameterIdentity,
+    /// How many connections it has.
+    pub connections: u32,
+    /// Something may have waited for it when that was looked at last.
+    pub is_waiting: bool,
 }
 
 impl Guest {
@@ -64,6 +76,7 @@ impl Guests {
             host: host.try_copy().ok()?,
             connections: 1,
             is_told: false,
+            is_waiting: false,
         };
         all.push(guest).ok()?;
         Some(number)
@@ -87,6 +100,30 @@ impl Guests {
             }
         }
         None
+    }
+
+    /// How many hosts came.
+    pub fn count(&self, rt: &impl Wait) -> usize {
+        self.all.lock(rt).len()
+    }
+
+    /// What is known of the host of a number; none where there is none, or memory ran out.
+    pub fn seen(&self, rt: &impl Wait, number: usize) -> Option<GuestSeen> {
+        let all = self.all.lock(rt);
+        let guest = all.get(number)?;
+        Some(GuestSeen {
+            host: guest.host.try_copy().ok()?,
+            connections: guest.connections,
+            is_waiting: guest.is_waiting,
+        })
+    }
+
+    /// Whether something may wait for that host.
+    pub fn set_waiting(&self, rt: &impl Wait, number: usize, is_waiting: bool) {
+        let mut all = self.all.lock(rt);
+        if let Some(guest) = all.get_mut(number) {
+            guest.is_waiting = is_waiting;
+        }
     }
 
     /// It was told that something may wait for that host.

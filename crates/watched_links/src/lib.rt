@@ -18,7 +18,7 @@ mod watching;
 pub use avps::{AvpBytes, first_avp};
 pub use cause::Cause;
 pub use desk::{Desk, desks};
-pub use guests::Guests;
+pub use guests::{GuestSeen, Guests};
 pub use hall::{Arrived, Hall};
 pub use own::Own;
 pub use post::{Post, Posting};

@@ -3,6 +3,7 @@ use crate::staying::journal::{tell_crowded, tell_no_memory, tell_unaccepted, tel
 use crate::staying::machine::Machine;
 use crate::staying::sockets::ready;
 use log::Log;
+use site_status::Count;
 use std::net::{SocketAddr, TcpListener, TcpStream};
 use std::time::{Duration, Instant};
 use std::{io, thread};
@@ -20,6 +21,7 @@ pub fn accept_all<M: Machine, G: Log>(
     hall: &Hall,
     seats: usize,
     listener: &TcpListener,
+    refused: &Count,
     log: &G,
 ) {
     let mut crowded = Quiet::of(QUIET_SECONDS);
@@ -27,7 +29,7 @@ pub fn accept_all<M: Machine, G: Log>(
     for _ in rt.forever() {
         match listener.accept() {
             Ok((stream, address)) => {
-                admit(rt, hall, seats, stream, address, &mut crowded, log);
+                admit(rt, hall, seats, stream, address, refused, &mut crowded, log);
             }
             Err(error) => rest(rt, &error, &mut failed, log),
         }
@@ -59,6 +61,7 @@ fn admit<M: Machine, G: Log>(
     seats: usize,
     stream: TcpStream,
     address: SocketAddr,
+    refused: &Count,
     crowded: &mut Quiet,
     log: &G,
 ) {
@@ -69,6 +72,7 @@ fn admit<M: Machine, G: Log>(
     match hall.admit(rt, arrived) {
         Ok(true) => {}
         Ok(false) => {
+            refused.add();
             if crowded.is_due(rt) {
                 tell_crowded(log, address, seats);
             }

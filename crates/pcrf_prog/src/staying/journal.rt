@@ -2,6 +2,7 @@
 use crate::socket_server::{Ending, tell_exchanged, tell_refused_push, tell_unreached};
 use crate::staying::chairs::Chair;
 use crate::staying::keeping::Unbegun;
+use crate::staying::status::SiteFigures;
 use dia_base::Origin;
 use dia_base::codes::results::SUCCESS;
 use log::{Log, error, info, warn};
@@ -23,6 +24,7 @@ pub struct Journal<'r, M, G> {
     pub(crate) chairs: &'r [Chair],
     pub(crate) sent: &'r SentPushes,
     pub(crate) guests: &'r Guests,
+    pub(crate) figures: &'r SiteFigures,
 }
 
 impl<M: Wait, G: Log> Observer for Journal<'_, M, G> {
@@ -33,10 +35,14 @@ impl<M: Wait, G: Log> Observer for Journal<'_, M, G> {
                 chair.seat(self.rt, self.guests, &peer.host);
             }
         }
+        if code != SUCCESS {
+            self.figures.strangers.add();
+        }
         tell_exchanged(self.log, &peer.host, &peer.realm, code);
     }
 
     fn push_refused(&self, hop_id: u32, session: &GxSid, code: Option<u32>) {
+        self.figures.refusals.add(code.unwrap_or(0));
         match self.sent.names(self.rt, hop_id) {
             Some(names) => tell_refused_rules(self.log, session, names.as_str(), code),
             None => tell_refused_push(self.log, session, code),
@@ -44,6 +50,7 @@ impl<M: Wait, G: Log> Observer for Journal<'_, M, G> {
     }
 
     fn unreached(&self, host: &DiameterIdentity) {
+        self.figures.unwritten.add();
         tell_unreached(self.log, host);
     }
 }
@@ -62,7 +69,7 @@ fn tell_refused_rules<G: Log>(log: &G, session: &GxSid, names: &str, code: Optio
 }
 
 /// Whether a connection that ended so was lost.
-fn is_lost(end: LinkEnd) -> bool {
+pub fn is_lost(end: LinkEnd) -> bool {
     match end {
         LinkEnd::Closed | LinkEnd::Disconnected | LinkEnd::Gate => false,
         LinkEnd::Cut

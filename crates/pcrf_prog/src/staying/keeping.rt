@@ -104,12 +104,15 @@ fn keep_log_short<'s, 'r, S: SharedSite, M: Machine, G: Log, K: Housekeeper<S>>(
     let Some(made) = log_length(rt, all.server.site, seat) else {
         return;
     };
+    let figures = &all.furniture.figures;
+    figures.site.operations.put(made);
     if made <= limit {
         return;
     }
     match keeper.begin_next(rt, all.server.site) {
         Ok(epoch) => {
             all.furniture.beginnings.fetch_add(1, Ordering::SeqCst);
+            figures.begin_anew();
             tell_begun_anew(all.log, epoch, made);
         }
         Err(why) => {
@@ -141,6 +144,21 @@ fn tell_all_missed<'s, 'r, S: SharedSite, M: Machine, G: Log>(
     }
 }
 
+/// Looks for which hosts something may wait.
+fn see_all_waiting<'s, 'r, S: SharedSite, M: Machine, G: Log>(
+    rt: &'s M,
+    all: &'s Shared<'s, 'r, S, M, G>,
+    seat: &mut S::Seat,
+) {
+    let guests = &all.furniture.guests;
+    for number in 0..guests.count(rt) {
+        if let Some(seen) = guests.seen(rt, number) {
+            let is_waiting = all.server.site.wants_push(rt, seat, &seen.host);
+            guests.set_waiting(rt, number, is_waiting);
+        }
+    }
+}
+
 /// Looks again and again how long the log is, and who is away, as long as the server runs: the site begins its next epoch behind so many
 /// operations.
 pub fn keep_house<'s, 'r, S: SharedSite, M: Machine, G: Log, K: Housekeeper<S>>(
@@ -155,6 +173,7 @@ pub fn keep_house<'s, 'r, S: SharedSite, M: Machine, G: Log, K: Housekeeper<S>>(
     for _ in rt.forever() {
         thread::sleep(rt, Duration::from_secs(LOOK_SECONDS));
         tell_all_missed(rt, all, &mut seat);
+        see_all_waiting(rt, all, &mut seat);
         keep_log_short(rt, all, &mut seat, limit, &mut keeper, &mut unbegun);
     }
 }

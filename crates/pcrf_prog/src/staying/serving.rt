@@ -14,6 +14,7 @@ use crate::staying::keeping::{EpochKeeper, Housekeeper, keep_house};
 use crate::staying::machine::Machine;
 use crate::staying::showing::{Console, Input, Output, show_on};
 use crate::staying::sockets::{address_of, bind};
+use crate::staying::status::{ASKS, Figures, accept_asks, answer_asks};
 use crate::staying::working::{Furniture, Shared, work};
 use dia_base::Identity;
 use gateway_links::first_end_id;
@@ -53,6 +54,8 @@ pub struct StaySettings<'a> {
     pub epoch_file: Option<&'a str>,
     /// The secret that all sites have, if they have one.
     pub secret: Option<Key>,
+    /// Where it can be asked over HTTP, if it can.
+    pub status: Option<&'a str>,
     /// Where it and its peer sites are.
     pub addresses: Addresses<'a>,
 }
@@ -102,6 +105,8 @@ fn furnished<M: Machine, G: Log>(
         sent: SentPushes::start(alloc),
         guests: Guests::start(alloc),
         beginnings: AtomicU64::new(0),
+        asking: Hall::start(alloc, ASKS),
+        figures: Figures::start(rt, alloc, settings.addresses.peers.len())?,
     })
 }
 
@@ -112,6 +117,8 @@ struct Sockets {
     serving: TcpListener,
     /// Where peer sites connect.
     exchanging: TcpListener,
+    /// Where it can be asked over HTTP.
+    asking: Option<TcpListener>,
 }
 
 /// Seats of a server: of who serves, of who sends letters, of who asks for those how much there is, of who shows what the site holds, and
@@ -238,12 +245,12 @@ where
     S::Seat: Send,
 {
     let (mut sending, mut asking) = (sending, asking);
-    for peer in &all.exchange.peers {
+    for (place, peer) in all.exchange.peers.iter().enumerate() {
         let address = SocketAddr::V4(*peer);
         let (Some(seat), Some(probe)) = (sending.pop(), asking.pop()) else {
             continue;
         };
-        let begun = scope.spawn(move || dial_on(rt, all, seat, probe, address));
+        let begun = scope.spawn(move || dial_on(rt, all, seat, probe, address, place));
         if begun.is_err() {
             tell_unlinked_peer(all.log, address);
         }
@@ -300,6 +307,27 @@ where
     }
 }
 
+/// Starts who answers what is asked over HTTP.
+fn answer_all<'s, 'r, E, S: SharedSite + Sync + 's, M: Machine, G: Log + Sync>(
+    rt: &'s M,
+    scope: &Scope<'s, E>,
+    all: &'s Shared<'s, 'r, S, M, G>,
+    asking: &'s Option<TcpListener>,
+)
+where
+    S::Seat: Send,
+{
+    let Some(listener) = asking else {
+        return;
+    };
+    for _ in 0..ASKS {
+        if scope.spawn(move || answer_asks(rt, all)).is_err() {
+            all.furniture.asking.lose(rt);
+        }
+    }
+    let _ = scope.spawn(move || accept_asks(rt, all, listener));
+}
+
 /// Starts who has the site begin its next epoch.
 fn keep_all<
     's,
@@ -343,13 +371,16 @@ fn serve_all<'s, 'r, S: SharedSite, M: Machine, G: Log>(
     let Sockets {
         serving,
         exchanging,
+        asking: _,
     } = &premises.sockets;
     if let (Ok(listen), Ok(exchange)) = (serving.local_addr(), exchanging.local_addr()) {
         tell_listens(all.log, listen, exchange);
     }
     let furniture = all.furniture;
     let count = furniture.desks.len();
-    accept_all(rt, &furniture.hall, count, serving, all.log);
+    furniture.figures.site.serving.put(1);
+    let refused = &furniture.figures.connections.refused;
+    accept_all(rt, &furniture.hall, count, serving, refused, all.log);
 }
 
 /// Starts all workers, and serves as long as the server runs.
@@ -382,6 +413,7 @@ where
         showing,
         keeping,
     } = seats;
+    answer_all(rt, scope, all, &premises.sockets.asking);
     show_all(rt, scope, all, showing, &premises.tables, console);
     keep_all(rt, scope, all, keeping, premises.log_limit, keeper);
     staff_all(rt, scope, all, serving);
@@ -465,6 +497,7 @@ where
         chairs,
         sent: &premises.furniture.sent,
         guests: &premises.furniture.guests,
+        figures: &premises.furniture.figures.site,
     };
     let gateways = Gateways::observed(alloc, journal);
     let repeats = KeptAnswers::start(alloc, rt);
@@ -555,6 +588,10 @@ pub fn run_staying<M: Machine, G: Log + Sync, R: Input, W: Output>(
     let seats = exchange.peers.len().saturating_mul(SEATS_OF_A_PEER);
     let serving = bind(rt, settings.addresses.listen, log)?;
     let exchanging = bind(rt, settings.addresses.exchange, log)?;
+    let asking = match settings.status {
+        Some(address) => Some(bind(rt, address, log)?),
+        None => None,
+    };
     let furniture = furnished(rt, alloc, &identity, settings, log)?;
     let shown = tables.try_copy(alloc)?;
     let premises = Premises {
@@ -562,6 +599,7 @@ pub fn run_staying<M: Machine, G: Log + Sync, R: Input, W: Output>(
         sockets: Sockets {
             serving,
             exchanging,
+            asking,
         },
         furniture,
         tables: shown,

@@ -5,8 +5,9 @@ use crate::staying::chairs::{Chair, Doors};
 use crate::staying::exchange::Exchange;
 use crate::staying::journal::{Journal, tell_ended, tell_no_memory};
 use crate::staying::machine::Machine;
+use crate::staying::status::Figures;
 use gateway_links::Half;
-use link_ends::SharedSite;
+use link_ends::{LinkEnd, SharedSite};
 use log::Log;
 use pcrf_serve::{Server, serve_connection};
 use peer_lines::Board;
@@ -29,6 +30,10 @@ pub struct Furniture {
     pub guests: Guests,
     /// How often the site has begun anew.
     pub beginnings: AtomicU64,
+    /// Where connections wait whose requests for its status are to be answered.
+    pub asking: Hall,
+    /// What is counted of it.
+    pub figures: Figures,
 }
 
 /// What all workers of a server share. What their connections hold has a lifetime of its own.
@@ -85,6 +90,8 @@ fn serve_arrived<'s, 'r, S: SharedSite, M: Machine, G: Log>(
     arrived: Arrived,
 ) -> S::Seat {
     let number = all.server.site.number_of(&seat);
+    let counts = &all.furniture.figures.connections;
+    counts.seated.add();
     let Arrived {
         stream,
         address,
@@ -102,11 +109,13 @@ fn serve_arrived<'s, 'r, S: SharedSite, M: Machine, G: Log>(
                 chair.leave(rt, &all.furniture.guests);
             }
             all.furniture.hall.free(rt);
+            counts.end(end, post.cause(rt));
             tell_ended(all.log, number, address, end, post.cause(rt));
             seat
         }
         Err(_) => {
             all.furniture.hall.free(rt);
+            counts.end(LinkEnd::NoMemory, None);
             tell_no_memory(all.log, address);
             seat
         }

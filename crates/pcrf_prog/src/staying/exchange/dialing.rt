@@ -58,9 +58,12 @@ fn send<'s, 'r, S: SharedSite, M: Machine, G: Log>(
     line: Arc<Line>,
     link: Link<'r, M>,
     peer: SocketAddr,
+    place: usize,
 ) -> (u64, LinkEnd) {
-    let place = all.exchange.place;
-    let mut cursors = Cursors::start(place.number, place.epoch);
+    let figures = &all.furniture.figures;
+    figures.link(place, true);
+    let own = all.exchange.place;
+    let mut cursors = Cursors::start(own.number, own.epoch);
     let beginnings = &all.furniture.beginnings;
     let growing = Growing {
         rt: all.rt,
@@ -75,6 +78,8 @@ fn send<'s, 'r, S: SharedSite, M: Machine, G: Log>(
         beginnings,
         begun: AtomicU64::new(beginnings.load(Ordering::SeqCst)),
         quiet: Mutex::new(Quiet::of(LETTERS_SECONDS)),
+        figures,
+        place,
     };
     let reach = Reach {
         rt: all.rt,
@@ -92,6 +97,7 @@ fn send<'s, 'r, S: SharedSite, M: Machine, G: Log>(
         LETTERS,
         &growing,
     );
+    figures.link(place, false);
     (growing.letters.load(Ordering::SeqCst), end)
 }
 
@@ -104,6 +110,7 @@ fn exchange<'s, 'r, S: SharedSite, M: Machine, G: Log>(
     probe: &Mutex<S::Seat>,
     line: Arc<Line>,
     peer: SocketAddr,
+    place: usize,
     patience: u64,
     quiet: &mut Quiet,
 ) -> Option<(u64, LinkEnd)> {
@@ -117,20 +124,21 @@ fn exchange<'s, 'r, S: SharedSite, M: Machine, G: Log>(
         }
     };
     let _ = line.open(Some(Duration::from_secs(patience)));
-    let (letters, end) = send(rt, all, seat, probe, line, link, peer);
+    let (letters, end) = send(rt, all, seat, probe, line, link, peer, place);
     if letters > 0 || quiet.is_due(rt) {
         tell_sending_ended(all.log, peer, end, letters);
     }
     Some((letters, end))
 }
 
-/// Sends a peer site letters, and dials it again whenever a link has ended, as long as the server runs.
+/// Sends that one of the peer sites letters, and dials it again whenever a link has ended, as long as the server runs.
 pub fn dial_on<'s, 'r, S: SharedSite, M: Machine, G: Log>(
     rt: &'s M,
     all: &'s Shared<'s, 'r, S, M, G>,
     seat: S::Seat,
     probe: S::Seat,
     peer: SocketAddr,
+    place: usize,
 ) {
     let mut seat = seat;
     let probe = Mutex::new(probe);
@@ -140,7 +148,11 @@ pub fn dial_on<'s, 'r, S: SharedSite, M: Machine, G: Log>(
     let mut patience = ACKNOWLEDGE_SECONDS;
     for _ in rt.forever() {
         let letters = match dialled(rt, all.server.alloc, peer) {
-            Ok(line) => exchange(rt, all, &mut seat, &probe, line, peer, patience, &mut ended),
+            Ok(line) => {
+                exchange(
+                    rt, all, &mut seat, &probe, line, peer, place, patience, &mut ended,
+                )
+            }
             Err(error) => {
                 if unreached.is_due(rt) {
                     tell_unreachable(all.log, peer, &error);

@@ -2,6 +2,7 @@
 //! site is gone that may have told something to this one alone.
 use crate::staying::exchange::journal::{tell_all_sent, tell_anew, tell_sent};
 use crate::staying::own_log::log_length;
+use crate::staying::status::Figures;
 use link_ends::{Gate, SharedSite};
 use log::Log;
 use peer_lines::{Board, Line};
@@ -36,6 +37,9 @@ pub struct Growing<'b, 'r, S: SharedSite, M, G> {
     pub(crate) beginnings: &'r AtomicU64,
     pub(crate) begun: AtomicU64,
     pub(crate) quiet: Mutex<Quiet>,
+    pub(crate) figures: &'r Figures,
+    /// Which of the peer sites it is.
+    pub(crate) place: usize,
 }
 
 impl<S: SharedSite, M: Wait + Clock, G: Log> Growing<'_, '_, S, M, G> {
@@ -48,7 +52,10 @@ impl<S: SharedSite, M: Wait + Clock, G: Log> Growing<'_, '_, S, M, G> {
         }
         let mut seat = self.probe.lock(self.rt);
         match log_length(self.rt, self.site, &mut *seat) {
-            Some(made) => made > self.line.told(),
+            Some(made) => {
+                self.figures.site.operations.put(made);
+                made > self.line.told()
+            }
             None => true,
         }
     }
@@ -85,6 +92,10 @@ impl<S: SharedSite, M: Wait + Clock, G: Log> Gate for Growing<'_, '_, S, M, G> {
     fn leave(&self, _connection: usize, message: u64) -> bool {
         let letters = message.saturating_add(1);
         self.letters.store(letters, Ordering::SeqCst);
+        if let Some(peer) = self.figures.peers.get(self.place) {
+            peer.letters.add();
+            peer.told.put(self.line.told());
+        }
         tell_sent(self.log, self.peer, message);
         if self.quiet.lock(self.rt).is_due(self.rt) {
             tell_all_sent(self.log, self.peer, letters);

@@ -8,6 +8,7 @@ use crate::staying::exchange::peers::{Exchange, LETTERS, LETTERS_SECONDS};
 use crate::staying::journal::{tell_no_memory, tell_unbegun};
 use crate::staying::machine::Machine;
 use crate::staying::reach::Reach;
+use crate::staying::status::SenderFigures;
 use crate::staying::working::Shared;
 use link_ends::{Gate, SharedSite};
 use log::Log;
@@ -29,6 +30,7 @@ struct Taking<'b, 'r, S: Drop, M, G> {
     peer: SocketAddr,
     letters: AtomicU64,
     quiet: Mutex<Quiet>,
+    figures: Option<&'r SenderFigures>,
 }
 
 impl<S: Drop, M: Machine, G: Log> Gate for Taking<'_, '_, S, M, G> {
@@ -42,6 +44,9 @@ impl<S: Drop, M: Machine, G: Log> Gate for Taking<'_, '_, S, M, G> {
             self.board.told(self.rt);
         }
         self.letters.store(letters, Ordering::SeqCst);
+        if let Some(sender) = self.figures {
+            sender.letters.add();
+        }
         tell_taken(self.log, self.peer, message);
         if self.quiet.lock(self.rt).is_due(self.rt) {
             tell_all_taken(self.log, self.peer, letters);
@@ -61,6 +66,10 @@ fn take<'s, 'r, S: SharedSite, M: Machine, G: Log>(
 ) {
     let place = all.exchange.place;
     let mut cursors = Cursors::start(place.number, place.epoch);
+    let figures = all.furniture.figures.senders.get(usize::from(sender.site));
+    if let Some(sender) = figures {
+        sender.linked.put(1);
+    }
     let taking = Taking {
         rt: all.rt,
         log: all.log,
@@ -68,6 +77,7 @@ fn take<'s, 'r, S: SharedSite, M: Machine, G: Log>(
         peer,
         letters: AtomicU64::new(0),
         quiet: Mutex::new(Quiet::of(LETTERS_SECONDS)),
+        figures,
     };
     let reach = Reach {
         rt: all.rt,
@@ -85,6 +95,9 @@ fn take<'s, 'r, S: SharedSite, M: Machine, G: Log>(
         LETTERS,
         &taking,
     );
+    if let Some(sender) = figures {
+        sender.linked.put(0);
+    }
     let letters = taking.letters.load(Ordering::SeqCst);
     tell_taking_ended(all.log, sender.site, peer, end, letters);
 }

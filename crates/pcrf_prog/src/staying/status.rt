@@ -1,0 +1,12 @@
+//! What a running site can be asked over HTTP: whether it serves, and its figures. Workers of its own answer; they take no seat, and wait for no
+//! connection.
+
+mod accepting;
+mod answering;
+mod families;
+mod figures;
+mod telling;
+
+pub use accepting::accept_asks;
+pub use answering::{ASKS, answer_asks};
+pub use figures::{ConnectionFigures, Figures, SenderFigures, SiteFigures};

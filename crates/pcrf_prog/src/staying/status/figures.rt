@@ -1,0 +1,180 @@
+//! What a server that stays counts of itself.
+use crate::staying::journal::is_lost;
+use link_ends::LinkEnd;
+use site_status::{CodeCounts, Count};
+use std::alloc::{AllocError, Global};
+use std::time::{Clock, Instant};
+use watched_links::Cause;
+
+/// How many numbers sites have.
+const SITES: usize = 16;
+
+/// What is counted of the connections of gateways and application functions.
+#[derive(Drop)]
+pub struct ConnectionFigures {
+    /// How many got a seat.
+    pub seated: Count,
+    /// How many of them ended.
+    pub ended: Count,
+    /// How many of those were lost, or ended by the site.
+    pub lost: Count,
+    /// How many were closed since all seats were taken.
+    pub refused: Count,
+}
+
+/// What is counted of the site and of what it tells hosts.
+#[derive(Drop)]
+pub struct SiteFigures {
+    /// 1 once it serves.
+    pub serving: Count,
+    /// How many operations it made itself in its epoch, when that was looked at last.
+    pub operations: Count,
+    /// How often it began its next epoch in place.
+    pub begun: Count,
+    /// How many capabilities exchanges were refused.
+    pub strangers: Count,
+    /// How many re-authorisation requests could not be written.
+    pub unwritten: Count,
+    /// The codes of those that were answered by none of success, 0 where an answer had none.
+    pub refusals: CodeCounts,
+}
+
+/// What is counted of the letters to a peer site.
+#[derive(Drop)]
+pub struct PeerFigures {
+    /// 1 while there is a link.
+    pub linked: Count,
+    /// How many letters it acknowledged.
+    pub letters: Count,
+    /// How many operations of the epoch it was told when it acknowledged last.
+    pub told: Count,
+}
+
+/// What is counted of the letters of a site with some number.
+#[derive(Drop)]
+pub struct SenderFigures {
+    /// 1 while there is a link.
+    pub linked: Count,
+    /// How many letters were taken.
+    pub letters: Count,
+}
+
+/// What a server that stays counts of itself.
+#[derive(Drop)]
+pub struct Figures {
+    /// When it started, if the machine tells the time.
+    pub since: Option<Instant>,
+    pub site: SiteFigures,
+    pub connections: ConnectionFigures,
+    /// Of each peer site that it was told of, in that order.
+    pub peers: Vec<PeerFigures>,
+    /// Of each number that a site can have.
+    pub senders: Vec<SenderFigures>,
+    /// The codes by which it answered over HTTP.
+    pub asks: CodeCounts,
+}
+
+impl ConnectionFigures {
+    /// There were none.
+    fn start() -> ConnectionFigures {
+        ConnectionFigures {
+            seated: Count::start(),
+            ended: Count::start(),
+            lost: Count::start(),
+            refused: Count::start(),
+        }
+    }
+
+    /// One ended so, for that cause if the site ended it.
+    pub fn end(&self, end: LinkEnd, cause: Option<Cause>) {
+        self.ended.add();
+        if cause.is_some() || is_lost(end) {
+            self.lost.add();
+        }
+    }
+}
+
+impl SiteFigures {
+    /// Nothing happened.
+    fn start(alloc: Global) -> Result<SiteFigures, AllocError> {
+        let refusals = CodeCounts::start(alloc)?;
+        Ok(SiteFigures {
+            serving: Count::start(),
+            operations: Count::start(),
+            begun: Count::start(),
+            strangers: Count::start(),
+            unwritten: Count::start(),
+            refusals,
+        })
+    }
+}
+
+/// Those of so many peer sites.
+fn peer_figures(alloc: Global, count: usize) -> Result<Vec<PeerFigures>, AllocError> {
+    let mut peers = Vec::with_capacity(alloc, count)?;
+    for _ in 0..count {
+        peers.push(PeerFigures {
+            linked: Count::start(),
+            letters: Count::start(),
+            told: Count::start(),
+        })?;
+    }
+    Ok(peers)
+}
+
+/// Those of each number of a site.
+fn sender_figures(alloc: Global) -> Result<Vec<SenderFigures>, AllocError> {
+    let mut senders = Vec::with_capacity(alloc, SITES)?;
+    for _ in 0..SITES {
+        senders.push(SenderFigures {
+            linked: Count::start(),
+            letters: Count::start(),
+        })?;
+    }
+    Ok(senders)
+}
+
+impl Figures {
+    /// Of a server with so many peer sites that starts now.
+    pub fn start<C: Clock>(clock: &C, alloc: Global, peers: usize) -> Result<Figures, AllocError> {
+        let site = SiteFigures::start(alloc)?;
+        let peers = peer_figures(alloc, peers)?;
+        let senders = sender_figures(alloc)?;
+        let asks = CodeCounts::start(alloc)?;
+        Ok(Figures {
+            since: Instant::now(clock).ok(),
+            site,
+            connections: ConnectionFigures::start(),
+            peers,
+            senders,
+            asks,
+        })
+    }
+
+    /// A link to one of the peer sites began, or ended.
+    pub fn link(&self, place: usize, is_there: bool) {
+        if let Some(peer) = self.peers.get(place) {
+            peer.linked.put(u64::from(is_there));
+        }
+    }
+
+    /// The site began its next epoch in place: nobody was told anything of that yet.
+    pub fn begin_anew(&self) {
+        self.site.begun.add();
+        self.site.operations.put(0);
+        for peer in &self.peers {
+            peer.told.put(0);
+        }
+    }
+
+    /// For how many nanoseconds it runs; 0 where the machine told no time.
+    pub fn uptime<C: Clock>(&self, clock: &C) -> u64 {
+        let Some(since) = self.since else {
+            return 0;
+        };
+        match since.elapsed(clock) {
+            Ok(elapsed) => u64::try_from(elapsed.as_nanos()).unwrap_or(u64::MAX),
+            Err(_) => 0,
+        }
+    }
+}

@@ -1,0 +1,256 @@
+//! The figures of a server as text.
+use crate::staying::machine::Machine;
+use crate::staying::status::families::{
+    ASKS, CONNECTIONS, CROWDED, EPOCH, EPOCHS_BEGUN, HOST_CONNECTIONS, HOST_WAITING, LOST,
+    OPERATIONS, PEER_LACKING, PEER_LETTERS, PEER_LINK, PUSH_REFUSALS, PUSH_UNWRITTEN, SEATED,
+    SEATS, SENDER_LETTERS, SENDER_LINK, SERVING, SITE, STRANGERS, UPTIME,
+};
+use crate::staying::status::figures::{Figures, PeerFigures};
+use crate::staying::working::Shared;
+use link_ends::SharedSite;
+use log::Log;
+use ranked::Ranked;
+use site_status::{CODE_LIMIT, CodeCounts, Exposition, Family, Label, Number};
+use std::alloc::{AllocError, Global};
+use std::net::SocketAddrV4;
+use std::time::Clock;
+use watched_links::{Guests, Printable};
+
+/// Writes a figure of one number.
+fn put(out: &mut Exposition, family: &Family<'_>, count: u64) -> Result<(), AllocError> {
+    out.figure(family, Number::Whole(count))
+}
+
+/// Writes one sample of a figure, which one label tells from the others.
+fn put_labelled(
+    out: &mut Exposition,
+    family: &Family<'_>,
+    label: &str,
+    value: &str,
+    count: u64,
+) -> Result<(), AllocError> {
+    let labels = [Label {
+        name: label,
+        value: value.as_bytes(),
+    }];
+    out.sample(family.name, "", &labels, Number::Whole(count))
+}
+
+/// Writes how often each code was met; nothing of those that weren't.
+fn put_codes(
+    out: &mut Exposition,
+    alloc: Global,
+    family: &Family<'_>,
+    codes: &CodeCounts,
+) -> Result<(), AllocError> {
+    out.heading(family)?;
+    for place in 0..CODE_LIMIT {
+        let Some((code, count)) = codes.at(place) else {
+            break;
+        };
+        let text = format!(in alloc; "{code}")?;
+        put_labelled(out, family, "code", text.as_str(), count)?;
+    }
+    match codes.others() {
+        0 => Ok(()),
+        others => put_labelled(out, family, "code", "other", others),
+    }
+}
+
+/// Writes what is known of the process and of its site.
+fn put_site<'s, 'r, S: SharedSite, M: Machine, G: Log>(
+    out: &mut Exposition,
+    rt: &M,
+    all: &Shared<'s, 'r, S, M, G>,
+) -> Result<(), AllocError> {
+    let figures = &all.furniture.figures;
+    let alloc = all.furniture.alloc;
+    out.figure(&UPTIME, Number::Nanos(figures.uptime(rt)))?;
+    put(out, &SERVING, figures.site.serving.get())?;
+    let (site, edition) = (all.server.site.number(), all.server.site.edition());
+    let (site, edition) = (
+        format!(in alloc; "{site}")?,
+        format!(in alloc; "{edition}")?,
+    );
+    let labels = [
+        Label {
+            name: "site",
+            value: site.as_bytes(),
+        },
+        Label {
+            name: "edition",
+            value: edition.as_bytes(),
+        },
+    ];
+    out.heading(&SITE)?;
+    out.sample(SITE.name, "", &labels, Number::Whole(1))?;
+    let begun = figures.site.begun.get();
+    let epoch = u64::from(all.exchange.place.epoch).saturating_add(begun);
+    put(out, &EPOCH, epoch)?;
+    put(out, &EPOCHS_BEGUN, begun)?;
+    put(out, &OPERATIONS, figures.site.operations.get())
+}
+
+/// Writes what is known of connections.
+fn put_connections(
+    out: &mut Exposition,
+    figures: &Figures,
+    seats: usize,
+) -> Result<(), AllocError> {
+    let connections = &figures.connections;
+    let ended = connections.ended.get();
+    let seated = connections.seated.get();
+    put(out, &SEATS, seats as u64)?;
+    put(out, &CONNECTIONS, seated.saturating_sub(ended))?;
+    put(out, &SEATED, seated)?;
+    put(out, &LOST, connections.lost.get())?;
+    put(out, &CROWDED, connections.refused.get())?;
+    put(out, &STRANGERS, figures.site.strangers.get())
+}
+
+/// Writes what is known of hosts.
+fn put_hosts<M: Machine>(
+    out: &mut Exposition,
+    rt: &M,
+    alloc: Global,
+    guests: &Guests,
+) -> Result<(), AllocError> {
+    out.heading(&HOST_CONNECTIONS)?;
+    for number in 0..guests.count(rt) {
+        if let Some(seen) = guests.seen(rt, number) {
+            let host = format!(in alloc; "{}", Printable(seen.host.as_slice()))?;
+            let count = u64::from(seen.connections);
+            put_labelled(out, &HOST_CONNECTIONS, "host", host.as_str(), count)?;
+        }
+    }
+    out.heading(&HOST_WAITING)?;
+    for number in 0..guests.count(rt) {
+        if let Some(seen) = guests.seen(rt, number) {
+            let host = format!(in alloc; "{}", Printable(seen.host.as_slice()))?;
+            let count = u64::from(seen.is_waiting);
+            put_labelled(out, &HOST_WAITING, "host", host.as_str(), count)?;
+        }
+    }
+    Ok(())
+}
+
+/// Writes what is known of re-authorisation requests.
+fn put_pushes(out: &mut Exposition, alloc: Global, figures: &Figures) -> Result<(), AllocError> {
+    put_codes(out, alloc, &PUSH_REFUSALS, &figures.site.refusals)?;
+    put(out, &PUSH_UNWRITTEN, figures.site.unwritten.get())
+}
+
+/// What a figure says of a peer site.
+#[derive(Clone, Copy)]
+enum PeerFigure {
+    Linked,
+    Letters,
+    Lacking,
+}
+
+impl PeerFigure {
+    /// What it says where the site made so many operations.
+    fn of(self, peer: &PeerFigures, operations: u64) -> u64 {
+        match self {
+            PeerFigure::Linked => peer.linked.get(),
+            PeerFigure::Letters => peer.letters.get(),
+            PeerFigure::Lacking => operations.saturating_sub(peer.told.get()),
+        }
+    }
+}
+
+/// Writes a figure of each peer site.
+fn put_peers(
+    out: &mut Exposition,
+    alloc: Global,
+    family: &Family<'_>,
+    figure: PeerFigure,
+    figures: &Figures,
+    addresses: &[SocketAddrV4],
+) -> Result<(), AllocError> {
+    let operations = figures.site.operations.get();
+    out.heading(family)?;
+    for (peer, address) in figures.peers.iter().zip(addresses) {
+        let text = format!(in alloc; "{address}")?;
+        let count = figure.of(peer, operations);
+        put_labelled(out, family, "peer", text.as_str(), count)?;
+    }
+    Ok(())
+}
+
+/// Writes whether letters of a site come in, and how many came; nothing of sites of which none did.
+fn put_senders(out: &mut Exposition, alloc: Global, figures: &Figures) -> Result<(), AllocError> {
+    out.heading(&SENDER_LINK)?;
+    for (site, sender) in figures.senders.iter().enumerate() {
+        if sender.letters.get() > 0 {
+            let text = format!(in alloc; "{site}")?;
+            put_labelled(
+                out,
+                &SENDER_LINK,
+                "site",
+                text.as_str(),
+                sender.linked.get(),
+            )?;
+        }
+    }
+    out.heading(&SENDER_LETTERS)?;
+    for (site, sender) in figures.senders.iter().enumerate() {
+        let letters = sender.letters.get();
+        if letters > 0 {
+            let text = format!(in alloc; "{site}")?;
+            put_labelled(out, &SENDER_LETTERS, "site", text.as_str(), letters)?;
+        }
+    }
+    Ok(())
+}
+
+/// Writes what is known of letters.
+fn put_letters(
+    out: &mut Exposition,
+    alloc: Global,
+    figures: &Figures,
+    addresses: &[SocketAddrV4],
+) -> Result<(), AllocError> {
+    put_peers(
+        out,
+        alloc,
+        &PEER_LINK,
+        PeerFigure::Linked,
+        figures,
+        addresses,
+    )?;
+    put_peers(
+        out,
+        alloc,
+        &PEER_LETTERS,
+        PeerFigure::Letters,
+        figures,
+        addresses,
+    )?;
+    put_peers(
+        out,
+        alloc,
+        &PEER_LACKING,
+        PeerFigure::Lacking,
+        figures,
+        addresses,
+    )?;
+    put_senders(out, alloc, figures)
+}
+
+/// The figures of a server. None of them is found by a pass, and none needs the site's lock.
+pub fn figures_of<'s, 'r, S: SharedSite, M: Machine, G: Log>(
+    rt: &M,
+    all: &Shared<'s, 'r, S, M, G>,
+) -> Result<Exposition, AllocError> {
+    let furniture = all.furniture;
+    let (alloc, figures) = (furniture.alloc, &furniture.figures);
+    let mut out = Exposition::start(alloc);
+    put_site(&mut out, rt, all)?;
+    put_connections(&mut out, figures, furniture.desks.len())?;
+    put_hosts(&mut out, rt, alloc, &furniture.guests)?;
+    put_pushes(&mut out, alloc, figures)?;
+    put_letters(&mut out, alloc, figures, all.exchange.peers.as_slice())?;
+    put_codes(&mut out, alloc, &ASKS, &figures.asks)?;
+    Ok(out)
+}
