@@ -4,6 +4,7 @@
 mod files;
 mod kept_files;
 mod operator_tables;
+mod resident;
 mod run;
 mod server;
 mod socket_server;

@@ -1,6 +1,7 @@
 //! A run of the program over words, a reader and writers that are handed in.
 use crate::kept_files::{EpochFiles, FileFault, next_epoch, secret_of_file};
 use crate::operator_tables::{self, TablesFault};
+use crate::resident::Resident;
 use crate::server::{Start, serve, start_of, stay};
 use crate::socket_server::ServerFault;
 use crate::stamped::Stamped;
@@ -54,6 +55,7 @@ pub trait Host: Files
     + Clock
     + RandomSource
     + EpochFiles
+    + Resident
     + Sync {}
 
 impl<
@@ -65,6 +67,7 @@ impl<
         + Clock
         + RandomSource
         + EpochFiles
+        + Resident
         + Sync,
 > Host for H {}
 

@@ -4,10 +4,12 @@
 
 mod avps;
 mod cause;
+mod counted;
 mod desk;
 mod frames;
 mod guests;
 mod hall;
+mod kinds;
 mod own;
 mod post;
 mod printable;
@@ -17,9 +19,11 @@ mod watching;
 
 pub use avps::{AvpBytes, first_avp};
 pub use cause::Cause;
+pub use counted::{KindCounts, MessageCounts};
 pub use desk::{Desk, desks};
 pub use guests::{GuestSeen, Guests};
 pub use hall::{Arrived, Hall};
+pub use kinds::{KIND_COUNT, KINDS, MessageKind};
 pub use own::Own;
 pub use post::{Post, Posting};
 pub use printable::Printable;

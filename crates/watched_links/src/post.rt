@@ -1,6 +1,7 @@
 //! Bytes that wait to be written to one connection, and who writes them: its worker before it reads on, or a writer beside it while the
 //! worker waits for bytes. So nobody else waits for a peer that doesn't read.
 use crate::cause::Cause;
+use crate::counted::MessageCounts;
 use crate::pushes::SentPushes;
 use dia_codec::read_header;
 use outbox::{Outbox, PutFault};
@@ -265,6 +266,7 @@ impl Post {
 pub struct Posting<'r, R: Wait> {
     pub rt: &'r R,
     pub sent: &'r SentPushes,
+    pub counts: &'r MessageCounts,
     pub post: Arc<Post>,
 }
 
@@ -274,6 +276,7 @@ impl<R: Wait> Drop for Posting<'_, R> {
         let Posting {
             rt: _,
             sent: _,
+            counts: _,
             post: _,
         } = self;
     }
@@ -281,6 +284,7 @@ impl<R: Wait> Drop for Posting<'_, R> {
 
 impl<R: Wait> Write for Posting<'_, R> {
     fn write(&mut self, buf: &[u8]) -> io::Result<usize> {
+        self.counts.count_sent(buf);
         self.sent.keep(self.rt, buf);
         self.post.leave(self.rt, buf)?;
         Ok(buf.len())

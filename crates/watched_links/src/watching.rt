@@ -3,6 +3,7 @@
 ghost use Rattle.std.specs.Io.{ReadsAtMost};
 
 use crate::cause::Cause;
+use crate::counted::MessageCounts;
 use crate::frames::{Found, Frames, is_exchange};
 use crate::own::Own;
 use crate::post::Post;
@@ -28,6 +29,7 @@ pub struct Watched<'b, 'r, R> {
     alloc: Global,
     rt: &'r R,
     own: &'b Own,
+    counts: &'b MessageCounts,
     post: Arc<Post>,
     frames: Frames,
     /// Since when the connection is there.
@@ -61,6 +63,7 @@ impl<'b, 'r, R: Wait + Clock> Watched<'b, 'r, R> {
         alloc: Global,
         rt: &'r R,
         own: &'b Own,
+        counts: &'b MessageCounts,
         post: Arc<Post>,
         since: Instant,
     ) -> Watched<'b, 'r, R> {
@@ -68,6 +71,7 @@ impl<'b, 'r, R: Wait + Clock> Watched<'b, 'r, R> {
             alloc,
             rt,
             own,
+            counts,
             post,
             frames: Frames::start(alloc),
             since,
@@ -121,6 +125,7 @@ impl<'b, 'r, R: Wait + Clock> Watched<'b, 'r, R> {
         let Ok(request) = self.own.next_watchdog(self.alloc) else {
             return Err(io::Error::from(ErrorKind::OutOfMemory));
         };
+        self.counts.count_sent(request.as_slice());
         self.post.leave(self.rt, request.as_slice())
     }
 
@@ -144,6 +149,7 @@ impl<'b, 'r, R: Wait + Clock> Watched<'b, 'r, R> {
 
     /// A message begins: nothing but a capabilities exchange may come first (RFC 6733, 5.6).
     fn begin(&mut self, header: &Header) -> io::Result<()> {
+        self.counts.count_taken(header);
         if self.host.is_none() && !is_exchange(header) {
             return self.end(Cause::OtherFirst);
         }

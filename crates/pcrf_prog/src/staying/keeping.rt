@@ -11,10 +11,11 @@ use crate::staying::working::Shared;
 use link_ends::SharedSite;
 use living_site::{BeginFault, Keeper, LivingSite, Roll};
 use log::Log;
+use metered_site::MeteredSite;
 use std::alloc::Global;
 use std::sync::atomic::Ordering;
 use std::thread;
-use std::time::Duration;
+use std::time::{Clock, Duration};
 use thiserror::Error;
 use watched_links::Quiet;
 
@@ -71,9 +72,14 @@ impl<'r, L: Roll> EpochKeeper<'r, L> {
     }
 }
 
-impl<L: Roll + Send + Sync> Housekeeper<LivingSite<L>> for EpochKeeper<'_, L> {
+impl<L: Roll + Send + Sync, C: Clock> Housekeeper<MeteredSite<'_, LivingSite<L>, C>>
+    for EpochKeeper<'_, L> {
     /// The file says the epoch before the site begins it.
-    fn begin_next<M: Machine>(&mut self, rt: &M, site: &LivingSite<L>) -> Result<u16, Unbegun> {
+    fn begin_next<M: Machine>(
+        &mut self,
+        rt: &M,
+        site: &MeteredSite<'_, LivingSite<L>, C>,
+    ) -> Result<u16, Unbegun> {
         let Some(epoch) = self.keeper.epoch().checked_add(1) else {
             return Err(Unbegun::LastEpoch);
         };
@@ -84,7 +90,7 @@ impl<L: Roll + Send + Sync> Housekeeper<LivingSite<L>> for EpochKeeper<'_, L> {
                 Err(_) => return Err(Unbegun::Unwritten),
             }
         }
-        match site.begin_anew(rt, &mut self.keeper) {
+        match site.site().begin_anew(rt, &mut self.keeper) {
             Ok(()) => Ok(epoch),
             Err(BeginFault::EpochFull) => Err(Unbegun::LastEpoch),
             Err(BeginFault::NoMemory) => Err(Unbegun::NoMemory),

@@ -1,5 +1,6 @@
 //! What a server that stays needs of its machine.
 use crate::kept_files::EpochFiles;
+use crate::resident::Resident;
 use std::net::{Net, TcpListener, TcpStream};
 use std::random::RandomSource;
 use std::sync::Wait;
@@ -13,6 +14,7 @@ pub trait Machine: Net<Listener = TcpListener, Stream = TcpStream>
     + Clock
     + RandomSource
     + EpochFiles
+    + Resident
     + Sync {}
 
 impl<
@@ -22,5 +24,6 @@ impl<
         + Clock
         + RandomSource
         + EpochFiles
+        + Resident
         + Sync,
 > Machine for M {}

@@ -21,6 +21,7 @@ use gateway_links::first_end_id;
 use link_ends::SharedSite;
 use living_site::{LivingSite, Roll, Roster};
 use log::Log;
+use metered_site::MeteredSite;
 use op_tables::Tables;
 use pcrf_serve::{Gateways, Server, Site};
 use peer_lines::{Board, Expected, Opening, Slot};
@@ -527,8 +528,9 @@ fn serve_living<'r, L: Roll + Send + Sync, M: Machine, G: Log + Sync, R: Input, 
         return Err(ServerFault::NoMemory);
     };
     let keeper = EpochKeeper::starting(alloc, keeper, premises.exchange.place, epoch_file);
-    let served = serve_seated(rt, premises, &site, seats, console, log, keeper);
-    drop(site);
+    let metered = MeteredSite::of(site, rt, &premises.furniture.figures.calls);
+    let served = serve_seated(rt, premises, &metered, seats, console, log, keeper);
+    drop(metered);
     Ok(served?)
 }
 

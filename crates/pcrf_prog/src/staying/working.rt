@@ -65,15 +65,17 @@ fn make_halves<'r, M: Machine>(
 ) -> Result<Halves<'r, M>, AllocError> {
     let alloc = furniture.alloc;
     let own = &furniture.own;
+    let counts = &furniture.figures.messages;
     let post = Arc::new(alloc, Post::of(alloc, stream))?;
     let half = Arc::new(alloc, Half::counting_from(own.first_end_id))?;
-    let reader = Watched::start(alloc, rt, own, Arc::try_clone(&post)?, since);
+    let reader = Watched::start(alloc, rt, own, counts, Arc::try_clone(&post)?, since);
     let beside = Arc::try_clone(&post)?;
     half.open(
         rt,
         Posting {
             rt,
             sent: &furniture.sent,
+            counts,
             post: Arc::try_clone(&post)?,
         },
     );

@@ -97,6 +97,42 @@ pub const PUSH_UNWRITTEN: Family<'static> = Family {
     kind: Kind::Counter,
 };
 
+pub const RESIDENT: Family<'static> = Family {
+    name: "process_resident_memory_bytes",
+    help: "Bytes of the machine's memory that the process has.",
+    kind: Kind::Gauge,
+};
+
+pub const CALLS: Family<'static> = Family {
+    name: "pcrf_site_call_seconds",
+    help: "How long calls of the site took that served a message, pushed, aborted or took a letter, from the lock asked for to the reply.",
+    kind: Kind::Histogram,
+};
+
+pub const MESSAGES: Family<'static> = Family {
+    name: "pcrf_messages_total",
+    help: "Requests that were answered, by the code of the answer, 0 where it had none.",
+    kind: Kind::Counter,
+};
+
+pub const REQUESTS_TAKEN: Family<'static> = Family {
+    name: "pcrf_requests_taken_total",
+    help: "Requests that came.",
+    kind: Kind::Counter,
+};
+
+pub const REQUESTS_SENT: Family<'static> = Family {
+    name: "pcrf_requests_sent_total",
+    help: "Requests that the site sent: re-authorisation requests, abort session requests and watchdogs.",
+    kind: Kind::Counter,
+};
+
+pub const ANSWERS_TAKEN: Family<'static> = Family {
+    name: "pcrf_answers_taken_total",
+    help: "Answers that came.",
+    kind: Kind::Counter,
+};
+
 pub const PEER_LINK: Family<'static> = Family {
     name: "pcrf_peer_link",
     help: "1 while letters go to a peer site.",

@@ -1,10 +1,10 @@
 //! What a server that stays counts of itself.
 use crate::staying::journal::is_lost;
 use link_ends::LinkEnd;
-use site_status::{CodeCounts, Count};
+use site_status::{CodeCounts, Count, Times};
 use std::alloc::{AllocError, Global};
 use std::time::{Clock, Instant};
-use watched_links::Cause;
+use watched_links::{Cause, MessageCounts};
 
 /// How many numbers sites have.
 const SITES: usize = 16;
@@ -66,6 +66,10 @@ pub struct Figures {
     pub since: Option<Instant>,
     pub site: SiteFigures,
     pub connections: ConnectionFigures,
+    /// The messages of these.
+    pub messages: MessageCounts,
+    /// How long calls of the site took.
+    pub calls: Times,
     /// Of each peer site that it was told of, in that order.
     pub peers: Vec<PeerFigures>,
     /// Of each number that a site can have.
@@ -141,10 +145,14 @@ impl Figures {
         let peers = peer_figures(alloc, peers)?;
         let senders = sender_figures(alloc)?;
         let asks = CodeCounts::start(alloc)?;
+        let messages = MessageCounts::start(alloc)?;
+        let calls = Times::start(alloc)?;
         Ok(Figures {
             since: Instant::now(clock).ok(),
             site,
             connections: ConnectionFigures::start(),
+            messages,
+            calls,
             peers,
             senders,
             asks,

@@ -1,9 +1,10 @@
 //! The figures of a server as text.
 use crate::staying::machine::Machine;
 use crate::staying::status::families::{
-    ASKS, CONNECTIONS, CROWDED, EPOCH, EPOCHS_BEGUN, HOST_CONNECTIONS, HOST_WAITING, LOST,
-    OPERATIONS, PEER_LACKING, PEER_LETTERS, PEER_LINK, PUSH_REFUSALS, PUSH_UNWRITTEN, SEATED,
-    SEATS, SENDER_LETTERS, SENDER_LINK, SERVING, SITE, STRANGERS, UPTIME,
+    ANSWERS_TAKEN, ASKS, CALLS, CONNECTIONS, CROWDED, EPOCH, EPOCHS_BEGUN, HOST_CONNECTIONS,
+    HOST_WAITING, LOST, MESSAGES, OPERATIONS, PEER_LACKING, PEER_LETTERS, PEER_LINK, PUSH_REFUSALS,
+    PUSH_UNWRITTEN, REQUESTS_SENT, REQUESTS_TAKEN, RESIDENT, SEATED, SEATS, SENDER_LETTERS,
+    SENDER_LINK, SERVING, SITE, STRANGERS, UPTIME,
 };
 use crate::staying::status::figures::{Figures, PeerFigures};
 use crate::staying::working::Shared;
@@ -14,7 +15,7 @@ use site_status::{CODE_LIMIT, CodeCounts, Exposition, Family, Label, Number};
 use std::alloc::{AllocError, Global};
 use std::net::SocketAddrV4;
 use std::time::Clock;
-use watched_links::{Guests, Printable};
+use watched_links::{Guests, KINDS, KindCounts, MessageCounts, MessageKind, Printable};
 
 /// Writes a figure of one number.
 fn put(out: &mut Exposition, family: &Family<'_>, count: u64) -> Result<(), AllocError> {
@@ -204,6 +205,12 @@ fn put_senders(out: &mut Exposition, alloc: Global, figures: &Figures) -> Result
     Ok(())
 }
 
+/// Writes how long calls of the site took.
+fn put_calls(out: &mut Exposition, alloc: Global, figures: &Figures) -> Result<(), AllocError> {
+    let told = figures.calls.tell(alloc)?;
+    out.histogram(&CALLS, &told)
+}
+
 /// Writes what is known of letters.
 fn put_letters(
     out: &mut Exposition,
@@ -238,6 +245,133 @@ fn put_letters(
     put_senders(out, alloc, figures)
 }
 
+/// Writes the labels of a kind of message, and a count.
+fn put_kind(
+    out: &mut Exposition,
+    family: &Family<'_>,
+    kind: MessageKind,
+    count: u64,
+) -> Result<(), AllocError> {
+    if count == 0 {
+        return Ok(());
+    }
+    let labels = [
+        Label {
+            name: "application",
+            value: kind.application().as_bytes(),
+        },
+        Label {
+            name: "command",
+            value: kind.command().as_bytes(),
+        },
+    ];
+    out.sample(family.name, "", &labels, Number::Whole(count))
+}
+
+/// Writes how many answers of a kind went out with a code.
+fn put_answers(
+    out: &mut Exposition,
+    kind: MessageKind,
+    code: &str,
+    count: u64,
+) -> Result<(), AllocError> {
+    let labels = [
+        Label {
+            name: "application",
+            value: kind.application().as_bytes(),
+        },
+        Label {
+            name: "command",
+            value: kind.command().as_bytes(),
+        },
+        Label {
+            name: "code",
+            value: code.as_bytes(),
+        },
+    ];
+    out.sample(MESSAGES.name, "", &labels, Number::Whole(count))
+}
+
+/// Writes how many answers of a kind went out, by their codes.
+fn put_answered(
+    out: &mut Exposition,
+    alloc: Global,
+    kind: MessageKind,
+    codes: &CodeCounts,
+) -> Result<(), AllocError> {
+    for place in 0..CODE_LIMIT {
+        let Some((code, count)) = codes.at(place) else {
+            break;
+        };
+        let text = format!(in alloc; "{code}")?;
+        put_answers(out, kind, text.as_str(), count)?;
+    }
+    match codes.others() {
+        0 => Ok(()),
+        others => put_answers(out, kind, "other", others),
+    }
+}
+
+/// Which count of a kind of message a figure is.
+#[derive(Clone, Copy)]
+enum KindFigure {
+    RequestsTaken,
+    RequestsSent,
+    AnswersTaken,
+}
+
+impl KindFigure {
+    /// What it says.
+    fn of(self, counts: &KindCounts) -> u64 {
+        match self {
+            KindFigure::RequestsTaken => counts.requests_taken.get(),
+            KindFigure::RequestsSent => counts.requests_sent.get(),
+            KindFigure::AnswersTaken => counts.answers_taken.get(),
+        }
+    }
+}
+
+/// Writes a figure of each kind of message; nothing of those of which none was.
+fn put_kinds(
+    out: &mut Exposition,
+    family: &Family<'_>,
+    figure: KindFigure,
+    messages: &MessageCounts,
+) -> Result<(), AllocError> {
+    out.heading(family)?;
+    for kind in KINDS {
+        if let Some(counts) = messages.of(kind) {
+            put_kind(out, family, kind, figure.of(counts))?;
+        }
+    }
+    Ok(())
+}
+
+/// Writes what is known of messages.
+fn put_messages(
+    out: &mut Exposition,
+    alloc: Global,
+    messages: &MessageCounts,
+) -> Result<(), AllocError> {
+    put_kinds(out, &REQUESTS_TAKEN, KindFigure::RequestsTaken, messages)?;
+    out.heading(&MESSAGES)?;
+    for kind in KINDS {
+        if let Some(counts) = messages.of(kind) {
+            put_answered(out, alloc, kind, &counts.answers_sent)?;
+        }
+    }
+    put_kinds(out, &REQUESTS_SENT, KindFigure::RequestsSent, messages)?;
+    put_kinds(out, &ANSWERS_TAKEN, KindFigure::AnswersTaken, messages)
+}
+
+/// Writes how much memory the process has, if that is known.
+fn put_resident<M: Machine>(out: &mut Exposition, rt: &M) -> Result<(), AllocError> {
+    match rt.resident() {
+        Some(bytes) => put(out, &RESIDENT, bytes),
+        None => Ok(()),
+    }
+}
+
 /// The figures of a server. None of them is found by a pass, and none needs the site's lock.
 pub fn figures_of<'s, 'r, S: SharedSite, M: Machine, G: Log>(
     rt: &M,
@@ -247,9 +381,12 @@ pub fn figures_of<'s, 'r, S: SharedSite, M: Machine, G: Log>(
     let (alloc, figures) = (furniture.alloc, &furniture.figures);
     let mut out = Exposition::start(alloc);
     put_site(&mut out, rt, all)?;
+    put_resident(&mut out, rt)?;
     put_connections(&mut out, figures, furniture.desks.len())?;
     put_hosts(&mut out, rt, alloc, &furniture.guests)?;
+    put_messages(&mut out, alloc, &figures.messages)?;
     put_pushes(&mut out, alloc, figures)?;
+    put_calls(&mut out, alloc, figures)?;
     put_letters(&mut out, alloc, figures, all.exchange.peers.as_slice())?;
     put_codes(&mut out, alloc, &ASKS, &figures.asks)?;
     Ok(out)

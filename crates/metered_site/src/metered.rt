@@ -1,0 +1,145 @@
+//! A site whose calls are timed.
+ghost use Rattle.std.specs.Prelude.{◌≡◌};
+
+use dia_base::Identity;
+use pcrf_values::DiameterIdentity;
+use shared_site::{Dated, Event, Grown, Reply, SharedSite, StepFault};
+use site_status::Times;
+use std::io;
+use std::sync::Wait;
+use std::thread::Threads;
+use std::time::{Clock, Duration};
+
+/// A site that threads share, with the times of its calls.
+#[derive(Drop)]
+pub struct MeteredSite<'r, S, C> {
+    site: S,
+    clock: &'r C,
+    times: &'r Times,
+}
+
+impl<'r, S, C: Clock> MeteredSite<'r, S, C> {
+    /// That site. The times of its calls are noted there.
+    pub fn of(site: S, clock: &'r C, times: &'r Times) -> MeteredSite<'r, S, C>
+        ensures { result.site ≡ site }
+    {
+        MeteredSite { site, clock, times }
+    }
+
+    /// The site beneath.
+    pub fn site(&self) -> &S
+        ensures { result.now ≡ self.now.site }
+    {
+        &self.site
+    }
+
+    /// A call took the time since then, unless the machine tells no time.
+    fn tell(&self, begun: io::Result<Duration>) {
+        let (Ok(begun), Ok(ended)) = (begun, self.clock.monotonic()) else {
+            return;
+        };
+        let taken = ended.saturating_sub(begun).as_nanos();
+        self.times.add(u64::try_from(taken).unwrap_or(u64::MAX));
+    }
+}
+
+/// Timed are the calls that wait for nothing but the lock: from when it is asked for to the reply.
+impl<S: SharedSite, C: Clock> SharedSite for MeteredSite<'_, S, C> {
+    type Seat = S::Seat;
+
+    ghost seen = { S.seen };
+
+    ghost beside = { λ metered. S.beside metered.site };
+
+    ghost found = { S.found };
+
+    ghost answered = { S.answered };
+
+    ghost has_begun = { S.has_begun };
+
+    fn identity(&self) -> &Identity {
+        self.site.identity()
+    }
+
+    fn edition(&self) -> u32 {
+        self.site.edition()
+    }
+
+    fn number(&self) -> u8 {
+        self.site.number()
+    }
+
+    fn number_of(&self, seat: &S::Seat) -> usize {
+        self.site.number_of(seat)
+    }
+
+    fn calls_of(&self, seat: &S::Seat) -> u64 {
+        self.site.calls_of(seat)
+    }
+
+    fn last_of(&self, seat: &S::Seat) -> Option<u64> {
+        self.site.last_of(seat)
+    }
+
+    fn wants_push<R: Wait>(&self, rt: &R, seat: &mut S::Seat, host: &DiameterIdentity) -> bool {
+        self.site.wants_push(rt, seat, host)
+    }
+
+    fn wants_abort<R: Wait>(&self, rt: &R, seat: &mut S::Seat, host: &DiameterIdentity) -> bool {
+        self.site.wants_abort(rt, seat, host)
+    }
+
+    fn call<R: Threads + Wait + Sync>(
+        &self,
+        rt: &R,
+        seat: &mut S::Seat,
+        event: &Event,
+    ) -> Result<Reply, StepFault> {
+        let begun = self.clock.monotonic();
+        let reply = self.site.call(rt, seat, event);
+        self.tell(begun);
+        reply
+    }
+
+    fn call_dated<R: Threads + Wait + Sync>(
+        &self,
+        rt: &R,
+        seat: &mut S::Seat,
+        event: &Event,
+    ) -> Result<Dated, StepFault> {
+        let begun = self.clock.monotonic();
+        let told = self.site.call_dated(rt, seat, event);
+        self.tell(begun);
+        told
+    }
+
+    fn call_alone<R: Wait>(
+        &self,
+        rt: &R,
+        seat: &mut S::Seat,
+        event: &Event,
+    ) -> Result<Reply, StepFault> {
+        self.site.call_alone(rt, seat, event)
+    }
+
+    fn call_grown<R: Threads + Wait + Sync>(
+        &self,
+        rt: &R,
+        seat: &mut S::Seat,
+        event: &Event,
+        past: u64,
+    ) -> Result<Reply, StepFault> {
+        self.site.call_grown(rt, seat, event, past)
+    }
+
+    fn call_grown_since<R: Threads + Wait + Sync>(
+        &self,
+        rt: &R,
+        seat: &mut S::Seat,
+        event: &Event,
+        past: u64,
+        begun: u16,
+    ) -> Result<Grown, StepFault> {
+        self.site.call_grown_since(rt, seat, event, past, begun)
+    }
+}
