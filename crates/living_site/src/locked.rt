@@ -17,6 +17,7 @@ use crate::chronicle::Chronicle;
 use crate::dated::{Dated, Grown};
 use crate::fault::BeginFault;
 use crate::keeper::Keeper;
+use crate::looker::Looker;
 use crate::notes::Deeds;
 use crate::roll::{Roll, Roster};
 use crate::seat::Seat;
@@ -146,6 +147,13 @@ impl<L: Roll> LivingSite<L> {
         let mut chronicle = self.chronicle.lock(rt);
         chronicle.audit(seat);
         chronicle.site().is_aborting(host)
+    }
+
+    /// Lets someone see the site as it is, once the lock is free, and nobody else until that one has. It makes no entry, and wakes
+    /// nobody.
+    pub fn look<R: Wait, K: Looker>(&self, rt: &R, looker: &mut K) {
+        let chronicle = self.chronicle.lock(rt);
+        looker.see(chronicle.site());
     }
 
     /// Makes an event happen, as a call of a seat, once the lock is free. The seat gains the receipt of this event with the
