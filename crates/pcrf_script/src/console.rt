@@ -5,7 +5,9 @@ use crate::messages::put_stream;
 use crate::printing::{put_outcome, put_restart};
 use op_tables::Tables;
 use operator_view::put_value;
+use pcrf_values::GxSid;
 use pcrf_world::{World, WorldEvent};
+use ranked::Ranked;
 use std::alloc::Global;
 use watched_io::{LineFault, Obey};
 
@@ -70,6 +72,7 @@ impl Console {
             Line::Message(i, bytes) => self.give(*i, bytes.as_slice(), out),
             Line::Push(i) => self.happen(WorldEvent::Push(*i, None), out),
             Line::Abort(i) => self.happen(WorldEvent::Abort(*i, None), out),
+            Line::Retell(i, session) => self.retell(*i, session, out),
             Line::Letter(i, j) => self.happen(WorldEvent::Letter(*i, *j), out),
             Line::Merge(j, k) => self.happen(WorldEvent::Merge(*j, *k), out),
             Line::Ack(j, i) => self.happen(WorldEvent::Ack(*j, *i), out),
@@ -100,7 +103,13 @@ impl Console {
         put
     }
 
-    /// Has a push or an abort, or a letter made or taken.
+    /// Has a site count what the gateway of a session was told as not there.
+    fn retell(&mut self, i: usize, session: &GxSid, out: &mut String) -> Result<(), Unobeyed> {
+        let session = session.try_copy()?;
+        self.happen(WorldEvent::Retell(i, session), out)
+    }
+
+    /// Has a push, an abort or a retelling, or a letter made or taken.
     fn happen(&mut self, event: WorldEvent, out: &mut String) -> Result<(), Unobeyed> {
         let happened = match &mut self.world {
             Some(world) => step(world, &event, out),

@@ -65,7 +65,8 @@ fn request_of(event: Event) -> Request
         | Event::Whole(_)
         | Event::AskOwn(_)
         | Event::AskWhole
-        | Event::Abort(_) => { unreachable!() }
+        | Event::Abort(_)
+        | Event::Retell(_) => { unreachable!() }
     }
 }
 

@@ -6,6 +6,7 @@ pub mod PlacedRecord
 pub mod Pushes
 pub mod Replies
 pub mod Restoring
+pub mod Retellings
 pub mod SameFacts
 pub mod Shown
 pub mod Taking

@@ -25,5 +25,6 @@ abbrev pub is_plain : Reply → Bool
 is_plain reply.Done = true
 is_plain (reply.Refused r) = true
 is_plain (reply.Base code) = true
+is_plain (reply.Retold done) = true
 is_plain (reply.Taken count) = true
 is_plain r = false

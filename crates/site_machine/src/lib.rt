@@ -12,6 +12,7 @@ mod operations;
 mod refusals;
 mod renewing;
 mod request;
+mod retelling;
 mod site;
 mod steps;
 mod witness;

@@ -491,7 +491,7 @@ impl Site {
     }
 
     /// The tag of what an operation of this site says.
-    fn tag(&self, number: u32, counter: u64) -> Tag
+    pub(crate) fn tag(&self, number: u32, counter: u64) -> Tag
         ensures { result ≡ record { number = number; counter = counter; site = self.now.number } }
     {
         Tag {
