@@ -2,7 +2,7 @@
 use crate::socket_server::{Addresses, SeatPlan, ServerFault, Settings, SiteEpoch, run_server};
 use crate::staying::{Console, Input, Machine, Output, StaySettings, run_staying};
 use crate::words::{Names, ServeWords, StayWords};
-use dia_base::Identity;
+use dia_base::{Identity, MessageForm};
 use log::Log;
 use op_tables::Tables;
 use pcrf_values::DiameterIdentity;
@@ -36,6 +36,7 @@ fn identity_of(alloc: Global, names: Names<'_>) -> Result<Option<Identity>, Allo
         host,
         realm,
         address,
+        form: MessageForm::Own,
     }))
 }
 

@@ -1,5 +1,6 @@
 //! What the words of the command line ask for.
 use clap::{Arg, ArgAction, ArgMatches, Command, Error, value_parser};
+use dia_base::MessageForm;
 use pcrf_serve::SEAT_LIMIT;
 use pcrf_values::limits::SITE_LIMIT;
 use std::alloc::{AllocError, Global};
@@ -28,15 +29,27 @@ const OVER: u16 = 5;
 /// How many operations of its own a site makes in an epoch at most before it begins the next, where nobody says.
 const LOG: u64 = 1_000_000;
 
+/// The forms that may be asked for by name.
+const FORMS: &[&str] = &["standard"];
+
 /// What a run is asked to do.
 #[derive(Drop)]
 pub enum Asked<'a> {
     /// To run the script of standard input with the tables that the program holds.
     Held,
-    /// To run it with the tables of that file.
-    World(&'a str),
+    /// To run it with the tables of a file.
+    World(WorldWords<'a>),
     /// To serve.
     Serve(ServeWords<'a>),
+}
+
+/// The words of a world.
+#[derive(Clone, Copy)]
+pub struct WorldWords<'a> {
+    /// The form in which its sites answer.
+    pub form: MessageForm,
+    /// The file of its operator tables.
+    pub tables: &'a str,
 }
 
 /// The words of a server that stays.
@@ -112,6 +125,17 @@ fn tables<'a>(alloc: Global) -> Arg<'a> {
     Arg::new(alloc, "TABLES").required(true).help(
         "The file with the operator tables, in TOML; examples/ has some",
     )
+}
+
+/// The form in which messages are written.
+fn forms<'a>(alloc: Global) -> Arg<'a> {
+    choice(
+        alloc,
+        "forms",
+        "FORM",
+        "Writes messages as the strictest readers of the standards want them; without it in a form of its own",
+    )
+    .value_parser(FORMS)
 }
 
 /// Adds the options that are numbers.
@@ -261,6 +285,7 @@ fn serve_command<'a>(alloc: Global) -> Result<Command<'a>, AllocError> {
 fn command<'a>(alloc: Global) -> Result<Command<'a>, AllocError> {
     let world = Command::new(alloc, "world")
         .about("Runs the script of standard input on several sites with these operator tables")
+        .arg(forms(alloc))?
         .arg(tables(alloc))?;
     let pcrf = Command::new(alloc, "pcrf")
         .about(
@@ -275,6 +300,14 @@ fn command<'a>(alloc: Global) -> Result<Command<'a>, AllocError> {
 /// The text of an argument that has to be there.
 fn text<'a>(matches: &ArgMatches<'a>, name: &str) -> &'a str {
     matches.get_str(name).unwrap_or_default()
+}
+
+/// The form that is asked for. `clap` reads no other name than those that there are.
+fn form_of(matches: &ArgMatches<'_>) -> MessageForm {
+    match matches.get_str("forms") {
+        Some(_) => MessageForm::Standard,
+        None => MessageForm::Own,
+    }
 }
 
 /// The texts of the peers.
@@ -330,10 +363,11 @@ pub fn read_words<'a>(alloc: Global, words: &'a [String]) -> Result<Asked<'a>, E
     if let Some(serve) = matches.subcommand_matches("serve") {
         return Ok(Asked::Serve(serve_words(alloc, serve)?));
     }
-    let world = matches.subcommand_matches("world");
-    Ok(Asked::World(
-        world
-            .and_then(|world| world.get_str("TABLES"))
-            .unwrap_or_default(),
-    ))
+    let Some(world) = matches.subcommand_matches("world") else {
+        return Ok(Asked::Held);
+    };
+    Ok(Asked::World(WorldWords {
+        form: form_of(world),
+        tables: text(world, "TABLES"),
+    }))
 }

@@ -3,6 +3,7 @@ use crate::fault::{BadLine, Unobeyed};
 use crate::lines::{Line, SiteCount, read_line};
 use crate::messages::put_stream;
 use crate::printing::{put_outcome, put_restart};
+use dia_base::MessageForm;
 use op_tables::Tables;
 use operator_view::put_value;
 use pcrf_values::GxSid;
@@ -16,6 +17,7 @@ use watched_io::{LineFault, Obey};
 pub(crate) struct Console {
     alloc: Global,
     tables: Tables,
+    form: MessageForm,
     world: Option<World>,
     refused: Option<BadLine>,
 }
@@ -41,11 +43,12 @@ fn step(world: &mut World, event: &WorldEvent, out: &mut String) -> Result<(), U
 }
 
 impl Console {
-    /// No world yet; its sites will have these tables.
-    pub(crate) fn start(alloc: Global, tables: Tables) -> Console {
+    /// No world yet; its sites will have these tables, and answer in this form.
+    pub(crate) fn start(alloc: Global, tables: Tables, form: MessageForm) -> Console {
         Console {
             alloc,
             tables,
+            form,
             world: None,
             refused: None,
         }
@@ -98,7 +101,7 @@ impl Console {
         let Some(world) = self.world.take() else {
             return Err(Unobeyed::Bad(BadLine::NoWorld));
         };
-        let (world, put) = put_stream(self.alloc, world, i, bytes, out);
+        let (world, put) = put_stream(self.alloc, world, i, self.form, bytes, out);
         self.world = Some(world);
         put
     }

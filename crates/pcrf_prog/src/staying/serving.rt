@@ -70,6 +70,7 @@ fn copied(identity: &Identity) -> Result<Identity, AllocError> {
         host: identity.host.try_copy()?,
         realm: identity.realm.try_copy()?,
         address: identity.address,
+        form: identity.form,
     })
 }
 
