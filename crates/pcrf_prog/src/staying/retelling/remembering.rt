@@ -90,7 +90,7 @@ impl<S: SharedSite, M> Remembering<'_, '_, S, M> {
     }
 
     /// Notes in which state a host is that exchanged capabilities.
-    fn note_host<R: Wait>(
+    fn remember_host<R: Wait>(
         &self,
         rt: &R,
         alloc: Global,
@@ -106,7 +106,7 @@ impl<S: SharedSite, M> Remembering<'_, '_, S, M> {
     }
 
     /// Notes in which state the host of a session is.
-    fn note_session<R: Wait>(
+    fn remember_session<R: Wait>(
         &self,
         rt: &R,
         alloc: Global,
@@ -129,16 +129,16 @@ impl<S: SharedSite, M> Remembering<'_, '_, S, M> {
     }
 
     /// Notes what a request that was served says of its host.
-    fn note<R: Wait>(&self, rt: &R, alloc: Global, request: &[u8]) -> Result<(), AllocError> {
+    fn remember<R: Wait>(&self, rt: &R, alloc: Global, request: &[u8]) -> Result<(), AllocError> {
         let Some(head) = request.first_chunk() else {
             return Ok(());
         };
         let header = read_header(head);
         if is_exchange(&header) {
-            return self.note_host(rt, alloc, Glance::of(request));
+            return self.remember_host(rt, alloc, Glance::of(request));
         }
         if is_credit_control(&header) {
-            return self.note_session(rt, alloc, Glance::of(request));
+            return self.remember_session(rt, alloc, Glance::of(request));
         }
         Ok(())
     }
@@ -180,7 +180,7 @@ impl<S: SharedSite, M: Clock> Repeats for Remembering<'_, '_, S, M> {
 
     /// What isn't noted, for want of memory, is taken for lost later.
     fn keep<R: Wait>(&self, rt: &R, alloc: Global, request: &[u8], answer: &[u8]) {
-        let _ = self.note(rt, alloc, request);
+        let _ = self.remember(rt, alloc, request);
         self.kept.keep(rt, alloc, request, answer);
     }
 }
