@@ -115,6 +115,7 @@ pub fn stay<M: Machine, G: Log + Sync, R: Input, W: Output>(
         watchdog: stay.watchdog,
         wait: stay.wait,
         over: stay.over,
+        again: stay.again,
         log_limit: stay.log,
         epoch_file: stay.epoch_file,
         secret,

@@ -127,6 +127,7 @@ fn serve_frame<
     if link.repeat(rt, frame)? {
         return Ok(false);
     }
+    link.prepare(rt, frame)?;
     serve_anew(rt, alloc, at, link, frame)
 }
 

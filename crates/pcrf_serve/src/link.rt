@@ -96,6 +96,15 @@ impl<'a, W: Write + Drop, O: Observer, G: Gate, K: Repeats> Link<'a, W, O, G, K>
         Ok(true)
     }
 
+    /// A message is about to be answered anew.
+    pub(crate) fn prepare(&self, rt: &impl Wait, frame: &[u8]) -> Result<(), AllocError> {
+        let Some(head) = frame.first_chunk() else {
+            return Ok(());
+        };
+        let header = read_header(head);
+        self.repeats.prepare(rt, self.alloc, &header, frame)
+    }
+
     /// A request was served, and is answered so.
     pub(crate) fn keep(&self, rt: &impl Wait, frame: &[u8], answer: &[u8]) {
         self.repeats.keep(rt, self.alloc, frame, answer);
