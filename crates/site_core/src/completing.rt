@@ -11,7 +11,7 @@ use base_profile::BaseKind;
 use dia_base::MessageForm;
 use dia_codec::{HEADER_BYTES, read_header};
 use site_machine::Request;
-use standard_form::{Answered, behind, besides};
+use standard_form::{Answered, avps_besides, put_behind};
 use std::alloc::{AllocError, Global};
 
 /// What is answered, by what a peer asks.
@@ -65,8 +65,8 @@ pub(crate) fn completed(
                 unreachable!()
             };
             let header = read_header(first);
-            let avps = besides(alloc, kind, &header, frame)?;
-            behind(alloc, &avps, plain)
+            let avps = avps_besides(alloc, kind, &header, frame)?;
+            put_behind(alloc, &avps, plain)
         }
     }
 }

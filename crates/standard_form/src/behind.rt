@@ -33,7 +33,7 @@ fn with_more(alloc: Global, bytes: &[u8], more: &[u8]) -> Result<Vec<u8>, AllocE
 /// A written message with these AVPs behind its own, where it then is no longer than a message may be; else it stays as it was. What
 /// has no length field is no message, and stays so too.
 #[tactic(auto, unfolding(crate::specs::Behind::behind))]
-pub fn behind(alloc: Global, avps: &[Avp], bytes: Vec<u8>) -> Result<Vec<u8>, AllocError>
+pub fn put_behind(alloc: Global, avps: &[Avp], bytes: Vec<u8>) -> Result<Vec<u8>, AllocError>
     ensures { IfOk result (λ both. both.items ≡ behind (avp_views avps.now) bytes.items) }
 {
     let more = match write_group(alloc, avps) {

@@ -158,7 +158,7 @@ fn put_proxies(alloc: Global, out: &mut Vec<Avp>, avps: &[Avp]) -> Result<(), Al
 /// could not be read its type and number, which RFC 8506, 3.2, asks of each answer; an exchange of capabilities the vendor whose
 /// AVPs are understood; and every answer the request's Proxy-Infos, as they came.
 #[tactic(auto, unfolding(crate::specs::Besides::besides))]
-pub fn besides(
+pub fn avps_besides(
     alloc: Global,
     answered: Answered,
     header: &Header,

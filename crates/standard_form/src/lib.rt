@@ -8,6 +8,6 @@ mod besides;
 mod laws;
 
 pub use answered::Answered;
-pub use behind::behind;
-pub use besides::besides;
+pub use behind::put_behind;
+pub use besides::avps_besides;
 pub use laws::avps_behind_are_spelled;
