@@ -22,9 +22,13 @@ const FIRMWARE_REVISION: u32 = 267;
 /// The one revision that there is.
 const REVISION: u32 = 1;
 
-/// INITIAL_REQUEST, UPDATE_REQUEST, and the last of the CC-Request-Types (RFC 8506, 8.3).
+/// INITIAL_REQUEST (RFC 8506, 8.3).
 const INITIAL: u32 = 1;
+
+/// UPDATE_REQUEST.
 const UPDATE: u32 = 2;
+
+/// EVENT_REQUEST, the last CC-Request-Type.
 const EVENT: u32 = 4;
 
 /// The AVPs of a frame; none where they can't be cut.
