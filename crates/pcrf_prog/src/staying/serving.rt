@@ -15,7 +15,7 @@ use crate::staying::keeping::{EpochKeeper, Housekeeper, keep_house};
 use crate::staying::machine::Machine;
 use crate::staying::showing::{Console, Input, Output, show_on};
 use crate::staying::sockets::{address_of, bind};
-use crate::staying::status::{ASKS, Figures, accept_asks, answer_asks};
+use crate::staying::status::{ASKS, Figures, Looked, accept_asks, answer_asks};
 use crate::staying::working::{Furniture, Shared, work};
 use dia_base::Identity;
 use gateway_links::first_end_id;
@@ -317,11 +317,11 @@ where
 }
 
 /// Starts who answers what is asked over HTTP.
-fn answer_all<'s, 'r, E, S: SharedSite + Sync + 's, M: Machine, G: Log + Sync>(
+fn answer_all<'s, 'r, E, S: Looked + Sync + 's, M: Machine, G: Log + Sync>(
     rt: &'s M,
     scope: &Scope<'s, E>,
     all: &'s Shared<'s, 'r, S, M, G>,
-    asking: &'s Option<TcpListener>,
+    asking: Option<&'s TcpListener>,
 )
 where
     S::Seat: Send,
@@ -418,7 +418,7 @@ fn stay<
     's,
     'r,
     E,
-    S: SharedSite + Sync + 's,
+    S: Looked + Sync + 's,
     M: Machine,
     G: Log + Sync,
     R: Input + 's,
@@ -444,7 +444,7 @@ where
         keeping,
         going,
     } = seats;
-    answer_all(rt, scope, all, &premises.sockets.asking);
+    answer_all(rt, scope, all, premises.sockets.asking.as_ref());
     show_all(rt, scope, all, showing, &premises.tables, console);
     keep_all(rt, scope, all, keeping, premises.log_limit, keeper);
     go_over_all(rt, scope, all, going);
@@ -466,7 +466,7 @@ struct Premises {
 }
 
 /// Serves with what all workers share.
-fn serve_shared<'s, 'r, S: SharedSite + Sync, M: Machine, G: Log + Sync, R: Input, W: Output, K>(
+fn serve_shared<'s, 'r, S: Looked + Sync, M: Machine, G: Log + Sync, R: Input, W: Output, K>(
     rt: &'r M,
     premises: &'r Premises,
     site: &'s S,
@@ -506,7 +506,7 @@ where
 }
 
 /// Serves with all seats.
-fn serve_seated<'r, S: SharedSite + Sync, M: Machine, G: Log + Sync, R: Input, W: Output, K>(
+fn serve_seated<'r, S: Looked + Sync, M: Machine, G: Log + Sync, R: Input, W: Output, K>(
     rt: &'r M,
     premises: &'r Premises,
     site: &S,

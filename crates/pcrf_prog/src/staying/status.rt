@@ -2,11 +2,15 @@
 //! connection.
 
 mod accepting;
+mod answered;
 mod answering;
 mod families;
 mod figures;
+mod looked;
+mod looking;
 mod telling;
 
 pub use accepting::accept_asks;
 pub use answering::{ASKS, answer_asks};
 pub use figures::{ConnectionFigures, Figures, SenderFigures, SiteFigures};
+pub use looked::Looked;
