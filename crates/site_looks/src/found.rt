@@ -78,8 +78,10 @@ fn has_live(site: &Site, ids: Option<&SessionIds<GxSid>>) -> bool {
         return false;
     };
     for id in ids.iter() {
-        if site.sessions().gx(id).is_some_and(GxRec::live) {
-            return true;
+        if let Some(known) = site.sessions().gx(id) {
+            if known.live() {
+                return true;
+            }
         }
     }
     false

@@ -18,4 +18,4 @@ pub use known::KnownSessions;
 pub use listed::{calls_at, gateways_at, sessions_named};
 pub use lookers::{AddressLook, SessionLook, SubscriberLook};
 pub use notes::{NOTES_BYTES, SessionNotes};
-pub use shown::{PAGE, Page, address_shown, session_shown, subscriber_shown};
+pub use shown::{PAGE, address_shown, session_shown, subscriber_shown};

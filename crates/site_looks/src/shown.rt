@@ -1,15 +1,21 @@
 //! What was found, as JSON.
-use crate::found::{CallFound, GatewayFound};
+use crate::found::{CallFound, GatewayFound, Unbound};
 use crate::lookers::{AddressLook, SessionLook, SubscriberLook};
+use af_records::AfRec;
 use gx_records::GxRec;
 use operator_view::put_text;
-use pcrf_values::{Rule, Subscriber};
+use pcrf_values::{AfSid, GxSid, Rule, Subscriber};
 use serde_json::{Value, json};
 use std::alloc::{AllocError, Global};
 use std::fmt::Display;
 
-/// How many entries of a list are shown at most.
+/// How many entries of a list are shown on a page at most.
 pub const PAGE: usize = 100;
+
+/// How many entries stand on the pages before that one, of which the first is 1.
+fn before(page: usize) -> usize {
+    page.saturating_sub(1).saturating_mul(PAGE)
+}
 
 /// A text with its bytes 0x21 to 0x7E but the backslash as they are, and each other byte as `\x` and two digits.
 fn printed(alloc: Global, bytes: &[u8]) -> Result<String, AllocError> {
@@ -136,16 +142,64 @@ fn lists_of(alloc: Global, found: &GatewayFound) -> Result<Value, AllocError> {
     json!(in alloc; {"subscribers": &subscribers, "rules": &rules, "told": &told})
 }
 
+/// Where the user of a call is reached, and by which access point.
+fn caller_of(alloc: Global, known: &AfRec) -> Result<Value, AllocError> {
+    let address = shown_of(alloc, known.address().map(|shown| shown.1))?;
+    let prefix = shown_of(alloc, known.prefix().map(|shown| shown.1))?;
+    let apn = match known.apn() {
+        Some((_, apn)) => text_of(alloc, apn.as_slice())?,
+        None => Value::Null,
+    };
+    json!(in alloc; {"address": &address, "prefix": &prefix, "apn": &apn})
+}
+
+/// The application function of a call.
+fn function_of(alloc: Global, known: &AfRec) -> Result<Value, AllocError> {
+    match known.host() {
+        Some((_, host)) => text_of(alloc, host.as_slice()),
+        None => Ok(Value::Null),
+    }
+}
+
+/// Why a call is bound to nothing.
+fn reason(found: &CallFound) -> &'static str {
+    match found.unbound {
+        Some(Unbound::NotLive) => "it isn't live",
+        Some(Unbound::NobodyThere) => {
+            "no live session of a gateway stands where its user is reached"
+        }
+        Some(Unbound::OthersThere) => {
+            "the live sessions of gateways there have another access point, subscriber or prefix"
+        }
+        None => "the site has no index of its sessions at the moment",
+    }
+}
+
+/// The gateway's session that carries the media of a call, and where none does, why.
+fn binding_of(alloc: Global, found: &CallFound) -> Result<(Value, Value), AllocError> {
+    if let Some(Some(gateway)) = &found.binding {
+        return Ok((text_of(alloc, gateway.as_slice())?, Value::Null));
+    }
+    let reason = reason(found);
+    Ok((Value::Null, json!(in alloc; reason)?))
+}
+
 /// An application function's session.
 fn call_shown(alloc: Global, found: &CallFound) -> Result<Value, AllocError> {
     let known = &found.known;
     let standing = standing(known.ended(), known.live());
+    let user = caller_of(alloc, known)?;
+    let host = function_of(alloc, known)?;
+    let (bound, unbound) = binding_of(alloc, found)?;
     let aborted = known.aborted();
-    let bound = match &found.gateway {
-        Some(gateway) => text_of(alloc, gateway.as_slice())?,
-        None => Value::Null,
-    };
-    json!(in alloc; {"state": standing, "bound": &bound, "aborted": aborted})
+    json!(in alloc; {
+        "state": standing,
+        "user": &user,
+        "host": &host,
+        "bound": &bound,
+        "unbound": &unbound,
+        "aborted": aborted
+    })
 }
 
 /// What was found of a Session-Id; none where nothing was.
@@ -165,26 +219,57 @@ pub fn session_shown(alloc: Global, look: &SessionLook<'_>) -> Result<Option<Str
     Ok(Some(shown.to_string(alloc)?))
 }
 
-/// What was found of a subscriber's name: so many of its sessions, and how many there are.
-pub fn subscriber_shown(alloc: Global, look: &SubscriberLook<'_>) -> Result<String, AllocError> {
+/// Session-Ids of gateways' sessions, those of one page.
+fn gateway_ids(alloc: Global, ids: &[GxSid], page: usize) -> Result<Value, AllocError> {
     let mut all = Vec::new(alloc);
-    for id in look.sessions.iter().take(PAGE) {
+    for id in ids.iter().skip(before(page)).take(PAGE) {
         all.push(text_of(alloc, id.as_slice())?)?;
     }
-    let count = look.sessions.len() as u64;
-    let sessions = Value::Array(all);
-    json!(in alloc; {"count": count, "gateway_sessions": &sessions})?.to_string(alloc)
+    Ok(Value::Array(all))
 }
 
-/// What was found at an address.
-pub fn address_shown(alloc: Global, look: &AddressLook) -> Result<String, AllocError> {
-    let (mut gateways, mut calls) = (Vec::new(alloc), Vec::new(alloc));
-    for id in &look.gateways {
-        gateways.push(text_of(alloc, id.as_slice())?)?;
+/// Session-Ids of application functions' sessions, those of one page.
+fn call_ids(alloc: Global, ids: &[AfSid], page: usize) -> Result<Value, AllocError> {
+    let mut all = Vec::new(alloc);
+    for id in ids.iter().skip(before(page)).take(PAGE) {
+        all.push(text_of(alloc, id.as_slice())?)?;
     }
-    for id in &look.calls {
-        calls.push(text_of(alloc, id.as_slice())?)?;
-    }
-    let (gateways, calls) = (Value::Array(gateways), Value::Array(calls));
-    json!(in alloc; {"gateway_sessions": &gateways, "calls": &calls})?.to_string(alloc)
+    Ok(Value::Array(all))
+}
+
+/// What was found of a subscriber's name: how many live sessions of gateways have it, and those of one page.
+pub fn subscriber_shown(
+    alloc: Global,
+    look: &SubscriberLook<'_>,
+    page: usize,
+) -> Result<String, AllocError> {
+    let count = look.sessions.len() as u64;
+    let number = page as u64;
+    let sessions = gateway_ids(alloc, look.sessions.as_slice(), page)?;
+    let shown = json!(in alloc; {
+        "page": number,
+        "count": count,
+        "gateway_sessions": &sessions
+    })?;
+    shown.to_string(alloc)
+}
+
+/// What was found at an address: how many live sessions stand there, and those of one page.
+pub fn address_shown(
+    alloc: Global,
+    look: &AddressLook,
+    page: usize,
+) -> Result<String, AllocError> {
+    let number = page as u64;
+    let (gateways, calls) = (look.gateways.len() as u64, look.calls.len() as u64);
+    let sessions = gateway_ids(alloc, look.gateways.as_slice(), page)?;
+    let bound = call_ids(alloc, look.calls.as_slice(), page)?;
+    let shown = json!(in alloc; {
+        "page": number,
+        "count": gateways,
+        "gateway_sessions": &sessions,
+        "call_count": calls,
+        "calls": &bound
+    })?;
+    shown.to_string(alloc)
 }

@@ -9,13 +9,14 @@ use crate::staying::chairs::{Doors, chairs};
 use crate::staying::exchange::{Exchange, accept_links, dial_on, take_links};
 use crate::staying::going_over::look_for_moved;
 use crate::staying::journal::{
-    Journal, tell_no_start, tell_no_taking_over, tell_unkept, tell_unlinked_peer, tell_unstaffed,
+    Journal, tell_no_start, tell_no_taking_over, tell_uncounted,
+    tell_unkept, tell_unlinked_peer, tell_unstaffed,
 };
 use crate::staying::keeping::{EpochKeeper, Housekeeper, keep_house};
 use crate::staying::machine::Machine;
 use crate::staying::showing::{Console, Input, Output, show_on};
 use crate::staying::sockets::{address_of, bind};
-use crate::staying::status::{ASKS, Figures, Looked, accept_asks, answer_asks};
+use crate::staying::status::{ASKS, Figures, Looked, accept_asks, answer_asks, count_sessions};
 use crate::staying::working::{Furniture, Shared, work};
 use dia_base::Identity;
 use gateway_links::first_end_id;
@@ -111,7 +112,12 @@ fn furnished<M: Machine, G: Log>(
         guests: Guests::start(alloc),
         beginnings: AtomicU64::new(0),
         asking: Hall::start(alloc, ASKS),
-        figures: Figures::start(rt, alloc, settings.addresses.peers.len())?,
+        figures: Figures::start(
+            rt,
+            alloc,
+            settings.addresses.peers.len(),
+            settings.status.is_some(),
+        )?,
     })
 }
 
@@ -335,6 +341,9 @@ where
         }
     }
     let _ = scope.spawn(move || accept_asks(rt, all, listener));
+    if scope.spawn(move || count_sessions(rt, all)).is_err() {
+        tell_uncounted(all.log);
+    }
 }
 
 /// Starts who has the site begin its next epoch.
@@ -559,7 +568,7 @@ fn serve_living<'r, L: Roll + Send + Sync, M: Machine, G: Log + Sync, R: Input, 
         return Err(ServerFault::NoMemory);
     };
     let keeper = EpochKeeper::starting(alloc, keeper, premises.exchange.place, epoch_file);
-    let metered = MeteredSite::of(site, rt, &premises.furniture.figures.calls);
+    let metered = MeteredSite::of(site, rt, &premises.furniture.figures.meters);
     let served = serve_seated(rt, premises, &metered, seats, console, log, keeper);
     drop(metered);
     Ok(served?)

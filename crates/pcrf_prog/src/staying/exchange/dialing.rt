@@ -63,7 +63,9 @@ fn send<'s, 'r, S: SharedSite, M: Machine, G: Log>(
     let Ok(teller) = link.teller() else {
         return (0, LinkEnd::NoMemory);
     };
+    let mut link = link;
     let figures = &all.furniture.figures;
+    link.count(&figures.traffic);
     figures.link(place, true);
     let own = all.exchange.place;
     let mut cursors = Cursors::start(own.number, own.epoch);

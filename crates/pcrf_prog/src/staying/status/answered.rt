@@ -21,6 +21,16 @@ impl Answered {
         })
     }
 
+    /// A part of the page for a browser.
+    pub fn part(alloc: Global, media: Media, text: &str) -> Result<Answered, AllocError> {
+        let body = Vec::from_slice(alloc, text.as_bytes())?;
+        Ok(Answered {
+            status: Status::Ok,
+            media,
+            body,
+        })
+    }
+
     /// What was found, as JSON on a line of its own.
     pub fn json(text: String) -> Result<Answered, AllocError> {
         let mut body = text.into_bytes();

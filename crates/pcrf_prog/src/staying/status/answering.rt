@@ -6,7 +6,8 @@ use crate::staying::status::looking::{address, gateway, session, subscriber};
 use crate::staying::status::telling::figures_of;
 use crate::staying::working::Shared;
 use log::{Log, debug};
-use site_status::{Head, Page, Status, page_of, put_response, read_head};
+use overview_page::{CSS, HTML, SCRIPT};
+use site_status::{Head, Media, Page, Status, page_of, put_response, query_of, read_head};
 use std::alloc::AllocError;
 use std::io::{self, ErrorKind, Read, Write};
 use std::net::{Shutdown, TcpStream};
@@ -60,16 +61,22 @@ fn page<'s, 'r, S: Looked, M: Machine, G: Log>(
     rt: &M,
     all: &Shared<'s, 'r, S, M, G>,
     page: Page<'_>,
+    query: &[u8],
 ) -> Result<Answered, AllocError> {
+    let alloc = all.furniture.alloc;
     match page {
         Page::Health => health(all),
         Page::Metrics => {
             let figures = figures_of(rt, all)?;
-            Answered::plain(all.furniture.alloc, Status::Ok, figures.text())
+            Answered::plain(alloc, Status::Ok, figures.text())
         }
+        Page::Overview => Answered::part(alloc, Media::Html, HTML),
+        Page::Style => Answered::part(alloc, Media::Css, CSS),
+        Page::Script => Answered::part(alloc, Media::Script, SCRIPT),
+        Page::History => Answered::json(all.furniture.figures.history.shown(rt, alloc)?),
         Page::Session(name) => session(rt, all, name),
-        Page::Subscriber(name) => subscriber(rt, all, name),
-        Page::Address(name) => address(rt, all, name),
+        Page::Subscriber(name) => subscriber(rt, all, name, query),
+        Page::Address(name) => address(rt, all, name, query),
         Page::Gateway(name) => gateway(rt, all, name),
     }
 }
@@ -90,7 +97,7 @@ fn answer_to<'s, 'r, S: Looked, M: Machine, G: Log>(
         );
     }
     match page_of(target) {
-        Some(named) => page(rt, all, named),
+        Some(named) => page(rt, all, named, query_of(target)),
         None => Answered::plain(alloc, Status::NotFound, b"there is no such page\n"),
     }
 }

@@ -3,15 +3,16 @@ use crate::staying::machine::Machine;
 use crate::staying::status::answered::{Answered, missing};
 use crate::staying::status::looked::Looked;
 use crate::staying::working::Shared;
+use form_urlencoded::parse;
 use log::Log;
 use pcrf_values::{AfSid, GxSid, SessionId, SubscriptionData};
 use ranked::Ranked;
 use serde_json::json;
 use site_looks::{
-    AddressLook, PAGE, SessionLook, SubscriberLook, address_shown, session_shown, subscriber_shown,
+    AddressLook, SessionLook, SubscriberLook, address_shown, session_shown, subscriber_shown,
 };
 use site_status::name_of;
-use std::alloc::AllocError;
+use std::alloc::{AllocError, Global};
 use std::net::Ipv4Addr;
 use std::str;
 use watched_links::Printable;
@@ -41,11 +42,23 @@ pub fn session<'s, 'r, S: Looked, M: Machine, G: Log>(
     }
 }
 
+/// Which page of a list a query asks for: that of the number under `page`, the first where it gives none.
+fn page_in(alloc: Global, query: &[u8]) -> Result<usize, AllocError> {
+    for pair in parse(alloc, query) {
+        let (name, value) = pair?;
+        if name.as_str() == "page" {
+            return Ok(value.as_str().parse::<usize>().unwrap_or(1).max(1));
+        }
+    }
+    Ok(1)
+}
+
 /// Which sessions a subscriber of that name has.
 pub fn subscriber<'s, 'r, S: Looked, M: Machine, G: Log>(
     rt: &M,
     all: &Shared<'s, 'r, S, M, G>,
     written: &[u8],
+    query: &[u8],
 ) -> Result<Answered, AllocError> {
     let alloc = all.furniture.alloc;
     let Some(name) = name_of(alloc, written)? else {
@@ -59,7 +72,8 @@ pub fn subscriber<'s, 'r, S: Looked, M: Machine, G: Log>(
     if look.is_refused {
         return Err(AllocError);
     }
-    Answered::json(subscriber_shown(alloc, &look)?)
+    let page = page_in(alloc, query)?;
+    Answered::json(subscriber_shown(alloc, &look, page)?)
 }
 
 /// The address that a text is.
@@ -72,17 +86,22 @@ pub fn address<'s, 'r, S: Looked, M: Machine, G: Log>(
     rt: &M,
     all: &Shared<'s, 'r, S, M, G>,
     written: &[u8],
+    query: &[u8],
 ) -> Result<Answered, AllocError> {
     let alloc = all.furniture.alloc;
-    let Some(address) = address_in(written) else {
+    let Some(name) = name_of(alloc, written)? else {
         return missing(alloc);
     };
-    let mut look = AddressLook::of(alloc, address, PAGE);
+    let Some(address) = address_in(name.as_slice()) else {
+        return missing(alloc);
+    };
+    let mut look = AddressLook::of(alloc, address);
     all.server.site.look(rt, &mut look);
     if look.is_refused {
         return Err(AllocError);
     }
-    Answered::json(address_shown(alloc, &look)?)
+    let page = page_in(alloc, query)?;
+    Answered::json(address_shown(alloc, &look, page)?)
 }
 
 /// What is known of a host.
