@@ -91,6 +91,8 @@ pub struct ServeWords<'a> {
     pub turns: u32,
     /// Its names.
     pub names: Names<'a>,
+    /// The form in which it writes messages.
+    pub form: MessageForm,
     /// Where it listens for connections.
     pub listen: &'a str,
     /// Where it listens for peers.
@@ -290,6 +292,7 @@ fn serve_command<'a>(alloc: Global) -> Result<Command<'a>, AllocError> {
     );
     let serve = with_numbers(alloc, serve)?;
     let serve = with_names(alloc, serve)?;
+    let serve = serve.arg(forms(alloc))?;
     let serve = with_stay(alloc, serve)?;
     let serve = serve.arg(tables(alloc))?;
     let peers = Arg::new(alloc, "PEER")
@@ -366,6 +369,7 @@ fn serve_words<'a>(alloc: Global, matches: &ArgMatches<'a>) -> Result<ServeWords
             realm: text(matches, "realm"),
             address: text(matches, "address"),
         },
+        form: form_of(matches),
         listen: text(matches, "listen"),
         exchange: text(matches, "exchange"),
         tables: text(matches, "TABLES"),

@@ -133,6 +133,11 @@ impl<'a, W: Write + Drop, O: Observer, G: Gate, K: Repeats> Link<'a, W, O, G, K>
         self.gateways.register(rt, host, self.number, self.half)
     }
 
+    /// A host's request came by this connection: it is reached by it from now on.
+    pub(crate) fn follow(&self, rt: &impl Wait, host: DiameterIdentity) -> Result<(), AllocError> {
+        self.gateways.follow(rt, host, self.number, self.half)
+    }
+
     /// The connection is over: its gateway is reached by it no more, and it is closed.
     pub(crate) fn close(&self, rt: &impl Wait) {
         self.half.close(rt);

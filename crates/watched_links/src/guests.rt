@@ -23,7 +23,7 @@ struct Guest {
 
 /// What is known of a host that came.
 #[derive(Drop)]
-pub struct GuestSeen {
+pub struct HostStatus {
     pub host: DiameterIdentity,
     /// How many connections it has.
     pub connections: u32,
@@ -112,10 +112,10 @@ impl Guests {
     }
 
     /// What is known of the host of a number; none where there is none, or memory ran out.
-    pub fn seen(&self, rt: &impl Wait, number: usize) -> Option<GuestSeen> {
+    pub fn seen(&self, rt: &impl Wait, number: usize) -> Option<HostStatus> {
         let all = self.all.lock(rt);
         let guest = all.get(number)?;
-        Some(GuestSeen {
+        Some(HostStatus {
             host: guest.host.try_copy().ok()?,
             connections: guest.connections,
             is_waiting: guest.is_waiting,

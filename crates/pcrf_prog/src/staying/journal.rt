@@ -179,6 +179,11 @@ pub fn tell_unkept<G: Log>(log: &G) {
     warn!(log; target: TARGET, "no thread could be started for the epochs: the site stays in this one");
 }
 
+/// Nobody counts sessions.
+pub fn tell_uncounted<G: Log>(log: &G) {
+    warn!(log; target: TARGET, "no thread could be started that counts sessions: their figures are missing");
+}
+
 /// Sessions of gateways that went over to this site were taken over.
 pub fn tell_taken_over<G: Log>(log: &G, count: u64) {
     info!(log; target: TARGET, "{count} sessions were taken over, whose gateways are connected here and not at their homes");

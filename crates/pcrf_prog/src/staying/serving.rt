@@ -9,14 +9,15 @@ use crate::staying::chairs::{Doors, chairs};
 use crate::staying::exchange::{Exchange, accept_links, dial_on, take_links};
 use crate::staying::going_over::look_for_moved;
 use crate::staying::journal::{
-    Journal, tell_no_start, tell_no_taking_over, tell_unkept, tell_unlinked_peer, tell_unstaffed,
+    Journal, tell_no_start, tell_no_taking_over, tell_uncounted,
+    tell_unkept, tell_unlinked_peer, tell_unstaffed,
 };
 use crate::staying::keeping::{EpochKeeper, Housekeeper, keep_house};
 use crate::staying::machine::Machine;
 use crate::staying::retelling::{Losses, Remembering};
 use crate::staying::showing::{Console, Input, Output, show_on};
 use crate::staying::sockets::{address_of, bind};
-use crate::staying::status::{ASKS, Figures, accept_asks, answer_asks};
+use crate::staying::status::{ASKS, Figures, Looked, accept_asks, answer_asks, count_sessions};
 use crate::staying::working::{Furniture, Shared, work};
 use dia_base::Identity;
 use gateway_links::first_end_id;
@@ -115,7 +116,12 @@ fn furnished<M: Machine, G: Log>(
         beginnings: AtomicU64::new(0),
         asking: Hall::start(alloc, ASKS),
         losses: Losses::start(alloc, settings.again),
-        figures: Figures::start(rt, alloc, settings.addresses.peers.len())?,
+        figures: Figures::start(
+            rt,
+            alloc,
+            settings.addresses.peers.len(),
+            settings.status.is_some(),
+        )?,
     })
 }
 
@@ -326,11 +332,11 @@ where
 }
 
 /// Starts who answers what is asked over HTTP.
-fn answer_all<'s, 'r, E, S: SharedSite + Sync + 's, M: Machine, G: Log + Sync>(
+fn answer_all<'s, 'r, E, S: Looked + Sync + 's, M: Machine, G: Log + Sync>(
     rt: &'s M,
     scope: &Scope<'s, E>,
     all: &'s Shared<'s, 'r, S, M, G>,
-    asking: &'s Option<TcpListener>,
+    asking: Option<&'s TcpListener>,
 )
 where
     S::Seat: Send,
@@ -344,6 +350,9 @@ where
         }
     }
     let _ = scope.spawn(move || accept_asks(rt, all, listener));
+    if scope.spawn(move || count_sessions(rt, all)).is_err() {
+        tell_uncounted(all.log);
+    }
 }
 
 /// Starts who has the site begin its next epoch.
@@ -427,7 +436,7 @@ fn stay<
     's,
     'r,
     E,
-    S: SharedSite + Sync + 's,
+    S: Looked + Sync + 's,
     M: Machine,
     G: Log + Sync,
     R: Input + 's,
@@ -454,7 +463,7 @@ where
         going,
         retelling: _,
     } = seats;
-    answer_all(rt, scope, all, &premises.sockets.asking);
+    answer_all(rt, scope, all, premises.sockets.asking.as_ref());
     show_all(rt, scope, all, showing, &premises.tables, console);
     keep_all(rt, scope, all, keeping, premises.log_limit, keeper);
     go_over_all(rt, scope, all, going);
@@ -476,7 +485,7 @@ struct Premises {
 }
 
 /// Serves with what all workers share.
-fn serve_shared<'s, 'r, S: SharedSite + Sync, M: Machine, G: Log + Sync, R: Input, W: Output, K>(
+fn serve_shared<'s, 'r, S: Looked + Sync, M: Machine, G: Log + Sync, R: Input, W: Output, K>(
     rt: &'r M,
     premises: &'r Premises,
     site: &'s S,
@@ -516,7 +525,7 @@ where
 }
 
 /// Serves with all seats.
-fn serve_seated<'r, S: SharedSite + Sync, M: Machine, G: Log + Sync, R: Input, W: Output, K>(
+fn serve_seated<'r, S: Looked + Sync, M: Machine, G: Log + Sync, R: Input, W: Output, K>(
     rt: &'r M,
     premises: &'r Premises,
     site: &S,
@@ -575,7 +584,7 @@ fn serve_living<'r, L: Roll + Send + Sync, M: Machine, G: Log + Sync, R: Input, 
         return Err(ServerFault::NoMemory);
     };
     let keeper = EpochKeeper::starting(alloc, keeper, premises.exchange.place, epoch_file);
-    let metered = MeteredSite::of(site, rt, &premises.furniture.figures.calls);
+    let metered = MeteredSite::of(site, rt, &premises.furniture.figures.meters);
     let served = serve_seated(rt, premises, &metered, seats, console, log, keeper);
     drop(metered);
     Ok(served?)

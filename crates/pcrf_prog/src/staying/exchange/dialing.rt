@@ -123,7 +123,9 @@ fn send<'s, 'r, S: SharedSite, M: Machine, G: Log>(
     let Ok(teller) = link.teller() else {
         return (0, LinkEnd::NoMemory);
     };
+    let mut link = link;
     let figures = &all.furniture.figures;
+    link.count(&figures.traffic);
     figures.link(place, true);
     let growing = growing_of(rt, all, probe, line, teller, peer, place);
     let end = send_on(rt, all, seat, link, &growing);
