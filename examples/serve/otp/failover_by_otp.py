@@ -1,0 +1,152 @@
+#!/usr/bin/env python3
+"""A gateway by OTP's diameter with two peers, two sites that stay, while calls are set up and ended at both: a site is killed, by which the
+gateway goes over to the other, and comes back, by which the gateway goes back to it. Each time its rules of each session are those that the
+session's home shows. The stack is Erlang's, so that nothing of what it reads and writes is the project's own.
+
+usage: failover_by_otp.py PROGRAM [TIMES]     with Debian's erlang-base, erlang-dev and erlang-diameter; the gate doesn't run it
+"""
+import pathlib
+import random
+import shutil
+import subprocess
+import sys
+import tempfile
+import time
+
+sys.dont_write_bytecode = True
+HERE = pathlib.Path(__file__).resolve().parent
+sys.path.insert(0, str(HERE.parent))
+from obeying import Function, shown_rules
+from sites import SECONDS
+from stays import Pair, call_avps, end_avps, require
+
+HOST, COUNT = "gateway.example", 8
+MOST_CALLS = 12  # no more are kept at once
+
+
+class Gateway:
+    """The gateway, which is a process of its own."""
+
+    def __init__(self, folder, ports):
+        self.process = subprocess.Popen(["erl", "-noinput", "-noshell", "-pa", folder, "-eval",
+                                         f"gateway:main({[HOST, str(COUNT), *map(str, ports)]}).".replace("'", '"')],
+                                        cwd=folder, stdin=subprocess.PIPE, stdout=subprocess.PIPE, text=True)
+        self.events = []
+
+    def line(self):
+        """The next line that it says."""
+        line = self.process.stdout.readline()
+        require(line != "", f"the gateway ended; it said {self.events[-10:]}")
+        return line.rstrip("\n")
+
+    def wait_for(self, text):
+        """Waits until it says that."""
+        while (line := self.line()) != text:
+            self.events.append(line)
+
+    def rules(self):
+        """The rules that it was told of each session."""
+        self.process.stdin.write("rules\n")
+        self.process.stdin.flush()
+        rules = {}
+        while (line := self.line()) != "end":
+            session, _, name = line.partition(" ")
+            if session.startswith(f"{HOST};") and name != "" and " " not in name:
+                rules.setdefault(session, set()).add(name)
+            else:
+                self.events.append(line)
+        return rules
+
+    def __enter__(self):
+        return self
+
+    def __exit__(self, *_fault):
+        self.process.kill()
+        self.process.wait()
+
+
+class Network(Pair):
+    """Two sites with an application function each, and the gateway."""
+
+    def __init__(self, program, folder):
+        super().__init__(program, folder)
+        self.random, self.made, self.calls, self.functions = random.Random(1), 0, {}, [None, None]
+
+    def begin(self, number, *words):
+        """Starts a site, and its application function comes to it."""
+        self.functions[number] = Function(self.start(number, "--over", 1, *words), number)
+
+    def call(self, number):
+        """A call is set up at a site, or one ends there."""
+        function, ours = self.functions[number], [call for call, (at, _) in self.calls.items() if at == number]
+        if ours and (len(ours) >= MOST_CALLS or self.random.random() < 0.4):
+            made = self.random.choice(ours)
+            code = function.asked("Session-Termination", end_avps(function, self.calls.pop(made)[1], made))
+        else:
+            self.made += 1
+            self.calls[self.made] = (number, self.random.randint(1, COUNT))
+            code = function.asked("AA", call_avps(function, self.calls[self.made][1], self.made))
+        require(code == 2001, f"a call was answered by {code}")
+
+    def load(self, numbers, seconds):
+        """Calls at these sites for so long."""
+        end = time.monotonic() + seconds
+        while time.monotonic() < end:
+            self.call(self.random.choice(numbers))
+            time.sleep(0.02)
+
+    def settle(self, gateway, home, when):
+        """Each session's home is that site, and its rules are those of the gateway."""
+        end = time.monotonic() + SECONDS
+        while True:
+            shown, rules = shown_rules(self.sites[home].shown()), gateway.rules()
+            wrong = [session for session in (f"{HOST};1;{number}" for number in range(1, COUNT + 1))
+                     if shown.get(session) != (home, rules.get(session, set()))]
+            if not wrong:
+                print(f"{when}: the gateway has the rules of its {COUNT} sessions, whose home is site {home}", flush=True)
+                return
+            require(time.monotonic() < end, f"{when}: {wrong[0]} is {shown.get(wrong[0])}, the gateway has {rules.get(wrong[0])}; {gateway.events[-10:]}")
+            time.sleep(0.2)
+
+
+def build(folder):
+    """Makes the gateway, in a folder apart."""
+    for words in (["diameterc", "-o", folder, "gx.dia"], ["erlc", "-I", folder, "-o", folder, "gateway.erl", f"{folder}/gx.erl"]):
+        if shutil.which(words[0]) is None:
+            raise RuntimeError(f"there is no {words[0]}: it is of Debian's erlang-base and erlang-diameter")
+        subprocess.run(words, cwd=HERE, check=True)
+
+
+def run(network, gateway, times):
+    """The first site is lost and comes back so often."""
+    gateway.wait_for("attached")
+    for turn in range(1, times + 1):
+        network.load((0, 1), 1.0)
+        network.settle(gateway, 0, f"turn {turn}, both sites are there")
+        network.sites[0].kill()
+        network.calls = {call: at for call, at in network.calls.items() if at[0] != 0}
+        network.load((1,), 2.0)
+        network.settle(gateway, 1, f"turn {turn}, site 0 is lost")
+        network.begin(0)
+        network.load((0, 1), 1.0)
+        network.settle(gateway, 0, f"turn {turn}, site 0 is back")
+
+
+def main(program, times=3):
+    """Runs both sites with the gateway."""
+    with tempfile.TemporaryDirectory() as folder, tempfile.TemporaryDirectory() as files, Network(program, files) as network:
+        try:
+            build(folder)
+            for number in (0, 1):
+                network.begin(number, "--wait", 1)
+            with Gateway(folder, [site.listen for site in network.sites]) as gateway:
+                run(network, gateway, int(times))
+                for line in gateway.events:
+                    print(f"  {line}")
+        except (OSError, RuntimeError, TimeoutError, subprocess.SubprocessError) as fault:
+            sys.exit(f"failover_by_otp: {type(fault).__name__}: {fault}")
+
+
+if len(sys.argv) not in (2, 3):
+    sys.exit(__doc__)
+main(*sys.argv[1:])
