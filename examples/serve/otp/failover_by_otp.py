@@ -7,6 +7,7 @@ usage: failover_by_otp.py PROGRAM [TIMES]     with Debian's erlang-base, erlang-
 """
 import pathlib
 import random
+import re
 import shutil
 import subprocess
 import sys
@@ -16,19 +17,20 @@ import time
 sys.dont_write_bytecode = True
 HERE = pathlib.Path(__file__).resolve().parent
 sys.path.insert(0, str(HERE.parent))
-from obeying import Function, shown_rules
+from obeying import KEPT, Function, shown_rules
 from sites import SECONDS
 from stays import Pair, call_avps, end_avps, require
 
 HOST, COUNT = "gateway.example", 8
 MOST_CALLS = 12  # no more are kept at once
+LIMIT = 5 * SECONDS
 
 
 class Gateway:
     """The gateway, which is a process of its own."""
 
     def __init__(self, folder, ports):
-        self.process = subprocess.Popen(["erl", "-noshell", "-pa", folder, "-eval",
+        self.process = subprocess.Popen(["erl", "+S", "1", "-noshell", "-pa", folder, "-eval",
                                          f"gateway:main({[HOST, str(COUNT), *map(str, ports)]}).".replace("'", '"')],
                                         cwd=folder, stdin=subprocess.PIPE, stdout=subprocess.PIPE, text=True)
         self.events = []
@@ -44,10 +46,14 @@ class Gateway:
         while (line := self.line()) != text:
             self.events.append(line)
 
+    def tell(self, word):
+        """Has it do something."""
+        self.process.stdin.write(f"{word}\n")
+        self.process.stdin.flush()
+
     def rules(self):
         """The rules that it was told of each session."""
-        self.process.stdin.write("rules\n")
-        self.process.stdin.flush()
+        self.tell("rules")
         rules = {}
         while (line := self.line()) != "end":
             session, _, name = line.partition(" ")
@@ -97,7 +103,7 @@ class Network(Pair):
 
     def settle(self, gateway, home, when):
         """Each session's home is that site, and its rules are those of the gateway."""
-        end = time.monotonic() + SECONDS
+        end = time.monotonic() + LIMIT
         while True:
             shown, rules = shown_rules(self.sites[home].shown()), gateway.rules()
             wrong = [session for session in (f"{HOST};1;{number}" for number in range(1, COUNT + 1))
@@ -105,8 +111,18 @@ class Network(Pair):
             if not wrong:
                 print(f"{when}: the gateway has the rules of its {COUNT} sessions, whose home is site {home}", flush=True)
                 return
-            require(time.monotonic() < end, f"{when}: {wrong[0]} is {shown.get(wrong[0])}, the gateway has {rules.get(wrong[0])}; {gateway.events[-10:]}")
+            last = "\n".join([line for line in gateway.events if f"{wrong[0]} " in line or " of " not in line][-2 * KEPT:])
+            require(time.monotonic() < end, f"{when}: {wrong[0]} is {shown.get(wrong[0])}, the gateway has {rules.get(wrong[0])}\n{last}")
             time.sleep(0.2)
+
+    def go_back(self, gateway):
+        """The gateway's updates go to the first site again, once its watchdogs found that to be there."""
+        end = time.monotonic() + LIMIT
+        while any(home != 0 for home, _ in shown_rules(self.sites[0].shown()).values()):
+            require(time.monotonic() < end, f"the gateway doesn't go back: {gateway.events[-KEPT:]}")
+            time.sleep(1.0)
+            gateway.tell("update")
+            gateway.wait_for("updated")
 
 
 def build(folder):
@@ -118,18 +134,24 @@ def build(folder):
 
 
 def run(network, gateway, times):
-    """The first site is lost and comes back so often."""
+    """The first site is lost, with a request under way to it, and comes back, so often."""
     gateway.wait_for("attached")
     for turn in range(1, times + 1):
         network.load((0, 1), 1.0)
         network.settle(gateway, 0, f"turn {turn}, both sites are there")
+        gateway.tell("update")
+        time.sleep(0.01)
         network.sites[0].kill()
+        gateway.wait_for("updated")
         network.calls = {call: at for call, at in network.calls.items() if at[0] != 0}
-        network.load((1,), 2.0)
+        network.load((1,), 1.0)
         network.settle(gateway, 1, f"turn {turn}, site 0 is lost")
         network.begin(0)
         network.load((0, 1), 1.0)
-        network.settle(gateway, 0, f"turn {turn}, site 0 is back")
+        network.settle(gateway, 1, f"turn {turn}, site 0 is back")
+        network.go_back(gateway)
+        network.load((0, 1), 1.0)
+        network.settle(gateway, 0, f"turn {turn}, the gateway is back at it")
 
 
 def main(program, times=3):
@@ -142,7 +164,8 @@ def main(program, times=3):
             with Gateway(folder, [site.listen for site in network.sites]) as gateway:
                 run(network, gateway, int(times))
                 for line in gateway.events:
-                    print(f"  {line}")
+                    if re.match("connected|lost|.* asks ", line):
+                        print(f"  {line}")
         except (OSError, RuntimeError, TimeoutError, subprocess.SubprocessError) as fault:
             sys.exit(f"failover_by_otp: {type(fault).__name__}: {fault}")
 

@@ -1,8 +1,8 @@
 %% A gateway by OTP's diameter with two peers: what it asks goes to the first of them that is there, by the order of their hosts, and what wasn't
 %% answered when that is lost goes to the other (RFC 6733, 5.5.4).
 %%
-%% gateway:main([Host, Count, Port..]) attaches so many subscribers, and updates one session after the other, four a second. A line "rules" on
-%% standard input has it print the rules that it was told, and "end" behind them; a line "quit" ends it.
+%% gateway:main([Host, Count, Port..]) attaches so many subscribers. A line "update" on standard input has it update one session after the other,
+%% and say "updated"; a line "rules" has it print the rules that it was told, and "end" behind them. It ends with its input.
 %%
 %% Each thing that happens is a line on standard output. It ends with status 1 where a request isn't answered by success.
 -module(gateway).
@@ -13,7 +13,6 @@
 
 -define(REALM, "example").
 -define(GX, 16777238).
--define(PAUSE, 250).
 -define(WATCHDOG, 6000).
 -define(RECONNECT, 1000).
 -define(LIMIT, 30000).
@@ -33,20 +32,15 @@ main([Host, Count | Ports]) ->
     Sessions = [{Host, Number} || Number <- lists:seq(1, list_to_integer(Count))],
     [attach(Session) || Session <- Sessions],
     say("attached", []),
-    spawn_link(fun() -> update_for_ever(Sessions, 1) end),
-    obey().
+    obey(Sessions, 1).
 
 %% What it is asked on standard input.
-obey() ->
+obey(Sessions, Number) ->
     case io:get_line("") of
-        "rules\n" -> [say("~s ~s", [Session, Name]) || {{Session, Name}} <- ets:tab2list(rules)], say("end", []), obey();
-        "quit\n" -> halt(0);
-        _ -> halt(0)
+        "rules\n" -> [say("~s ~s", [Session, Name]) || {{Session, Name}} <- ets:tab2list(rules)], say("end", []), obey(Sessions, Number);
+        "update\n" -> [ask(Session, 2, Number, []) || Session <- Sessions], say("updated", []), obey(Sessions, Number + 1);
+        eof -> halt(0)
     end.
-
-update_for_ever(Sessions, Number) ->
-    [begin timer:sleep(?PAUSE), ask(Session, 2, Number, []) end || Session <- Sessions],
-    update_for_ever(Sessions, Number + 1).
 
 session({Host, Number}) -> Host ++ ";1;" ++ integer_to_list(Number).
 
@@ -60,7 +54,7 @@ ask({Host, _} = Session, Kind, Number, User) ->
         'Destination-Realm' = ?REALM, 'CC-Request-Type' = Kind, 'CC-Request-Number' = Number},
     case diameter:call(gateway, gx, with_user(Request, User), [{timeout, ?LIMIT}]) of
         {ok, #gx_CCA{'Result-Code' = [2001], 'Charging-Rule-Remove' = Removed, 'Charging-Rule-Install' = Installed}} ->
-            do(session(Session), Removed, Installed);
+            do("answer", session(Session), Removed, Installed);
         Other -> fail(io_lib:format("~s was answered by ~p", [session(Session), Other]))
     end.
 
@@ -69,11 +63,14 @@ with_user(Request, [Subscriber, Address]) ->
     Request#gx_CCR{'Subscription-Id' = [Subscriber], 'Framed-IP-Address' = [Address], 'Called-Station-Id' = ["ims"]}.
 
 %% What a message tells of a session's rules is done.
-do(Session, Removed, Installed) ->
+do(What, Session, Removed, Installed) ->
     Id = iolist_to_binary(Session),
-    [ets:delete(rules, {Id, iolist_to_binary(Name)}) || #'gx_Charging-Rule-Remove'{'Charging-Rule-Name' = Names} <- Removed, Name <- Names],
-    [ets:insert(rules, {{Id, iolist_to_binary(Name)}}) || #'gx_Charging-Rule-Install'{'Charging-Rule-Definition' = Definitions} <- Installed,
+    Old = [iolist_to_binary(Name) || #'gx_Charging-Rule-Remove'{'Charging-Rule-Name' = Names} <- Removed, Name <- Names],
+    New = [iolist_to_binary(Name) || #'gx_Charging-Rule-Install'{'Charging-Rule-Definition' = Definitions} <- Installed,
         #'gx_Charging-Rule-Definition'{'Charging-Rule-Name' = Name} <- Definitions],
+    [ets:delete(rules, {Id, Name}) || Name <- Old],
+    [ets:insert(rules, {{Id, Name}}) || Name <- New],
+    [say("~s of ~s at ~p: -~p +~p", [What, Id, erlang:monotonic_time(millisecond), Old, New]) || Old ++ New =/= []],
     ok.
 
 fail(What) -> say("failed: ~s", [What]), halt(1).
@@ -95,7 +92,7 @@ handle_error(Reason, _, _, _) -> {error, Reason}.
 
 handle_request(#diameter_packet{msg = #gx_RAR{} = Request, errors = []}, _, {_, #diameter_caps{origin_host = {Host, _}}}) ->
     #gx_RAR{'Session-Id' = Session, 'Charging-Rule-Remove' = Removed, 'Charging-Rule-Install' = Installed} = Request,
-    do(Session, Removed, Installed),
+    do("push", Session, Removed, Installed),
     {reply, #gx_RAA{'Session-Id' = Session, 'Origin-Host' = Host, 'Origin-Realm' = ?REALM, 'Result-Code' = [2001]}};
 handle_request(#diameter_packet{errors = Errors}, _, _) ->
     say("a request has ~p", [Errors]),
