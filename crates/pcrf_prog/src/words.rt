@@ -26,6 +26,9 @@ const WAIT: u16 = 10;
 /// Behind how many seconds without a link to a peer sessions are taken over, where nobody says.
 const OVER: u16 = 5;
 
+/// Behind how many seconds a session is told again whose gateway refused a push, where nobody says.
+const AGAIN: u16 = 60;
+
 /// How many operations of its own a site makes in an epoch at most before it begins the next, where nobody says.
 const LOG: u64 = 1_000_000;
 
@@ -61,6 +64,8 @@ pub struct StayWords<'a> {
     pub wait: u16,
     /// For how many seconds a peer site may have no link before the sessions of its gateways are taken over.
     pub over: u16,
+    /// Behind how many seconds a session is told again whose gateway refused a push.
+    pub again: u16,
     /// How many operations of its own it makes in an epoch at most before it begins the next.
     pub log: u64,
     /// The file that says how often the site has started, in place of its epoch.
@@ -86,6 +91,8 @@ pub struct ServeWords<'a> {
     pub turns: u32,
     /// Its names.
     pub names: Names<'a>,
+    /// The form in which it writes messages.
+    pub form: MessageForm,
     /// Where it listens for connections.
     pub listen: &'a str,
     /// Where it listens for peers.
@@ -195,6 +202,7 @@ fn with_stay<'a>(alloc: Global, serve: Command<'a>) -> Result<Command<'a>, Alloc
     .requires_arg("stay")?;
     let serve = serve.arg(wait.value_parser(value_parser!(u16).range(..WAITS)))?;
     let serve = with_over(alloc, serve)?;
+    let serve = with_again(alloc, serve)?;
     let serve = with_log(alloc, serve)?;
     with_files(alloc, serve)
 }
@@ -209,6 +217,18 @@ fn with_over<'a>(alloc: Global, serve: Command<'a>) -> Result<Command<'a>, Alloc
     )
     .requires_arg("stay")?;
     serve.arg(over.value_parser(value_parser!(u16).range(..WAITS)))
+}
+
+/// Adds the option of a server that stays which says when it tells a session again of which something was refused.
+fn with_again<'a>(alloc: Global, serve: Command<'a>) -> Result<Command<'a>, AllocError> {
+    let again = choice(
+        alloc,
+        "again",
+        "SECONDS",
+        "Behind how many seconds a session is told all its rules again whose gateway refused some, 1 to 3600, with --stay; 60 by default",
+    )
+    .requires_arg("stay")?;
+    serve.arg(again.value_parser(value_parser!(u16).range(1..WAITS)))
 }
 
 /// Adds the option of a server that stays which says how long its log may be.
@@ -272,6 +292,7 @@ fn serve_command<'a>(alloc: Global) -> Result<Command<'a>, AllocError> {
     );
     let serve = with_numbers(alloc, serve)?;
     let serve = with_names(alloc, serve)?;
+    let serve = serve.arg(forms(alloc))?;
     let serve = with_stay(alloc, serve)?;
     let serve = serve.arg(tables(alloc))?;
     let peers = Arg::new(alloc, "PEER")
@@ -327,6 +348,7 @@ fn stay_words<'a>(matches: &ArgMatches<'a>) -> Option<StayWords<'a>> {
         watchdog: matches.get_one::<u16>("watchdog").unwrap_or(WATCHDOG),
         wait: matches.get_one::<u16>("wait").unwrap_or(WAIT),
         over: matches.get_one::<u16>("over").unwrap_or(OVER),
+        again: matches.get_one::<u16>("again").unwrap_or(AGAIN),
         log: matches.get_one::<u64>("log").unwrap_or(LOG),
         epoch_file: matches.get_str("epoch-file"),
         secret: matches.get_str("secret"),
@@ -347,6 +369,7 @@ fn serve_words<'a>(alloc: Global, matches: &ArgMatches<'a>) -> Result<ServeWords
             realm: text(matches, "realm"),
             address: text(matches, "address"),
         },
+        form: form_of(matches),
         listen: text(matches, "listen"),
         exchange: text(matches, "exchange"),
         tables: text(matches, "TABLES"),

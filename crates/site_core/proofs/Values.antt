@@ -8,7 +8,9 @@ use Rattle.dia_codec.specs.declared.message.Header.{Header}
 use Rattle.site_machine.specs.Sites.{SiteValue, serve_outcome, with_made}
 use Rattle.site_core.specs.Answering.{answer_to}
 use Rattle.site_core.specs.Asking.{AskedValue, ToServe, ToRefuse, Nothing, meaning_of_frame}
-use Rattle.site_core.specs.Frames.{Answers, IsServed, NeverFull, Unanswered, SiteReplies, disconnects, answer_by, ends_by, after_by, answer_of, ends, after}
+use Rattle.site_core.specs.Completing.{answered, completed}
+use Rattle.standard_form.specs.declared.answered.Answered.{Answered as AnsweredKind}
+use Rattle.site_core.specs.Frames.{Answers, AnswersFrame, IsServed, NeverFull, Unanswered, SiteReplies, disconnects, answer_by, ends_by, after_by, answer_of, ends, after}
 
 -- an operation changes no names
 same_names : (s : SiteValue) (o : Option Operation) → (with_made s o).identity ≡ s.identity
@@ -35,10 +37,21 @@ answered_by old (ToServe h q) bytes last new (inr a) = absurd a.0
 answered_by old (ToRefuse h session refusal) bytes last new a = (a.1, a.2, a.0)
 answered_by old Nothing bytes last new a = (a.1, a.2, a.0)
 
+-- nothing that is asked changes its names
+names_after : (old : SiteValue) (asked : AskedValue) → names (after_by old asked) ≡ names old
+names_after old (ToServe h q) = same_names old (serve_outcome old q).added
+names_after old (ToRefuse h session refusal) = refl
+names_after old Nothing = refl
+
 -- a frame was answered
-pub site_answers : (old : SiteValue) (frame : List ℕ) (bytes : List ℕ) (last : Bool) (new : SiteValue) → Answers names SiteReplies NeverFull old (meaning_of_frame frame) bytes last new → (bytes ≡ answer_of old frame) × (last ≡ ends old frame) × (new ≡ after old frame)
+pub site_answers : (old : SiteValue) (frame : List ℕ) (bytes : List ℕ) (last : Bool) (new : SiteValue) → AnswersFrame names SiteReplies NeverFull old frame bytes last new → (bytes ≡ answer_of old frame) × (last ≡ ends old frame) × (new ≡ after old frame)
 unfolding answer_of ends after
-site_answers old frame bytes last new a = answered_by old (meaning_of_frame frame) bytes last new a
+site_answers old frame bytes last new a =
+    let asked : AskedValue = meaning_of_frame frame in
+    let plain = answered_by old asked a.0 last new a.1 in
+    let same : names new ≡ names old = ap names plain.2 ∙ names_after old asked in
+    let kind : AnsweredKind = answered asked in
+    (a.2 ∙ ap (λ (i : Identity). completed i.form kind frame a.0) same ∙ ap (completed old.identity.form kind frame) plain.0, plain.1, plain.2)
 
 unanswered_by : (old : SiteValue) (asked : AskedValue) (new : SiteValue) → Unanswered SiteReplies old asked new → (new ≡ old) ⊎ (new ≡ after_by old asked)
 unanswered_by old (ToServe h q) new (inl same) = inl same

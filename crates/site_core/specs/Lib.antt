@@ -5,3 +5,4 @@ pub mod Conversations
 pub mod Conversing
 pub mod Answering
 pub mod Asking
+pub mod Completing

@@ -1,12 +1,13 @@
 //! A message's way at a site: from its bytes to the request that it asks to serve, from the reply to the bytes of the
 //! answer, and so a whole stream, over any reader and writer. Hands on the site that decides (`site_machine`).
 //!
-//! `specs/Asking.antt` says what a frame asks for, `specs/Answering.antt` the bytes of an answer, `specs/Cuts.antt` what the
-//! frames of a stream are, `specs/Frames.antt` what a site answers to one, and `specs/Conversations.antt` what it answers to
-//! the stream.
+//! `specs/Asking.antt` says what a frame asks for, `specs/Answering.antt` the bytes of an answer, `specs/Completing.antt` what
+//! they are in either form, `specs/Cuts.antt` what the frames of a stream are, `specs/Frames.antt` what a site answers to one, and
+//! `specs/Conversations.antt` what it answers to the stream.
 #![tactic(auto)]
 
 mod answering;
+mod completing;
 mod conversing;
 mod ended;
 mod law;

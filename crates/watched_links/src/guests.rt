@@ -13,7 +13,9 @@ struct Guest {
     host: DiameterIdentity,
     /// How many connections it has.
     connections: u32,
-    /// That something may wait for it was told since it went.
+    /// Since it went it was seen that something may wait for it.
+    is_noticed: bool,
+    /// That was told.
     is_told: bool,
     /// Something may wait for it.
     is_waiting: bool,
@@ -66,6 +68,7 @@ impl Guests {
         let number = number_of(all.as_slice(), host);
         if let Some(guest) = all.get_mut(number) {
             guest.connections = guest.connections.saturating_add(1);
+            guest.is_noticed = false;
             guest.is_told = false;
             return Some(number);
         }
@@ -75,6 +78,7 @@ impl Guests {
         let guest = Guest {
             host: host.try_copy().ok()?,
             connections: 1,
+            is_noticed: false,
             is_told: false,
             is_waiting: false,
         };
@@ -126,11 +130,15 @@ impl Guests {
         }
     }
 
-    /// It was told that something may wait for that host.
-    pub fn tell(&self, rt: &impl Wait, number: usize) {
+    /// It is seen that something may wait for that host, which is away: whether that is to be told, which it is the second time that it is
+    /// seen. A host that goes over to another site is there by then.
+    pub fn notice(&self, rt: &impl Wait, number: usize) -> bool {
         let mut all = self.all.lock(rt);
-        if let Some(guest) = all.get_mut(number) {
-            guest.is_told = true;
-        }
+        let Some(guest) = all.get_mut(number) else {
+            return false;
+        };
+        guest.is_told = guest.is_noticed;
+        guest.is_noticed = true;
+        guest.is_told
     }
 }

@@ -27,8 +27,8 @@ fn number(word: Option<&str>) -> usize {
     word.unwrap_or("").parse::<usize>().unwrap_or(usize::MAX)
 }
 
-/// The Session-Id that has the letters of a word.
-fn session_of(alloc: Global, word: &str) -> Option<GxSid> {
+/// The Session-Id of a gateway's session that has the letters of a word.
+pub fn session_of(alloc: Global, word: &str) -> Option<GxSid> {
     let id = SessionId::read(alloc, word.as_bytes()).ok()??;
     Some(GxSid::of(id))
 }

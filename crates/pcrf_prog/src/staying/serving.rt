@@ -14,6 +14,7 @@ use crate::staying::journal::{
 };
 use crate::staying::keeping::{EpochKeeper, Housekeeper, keep_house};
 use crate::staying::machine::Machine;
+use crate::staying::retelling::{Losses, Remembering};
 use crate::staying::showing::{Console, Input, Output, show_on};
 use crate::staying::sockets::{address_of, bind};
 use crate::staying::status::{ASKS, Figures, Looked, accept_asks, answer_asks, count_sessions};
@@ -53,6 +54,8 @@ pub struct StaySettings<'a> {
     pub wait: u16,
     /// For how many seconds a peer site may have no link before the sessions of its gateways are taken over that are connected here.
     pub over: u16,
+    /// How many seconds behind a push that a gateway refused its session is told again.
+    pub again: u16,
     /// How many operations of its own it makes in an epoch at most before it begins the next.
     pub log_limit: u64,
     /// The file that says its epoch, if one does.
@@ -112,6 +115,7 @@ fn furnished<M: Machine, G: Log>(
         guests: Guests::start(alloc),
         beginnings: AtomicU64::new(0),
         asking: Hall::start(alloc, ASKS),
+        losses: Losses::start(alloc, settings.again),
         figures: Figures::start(
             rt,
             alloc,
@@ -133,7 +137,7 @@ struct Sockets {
 }
 
 /// Seats of a server: of who serves, of who sends letters, of who asks for those how much there is, of who shows what the site holds, of
-/// who looks how long its log is, and of who takes over sessions.
+/// who looks how long its log is, of who takes over sessions, and of who tells sessions again before a request.
 #[derive(Drop)]
 struct Seats<S: Drop> {
     serving: Vec<S>,
@@ -142,6 +146,7 @@ struct Seats<S: Drop> {
     showing: Option<S>,
     keeping: Option<S>,
     going: Option<S>,
+    retelling: Option<S>,
 }
 
 impl<S: Drop> Seats<S> {
@@ -162,7 +167,7 @@ impl<S: Drop> Seats<S> {
 }
 
 /// How many seats there are beside those of connections and of peer sites.
-const OTHER_SEATS: usize = 3;
+const OTHER_SEATS: usize = 4;
 
 /// How many seats there are for each peer site.
 const SEATS_OF_A_PEER: usize = 3;
@@ -190,6 +195,7 @@ fn seated<S: SharedSite>(
         showing: None,
         keeping: None,
         going: None,
+        retelling: None,
     };
     for seat in all {
         let number = site.number_of(&seat);
@@ -201,8 +207,11 @@ fn seated<S: SharedSite>(
             seats.keeping = Some(seat);
         } else if number - connections == 2 {
             seats.going = Some(seat);
+        } else if number - connections == 3 {
+            seats.retelling = Some(seat);
         } else {
-            seats.give(seat, number - connections, &mut taking)?;
+            let number = (number - connections).saturating_sub(OTHER_SEATS);
+            seats.give(seat, number, &mut taking)?;
         }
     }
     Ok((seats, taking))
@@ -452,6 +461,7 @@ where
         showing,
         keeping,
         going,
+        retelling: _,
     } = seats;
     answer_all(rt, scope, all, premises.sockets.asking.as_ref());
     show_all(rt, scope, all, showing, &premises.tables, console);
@@ -481,7 +491,7 @@ fn serve_shared<'s, 'r, S: Looked + Sync, M: Machine, G: Log + Sync, R: Input, W
     site: &'s S,
     gateways: &'s Gateways<Posting<'r, M>, Journal<'r, M, G>>,
     doors: &'s Doors<'r>,
-    repeats: &'s KeptAnswers<'r, M>,
+    repeats: &'s Remembering<'s, 'r, S, M>,
     board: &'s Board<S::Seat>,
     seats: Seats<S::Seat>,
     console: Console<R, W>,
@@ -530,7 +540,7 @@ where
 {
     let alloc = premises.furniture.alloc;
     let chairs = premises.furniture.chairs.as_slice();
-    let (seats, taking) = seated(alloc, site, all, chairs.len())?;
+    let (mut seats, taking) = seated(alloc, site, all, chairs.len())?;
     let board = Board::start(taking);
     let journal = Journal {
         rt,
@@ -539,9 +549,15 @@ where
         sent: &premises.furniture.sent,
         guests: &premises.furniture.guests,
         figures: &premises.furniture.figures.site,
+        losses: &premises.furniture.losses,
     };
     let gateways = Gateways::observed(alloc, journal);
-    let repeats = KeptAnswers::start(alloc, rt);
+    let repeats = Remembering {
+        kept: KeptAnswers::start(alloc, rt),
+        losses: &premises.furniture.losses,
+        site,
+        seat: Mutex::new(seats.retelling.take()),
+    };
     let doors = Doors { chairs };
     serve_shared(
         rt, premises, site, &gateways, &doors, &repeats, &board, seats, console, log, keeper,

@@ -8,7 +8,7 @@ use crate::staying::sockets::ready;
 use crate::staying::working::Shared;
 use link_ends::{LinkEnd, SharedSite};
 use log::Log;
-use peer_lines::{Line, Link};
+use peer_lines::{Line, Link, Teller};
 use peer_links::{Cursors, Role, exchange_with};
 use sealed_links::Side;
 use std::alloc::Global;
@@ -49,6 +49,66 @@ fn dialled<M: Machine>(rt: &M, alloc: Global, peer: SocketAddr) -> io::Result<Ar
     }
 }
 
+/// What lets letters to a peer site go over a link.
+fn growing_of<'b, 'r, S: SharedSite, M: Machine, G: Log>(
+    rt: &M,
+    all: &'b Shared<'b, 'r, S, M, G>,
+    probe: &'b Mutex<S::Seat>,
+    line: Arc<Line>,
+    teller: Arc<Teller>,
+    peer: SocketAddr,
+    place: usize,
+) -> Growing<'b, 'r, S, M, G> {
+    let beginnings = &all.furniture.beginnings;
+    Growing {
+        rt: all.rt,
+        log: all.log,
+        site: all.server.site,
+        probe,
+        line,
+        alloc: all.server.alloc,
+        gateways: all.server.gateways,
+        teller,
+        board: all.board,
+        losses: all.board.losses(rt),
+        peer,
+        letters: AtomicU64::new(0),
+        beginnings,
+        begun: AtomicU64::new(beginnings.load(Ordering::SeqCst)),
+        quiet: Mutex::new(Quiet::of(LETTERS_SECONDS)),
+        figures: &all.furniture.figures,
+        place,
+    }
+}
+
+/// Sends letters over a link until it ends so.
+fn send_on<'s, 'r, S: SharedSite, M: Machine, G: Log>(
+    rt: &'s M,
+    all: &'s Shared<'s, 'r, S, M, G>,
+    seat: &mut S::Seat,
+    link: Link<'r, M>,
+    growing: &Growing<'_, 'r, S, M, G>,
+) -> LinkEnd {
+    let own = all.exchange.place;
+    let mut cursors = Cursors::start(own.number, own.epoch);
+    let reach = Reach {
+        rt: all.rt,
+        gateways: all.server.gateways,
+    };
+    exchange_with(
+        rt,
+        all.server.alloc,
+        all.server.site,
+        seat,
+        &mut cursors,
+        &reach,
+        Role::Dial,
+        link,
+        LETTERS,
+        growing,
+    )
+}
+
 /// Sends letters over a link until it ends so: how many were acknowledged.
 fn send<'s, 'r, S: SharedSite, M: Machine, G: Log>(
     rt: &'s M,
@@ -67,44 +127,8 @@ fn send<'s, 'r, S: SharedSite, M: Machine, G: Log>(
     let figures = &all.furniture.figures;
     link.count(&figures.traffic);
     figures.link(place, true);
-    let own = all.exchange.place;
-    let mut cursors = Cursors::start(own.number, own.epoch);
-    let beginnings = &all.furniture.beginnings;
-    let growing = Growing {
-        rt: all.rt,
-        log: all.log,
-        site: all.server.site,
-        probe,
-        line,
-        alloc: all.server.alloc,
-        gateways: all.server.gateways,
-        teller,
-        board: all.board,
-        losses: all.board.losses(rt),
-        peer,
-        letters: AtomicU64::new(0),
-        beginnings,
-        begun: AtomicU64::new(beginnings.load(Ordering::SeqCst)),
-        quiet: Mutex::new(Quiet::of(LETTERS_SECONDS)),
-        figures,
-        place,
-    };
-    let reach = Reach {
-        rt: all.rt,
-        gateways: all.server.gateways,
-    };
-    let end = exchange_with(
-        rt,
-        all.server.alloc,
-        all.server.site,
-        seat,
-        &mut cursors,
-        &reach,
-        Role::Dial,
-        link,
-        LETTERS,
-        &growing,
-    );
+    let growing = growing_of(rt, all, probe, line, teller, peer, place);
+    let end = send_on(rt, all, seat, link, &growing);
     figures.link(place, false);
     (growing.letters.load(Ordering::SeqCst), end)
 }
