@@ -28,7 +28,7 @@ class Gateway:
     """The gateway, which is a process of its own."""
 
     def __init__(self, folder, ports):
-        self.process = subprocess.Popen(["erl", "-noinput", "-noshell", "-pa", folder, "-eval",
+        self.process = subprocess.Popen(["erl", "-noshell", "-pa", folder, "-eval",
                                          f"gateway:main({[HOST, str(COUNT), *map(str, ports)]}).".replace("'", '"')],
                                         cwd=folder, stdin=subprocess.PIPE, stdout=subprocess.PIPE, text=True)
         self.events = []
