@@ -114,8 +114,8 @@ th, td {
   vertical-align: top;
   padding: 0.3rem 0.5rem 0.3rem 0;
   border-bottom: 1px solid var(--line);
-  overflow-wrap: anywhere;
 }
+td:first-child { overflow-wrap: anywhere; }
 th { color: var(--soft); font-weight: 600; }
 .bad { color: var(--bad); font-weight: 600; }
 figure { margin: 0.5rem 0 0; }

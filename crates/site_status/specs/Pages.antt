@@ -7,9 +7,13 @@ use Rattle.site_status.specs.declared.pages.Page.TheVariants.{Health, Metrics, O
 unfoldable pub path_of_target : List ℕ → List ℕ
 path_of_target target = take (unwrap_or (position (λ byte. byte == 63) target) (length target)) target
 
+-- what stands from the first question mark on
+abbrev pub from_question_mark : List ℕ → List ℕ
+from_question_mark target = drop (unwrap_or (position (λ byte. byte == 63) target) (length target)) target
+
 -- the query of a target: what stands behind the first question mark (RFC 9110, 4.1)
-unfoldable pub query_of_target : List ℕ → List ℕ
-query_of_target target = drop 1 (drop (unwrap_or (position (λ byte. byte == 63) target) (length target)) target)
+abbrev pub query_of_target : List ℕ → List ℕ
+query_of_target target = drop 1 (from_question_mark target)
 
 -- the path that asks for a page
 abbrev pub path_of_page : Page → List ℕ

@@ -1,6 +1,6 @@
 //! What can be asked.
 ghost use Rattle.std.specs.Prelude.{◌≡◌, ◌≢◌, ◌==◌, ◌++◌, ℕ, List, None, IfSome, length, position};
-ghost use Rattle.site_status.specs.Pages.{AsksForNone, AsksForNoName, AsksForNoPart, path_of_page, path_of_target, query_of_target};
+ghost use Rattle.site_status.specs.Pages.{AsksForNone, AsksForNoName, AsksForNoPart, from_question_mark, path_of_page, path_of_target, query_of_target};
 
 /// A page that there is.
 #[derive(Clone, Copy, Debug, PartialEq, Eq)]
@@ -45,13 +45,22 @@ fn path_of(target: &[u8]) -> &[u8]
     }
 }
 
+/// What stands from the first question mark on.
+fn from_question_mark(target: &[u8]) -> &[u8]
+    ensures { result.now ≡ from_question_mark target.now }
+{
+    match question_mark(target) {
+        Some(place) => target.get(place..).unwrap_or(&[]),
+        None => &[],
+    }
+}
+
 /// The query of a target: what stands behind the first question mark (RFC 9110, 4.1), nothing where there is none.
-#[tactic(auto, unfolding(crate::specs::Pages::query_of_target))]
 pub fn query_of(target: &[u8]) -> &[u8]
     ensures { result.now ≡ query_of_target target.now }
 {
-    match question_mark(target) {
-        Some(end) => target.get(end + 1..).unwrap_or(&[]),
+    match from_question_mark(target).split_first() {
+        Some((_, query)) => query,
         None => &[],
     }
 }

@@ -1,4 +1,3 @@
-use Rattle.std.proofs.Common.{◌≡◌, ℕ, List, ◌++◌, None, Some}
 use Rattle.std.proofs.lemmas.Bool.Decides.{Decides-eqb}
 use Rattle.std.proofs.lemmas.Slice.Eq.{strip_prefix_is}
 use Rattle.site_status.proofs.Options.{some_of, none_of}
@@ -6,5 +5,5 @@ use Rattle.site_status.proofs.pages.behind.Goals as goal
 
 pub returns : goal.returns
 returns c =
-    let is = strip_prefix_is Decides-eqb c.args.path.now c.args.beginning.now c.strip_prefix.result c.strip_prefix.ensures in
-    record { found = some_of _ _ _ is; none = none_of _ _ _ is }
+    let is = strip_prefix_is Decides-eqb c.args.path.now c.args.beginning.now c.strip_prefix.result c.strip_prefix.ensures.cases in
+    record { found = some_of c.strip_prefix.result _ _ is; none = none_of c.strip_prefix.result _ _ is }
