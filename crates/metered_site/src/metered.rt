@@ -43,7 +43,9 @@ impl<'r, S, C: Clock> MeteredSite<'r, S, C> {
             return;
         };
         let taken = ended.saturating_sub(begun).as_nanos();
-        self.meters.times.add(u64::try_from(taken).unwrap_or(u64::MAX));
+        self.meters
+            .times
+            .add(u64::try_from(taken).unwrap_or(u64::MAX));
     }
 }
 

@@ -93,7 +93,9 @@ impl LetterCounts {
         if let Some(kind) = LetterKind::of(head.kind) {
             let count = self.of(kind);
             count.letters.add();
-            count.bytes.add_many(LENGTH_BYTES.saturating_add(u64::from(head.length)));
+            count
+                .bytes
+                .add_many(LENGTH_BYTES.saturating_add(u64::from(head.length)));
         }
     }
 }
