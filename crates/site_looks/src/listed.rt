@@ -63,7 +63,11 @@ fn is_call_at(site: &Site, id: &AfSid, address: Ipv4Addr) -> bool {
 }
 
 /// The live sessions of gateways at an address; none where the site has no index of its sessions.
-pub fn gateways_at(alloc: Global, site: &Site, address: Ipv4Addr) -> Result<Vec<GxSid>, AllocError> {
+pub fn gateways_at(
+    alloc: Global,
+    site: &Site,
+    address: Ipv4Addr,
+) -> Result<Vec<GxSid>, AllocError> {
     let mut found = Vec::new(alloc);
     let Some(index) = site.index() else {
         return Ok(found);

@@ -44,7 +44,10 @@ impl SessionNotes {
     /// Writes a note, if there is room.
     fn note(&self, rt: &impl Wait, kind: u8, id: &[u8]) {
         let mut notes = self.waiting.lock(rt);
-        let length = notes.len().saturating_add(FRONT_BYTES).saturating_add(id.len());
+        let length = notes
+            .len()
+            .saturating_add(FRONT_BYTES)
+            .saturating_add(id.len());
         if length > NOTES_BYTES || put_note(&mut *notes, kind, id).is_err() {
             self.lost.add();
         }

@@ -255,11 +255,7 @@ pub fn subscriber_shown(
 }
 
 /// What was found at an address: how many live sessions stand there, and those of one page.
-pub fn address_shown(
-    alloc: Global,
-    look: &AddressLook,
-    page: usize,
-) -> Result<String, AllocError> {
+pub fn address_shown(alloc: Global, look: &AddressLook, page: usize) -> Result<String, AllocError> {
     let number = page as u64;
     let (gateways, calls) = (look.gateways.len() as u64, look.calls.len() as u64);
     let sessions = gateway_ids(alloc, look.gateways.as_slice(), page)?;
