@@ -49,7 +49,12 @@ impl<'r, S, C: Clock> MeteredSite<'r, S, C> {
     }
 }
 
-/// Timed and noted are the calls that wait for nothing but the lock: from when it is asked for to the reply.
+/// Whether an event only asks what the site made or holds, as is done again and again.
+fn is_asking(event: &Event) -> bool {
+    matches!(event, Event::AskOwn(_) | Event::AskWhole)
+}
+
+/// Timed and noted are the calls that wait for nothing but the lock, unless they only ask: from when it is asked for to the reply.
 impl<S: SharedSite, C: Clock> SharedSite for MeteredSite<'_, S, C> {
     type Seat = S::Seat;
 
@@ -131,7 +136,16 @@ impl<S: SharedSite, C: Clock> SharedSite for MeteredSite<'_, S, C> {
         seat: &mut S::Seat,
         event: &Event,
     ) -> Result<Reply, StepFault> {
-        self.site.call_alone(rt, seat, event)
+        let begun = self.clock.monotonic();
+        let reply = self.site.call_alone(rt, seat, event);
+        if is_asking(event) {
+            return reply;
+        }
+        self.tell(begun);
+        if let Ok(told) = &reply {
+            self.meters.note(rt, event, told);
+        }
+        reply
     }
 
     fn call_grown<R: Threads + Wait + Sync>(
