@@ -1,9 +1,4 @@
-#!/usr/bin/env python3
-"""Judges messages of the standards' form by the standards' own grammars, as a strict reader does.
-
-`grammars.py PROGRAM TABLES SCRIPT..` runs each script by `pcrf world --forms standard TABLES`, and judges each answer that it prints by the
-request that it answers. It prints what is wrong with any, how many messages of each kind were judged, and fails where anything is wrong or
-a kind of KINDS was not seen.
+"""Messages of the standards' form, judged by the standards' own grammars as a strict reader does: answers by the request that they answer.
 
 A grammar is its standard's text: `<` AVP `>` stands first, `{` AVP `}` has to stand, `[` AVP `]` may; each once, or with `*` any number of
 times. A message may have an AVP that its grammar doesn't name only where that ends in `*[ AVP ]`; there too it isn't to have M, since a
@@ -12,8 +7,6 @@ reader that doesn't know it refuses the message. Every AVP is of its type and ha
 import collections
 import ipaddress
 import re
-import subprocess
-import sys
 
 GX, RX, TGPP = 16777238, 16777236, 10415
 
@@ -105,8 +98,10 @@ COMMANDS = {
     (265, RX): ("AAA", None), (275, RX): ("STA", None), (274, RX): (None, "ASR"),
 }
 
-# What a run of the gate has to reach
-KINDS = ("CEA", "DWA", "DPA", "CCA", "AAA", "STA", "answer-message")
+# The refusals of a request that can't be read (RFC 6733, 7.1.5)
+UNREAD = (5004, 5005, 5009, 5011, 5014)
+
+LONGEST_SESSION = 512
 
 ITEM = re.compile(r"(\d*\*\d*)?([<{\[]) ([\w-]+) [>}\]]")
 
@@ -258,6 +253,21 @@ def cut_loosely(data):
     return avps
 
 
+def departing(kind, result, grammar, session):
+    """The grammar of an answer, with where the product departs from it, as the limits in docs/MESSAGES.md say: a request that was refused unread
+    may have no Session-Id that could be repeated, or one that its command hasn't; and what a node is isn't told where an exchange of
+    capabilities was."""
+    if result not in UNREAD:
+        return grammar
+    if not session or len(session) > LONGEST_SESSION:
+        grammar = grammar.replace("0*1<", "<").replace("< Session-Id >", "0*1< Session-Id >")
+    elif kind in ("CEA", "DWA", "DPA"):
+        grammar += " < Session-Id >"
+    if kind == "CEA":
+        grammar = re.sub(r"(1\*)?\{ (Host-IP-Address|Vendor-Id|Product-Name) \}", "", grammar).replace("*[ Supported-Vendor-Id ]", "")
+    return grammar
+
+
 def judge_answer(request, data):
     """An answer, by the bytes of its request. It gives the name of its grammar."""
     answer = read(data)
@@ -268,11 +278,11 @@ def judge_answer(request, data):
     kind = kind_of(answer)
     result = result_of(answer.avps)
     require((result // 1000 == 3) == bool(answer.flags & 0x20), f"the result {result} and E don't fit")
-    require(kind is not None, f"{result} answers command {answer.command} of {answer.application}")
-    grammar = MESSAGES[kind]
+    if kind is None:  # of no command of the product
+        require(result in UNREAD, f"{result} answers command {answer.command} of {answer.application}")
+        return "another"
     session = first(asked or [], 263)
-    if not session or len(session) > 512:  # there is none that could be repeated
-        grammar = grammar.replace("< Session-Id >", "0*1< Session-Id >").replace("0*10*1", "0*1")
+    grammar = departing(kind, result, MESSAGES[kind], session)
     judge_all(kind, grammar, answer.avps)
     require((first(answer.avps, 268) is None) != (first(answer.avps, 297) is None), "it hasn't one result")
     if first(answer.avps, 263) is not None:
@@ -284,7 +294,7 @@ def judge_answer(request, data):
             given = first(asked or [], code)
             known = given is not None and len(given) == 4 and (code == 415 or 1 <= int.from_bytes(given, "big") <= 4)
             require(not known or first(answer.avps, code) == given, f"AVP {code} isn't the request's")
-    if kind == "CEA":
+    if kind == "CEA" and result not in UNREAD:
         require(first(answer.avps, 265) == TGPP.to_bytes(4, "big"), "3GPP isn't a vendor that it supports")
     judge_flows(answer.avps)
     return kind
@@ -298,50 +308,3 @@ def judge_request(data):
     judge_all(kind, MESSAGES[kind], request.avps)
     judge_flows(request.avps)
     return kind
-
-
-def frames(data):
-    """The messages of a stream, as far as their lengths cut it."""
-    while len(data) >= 20 and (length := int.from_bytes(data[1:4], "big")) >= 20 and length % 4 == 0 and length <= min(len(data), 65532):
-        yield data[:length]
-        data = data[length:]
-
-
-def judge_script(program, tables, script, seen):
-    """Judges each answer of a run of a script, and gives what is wrong."""
-    with open(script, encoding="utf-8") as lines:
-        text = lines.read()
-    ran = subprocess.run([program, "world", "--forms", "standard", tables], input=text.encode(), capture_output=True, check=True)
-    printed = iter(line for line in ran.stdout.decode().splitlines() if re.match("answer |no answer", line))
-    count = int(re.search(r"^sites (\d+)$", text, re.M)[1])
-    for line in text.splitlines():
-        words = line.split(" ")
-        if words[0] != "msg" or int(words[1]) >= count:
-            continue
-        for request in frames(bytes.fromhex(words[2])):
-            sign, told = next(printed).split(" ")
-            if sign == "no":
-                continue
-            try:
-                seen[judge_answer(request, bytes.fromhex(told))] += 1
-            except Fault as fault:
-                yield f"{script}: {fault}: {request.hex()} is answered {told}"
-
-
-def main(program, tables, *scripts):
-    seen, wrong = collections.Counter(), 0
-    for script in scripts:
-        for fault in judge_script(program, tables, script, seen):
-            print(fault)
-            wrong += 1
-    print(", ".join(f"{kind} {count}" for kind, count in sorted(seen.items())))
-    missing = [kind for kind in KINDS if not seen[kind]]
-    if missing:
-        print(f"none of {', '.join(missing)}")
-    sys.exit(wrong > 0 or bool(missing))
-
-
-if __name__ == "__main__":
-    if len(sys.argv) < 4:
-        sys.exit(__doc__)
-    main(*sys.argv[1:])

@@ -1,22 +1,11 @@
-#!/usr/bin/env python3
-"""Compares what `pcrf world --forms standard` answers with what a plain model says, apart from the product.
-
-`standard_form.py PROGRAM TABLES SCRIPT..` runs each script, and fails where it prints something else than the plain model of sites says, with
-each answer put into the standards' form by the part of docs/MESSAGES.md on that. It prints how often an answer had each thing besides, and
-fails where a run reaches none of one.
-"""
-import collections
+"""Answers in the standards' form, by the part of docs/MESSAGES.md on that: a plain model, apart from the product."""
 import re
-import subprocess
-import sys
 
 from grammars import cut, try_cut
 from messages import GX, TGPP, avp, tgpp
-from plain_facts import read_tables
-from plain_requests import CCR, CER, Refused, cut_stream, read_header, read_request
+from plain_requests import CCR, CER, MOST_BYTES, Refused, cut_stream, read_header, read_request
 from plain_site import run_script
 
-MOST_BYTES = 65532
 PROXY_INFO, FIRMWARE_REVISION, SUPPORTED_VENDOR_ID = 284, 267, 265
 GROUPS = (1001, 1003, 1058)
 ADDRESS = r"!?(?:any|assigned|[0-9a-fA-F.:/]+)(?: [0-9,-]+)?"
@@ -58,21 +47,21 @@ def number(avps, code):
     return int.from_bytes(values[0], "big") if values and len(values[0]) == 4 else None
 
 
-def is_unread(request):
-    """Whether a request is refused before a site looks at it."""
+def unread(request):
+    """By which code a request is refused before a site looks at it, None if it isn't."""
     try:
         read_request(request)
-    except Refused:
-        return True
-    return False
+    except Refused as refused:
+        return refused.code
+    return None
 
 
 def besides(request):
     """What an answer has besides its own AVPs, by their names."""
     header, asked = read_header(request), try_cut(request[20:]) or []
-    parts = collections.OrderedDict()
-    if is_unread(request):
-        if (header.command, header.application) == (CCR, GX):
+    parts, code = {}, unread(request)
+    if code is not None:
+        if (header.command, header.application) == (CCR, GX) and not 3000 <= code < 4000:
             count, kind = number(asked, 415) or 0, number(asked, 416)
             kind = kind if kind in (1, 2, 3, 4) else 1 if count == 0 else 2
             parts["CC-Request-Type and -Number"] = avp(416, kind) + avp(415, count)
@@ -101,10 +90,10 @@ def in_standard_form(request, answer, seen):
     return answer[:1] + (20 + len(body)).to_bytes(3, "big") + answer[4:20] + body
 
 
-def prints_in_standard_form(tables, text, seen):
-    """What a script prints."""
+def run_in_standard_form(tables, text, seen):
+    """What a script prints, and of each message that is answered the message and its answer."""
     lines = [line for line in text.split("\n") if line and not line.startswith("#")]
-    printed, prints = iter(run_script(tables, lines)), []
+    printed, prints, pairs = iter(run_script(tables, lines)), [], []
     count = int(lines[0].split(" ")[1])
     for line in lines[1:]:
         words = line.split(" ")
@@ -114,31 +103,8 @@ def prints_in_standard_form(tables, text, seen):
             while not (told := next(printed)).startswith(("answer ", "no answer")):
                 prints.append(told)
             if told.startswith("answer "):
-                told = f"answer {in_standard_form(request, bytes.fromhex(told[7:]), seen).hex()}"
+                answer = in_standard_form(request, bytes.fromhex(told[7:]), seen)
+                pairs.append((request, answer))
+                told = f"answer {answer.hex()}"
             prints.append(told)
-    return prints + list(printed)
-
-
-def main(program, file, *scripts):
-    tables, seen, wrong = read_tables(file), collections.Counter(), 0
-    for script in scripts:
-        with open(script, encoding="utf-8") as lines:
-            text = lines.read()
-        ran = subprocess.run([program, "world", "--forms", "standard", file], input=text.encode(), capture_output=True, check=True)
-        prints = ran.stdout.decode().splitlines()
-        expected = prints_in_standard_form(tables, text, seen)
-        for count, (line, other) in enumerate(zip(prints, expected), 1):
-            if line != other:
-                print(f"{script}: line {count} of what it prints:\n  {line}\n  not {other}")
-                wrong += 1
-        if len(prints) != len(expected):
-            print(f"{script}: it prints {len(prints)} lines, not {len(expected)}")
-            wrong += 1
-    print(", ".join(f"{name} {count}" for name, count in sorted(seen.items())))
-    sys.exit(wrong > 0)
-
-
-if __name__ == "__main__":
-    if len(sys.argv) < 4:
-        sys.exit(__doc__)
-    main(*sys.argv[1:])
+    return prints + list(printed), pairs

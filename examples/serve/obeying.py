@@ -209,7 +209,7 @@ class Network(Pair):
 
     def settle(self, when):
         """When nothing new comes all sites that run show the same, and each gateway has its rules and is at the home of its sessions."""
-        end = time.monotonic() + SECONDS
+        end = time.monotonic() + 3 * SECONDS
         while True:
             texts = [self.sites[number].shown() for number in self.living()]
             wrong = "the sites don't show the same" if len(set(texts)) > 1 else self.difference(shown_rules(texts[0]))

@@ -3,13 +3,14 @@ ghost use Rattle.std.specs.Prelude.{◌≡◌, ◌≤◌, length, IfOk};
 ghost use Rattle.dia_codec.specs.Limits.{header_bytes};
 ghost use Rattle.base_profile.specs.Requests.{kind_view};
 ghost use Rattle.site_core.specs.Asking.{asked_value};
-ghost use Rattle.site_core.specs.Completing.{answered, answered_base, answered_request, completed};
+ghost use Rattle.site_core.specs.Completing.{answered, answered_base, answered_refusal, answered_request, completed};
 ghost use Rattle.site_machine.specs.Values.{request_value};
 
 use crate::reading::Asked;
 use base_profile::BaseKind;
 use dia_base::MessageForm;
 use dia_codec::{HEADER_BYTES, read_header};
+use pcrf_values::Refusal;
 use site_machine::Request;
 use standard_form::{Answered, avps_besides, put_behind};
 use std::alloc::{AllocError, Global};
@@ -34,13 +35,25 @@ fn answered_request(request: &Request) -> Answered
     }
 }
 
+/// What is answered, by the refusal of what isn't served. A protocol error is told of by an answer-message, which is of no command (RFC
+/// 6733, 7.1.3 and 7.2).
+fn answered_refusal(refusal: Refusal) -> Answered
+    ensures { result ≡ answered_refusal refusal }
+{
+    if refusal.code / 1000 == 3 {
+        Answered::Other
+    } else {
+        Answered::Unread
+    }
+}
+
 /// What is answered, by what a frame asks for.
 pub(crate) fn answered(asked: &Asked) -> Answered
     ensures { result ≡ answered (asked_value asked.now) }
 {
     match asked {
         Asked::Request(_, request) => answered_request(request),
-        Asked::Refused(_, _, _) => Answered::Unread,
+        Asked::Refused(_, _, refusal) => answered_refusal(*refusal),
         Asked::Silent => Answered::Other,
     }
 }

@@ -6,6 +6,7 @@ mod losses;
 mod remembering;
 mod repeating;
 
+pub use glance::Glance;
 use link_ends::{Event, Reply, SharedSite, StepFault};
 pub use losses::Losses;
 use pcrf_values::GxSid;

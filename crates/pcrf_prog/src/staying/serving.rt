@@ -9,8 +9,8 @@ use crate::staying::chairs::{Doors, chairs};
 use crate::staying::exchange::{Exchange, accept_links, dial_on, take_links};
 use crate::staying::going_over::look_for_moved;
 use crate::staying::journal::{
-    Journal, tell_no_start, tell_no_taking_over, tell_uncounted,
-    tell_unkept, tell_unlinked_peer, tell_unstaffed,
+    Journal, tell_no_start, tell_no_taking_over, tell_uncounted, tell_unkept, tell_unlinked_peer,
+    tell_unstaffed,
 };
 use crate::staying::keeping::{EpochKeeper, Housekeeper, keep_house};
 use crate::staying::machine::Machine;

@@ -147,7 +147,9 @@ fn messages_of(figures: &Figures) -> u64 {
     for kind in KINDS {
         if let Some(counts) = figures.messages.of(kind) {
             let taken = counts.requests_taken.get();
-            all = all.saturating_add(taken).saturating_add(counts.requests_sent.get());
+            all = all
+                .saturating_add(taken)
+                .saturating_add(counts.requests_sent.get());
         }
     }
     all

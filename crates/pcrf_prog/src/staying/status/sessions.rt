@@ -51,11 +51,7 @@ pub fn put_sessions(
 }
 
 /// Writes how many operations of letters were taken, by the site that made them; nothing of sites of which none was.
-pub fn put_taken(
-    out: &mut Exposition,
-    alloc: Global,
-    figures: &Figures,
-) -> Result<(), AllocError> {
+pub fn put_taken(out: &mut Exposition, alloc: Global, figures: &Figures) -> Result<(), AllocError> {
     out.heading(&OPERATIONS_TAKEN)?;
     for (site, count) in figures.meters.taken.iter().enumerate() {
         if count.get() > 0 {

@@ -3,9 +3,8 @@ use crate::staying::machine::Machine;
 use crate::staying::status::families::{
     ANSWERS_TAKEN, ASKS, CALLS, CONNECTIONS, CROWDED, EPOCH, EPOCHS_BEGUN, HOST_CONNECTIONS,
     HOST_WAITING, LOST, MESSAGES, OPERATIONS, PEER_LACKING, PEER_LETTERS, PEER_LINK, PEER_TOLD,
-    PUSH_REFUSALS,
-    PUSH_UNWRITTEN, REQUESTS_SENT, REQUESTS_TAKEN, RESIDENT, SEATED, SEATS, SENDER_LETTERS,
-    SENDER_LINK, SERVING, SITE, STRANGERS, UPTIME,
+    PUSH_REFUSALS, PUSH_UNWRITTEN, REQUESTS_SENT, REQUESTS_TAKEN, RESIDENT, SEATED, SEATS,
+    SENDER_LETTERS, SENDER_LINK, SERVING, SITE, STRANGERS, UPTIME,
 };
 use crate::staying::status::figures::{Figures, PeerFigures};
 use crate::staying::status::letters::put_traffic;
@@ -239,14 +238,7 @@ fn put_letters(
         figures,
         addresses,
     )?;
-    put_peers(
-        out,
-        alloc,
-        &PEER_TOLD,
-        PeerFigure::Told,
-        figures,
-        addresses,
-    )?;
+    put_peers(out, alloc, &PEER_TOLD, PeerFigure::Told, figures, addresses)?;
     put_peers(
         out,
         alloc,
