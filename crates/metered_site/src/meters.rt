@@ -42,7 +42,7 @@ impl Meters {
     }
 
     /// The site took an operation.
-    fn note_operation(&self, rt: &impl Wait, operation: &Operation) {
+    fn count_operation(&self, rt: &impl Wait, operation: &Operation) {
         if let Some(count) = self.taken.get(usize::from(operation.site())) {
             count.add();
         }
@@ -50,36 +50,36 @@ impl Meters {
             return;
         };
         match operation.facts() {
-            SessionFacts::Gx(id, _) => sessions.note_gateway(rt, id),
-            SessionFacts::Af(id, _) => sessions.note_call(rt, id),
+            SessionFacts::Gx(id, _) => sessions.add_gateway(rt, id),
+            SessionFacts::Af(id, _) => sessions.add_call(rt, id),
         }
     }
 
     /// The site granted a request of a gateway.
-    fn note_gateway(&self, rt: &impl Wait, id: &GxSid) {
+    fn add_gateway(&self, rt: &impl Wait, id: &GxSid) {
         if let Some(sessions) = &self.sessions {
-            sessions.note_gateway(rt, id);
+            sessions.add_gateway(rt, id);
         }
     }
 
     /// The site accepted a request of an application function.
-    fn note_call(&self, rt: &impl Wait, id: &AfSid) {
+    fn add_call(&self, rt: &impl Wait, id: &AfSid) {
         if let Some(sessions) = &self.sessions {
-            sessions.note_call(rt, id);
+            sessions.add_call(rt, id);
         }
     }
 
     /// The site took all that another one holds.
-    fn note_whole(&self, rt: &impl Wait, state: &State) {
+    fn count_whole(&self, rt: &impl Wait, state: &State) {
         self.wholes.add();
         let Some(sessions) = &self.sessions else {
             return;
         };
         for (id, _) in state.all_gx() {
-            sessions.note_taken_gateway(rt, id);
+            sessions.add_taken_gateway(rt, id);
         }
         for (id, _) in state.all_af() {
-            sessions.note_taken_call(rt, id);
+            sessions.add_taken_call(rt, id);
         }
     }
 
@@ -88,18 +88,18 @@ impl Meters {
         match (event, reply) {
             (Event::Serve(Request::Ccr(ccr)), Reply::Gx(answer)) => {
                 if answer.refusal().is_none() {
-                    self.note_gateway(rt, &ccr.session);
+                    self.add_gateway(rt, &ccr.session);
                 }
             }
             (Event::Serve(Request::Aar(aar)), Reply::Done) => {
-                self.note_call(rt, &aar.session);
+                self.add_call(rt, &aar.session);
             }
             (Event::Ops(operations), Reply::Taken(count)) => {
                 for operation in operations.iter().take(*count) {
-                    self.note_operation(rt, operation);
+                    self.count_operation(rt, operation);
                 }
             }
-            (Event::Whole(state), Reply::Done) => self.note_whole(rt, state),
+            (Event::Whole(state), Reply::Done) => self.count_whole(rt, state),
             _ => {}
         }
     }

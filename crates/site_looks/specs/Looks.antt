@@ -32,5 +32,5 @@ IsCallFound s id (Some found) =
 -- network access identifier, and an identity of the operator's own (RFC 8506, 8.47)
 abbrev pub sessions_named : View → List ℕ → List (List ℕ)
 sessions_named v name =
-    sessions_of v (0, name) ++ sessions_of v (1, name) ++ sessions_of v (2, name) ++ sessions_of v (3, name)
+    (((sessions_of v (0, name) ++ sessions_of v (1, name)) ++ sessions_of v (2, name)) ++ sessions_of v (3, name))
     ++ sessions_of v (4, name)

@@ -42,7 +42,7 @@ impl SessionNotes {
     }
 
     /// Writes a note, if there is room.
-    fn note(&self, rt: &impl Wait, kind: u8, id: &[u8]) {
+    fn add(&self, rt: &impl Wait, kind: u8, id: &[u8]) {
         let mut notes = self.waiting.lock(rt);
         let length = notes
             .len()
@@ -54,30 +54,30 @@ impl SessionNotes {
     }
 
     /// The site knows a gateway's session.
-    pub fn note_gateway(&self, rt: &impl Wait, id: &GxSid) {
-        self.note(rt, GATEWAY, id.as_slice());
+    pub fn add_gateway(&self, rt: &impl Wait, id: &GxSid) {
+        self.add(rt, GATEWAY, id.as_slice());
     }
 
     /// The site knows an application function's session.
-    pub fn note_call(&self, rt: &impl Wait, id: &AfSid) {
-        self.note(rt, CALL, id.as_slice());
+    pub fn add_call(&self, rt: &impl Wait, id: &AfSid) {
+        self.add(rt, CALL, id.as_slice());
     }
 
     /// The site knows a session by a whole state that it took: such notes take memory, where they are more than there is room for.
-    fn note_taken(&self, rt: &impl Wait, kind: u8, id: &[u8]) {
+    fn add_taken(&self, rt: &impl Wait, kind: u8, id: &[u8]) {
         if put_note(&mut *self.waiting.lock(rt), kind, id).is_err() {
             self.lost.add();
         }
     }
 
     /// A gateway's session of a whole state.
-    pub fn note_taken_gateway(&self, rt: &impl Wait, id: &GxSid) {
-        self.note_taken(rt, GATEWAY, id.as_slice());
+    pub fn add_taken_gateway(&self, rt: &impl Wait, id: &GxSid) {
+        self.add_taken(rt, GATEWAY, id.as_slice());
     }
 
     /// An application function's session of a whole state.
-    pub fn note_taken_call(&self, rt: &impl Wait, id: &AfSid) {
-        self.note_taken(rt, CALL, id.as_slice());
+    pub fn add_taken_call(&self, rt: &impl Wait, id: &AfSid) {
+        self.add_taken(rt, CALL, id.as_slice());
     }
 
     /// How many found no room.

@@ -18,9 +18,9 @@ fn notes_are_read_once_each(rt: HostRuntime) -> Result<(), Fail> {
     let notes = SessionNotes::start(alloc)?;
     let mut known = KnownSessions::start(alloc);
     for _ in 0..3 {
-        notes.note_gateway(&rt, &GxSid::of(id(&rt, alloc, b"g;1")));
-        notes.note_gateway(&rt, &GxSid::of(id(&rt, alloc, b"g;2")));
-        notes.note_call(&rt, &AfSid::of(id(&rt, alloc, b"g;1")));
+        notes.add_gateway(&rt, &GxSid::of(id(&rt, alloc, b"g;1")));
+        notes.add_gateway(&rt, &GxSid::of(id(&rt, alloc, b"g;2")));
+        notes.add_call(&rt, &AfSid::of(id(&rt, alloc, b"g;1")));
     }
     let taken = notes.take(&rt, Vec::new(alloc));
     known.read(taken.as_slice())?;
@@ -37,12 +37,12 @@ fn notes_have_room_for_so_many_bytes(rt: HostRuntime) -> Result<(), Fail> {
     let notes = SessionNotes::start(alloc)?;
     let call = AfSid::of(id(&rt, alloc, [b'a'; 509].as_slice()));
     for _ in 0..NOTES_BYTES / 512 {
-        notes.note_call(&rt, &call);
+        notes.add_call(&rt, &call);
     }
     assert_eq!(rt; notes.lost(), 0);
-    notes.note_call(&rt, &call);
+    notes.add_call(&rt, &call);
     assert_eq!(rt; notes.lost(), 1);
-    notes.note_taken_call(&rt, &call);
+    notes.add_taken_call(&rt, &call);
     assert_eq!(rt; notes.lost(), 1);
     let taken = notes.take(&rt, Vec::new(alloc));
     assert_eq!(rt; taken.len(), NOTES_BYTES + 512);
