@@ -1,6 +1,6 @@
 //! What is noted of the calls of a site.
 use pcrf_values::limits::SITE_LIMIT;
-use pcrf_values::{AfSid, GxSid};
+use pcrf_values::{AfSid, GxSid, RequestKind};
 use shared_site::{Event, Reply, Request};
 use site_join::{Operation, SessionFacts, State};
 use site_looks::SessionNotes;
@@ -55,7 +55,7 @@ impl Meters {
         }
     }
 
-    /// The site granted a request of a gateway.
+    /// The site granted an initial request of a gateway: others are of sessions that it knows.
     fn add_gateway(&self, rt: &impl Wait, id: &GxSid) {
         if let Some(sessions) = &self.sessions {
             sessions.add_gateway(rt, id);
@@ -87,7 +87,7 @@ impl Meters {
     pub(crate) fn note(&self, rt: &impl Wait, event: &Event, reply: &Reply) {
         match (event, reply) {
             (Event::Serve(Request::Ccr(ccr)), Reply::Gx(answer)) => {
-                if answer.refusal().is_none() {
+                if matches!(ccr.kind, RequestKind::Initial) && answer.refusal().is_none() {
                     self.add_gateway(rt, &ccr.session);
                 }
             }

@@ -38,9 +38,9 @@ pub struct History {
 impl Ring {
     /// When the newest sample was taken.
     fn last(&self) -> Option<u64> {
-        let newest = match self.next {
-            0 => self.samples.last()?,
-            next => self.samples.get(next - 1)?,
+        let newest = match self.next.checked_sub(1) {
+            Some(place) => self.samples.get(place)?,
+            None => self.samples.last()?,
         };
         Some(newest.at)
     }
@@ -55,7 +55,7 @@ impl Ring {
                 }
             }
         }
-        self.next = (self.next + 1) % SAMPLES;
+        self.next = self.next.wrapping_add(1) % SAMPLES;
     }
 }
 
