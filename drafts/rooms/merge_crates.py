@@ -258,8 +258,9 @@ class Tree:
             return ((crate.inner,) if crate.inner else ()) + path
         return path
 
-    def emit(self, here, name, path):
-        """The path, in the new crate `here`, of what a path says in a crate as it stood."""
+    def emit(self, here, name, path, citing=None):
+        """The path, in the new crate `here`, of what a path says in a crate as it stood; from a file of the crate `citing`, as it stood: only
+        from there the modules of a folder are seen."""
         crate = self.crates.get(name)
         if crate is None or not path:
             return (name, *path)
@@ -272,8 +273,10 @@ class Tree:
                 if to[0] in ("crate", "self"):
                     to = to[1:]
                 if to[0] in crate.mods or len(to) == 1:
+                    if crate.inner and citing != name:
+                        return ("crate", crate.inner, *path)
                     return ("crate", *self.inside(crate, to + path[1:]))
-                return self.emit(here, to[0], to[1:] + path[1:])
+                return self.emit(here, to[0], to[1:] + path[1:], citing)
             return ("crate", *self.inside(crate, path))
         if path[0] in crate.exports:
             return (crate.into, *self.public[name, path[0]], *path[1:])
@@ -386,9 +389,9 @@ class Tree:
         def path_of(path):
             """A path of a file by the new names."""
             if path[0] == "crate":
-                return self.emit(here, name, path[1:]) if crate.is_moved() else path
+                return self.emit(here, name, path[1:], name) if crate.is_moved() else path
             if path[0] in self.crates and path[0] not in own:
-                return self.emit(here, path[0], path[1:])
+                return self.emit(here, path[0], path[1:], name)
             return path
 
         # statements `use`, together by module where one changes
@@ -480,7 +483,7 @@ def root_of(tree, name):
         inner_exports = []
         for item, to in crate.exports.items():
             to = to[1:] if to[0] in ("crate", "self") else to
-            path = tree.emit(name, crate.name, (item,)) if to[0] in crate.mods else tree.emit(name, to[0], to[1:])
+            path = tree.emit(name, crate.name, (item,), crate.name) if to[0] in crate.mods else tree.emit(name, to[0], to[1:])
             path = path[1:] if path[0] == "crate" else path
             alias = item if path[-1] != item else None
             if crate.inner and path[0] == crate.inner:
@@ -494,7 +497,11 @@ def root_of(tree, name):
                 inner_exports.append((path, alias))
         if crate.inner:
             is_test = all(it[0] for it in own.values())
-            mods[crate.inner] = ("#[cfg(test)]\n" if is_test else "", "" if is_test else "pub ")
+            mods[crate.inner] = ("#[cfg(test)]\n" if is_test else "", "" if is_test or base.root.name == "main.rt" else "pub ")
+            for found in USE.finditer(crate.text):  # what the root's own lines use
+                for path, _ in leaves(found[3]) if not found[2] else ():
+                    if path[0] in own and not own[path[0]][1]:
+                        own[path[0]] = (own[path[0]][0], "pub(crate) ")
             inner_doc = tree.plan["into"][name].get("takes", {}).get(crate.name, {}).get("doc")
             first = "".join(f"//! {line}".rstrip() + "\n" for line in inner_doc.strip("\n").split("\n")) if inner_doc else crate.doc()
             folders[f"src/{crate.inner}.rt"] = tree.crates_named(first, f"{name}/src/{crate.inner}.rt") + "\n" + declared(own) + ("\n" if inner_exports else "") + written(inner_exports, "pub ")

@@ -176,6 +176,17 @@ def look_at_code(where, name, text, file):
                 fault(where, f"{crate} isn't among the crates of {name} ({'::'.join(path)})")
         else:
             continue
+        if crate == name:
+            at, folder = [], CRATES[name].folder / "src"
+            here = list(file.relative_to(folder).with_suffix("").parts) if file != CRATES[name].root else []
+            for word in rest:
+                over = text_of(folder.joinpath(*at).with_suffix(".rt")) if at else CRATES[name].text
+                found = re.search(rf"(?m)^\s*(pub(?:\([a-z]+\))? )?mod {re.escape(word)};", over or "")
+                if not found:
+                    break
+                if not found[1] and here[:len(at)] != at:
+                    fault(where, f"{'::'.join(path)} is behind {word}, which only {'::'.join(at)} sees")
+                at.append(word)
         if has(crate, rest, near) is False:
             fault(where, f"{'::'.join(path)} isn't there")
         elif crate != name and rest[0] not in ("specs", "proofs") and rest[0] in CRATES[crate].mods and "pub" != CRATES[crate].mods[rest[0]][1].strip():
@@ -189,7 +200,7 @@ def look_at_code(where, name, text, file):
 def main():
     for name, crate in CRATES.items():
         for dep in crate.deps:
-            if dep not in CRATES and not pathlib.Path(f"/opt/rattle/rlibs/{dep}.rlib").is_file():
+            if dep not in CRATES and not pathlib.Path(f"/opt/rattle/rlibs/{dep}.rlib").exists():
                 fault("crates.txt", f"{name} stands on {dep}, which isn't there")
         roots = collections.defaultdict(set)
         for word in [*crate.exports]:
