@@ -13,7 +13,7 @@ struct Guest {
     host: DiameterIdentity,
     /// How many connections it has.
     connections: u32,
-    /// Since it went it was seen that something may wait for it.
+    /// As it was looked at last, something may have waited for it that no other site tells it.
     is_noticed: bool,
     /// That was told.
     is_told: bool,
@@ -130,15 +130,15 @@ impl Guests {
         }
     }
 
-    /// It is seen that something may wait for that host, which is away: whether that is to be told, which it is the second time that it is
-    /// seen. A host that goes over to another site is there by then.
-    pub fn notice(&self, rt: &impl Wait, number: usize) -> bool {
+    /// A host that is away was looked at: whether something may wait for it that no other site tells it. Answers whether that is to be told,
+    /// which it is where two looks behind each other saw it: a host that goes over to another site is there by the second.
+    pub fn notice(&self, rt: &impl Wait, number: usize, is_missed: bool) -> bool {
         let mut all = self.all.lock(rt);
         let Some(guest) = all.get_mut(number) else {
             return false;
         };
-        guest.is_told = guest.is_noticed;
-        guest.is_noticed = true;
+        guest.is_told = is_missed && guest.is_noticed;
+        guest.is_noticed = is_missed;
         guest.is_told
     }
 }

@@ -163,7 +163,7 @@ fn tell_all_missed<'s, 'r, S: SharedSite, M: Machine, G: Log>(
             break;
         };
         let is_missed = site.wants_push(rt, seat, &host) && !is_reached_elsewhere(rt, all, &host);
-        if is_missed && guests.notice(rt, number) {
+        if guests.notice(rt, number, is_missed) {
             tell_missed(all.log, &host);
         }
         from = number.saturating_add(1);
