@@ -213,6 +213,9 @@ class Script:
     def abort(self, site, printed="none"):
         self.say(f"abort {site}", printed)
 
+    def retell(self, site, session, printed="none"):
+        self.say(f"retell {site} {session}", printed)
+
     def letter(self, maker, peer):
         self.say(f"letter {maker} {peer}", f"letter {self.letters}")
         self.letters += 1
@@ -505,6 +508,65 @@ def aborts(s):
     s.abort(1)
 
 
+def retellings(s):
+    """Gateways that may have lost what they were told."""
+    all_rules = "push gw;1;1 +op/sip +af/af;1/1/1 +af/af;1/1/2"
+    shown = [live(), SIP_LINE, *VOICE_LINES]
+    s.begin("what a gateway was told counts as not there, once; the next push brings all rules")
+    call(s)
+    s.retell(0, "gw;1;1", "retold")
+    s.retell(0, "gw;1;1")
+    s.show(0, "clock 4", *shown, "af af;1 bound gw;1;1")
+    s.push(0, all_rules)
+    s.push(0)
+    s.show(0, "clock 5", *shown, *VOICE_TOLD, "told op/sip", "af af;1 bound gw;1;1")
+    s.note("the next answer brings them too")
+    s.retell(0, "gw;1;1", "retold")
+    s.ask(0, ccr(2, 1), cca(0, 2, 1, rules=[SIP, *VOICE_RULES]))
+    s.push(0)
+    s.note("a name that was removed is told no more")
+    s.ask(0, str_(), sta(0))
+    s.retell(0, "gw;1;1", "retold")
+    s.push(0, "push gw;1;1 +op/sip")
+    s.show(0, "clock 10", live(), SIP_LINE, "told op/sip", "af af;1 ended")
+    s.note("nothing is done about a session that has ended, or isn't known, or is of an application function, or at no site")
+    s.retell(0, "gw;1;2")
+    s.retell(0, "af;1")
+    s.retell(0, "\\x41\\x00")
+    s.retell(3, "gw;1;1", "refused NoSuchSite")
+    s.ask(0, ccr(3, 2), cca(0, 3, 2))
+    s.retell(0, "gw;1;1")
+    s.show(0, "clock 11", "gx gw;1;1 ended", "af af;1 ended")
+    s.begin("a site that isn't the session's home does it too, and the home pushes once it took that")
+    call(s)
+    k = s.letter(0, 1)
+    s.merge(1, k)
+    s.retell(1, "gw;1;1", "retold")
+    s.push(1)
+    s.push(0)
+    k = s.letter(1, 0)
+    s.merge(0, k)
+    s.show(0, "clock 4", *shown, "af af;1 bound gw;1;1")
+    s.push(0, all_rules)
+    s.note("a letter that comes twice changes nothing more")
+    s.merge(0, k)
+    s.push(0)
+    s.begin("two sites do it before they hear of each other: one push tells all, and a later word counts above an earlier one")
+    call(s)
+    k = s.letter(0, 1)
+    s.merge(1, k)
+    s.retell(0, "gw;1;1", "retold")
+    s.push(0, all_rules)
+    s.retell(1, "gw;1;1", "retold")
+    k = s.letter(1, 0)
+    s.merge(0, k)
+    s.push(0)
+    s.show(0, "clock 5", *shown, *VOICE_TOLD, "told op/sip", "af af;1 bound gw;1;1")
+    k = s.letter(0, 1)
+    s.merge(1, k)
+    s.retell(1, "gw;1;1", "retold")
+
+
 def connections(s):
     s.begin("a gateway's session that ends leaves its call unbound")
     call(s)
@@ -529,7 +591,7 @@ def connections(s):
 
 def calls():
     s = Script(3)
-    for case in (set_up_and_changed, refusals, bindings, prefixes, sites, many, aborts, connections):
+    for case in (set_up_and_changed, refusals, bindings, prefixes, sites, many, aborts, retellings, connections):
         case(s)
     return s
 

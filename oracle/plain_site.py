@@ -4,6 +4,7 @@
 A site is the list of the operations that it took, with what it made itself; whatever it answers is found anew from all
 their facts. `plain_site.py TABLES SCRIPT` prints what a script without bad lines has to print.
 """
+import re
 import sys
 from typing import NamedTuple
 
@@ -19,7 +20,8 @@ MOST_ENTRIES = 40
 
 
 class Operation(NamedTuple):
-    """What one accepted request, push or abort added: its stamp, facts on one session, and a gateway's CC-Request-Number."""
+    """What one accepted request, push, abort or retelling added: its stamp, facts on one session, and a gateway's
+    CC-Request-Number."""
     counter: int
     site: int
     facts: tuple
@@ -215,6 +217,14 @@ class Site:
                 return session
         return None
 
+    def retell(self, name):
+        """Counts what the gateway of a live session was told as not there (TS 29.212, 4.5.2): whether it was told anything."""
+        session, view = Session("gx", name), self.view()
+        names = sorted(told(view, session)) if view.live(session) else []
+        if names:
+            self.add(told_facts(session, [(name, None) for name in names], self.tag()))
+        return bool(names)
+
     def show(self):
         """What a script shows of a site."""
         view = self.view()
@@ -255,6 +265,11 @@ def disconnects(frame):
 def printed(octets):
     """A text of any bytes as a script prints it."""
     return "".join(chr(octet) if 0x21 <= octet <= 0x7E and octet != 0x5C else f"\\x{octet:02x}" for octet in octets)
+
+
+def unprinted(word):
+    """The text that a script prints so."""
+    return re.sub(rb"\\x([0-9a-f]{2})", lambda found: bytes.fromhex(found[1].decode()), word.encode())
 
 
 def state(view, session):
@@ -333,6 +348,10 @@ class World:
         view = self.sites[site].view()
         self.aborts.append(asr(site, session.id, view.value(session, "host"), view.value(session, "realm")))
         return [f"abort {printed(session.id)}"]
+
+    def retell(self, site, word):
+        """A site counts what the gateway of a session was told as not there."""
+        return ["retold" if self.sites[site].retell(unprinted(word)) else "none"]
 
     def post(self, letter):
         """A letter that was made."""

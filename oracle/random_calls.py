@@ -6,13 +6,14 @@ each run behind a line with its names, into the file EXPECTED. It prints how oft
 where a run of the gate would reach too little.
 """
 import os
+import random
 import sys
 
 from edge_messages import edges
-from plain_facts import read_tables
+from plain_facts import read_tables, told
 from plain_letters import Acknowledged, Range, taken_of
 from plain_requests import cut_stream
-from plain_site import World
+from plain_site import World, printed
 from random_messages import ADDRESSES, AF_SESSIONS, GX_SESSIONS, USER, Draw, Part
 from tally import Tally, aimed
 
@@ -35,6 +36,7 @@ LEAST = {
     "answer leaves more": 1, "CCA installs": 5, "CCA removes": 2, "CCA without quality": 2,
     "gx live": 20, "gx ended": 5, "gx partial": 3, "af bound": 10, "af unbound": 5, "af partial": 3, "af ended": 5,
     "gx by address": 20, "gx by prefix": 5, "gx by both": 10, "aborts": 8, "abort none": 8, "af unbound aborted": 8, "af bound aborted": 1,
+    "retold": 15, "retell none": 8,
     "rule": 30, "told": 30, "escaped": 5, "merge changes": 20, "merge changes nothing": 10, "own letter": 1,
     "restart": 8, "old letter after a restart": 4, "equal stamps": 3,
     "ack": 20, "range": 10, "range of nothing": 2, "range past the cursor": 3, "late ack": 3,
@@ -48,8 +50,8 @@ class RandomScript:
     least = LEAST
 
     def __init__(self, tables, seed, tally):
-        self.seed, self.draw, self.tally = seed, Draw(seed), tally
-        self.refusals = seed >= FIRST_OF_REFUSALS
+        self.seed, self.draw, self.apart, self.tally = seed, Draw(seed), random.Random(f"apart {seed}"), tally
+        self.refusals, self.beside = seed >= FIRST_OF_REFUSALS, 0
         self.count = 1 if self.refusals else (3, 1, 4, 2)[seed % 4]
         self.world = World(tables, self.count)
         self.lines = ["# Drawn by oracle/random_calls.py.", f"sites {self.count}"]
@@ -118,6 +120,18 @@ class RandomScript:
             if self.prints[-1] == "none":
                 break
         self.show(site)
+
+    def retell(self):
+        """A site counts what a gateway was told as not there, mostly one that was told a rule, and perhaps pushes then: by draws of
+        their own, so that all else is drawn as it would be without."""
+        site = self.apart.randrange(self.count)
+        view = self.world.sites[site].view()
+        some = [one for one in view.all_live("gx") if told(view, one)] if self.apart.random() < 0.8 else []
+        session = self.apart.choice(some).id if some else self.apart.choice(GX_SESSIONS)
+        printed_then = self.say(f"retell {site} {printed(session)}")[0]
+        self.tally["retell none" if printed_then == "none" else "retold"] += 1
+        if self.apart.random() < 0.7:
+            self.push(str(site))
 
     def abandoned(self):
         """A call at one site, whose gateway's session ends at another; one of them aborts it, and it is perhaps bound again."""
@@ -400,6 +414,14 @@ class RandomScript:
             steps = {self.refused_message: 85, self.aimed_message: 10, self.push: 2, self.show: 3}
         self.draw.random.choices(list(steps), list(steps.values()))[0]()
 
+    def turn(self):
+        """A step, now and then with a retelling behind it."""
+        self.step()
+        if not self.refusals and self.apart.random() < 0.1:
+            drawn = len(self.lines)
+            self.retell()
+            self.beside += len(self.lines) - drawn
+
     def run(self, length):
         """Draws a script of about so many lines; it ends by showing each site."""
         for _ in range(3):
@@ -409,8 +431,8 @@ class RandomScript:
             (self.meeting, self.meeting, self.changed_call)[self.seed % 3]()
         for octets in edges() if self.seed == FIRST_OF_REFUSALS else []:
             self.msg(octets)
-        while len(self.lines) < length:
-            self.step()
+        while len(self.lines) - self.beside < length:
+            self.turn()
         for site in range(self.count):
             self.show(str(site))
 

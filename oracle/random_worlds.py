@@ -36,6 +36,7 @@ LEAST = {
     "restart": 30, "old letter after a restart": 2, "refused NoSuchSite": 3, "refused NoSuchLetter": 5,
     "gx live": 200, "gx ended": 5, "gx partial": 3, "af bound": 30, "af unbound": 6, "af ended": 5, "af partial": 2,
     "gx by address": 100, "gx by prefix": 15, "gx by both": 30, "aborts": 12, "abort none": 20, "af unbound aborted": 10, "af bound aborted": 3,
+    "retold": 12, "retell none": 20,
     "bound by a prefix": 10, "bound by a shorter prefix": 5, "prefix decides": 2,
     "rule": 200, "told": 200, "escaped": 20, "by number": 10, "by site": 2, "all letters": 8,
 }
@@ -226,8 +227,8 @@ class RandomWorld(RandomScript):
         """Draws a script of about so many lines; it ends by showing each site."""
         for _ in range(2):
             self.attach(str(self.draw.random.randrange(self.count)), self.draw.one(ADDRESSES))
-        while len(self.lines) < length:
-            self.step()
+        while len(self.lines) - self.beside < length:
+            self.turn()
         if self.ends:
             self.all_letters()
             for site in range(self.count):

@@ -3,10 +3,10 @@ why. `lines TEXT` is a script, `comment N` one of a comment of N bytes, `restart
 """
 import re
 
-from plain_site import World
+from plain_site import World, unprinted
 
-LAST_EPOCH, LONGEST_LINE = 65535, 200000
-FORMS = {"sites": "n", "msg": "nb", "push": "n", "abort": "n", "letter": "nn", "merge": "nn", "ack": "nn", "restart": "n", "show": "n"}
+LAST_EPOCH, LONGEST_LINE, LONGEST_SESSION = 65535, 200000, 512
+FORMS = {"sites": "n", "msg": "nb", "push": "n", "abort": "n", "retell": "ns", "letter": "nn", "merge": "nn", "ack": "nn", "restart": "n", "show": "n"}
 SCRIPTS = {
     "what a script may not have: words, numbers, bytes, a world or a second one": [
         "show 0\n", "bogus\nsites 1\n", "sites 0\n", "sites 17\n", "sites 01\n", "sites 1 \n", " sites 1\n", "sites  1\n",
@@ -14,13 +14,22 @@ SCRIPTS = {
         "sites 1\nshow -1\n", "sites 1\nshow 0 0\n", "sites 1\nshow 0\nletter 0\nshow 0\n", "sites 1\nmerge 0\n",
         "sites 1\nmsg 0\n", "sites 1\nmsg 0 \n", "sites 1\nmsg 0 0\n", "sites 1\nmsg 0 0g\n", "sites 1\npush\n",
         "sites 1\npush 00\n", "sites 1\npush 0 0\n", "push 0\n", "sites 1\nabort\n", "sites 1\nabort 00\n",
-        "sites 1\nabort 0 0\n", "abort 0\n", "sites 1\nabort 0\nabort 1\nAbort 0\n", "sites 1\nrestart\n", "sites 1\nrestart 0 0\n",
+        "sites 1\nabort 0 0\n", "abort 0\n", "sites 1\nabort 0\nabort 1\nAbort 0\n", "sites 1\nretell 0\n", "sites 1\nretell 00 a\n",
+        "sites 1\nretell 0 a b\n", "retell 0 a\n", "sites 1\nretell 0 \n", "sites 1\nretell 0 a\x7f\n", "sites 1\nretell 0 \u00e9\n",
+        "sites 1\nretell 0 \\\n", "sites 1\nretell 0 a\\x4\n", "sites 1\nretell 0 a\\x4G\n", "sites 1\nretell 0 a\\X41\n",
+        "sites 1\nretell 0 \\x41\\x00;b\nretell 1 a\nRetell 0 a\n", "sites 1\nrestart\n", "sites 1\nrestart 0 0\n",
         "restart 0\n", "ack 0 0\n", "sites 1\nack 0", "sites 1\nack 0 00", "sites 1\nack 0 0 0", "bogus 0 0 0 0\n",
         "Sites 1\n", "sites 4294967296\n", "sites 1 1 1\n", "sites x y\n", "letter 0 x\n", "letter x\n", "msg 0 00\n",
         "msg 00 0\n", "msg 0 00 00\n", "letter 0 0\n", "merge 0 0\n", "sites 1\nmsg 0 00 \n"],
     "bytes that are no text": ["sites 1\nshow \xff\n", "sites 1\n\xc3"],
     "lines that are passed over": ["", "\n\n# nothing\n", "# no end", "sites 16", "\n#\nsites 1\n\nshow 0\n"],
 }
+
+
+def is_session(word):
+    """Whether a word spells a Session-Id as one is printed, of 1 to 512 bytes."""
+    spelled = re.fullmatch(r"([!-\[\]-~]|\\x[0-9a-f]{2})+", word)
+    return spelled is not None and len(unprinted(word)) <= LONGEST_SESSION
 
 
 def fault(line, has_world):
@@ -42,6 +51,8 @@ def fault(line, has_world):
         return "a word is no decimal number"
     if any(kind == "b" and not re.fullmatch("([0-9a-fA-F]{2})+", one) for kind, one in zip(form, behind)):
         return "a word is no bytes in hexadecimal"
+    if any(kind == "s" and not is_session(one) for kind, one in zip(form, behind)):
+        return "a word is no Session-Id"
     if word == "sites" and not 1 <= int(behind[0]) <= 16:
         return "a world has 1 to 16 sites"
     if has_world == (word == "sites"):
@@ -69,7 +80,7 @@ def said(tables, script):
 
 def spelled(octets):
     """A script as a line has it."""
-    escapes = {10: "\\n", 13: "\\r"}
+    escapes = {10: "\\n", 13: "\\r", 92: "\\x5c"}
     return "".join(escapes.get(octet, chr(octet) if octet < 0x7F else f"\\x{octet:02x}") for octet in octets)
 
 

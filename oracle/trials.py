@@ -40,6 +40,9 @@ CALL = ["sites 3",
         "# an update", msg(0, ccr(2, 1)),
         "# making a letter of five operations", "letter 0 1",
         "# taking a letter of five operations", "merge 1 2",
+        "# a retelling", f"retell 0 {SESSION}",
+        "# a push of what was told before", "push 0",
+        "# a retelling of nothing", "retell 1 gw;1;2",
         "# a session termination request", msg(0, str_()),
         "# a push of a call that was ended", "push 0",
         "# a termination request", msg(0, ccr(3, 2)),
@@ -127,6 +130,8 @@ def seat_lines(tables):
     yield "call", whole(tables, theirs)
     ours.take(theirs.operations)
     ours.push()
+    assert ours.retell(SESSION.encode())
+    ours.push()
     for status in (3, 1):
         world.obey(msg(2, aar(None, [component(1, status=status)])))
     yield "updates", letter_octets(tables, Range(2, 1, 1, tuple(theirs.log[1:])))
@@ -161,7 +166,7 @@ def lines(tables):
 
 # ---- what is printed
 
-CALLS = [*OTHER, "abort", "request", "call", "push", "whole", "own", "updates"]
+CALLS = [*OTHER, "abort", "request", "call", "push", "retell", "push", "whole", "own", "updates"]
 CONNECTION = ["a connection", "an exchange, and a push between its operation and its request's bytes"] + ["a message"] * 3
 
 

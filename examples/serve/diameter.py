@@ -30,10 +30,13 @@ AVPS = {  # name: code, vendor, kind
     "Vendor-Specific-Application-Id": (260, 0, "group"),
     "Session-Id": (263, 0, "text"),
     "Origin-Host": (264, 0, "text"),
+    "Supported-Vendor-Id": (265, 0, "number"),
     "Vendor-Id": (266, 0, "number"),
+    "Firmware-Revision": (267, 0, "number"),
     "Result-Code": (268, 0, "number"),
     "Product-Name": (269, 0, "text"),
     "Disconnect-Cause": (273, 0, "number"),
+    "Origin-State-Id": (278, 0, "number"),
     "Destination-Realm": (283, 0, "text"),
     "Re-Auth-Request-Type": (285, 0, "number"),
     "Destination-Host": (293, 0, "text"),
@@ -73,6 +76,7 @@ AVPS = {  # name: code, vendor, kind
     "Pre-emption-Vulnerability": (1048, VENDOR, "number"),
     "Default-EPS-Bearer-QoS": (1049, VENDOR, "group"),
     "Flow-Information": (1058, VENDOR, "group"),
+    "Flow-Direction": (1080, VENDOR, "number"),
 }
 AVP_NAMES = {(code, vendor): (name, kind) for name, (code, vendor, kind) in AVPS.items()}
 
@@ -131,11 +135,11 @@ def write_avps(avps):
     return written
 
 
-def write_message(name, is_request, avps, ids=(1, 1)):
-    """The bytes of a message; ids are its Hop-by-Hop and End-to-End Identifiers."""
+def write_message(name, is_request, avps, ids=(1, 1), is_repeated=False):
+    """The bytes of a message; ids are its Hop-by-Hop and End-to-End Identifiers. One that is repeated has the T flag."""
     code, application = COMMANDS[name]
     body = write_avps(avps)
-    flags = (0x80 if is_request else 0) | (0x40 if application else 0)
+    flags = (0x80 if is_request else 0) | (0x40 if application else 0) | (0x10 if is_repeated else 0)
     return struct.pack(">IIIII", 1 << 24 | 20 + len(body), flags << 24 | code, application, *ids) + body
 
 
@@ -200,12 +204,12 @@ class Connection:
         """The AVPs that name the client."""
         return [("Origin-Host", self.host), ("Origin-Realm", "example")]
 
-    def send(self, name, is_request, avps, ids=None):
-        """Sends a message; a request has identifiers that no other request of the connection has."""
+    def send(self, name, is_request, avps, ids=None, is_repeated=False):
+        """Sends a message; a request has identifiers that no other request of the connection has, unless it repeats one."""
         if ids is None:
             self.ids += 1
             ids = (self.ids, self.ids)
-        self.stream.sendall(write_message(name, is_request, avps, ids))
+        self.stream.sendall(write_message(name, is_request, avps, ids, is_repeated))
 
     def read_exactly(self, count):
         """So many bytes, or fewer at the end of the stream."""

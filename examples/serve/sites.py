@@ -27,10 +27,10 @@ def free_ports(count):
 class Site:
     """A running site. What it tells its operator is read as it comes."""
 
-    def __init__(self, program, number, listen, exchange, connections, turns, peers, tables=TABLES, environment=os.environ):
+    def __init__(self, program, number, listen, exchange, connections, turns, peers, tables=TABLES, environment=os.environ, more=()):
         words = [program, "serve", "--site", number, "--epoch", 1, "--host", f"pcrf{number}.example", "--realm", "example",
                  "--address", "127.0.0.1", "--listen", f"127.0.0.1:{listen}", "--exchange", f"127.0.0.1:{exchange}",
-                 "--connections", connections, "--turns", turns, tables, *[f"127.0.0.1:{peer}" for peer in peers]]
+                 "--connections", connections, "--turns", turns, *more, tables, *[f"127.0.0.1:{peer}" for peer in peers]]
         self.number, self.listen, self.lines, self.seen, self.grown = number, listen, [], 0, threading.Condition()
         self.process = subprocess.Popen([str(word) for word in words], env={**environment, "PCRF_LOG": "info"}, text=True,
                                         stdin=subprocess.DEVNULL, stdout=subprocess.PIPE, stderr=subprocess.PIPE)

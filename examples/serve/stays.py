@@ -194,7 +194,7 @@ class Relay:
                 continue
             self.streams += [near, far]
             threading.Thread(target=self.pass_letters, args=(near, far), daemon=True).start()
-            threading.Thread(target=self.pass_bytes, args=(far, near), daemon=True).start()
+            threading.Thread(target=self.pass_back, args=(far, near), daemon=True).start()
 
     def pass_letters(self, near, far):
         """Hands on what the site says that dialled. Of each letter's head the epoch is noted, and notices are passed over."""
@@ -211,6 +211,10 @@ class Relay:
             pending, left = pending[left:], max(0, left - len(pending))
 
         self.pass_bytes(near, far, look)
+
+    def pass_back(self, far, near):
+        """Hands on what the other side says."""
+        self.pass_bytes(far, near)
 
     def pass_bytes(self, source, target, look=len):
         """Hands on what comes until a side ends."""

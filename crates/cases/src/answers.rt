@@ -1,5 +1,5 @@
 //! Answers and aborts as bytes.
-use dia_base::{Identity, Refusal, base_key, refusal_answer};
+use dia_base::{Identity, MessageForm, Refusal, base_key, refusal_answer};
 use dia_codec::{Flags, Header, Message, write_message};
 use pcrf_values::limits::SESSION_ID_LIMIT;
 use pcrf_values::{AfSid, DiameterIdentity, SessionId};
@@ -39,6 +39,7 @@ fn identity(alloc: Global) -> Result<Identity, AllocError> {
         host,
         realm,
         address: Ipv4Addr::new(192, 0, 2, 1),
+        form: MessageForm::Own,
     })
 }
 

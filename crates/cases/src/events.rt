@@ -3,6 +3,7 @@ ghost use Rattle.std.specs.Prelude.{◌<◌, ◌≤◌};
 ghost use Rattle.pcrf_values.specs.Limits.{site_limit};
 
 use dia_codec::{HEADER_BYTES, frames_of};
+use pcrf_script::read_session;
 use pcrf_values::DiameterIdentity;
 use pcrf_values::limits::SITE_LIMIT;
 use pcrf_world::WorldEvent;
@@ -101,9 +102,20 @@ fn put_requests(
     Ok(())
 }
 
+/// That a site retells the session of a word; none where it spells no Session-Id.
+fn retelling(alloc: Global, site: usize, word: &str) -> Result<Option<WorldEvent>, AllocError> {
+    match read_session(alloc, word)? {
+        Some(session) => Ok(Some(WorldEvent::Retell(site, session))),
+        None => Ok(None),
+    }
+}
+
 /// The event of a line that gives no bytes; none of one that only shows.
 fn event(alloc: Global, words: Words<'_>) -> Result<Option<WorldEvent>, AllocError> {
     let (one, other) = (words.number(), words.last());
+    if words.first == "retell" {
+        return retelling(alloc, one, words.third);
+    }
     Ok(match words.first {
         "push" => Some(WorldEvent::Push(one, host(alloc, one, GATEWAY)?)),
         "abort" => Some(WorldEvent::Abort(one, host(alloc, one, FUNCTION)?)),

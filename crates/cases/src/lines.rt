@@ -6,6 +6,7 @@
 use crate::fault::Fault;
 use crate::tables::Files;
 use crate::words::number;
+use dia_base::MessageForm;
 use dia_codec::Counted;
 use op_tables::{Tables, read_tables};
 use pcrf_script::{ScriptEnd, ScriptRun, run_told};
@@ -71,7 +72,7 @@ fn put_run(
     let ran = {
         let mut reader = Counted::start(script);
         let mut writer = Counted::start(&mut printed);
-        run_told(alloc, tables, &mut reader, &mut writer)
+        run_told(alloc, tables, MessageForm::Own, &mut reader, &mut writer)
     };
     let Ok(printed) = std::str::from_utf8(printed.as_slice()) else {
         return out.push_str("no text");

@@ -105,9 +105,14 @@ fn put_outcome(out: &mut String, site: usize, answer: Option<&Answer>) -> Result
     match answer {
         Some(Ok(WorldOutcome::Pushed(Some(push)))) => put_push(out, push),
         Some(Ok(WorldOutcome::Aborted(Some(abort)))) => put_abort(out, abort),
-        Some(Ok(WorldOutcome::Pushed(None) | WorldOutcome::Aborted(None))) => {
-            out.push_str("none\n")
-        }
+        Some(Ok(WorldOutcome::Retold(true))) => out.push_str("retold\n"),
+        Some(
+            Ok(
+                WorldOutcome::Pushed(None)
+                | WorldOutcome::Aborted(None)
+                | WorldOutcome::Retold(false),
+            ),
+        ) => out.push_str("none\n"),
         Some(Ok(WorldOutcome::Lettered(k))) => writeln!(out, "letter {k}"),
         Some(Ok(WorldOutcome::Merged)) => out.push_str("merged\n"),
         Some(Ok(WorldOutcome::Restarted(epoch))) => writeln!(out, "restart {site} epoch {epoch}"),

@@ -2,7 +2,7 @@
 //! the stream ended, and what was written, where anything was. Every second stream comes in small pieces.
 use crate::fault::Fault;
 use crate::pieces::Pieces;
-use dia_base::Identity;
+use dia_base::{Identity, MessageForm};
 use dia_codec::{Counted, FrameFault};
 use op_tables::read_tables;
 use pcrf_values::{BoundedText, DiameterIdentity};
@@ -50,6 +50,7 @@ fn identity(alloc: Global) -> Result<Identity, Fault> {
         host,
         realm,
         address: Ipv4Addr::LOCALHOST,
+        form: MessageForm::Own,
     })
 }
 

@@ -2,11 +2,12 @@
 ghost use Rattle.std.specs.Prelude.{◌≤◌, length};
 ghost use Rattle.pcrf_values.specs.Limits.{identity_limit};
 
+use crate::form::MessageForm;
 use pcrf_values::DiameterIdentity;
 use std::net::Ipv4Addr;
 
 /// The Diameter node that a site is: its Origin-Host and Origin-Realm (RFC 6733, 6.3 and 6.4), and its
-/// Host-IP-Address (5.3.5).
+/// Host-IP-Address (5.3.5); and the form in which it writes.
 #[derive(Debug, Drop, PartialEq, Eq)]
 pub struct Identity {
     /// Origin-Host.
@@ -15,6 +16,8 @@ pub struct Identity {
     pub realm: DiameterIdentity,
     /// Host-IP-Address.
     pub address: Ipv4Addr,
+    /// The form in which it writes.
+    pub form: MessageForm,
 }
 
 impl Identity {

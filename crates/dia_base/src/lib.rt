@@ -4,6 +4,7 @@
 
 mod answer;
 pub mod codes;
+mod form;
 mod identity;
 mod origin;
 mod read_fault;
@@ -14,6 +15,7 @@ mod subscriptions;
 mod writer;
 
 pub use answer::{answer_header, put_origin, put_result, refusal_answer, request_header};
+pub use form::MessageForm;
 pub use identity::Identity;
 pub use origin::{Origin, read_origin};
 pub use pcrf_values::Refusal;

@@ -21,6 +21,9 @@ use Rattle.pcrf_facts.specs.Values.{Value, Text, value_cmp, entry_cmp}
 use Rattle.pcrf_facts.proofs.FactLaws.{tag_ranked, rule_ranked, fact_ranked}
 use Rattle.fact_records.proofs.FieldLists.{fields_rise}
 use Rattle.gx_records.specs.GxFacts.{told_value}
+use Rattle.pcrf_facts.specs.ToldWords.{ToldRule}
+use Rattle.pcrf_model.specs.Differences.{told_name_of}
+use Rattle.pcrf_model.specs.Retelling.{all_removed}
 use Rattle.pcrf_model.specs.Making.{given_fact, request_says, said_facts, ccr_fields, told_facts}
 use Rattle.pcrf_model.specs.Requests.{CcrValue}
 use Rattle.pcrf_model.proofs.MadeForms.{said_there}
@@ -83,6 +86,11 @@ module _ (t : Tag) (d : DeltaValue) where
   -- so they are these in order
   pub told_in_order : by_name ≡ ascending fact_cmp (told_facts t d)
   told_in_order = sym (ascending-Same fact_cmp fact_ranked (told_facts t d) by_name by_name_same ∙ ascending-itself fact_cmp fact_ranked by_name by_name_rises)
+
+-- names that are told away are the entries of a difference without rules
+pub away_entries : (told : List ToldRule) → map (λ (p : ToldRule). removed_entry (told_name_of p)) told ≡ entries_told (all_removed told)
+away_entries [] = refl
+away_entries (p ∷ told) = ap (λ (es : List ToldName). removed_entry (told_name_of p) ∷ es) (away_entries told)
 
 -- ---- behind the fields of a request
 

@@ -3,11 +3,13 @@ ghost use Rattle.std.specs.Prelude.{◌≡◌, ◌++◌, map, IfOk, OnOk, true};
 ghost use Rattle.std.specs.List.{list_all};
 ghost use Rattle.ranked.specs.Ascending.{ascending};
 ghost use Rattle.pcrf_facts.specs.Facts.{fact_cmp};
+ghost use Rattle.pcrf_model.specs.Differences.{told_name_of};
 ghost use Rattle.gx_records.specs.GxFacts.{fact_of};
 ghost use Rattle.pcrf_values.specs.Limits.{rule_name_limit};
 ghost use Rattle.pcrf_values.specs.RuleValues.{RuleValue};
 ghost use Rattle.pcrf_model.specs.Forms.{is_rule, is_text};
 ghost use Rattle.pcrf_model.specs.Making.{told_facts};
+ghost use Rattle.pcrf_model.specs.Retelling.{all_removed};
 ghost use Rattle.fact_making.specs.Told.{entries_told, installed_entry, removed_entry, told_fact};
 
 use gx_records::GxFact;
@@ -30,6 +32,36 @@ pub fn put_told(
 {
     let entries = ascending_of(alloc, entries_of(alloc, delta)?)?;
     put_entries(facts, tag, entries)
+}
+
+/// With nothing as what counts as told under each of these names, ascending.
+pub fn put_told_away(
+    alloc: Global,
+    facts: &mut Vec<GxFact>,
+    tag: Tag,
+    told: &[(RuleName, Rule)],
+) -> Result<(), AllocError>
+    ensures { OnOk result (map fact_of facts.new.items ≡ map fact_of facts.old.items
+        ++ ascending fact_cmp (told_facts tag (all_removed told.now))) }
+{
+    let entries = ascending_of(alloc, names_removed(alloc, told)?)?;
+    put_entries(facts, tag, entries)
+}
+
+/// Each of these names as one that is removed.
+fn names_removed(
+    alloc: Global,
+    told: &[(RuleName, Rule)],
+) -> Result<Vec<(RuleName, Option<Rule>)>, AllocError>
+    ensures { IfOk result (λ entries.
+        entries.items ≡ map (λ pair. removed_entry (told_name_of pair)) told.now) }
+{
+    let mut entries = Vec::new(alloc);
+    for (name, _) in told {
+        let name = name.try_copy()?;
+        entries.push((name, None))?;
+    }
+    Ok(entries)
 }
 
 /// With what is told under these names, in order.

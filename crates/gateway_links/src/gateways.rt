@@ -17,8 +17,8 @@ pub(crate) struct Reached<W> {
     pub(crate) half: Arc<Half<W>>,
 }
 
-/// For each host that sent an accepted capabilities exchange the writing halves of the connections on which it did so, the last one
-/// behind: a host is reached by the last that is still open. Their lock is held for no write and no call of a site. An observer is
+/// For each host that sent an accepted capabilities exchange, or whose requests are followed, the writing halves of the connections on
+/// which it did so, the last one behind: a host is reached by the last that is still open. Their lock is held for no write and no call of a site. An observer is
 /// told what happens at their connections.
 #[derive(Drop)]
 pub struct Gateways<W, O = Unobserved> {
@@ -49,6 +49,20 @@ fn least_behind<'a, W>(
         }
     }
     least
+}
+
+/// Whether a host is reached by the connection at the seat of that number.
+fn is_reached_by<W: Write + Drop>(
+    reached: &[Reached<W>],
+    host: &DiameterIdentity,
+    connection: usize,
+) -> bool {
+    for gateway in reached.iter().rev() {
+        if gateway.host == *host && !gateway.half.has_ended() {
+            return gateway.connection == connection;
+        }
+    }
+    false
 }
 
 impl<W: Write + Drop> Gateways<W> {
@@ -91,6 +105,21 @@ impl<W: Write + Drop, O: Observer> Gateways<W, O> {
             half,
         })?;
         Ok(())
+    }
+
+    /// A host's request came by that half, of the connection at the seat of that number, perhaps through a relay (RFC 6733, 2.8.1): unless
+    /// the host is reached by it already, it is from now on, as `register` has it.
+    pub fn follow(
+        &self,
+        rt: &impl Wait,
+        host: DiameterIdentity,
+        connection: usize,
+        half: &Arc<Half<W>>,
+    ) -> Result<(), AllocError> {
+        if is_reached_by(self.reached.lock(rt).as_slice(), &host, connection) {
+            return Ok(());
+        }
+        self.register(rt, host, connection, half)
     }
 
     /// The hosts that were reached by halves which have ended are not reached any more.

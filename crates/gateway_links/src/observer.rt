@@ -14,6 +14,9 @@ pub trait Observer {
     /// which is from 2000 to 2999 (RFC 6733, 7.1.2): the Result-Code or else the Experimental-Result-Code, if there is one.
     fn push_refused(&self, _hop_id: u32, _session: &GxSid, _code: Option<u32>) {}
 
+    /// A gateway answered a re-authorisation request of that session by a code of success.
+    fn push_accepted(&self, _session: &GxSid) {}
+
     /// A re-authorisation request could not be written to that host, which is reached no more.
     fn unreached(&self, _host: &DiameterIdentity) {}
 

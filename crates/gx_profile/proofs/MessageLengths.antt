@@ -13,6 +13,7 @@ use Rattle.dia_codec.specs.Written.{word_bytes, written_avp, padded_len, written
 use Rattle.dia_codec.specs.Written as written
 use Rattle.dia_base.specs.Avps.{base_key, destination_realm, destination_host, cc_request_type, cc_request_number}
 use Rattle.dia_base.specs.Answers.{text_avp, number_avp, result_avp}
+use Rattle.dia_base.specs.declared.form.MessageForm.{MessageForm}
 use Rattle.dia_base.specs.declared.identity.Identity.{Identity}
 use Rattle.dia_base.proofs.AnswerLengths.{text_within, number_within, result_within}
 use Rattle.pcrf_values.specs.Numbers.{request_kind_number}
@@ -44,17 +45,17 @@ quality_within (Some q) = omega arith
 -- ---- messages
 
 -- what stands behind the Origin-Realm of an answer
-abbrev told : CcrValue → GxReplyValue → List AvpValue
-told q reply =
+abbrev told : MessageForm → CcrValue → GxReplyValue → List AvpValue
+told form q reply =
     result_avp (reply_refusal reply)
     ∷ number_avp cc_request_type (request_kind_number q.kind)
     ∷ number_avp cc_request_number q.number
-    ∷ delta_avps (reply_delta reply)
+    ∷ delta_avps form (reply_delta reply)
     ++ quality_avps (reply_quality reply)
 
-told_within : (q : CcrValue) (reply : GxReplyValue) → sum_by padded_len (delta_avps (reply_delta reply)) ≤ delta_room → sum_by padded_len (told q reply) ≤ 54932
-told_within q reply delta =
-    let rules = delta_avps (reply_delta reply) in
+told_within : (form : MessageForm) (q : CcrValue) (reply : GxReplyValue) → sum_by padded_len (delta_avps form (reply_delta reply)) ≤ delta_room → sum_by padded_len (told form q reply) ≤ 56212
+told_within form q reply delta =
+    let rules = delta_avps form (reply_delta reply) in
     let quality = quality_avps (reply_quality reply) in
     let kind = number_avp cc_request_type (request_kind_number q.kind) in
     let number = number_avp cc_request_number q.number in
@@ -70,27 +71,27 @@ told_within q reply delta =
 
 -- an answer fits a message
 pub cca_fits : (i : Identity) (h : Header) (q : CcrValue) (reply : GxReplyValue) (m : MessageValue) → m ≡ cca i h q reply → sum_by padded_len (opening_avps q.session i) ≤ opening_room
-    → sum_by padded_len (delta_avps (reply_delta reply)) ≤ delta_room → written_len m ≤ longest_message
+    → sum_by padded_len (delta_avps i.form (reply_delta reply)) ≤ delta_room → written_len m ≤ longest_message
 unfolding cca
 cca_fits i h q reply m is opening delta =
-    let both = sum_by-append padded_len (opening_avps q.session i) (told q reply) in
-    let behind = told_within q reply delta in
+    let both = sum_by-append padded_len (opening_avps q.session i) (told i.form q reply) in
+    let behind = told_within i.form q reply delta in
     rw (is, both) (omega arith)
 
 -- what stands behind the Origin-Realm of a push
-abbrev pushed : PushValue → List AvpValue
-pushed p = text_avp destination_realm p.realm ∷ text_avp destination_host p.host ∷ number_avp re_auth_request_type authorize_only ∷ delta_avps p.delta
+abbrev pushed : MessageForm → PushValue → List AvpValue
+pushed form p = text_avp destination_realm p.realm ∷ text_avp destination_host p.host ∷ number_avp re_auth_request_type authorize_only ∷ delta_avps form p.delta
 
 -- a push fits a message
 pub rar_fits : (i : Identity) (hop_id end_id : ℕ) (p : PushValue) (m : MessageValue) → m ≡ rar i hop_id end_id p → length p.realm ≤ 255 → length p.host ≤ 255
-    → sum_by padded_len (opening_avps p.session i) ≤ opening_room → sum_by padded_len (delta_avps p.delta) ≤ delta_room → written_len m ≤ longest_message
+    → sum_by padded_len (opening_avps p.session i) ≤ opening_room → sum_by padded_len (delta_avps i.form p.delta) ≤ delta_room → written_len m ≤ longest_message
 unfolding rar
 rar_fits i hop_id end_id p m is realm host opening delta =
     let kind = number_avp re_auth_request_type authorize_only in
-    let one = sum_by-cons padded_len (text_avp destination_realm p.realm) (text_avp destination_host p.host ∷ kind ∷ delta_avps p.delta) in
-    let two = sum_by-cons padded_len (text_avp destination_host p.host) (kind ∷ delta_avps p.delta) in
-    let three = sum_by-cons padded_len kind (delta_avps p.delta) in
-    let both = sum_by-append padded_len (opening_avps p.session i) (pushed p) in
+    let one = sum_by-cons padded_len (text_avp destination_realm p.realm) (text_avp destination_host p.host ∷ kind ∷ delta_avps i.form p.delta) in
+    let two = sum_by-cons padded_len (text_avp destination_host p.host) (kind ∷ delta_avps i.form p.delta) in
+    let three = sum_by-cons padded_len kind (delta_avps i.form p.delta) in
+    let both = sum_by-append padded_len (opening_avps p.session i) (pushed i.form p) in
     let realm_short = text_within 283 p.realm 64 (omega arith) in
     let host_short = text_within 293 p.host 64 (omega arith) in
     let kind_short = number_within 285 authorize_only in

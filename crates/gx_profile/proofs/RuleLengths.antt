@@ -12,6 +12,9 @@ use Rattle.dia_codec.specs.Written.{word_bytes, written_avp, written_own, own_le
 use Rattle.dia_codec.specs.Written as written
 use Rattle.dia_base.specs.Avps.{tgpp_key}
 use Rattle.dia_base.specs.Answers.{tgpp_avp}
+use Rattle.dia_base.specs.declared.form.MessageForm.{MessageForm}
+use Rattle.dia_base.specs.declared.form.MessageForm.TheVariants.{Own, Standard}
+use Rattle.flow_filters.proofs.Exchanging.{grows_by_one}
 use Rattle.gx_profile.specs.Avps.{flow_status, qos_information, precedence}
 use Rattle.gx_profile.specs.Lengths.{filter_room, name_room, rule_room, definition_room, delta_room}
 use Rattle.gx_profile.specs.Qualities.{needed, tgpp_number, tgpp_group}
@@ -50,12 +53,18 @@ group_length (a ∷ avps) = rw (flat_map-cons, sum_by-cons, length-append, avp_l
 -- ---- a filter
 
 -- what the Flow-Information of a filter holds
-pub description_fits : (filter : List ℕ) (avps : List AvpValue) → length filter ≤ 255 → avps ≡ description_avps filter → sum_by padded_len avps ≤ longest_message
-description_fits filter avps within is = rw is (omega arith)
+pub description_within : (form : MessageForm) (filter : List ℕ) → length filter ≤ 255 → 12 + sum_by padded_len (description_avps form filter) ≤ filter_room
+unfolding word_bytes
+description_within Own filter within = omega arith
+description_within Standard filter within = let longer = grows_by_one filter in omega arith
+
+-- it fits a group
+pub description_fits : (form : MessageForm) (filter : List ℕ) (avps : List AvpValue) → avps ≡ description_avps form filter → 12 + sum_by padded_len (description_avps form filter) ≤ filter_room → sum_by padded_len avps ≤ longest_message
+description_fits form filter avps is within = rw is (omega arith)
 
 -- a filter takes at most so many bytes
-pub filter_within : (filter : List ℕ) → length filter ≤ 255 → padded_len (filter_avp filter) ≤ filter_room
-filter_within filter within = tgpp_within 1058 false (flat_map written_avp (description_avps filter)) 67 (rw group_length (omega arith))
+pub filter_within : (form : MessageForm) (filter : List ℕ) → 12 + sum_by padded_len (description_avps form filter) ≤ filter_room → padded_len (filter_avp form filter) ≤ filter_room
+filter_within form filter within = tgpp_within 1058 false (flat_map written_avp (description_avps form filter)) 71 (rw group_length (omega arith))
 
 -- ---- AVPs of a list, one after another
 
@@ -111,21 +120,21 @@ after_filters_within r =
     omega arith
 
 -- how long a rule is
-pub rule_within : (r : RuleValue) → padded_len (name_avp r.name) ≤ name_room → sum_by padded_len (map filter_avp r.filters) ≤ 2 * filter_room → sum_by padded_len (rule_avps r) ≤ rule_room
+pub rule_within : (form : MessageForm) (r : RuleValue) → padded_len (name_avp r.name) ≤ name_room → sum_by padded_len (map (filter_avp form) r.filters) ≤ 2 * filter_room → sum_by padded_len (rule_avps form r) ≤ rule_room
 unfolding rule_avps
-rule_within r named filters =
+rule_within form r named filters =
     let after = after_filters_within r in
-    let first = sum_by-cons padded_len (name_avp r.name) (map filter_avp r.filters ++ after_filters r) in
-    let others = sum_by-append padded_len (map filter_avp r.filters) (after_filters r) in
+    let first = sum_by-cons padded_len (name_avp r.name) (map (filter_avp form) r.filters ++ after_filters r) in
+    let others = sum_by-append padded_len (map (filter_avp form) r.filters) (after_filters r) in
     rw (first, others) (omega arith)
 
 -- it fits a group
-pub rule_fits : (r : RuleValue) (avps : List AvpValue) → avps ≡ rule_avps r → sum_by padded_len (rule_avps r) ≤ rule_room → sum_by padded_len avps ≤ longest_message
-rule_fits r avps is within = rw is (omega arith)
+pub rule_fits : (form : MessageForm) (r : RuleValue) (avps : List AvpValue) → avps ≡ rule_avps form r → sum_by padded_len (rule_avps form r) ≤ rule_room → sum_by padded_len avps ≤ longest_message
+rule_fits form r avps is within = rw is (omega arith)
 
 -- a Charging-Rule-Definition takes at most so many bytes
-pub definition_within : (r : RuleValue) → sum_by padded_len (rule_avps r) ≤ rule_room → padded_len (rule_avp r) ≤ definition_room
-definition_within r within = tgpp_within 1003 true (flat_map written_avp (rule_avps r)) 339 (rw group_length within)
+pub definition_within : (form : MessageForm) (r : RuleValue) → sum_by padded_len (rule_avps form r) ≤ rule_room → padded_len (rule_avp form r) ≤ definition_room
+definition_within form r within = tgpp_within 1003 true (flat_map written_avp (rule_avps form r)) 347 (rw group_length within)
 
 -- ---- a difference
 
@@ -138,15 +147,15 @@ remove_within (name ∷ names) within =
     omega arith
 
 -- the rules that are installed
-pub install_within : (rules : List RuleValue) → sum_by padded_len (map rule_avp rules) ≤ definition_room * length rules → sum_by padded_len (install_avps rules) ≤ 12 + definition_room * length rules
-install_within [] within = omega arith
-install_within (rule ∷ rules) within =
-    let value : length (flat_map written_avp (map rule_avp (rule ∷ rules))) ≤ 4 * (342 * length (rule ∷ rules)) = rw (group_length (map rule_avp (rule ∷ rules))) (omega arith) in
-    let group = tgpp_within 1001 true (flat_map written_avp (map rule_avp (rule ∷ rules))) (342 * length (rule ∷ rules)) value in
+pub install_within : (form : MessageForm) (rules : List RuleValue) → sum_by padded_len (map (rule_avp form) rules) ≤ definition_room * length rules → sum_by padded_len (install_avps form rules) ≤ 12 + definition_room * length rules
+install_within form [] within = omega arith
+install_within form (rule ∷ rules) within =
+    let value : length (flat_map written_avp (map (rule_avp form) (rule ∷ rules))) ≤ 4 * (350 * length (rule ∷ rules)) = rw (group_length (map (rule_avp form) (rule ∷ rules))) (omega arith) in
+    let group = tgpp_within 1001 true (flat_map written_avp (map (rule_avp form) (rule ∷ rules))) (350 * length (rule ∷ rules)) value in
     omega arith
 
 -- both
-pub delta_within : (d : DeltaValue) → length d.removed + length d.installed ≤ delta_limit → sum_by padded_len (remove_avps d.removed) ≤ 12 + name_room * length d.removed
-    → sum_by padded_len (install_avps d.installed) ≤ 12 + definition_room * length d.installed → sum_by padded_len (delta_avps d) ≤ delta_room
+pub delta_within : (form : MessageForm) (d : DeltaValue) → length d.removed + length d.installed ≤ delta_limit → sum_by padded_len (remove_avps d.removed) ≤ 12 + name_room * length d.removed
+    → sum_by padded_len (install_avps form d.installed) ≤ 12 + definition_room * length d.installed → sum_by padded_len (delta_avps form d) ≤ delta_room
 unfolding delta_avps
-delta_within d few removed installed = let both = sum_by-append padded_len (remove_avps d.removed) (install_avps d.installed) in rw both (omega arith)
+delta_within form d few removed installed = let both = sum_by-append padded_len (remove_avps d.removed) (install_avps form d.installed) in rw both (omega arith)

@@ -23,6 +23,6 @@ cca i h q reply = record {
       ++ result_avp (reply_refusal reply)
       ∷ number_avp cc_request_type (request_kind_number q.kind)
       ∷ number_avp cc_request_number q.number
-      ∷ delta_avps (reply_delta reply)
+      ∷ delta_avps i.form (reply_delta reply)
       ++ quality_avps (reply_quality reply);
 }

@@ -72,6 +72,10 @@ default_eps_bearer_qos = tgpp_key 1049
 abbrev pub flow_information : AvpKey
 flow_information = tgpp_key 1058
 
+-- 5.3.65
+abbrev pub flow_direction : AvpKey
+flow_direction = tgpp_key 1080
+
 -- ---- of flows and rates (TS 29.214)
 
 -- 5.3.8

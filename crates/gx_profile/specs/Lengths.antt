@@ -4,9 +4,9 @@ use Rattle.std.specs.Prelude.{ℕ, ◌+◌, ◌*◌}
 use Rattle.pcrf_values.specs.Limits.{delta_limit}
 use Rattle.dia_codec.specs.Limits.{vendor_avp_header_bytes}
 
--- the Flow-Information of a filter and its Flow-Description: two headers, and 255 bytes with one of padding
+-- the Flow-Information of a filter, its Flow-Description and its Flow-Direction: three headers, 256 bytes, and four
 abbrev pub filter_room : ℕ
-filter_room = 280
+filter_room = 296
 
 -- a Charging-Rule-Name: a header, and 600 bytes
 abbrev pub name_room : ℕ
@@ -14,7 +14,7 @@ name_room = 612
 
 -- what a Charging-Rule-Definition holds: a name, two filters, two numbers of 16 bytes, and a QoS-Information of 152
 abbrev pub rule_room : ℕ
-rule_room = 1356
+rule_room = 1388
 
 -- a Charging-Rule-Definition
 abbrev pub definition_room : ℕ

@@ -29,5 +29,5 @@ rar i hop_id end_id p = record {
       ++ text_avp destination_realm p.realm
       ∷ text_avp destination_host p.host
       ∷ number_avp re_auth_request_type authorize_only
-      ∷ delta_avps p.delta;
+      ∷ delta_avps i.form p.delta;
 }

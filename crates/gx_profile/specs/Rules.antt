@@ -3,7 +3,10 @@ use Rattle.std.specs.Prelude.{ℕ, Bool, nat_le, if◌then◌else◌, List, [], 
 use Rattle.pcrf_values.specs.RuleValues.{RuleValue, DeltaValue}
 use Rattle.dia_codec.specs.Fields.{AvpValue}
 use Rattle.dia_base.specs.Answers.{tgpp_avp}
-use Rattle.gx_profile.specs.Avps.{charging_rule_install, charging_rule_remove, charging_rule_definition, charging_rule_name, precedence, qos_information, guaranteed_bitrate_dl, guaranteed_bitrate_ul, qos_class_identifier, allocation_retention_priority, flow_information, flow_description, flow_status, max_requested_bandwidth_dl, max_requested_bandwidth_ul}
+use Rattle.dia_base.specs.declared.form.MessageForm.{MessageForm}
+use Rattle.dia_base.specs.declared.form.MessageForm.TheVariants.{Own, Standard}
+use Rattle.flow_filters.specs.Downlinks.{as_downlink, direction_number, direction_of}
+use Rattle.gx_profile.specs.Avps.{charging_rule_install, charging_rule_remove, charging_rule_definition, charging_rule_name, precedence, qos_information, guaranteed_bitrate_dl, guaranteed_bitrate_ul, qos_class_identifier, allocation_retention_priority, flow_information, flow_description, flow_direction, flow_status, max_requested_bandwidth_dl, max_requested_bandwidth_ul}
 use Rattle.gx_profile.specs.Qualities.{needed, optional, tgpp_number, tgpp_group, retention_avps}
 
 -- ---- quality of service
@@ -39,27 +42,32 @@ rule_quality_avps r =
 abbrev pub name_avp : List ℕ → AvpValue
 name_avp name = tgpp_avp charging_rule_name needed name
 
--- what the Flow-Information of a filter holds: one Flow-Description
-abbrev pub description_avps : List ℕ → List AvpValue
-description_avps filter = tgpp_avp flow_description needed filter ∷ []
+-- what the Flow-Information of a filter holds: a Flow-Description with the filter as it was given, or with one of the downlink and a Flow-Direction
+-- beside it (5.3.53)
+abbrev pub description_avps : MessageForm → List ℕ → List AvpValue
+description_avps Own filter = tgpp_avp flow_description needed filter ∷ []
+description_avps Standard filter =
+    tgpp_avp flow_description needed (as_downlink filter)
+    ∷ tgpp_number flow_direction optional (direction_number (direction_of filter))
+    ∷ []
 
 -- a filter
-abbrev pub filter_avp : List ℕ → AvpValue
-filter_avp filter = tgpp_group flow_information optional (description_avps filter)
+abbrev pub filter_avp : MessageForm → List ℕ → AvpValue
+filter_avp form filter = tgpp_group flow_information optional (description_avps form filter)
 
 -- what a Charging-Rule-Definition holds
-unfoldable pub rule_avps : RuleValue → List AvpValue
-rule_avps r =
+unfoldable pub rule_avps : MessageForm → RuleValue → List AvpValue
+rule_avps form r =
     name_avp r.name
-    ∷ map filter_avp r.filters
+    ∷ map (filter_avp form) r.filters
     ++ tgpp_number flow_status needed r.status
     ∷ tgpp_group qos_information needed (rule_quality_avps r)
     ∷ tgpp_number precedence needed r.precedence
     ∷ []
 
 -- a rule
-abbrev pub rule_avp : RuleValue → AvpValue
-rule_avp r = tgpp_group charging_rule_definition needed (rule_avps r)
+abbrev pub rule_avp : MessageForm → RuleValue → AvpValue
+rule_avp form r = tgpp_group charging_rule_definition needed (rule_avps form r)
 
 -- ---- a difference
 
@@ -69,10 +77,10 @@ remove_avps [] = []
 remove_avps (name ∷ names) = tgpp_group charging_rule_remove needed (map name_avp (name ∷ names)) ∷ []
 
 -- one Charging-Rule-Install with all rules, where there is one
-abbrev pub install_avps : List RuleValue → List AvpValue
-install_avps [] = []
-install_avps (rule ∷ rules) = tgpp_group charging_rule_install needed (map rule_avp (rule ∷ rules)) ∷ []
+abbrev pub install_avps : MessageForm → List RuleValue → List AvpValue
+install_avps form [] = []
+install_avps form (rule ∷ rules) = tgpp_group charging_rule_install needed (map (rule_avp form) (rule ∷ rules)) ∷ []
 
 -- what is removed, and then what is installed
-unfoldable pub delta_avps : DeltaValue → List AvpValue
-delta_avps d = remove_avps d.removed ++ install_avps d.installed
+unfoldable pub delta_avps : MessageForm → DeltaValue → List AvpValue
+delta_avps form d = remove_avps d.removed ++ install_avps form d.installed

@@ -15,21 +15,26 @@ use crate::opening::put_opening;
 use crate::quality::put_quality;
 use crate::rules::put_delta;
 use dia_base::codes::avps;
-use dia_base::{AvpWriter, Identity, answer_header, put_result};
+use dia_base::{AvpWriter, Identity, MessageForm, answer_header, put_result};
 use dia_codec::{Header, Message};
 use reply_values::GxReply;
 use std::alloc::{AllocError, Global};
 
 /// Writes what a reply removes and installs.
 #[tactic(auto, unfolding(crate::specs::Rules::delta_avps))]
-fn put_reply_delta(alloc: Global, out: &mut AvpWriter, reply: &GxReply) -> Result<(), AllocError>
+fn put_reply_delta(
+    alloc: Global,
+    out: &mut AvpWriter,
+    form: MessageForm,
+    reply: &GxReply,
+) -> Result<(), AllocError>
     ensures added { OnOk result
-        (out.new ≡ out.old ++ delta_avps (reply_delta (gx_reply_view reply.now))) }
+        (out.new ≡ out.old ++ delta_avps form (reply_delta (gx_reply_view reply.now))) }
     ensures within { OnOk result
-        (sum_by padded_len (delta_avps (reply_delta (gx_reply_view reply.now))) ≤ delta_room) }
+        (sum_by padded_len (delta_avps form (reply_delta (gx_reply_view reply.now))) ≤ delta_room) }
 {
     match reply {
-        GxReply::Granted(delta, _) => put_delta(alloc, out, delta),
+        GxReply::Granted(delta, _) => put_delta(alloc, out, form, delta),
         GxReply::Refused(_) => Ok(()),
     }
 }
@@ -53,7 +58,7 @@ pub fn write_cca(
     put_result(alloc, &mut out, refusal)?;
     out.number(avps::CC_REQUEST_TYPE, ccr.kind.number())?;
     out.number(avps::CC_REQUEST_NUMBER, ccr.number)?;
-    put_reply_delta(alloc, &mut out, reply)?;
+    put_reply_delta(alloc, &mut out, identity.form, reply)?;
     put_quality(alloc, &mut out, &reply.quality())?;
     Ok(Message {
         header: answer_header(header, refusal),

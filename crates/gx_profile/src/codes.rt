@@ -53,6 +53,9 @@ pub mod avps {
     /// 5.3.53.
     pub const FLOW_INFORMATION: u32 = 1058;
 
+    /// 5.3.65.
+    pub const FLOW_DIRECTION: u32 = 1080;
+
     /// TS 29.214, 5.3.8.
     pub const FLOW_DESCRIPTION: u32 = 507;
 

@@ -33,7 +33,7 @@ pub fn write_rar(
     out.text(avps::DESTINATION_REALM, push.realm.as_slice())?;
     out.text(avps::DESTINATION_HOST, push.host.as_slice())?;
     out.number(base::RE_AUTH_REQUEST_TYPE, base::AUTHORIZE_ONLY)?;
-    put_delta(alloc, &mut out, &push.delta)?;
+    put_delta(alloc, &mut out, identity.form, &push.delta)?;
     Ok(Message {
         header: request_header(base::RE_AUTH, GX, hop_id, end_id),
         avps: out.into_avps(),

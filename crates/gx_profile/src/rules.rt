@@ -9,7 +9,8 @@ ghost use Rattle.gx_profile.specs.Rules.{has_guaranteed_rate, guaranteed_avps, r
 
 use crate::codes::avps;
 use crate::quality::{NEEDED, OPTIONAL, priority_value};
-use dia_base::AvpWriter;
+use dia_base::{AvpWriter, MessageForm};
+use flow_filters::{Direction, as_downlink};
 use pcrf_values::{FilterText, Filters, QosClass, Rule, RuleName};
 use reply_values::FirstEntries;
 use std::alloc::{AllocError, Global};
@@ -62,50 +63,79 @@ fn put_name(alloc: Global, group: &mut AvpWriter, name: &RuleName) -> Result<(),
     group.put_tgpp(avps::CHARGING_RULE_NAME, NEEDED, value)
 }
 
-/// The value of the Flow-Information of a filter.
-fn filter_value(alloc: Global, filter: &FilterText) -> Result<Vec<u8>, AllocError>
-    ensures { IfOk result (λ value.
-        value.items ≡ flat_map written_avp (description_avps filter.now)) }
+/// Writes what is in the Flow-Information of a filter.
+#[tactic(auto, using(crate::proofs::RuleLengths::description_within))]
+fn put_description(
+    alloc: Global,
+    group: &mut AvpWriter,
+    form: MessageForm,
+    filter: &FilterText,
+) -> Result<(), AllocError>
+    ensures added { OnOk result (group.new ≡ group.old ++ description_avps form filter.now) }
+    ensures within { OnOk result (vendor_avp_header_bytes
+        + sum_by padded_len (description_avps form filter.now) ≤ filter_room) }
 {
-    let description = Vec::from_slice(alloc, filter.as_slice())?;
-    let mut group = AvpWriter::start(alloc);
-    group.put_tgpp(avps::FLOW_DESCRIPTION, NEEDED, description)?;
-    group.into_group()
+    let text = filter.as_slice();
+    match form {
+        MessageForm::Own => {
+            let description = Vec::from_slice(alloc, text)?;
+            group.put_tgpp(avps::FLOW_DESCRIPTION, NEEDED, description)?;
+            Ok(())
+        }
+        MessageForm::Standard => {
+            let description = as_downlink(alloc, text)?;
+            group.put_tgpp(avps::FLOW_DESCRIPTION, NEEDED, description)?;
+            let direction = Direction::of(text).number();
+            group.tgpp_number(avps::FLOW_DIRECTION, OPTIONAL, direction)?;
+            Ok(())
+        }
+    }
 }
 
 /// Writes a filter of a rule.
-fn put_filter(alloc: Global, group: &mut AvpWriter, filter: &FilterText) -> Result<(), AllocError>
-    ensures added { OnOk result (group.new ≡ group.old ++ filter_avp filter.now ∷ []) }
-    ensures within { OnOk result (padded_len (filter_avp filter.now) ≤ filter_room) }
+fn put_filter(
+    alloc: Global,
+    group: &mut AvpWriter,
+    form: MessageForm,
+    filter: &FilterText,
+) -> Result<(), AllocError>
+    ensures added { OnOk result (group.new ≡ group.old ++ filter_avp form filter.now ∷ []) }
+    ensures within { OnOk result (padded_len (filter_avp form filter.now) ≤ filter_room) }
 {
-    // Read for its contract alone, which says how long a filter is.
-    let _text = filter.as_slice();
-    let value = filter_value(alloc, filter)?;
+    let mut information = AvpWriter::start(alloc);
+    put_description(alloc, &mut information, form, filter)?;
+    let value = information.into_group()?;
     group.put_tgpp(avps::FLOW_INFORMATION, OPTIONAL, value)
 }
 
 /// Writes the filters of a rule, in their order.
-fn put_filters(alloc: Global, group: &mut AvpWriter, filters: &Filters) -> Result<(), AllocError>
-    ensures added { OnOk result (group.new ≡ group.old ++ map filter_avp filters.now) }
+fn put_filters(
+    alloc: Global,
+    group: &mut AvpWriter,
+    form: MessageForm,
+    filters: &Filters,
+) -> Result<(), AllocError>
+    ensures added { OnOk result (group.new ≡ group.old ++ map (filter_avp form) filters.now) }
     ensures within { OnOk result
-        (sum_by padded_len (map filter_avp filters.now) ≤ 2 * filter_room) }
+        (sum_by padded_len (map (filter_avp form) filters.now) ≤ 2 * filter_room) }
 {
     for filter in filters.as_slice() {
-        put_filter(alloc, group, filter)?;
+        put_filter(alloc, group, form, filter)?;
     }
     Ok(())
 }
 
 /// The value of the Charging-Rule-Definition of a rule.
 #[tactic(auto, unfolding(crate::specs::Rules::rule_avps))]
-fn rule_value(alloc: Global, rule: &Rule) -> Result<Vec<u8>, AllocError>
-    ensures value { IfOk result (λ value. value.items ≡ flat_map written_avp (rule_avps rule.now)) }
-    ensures within { OnOk result (sum_by padded_len (rule_avps rule.now) ≤ rule_room) }
+fn rule_value(alloc: Global, form: MessageForm, rule: &Rule) -> Result<Vec<u8>, AllocError>
+    ensures value { IfOk result (λ value.
+        value.items ≡ flat_map written_avp (rule_avps form rule.now)) }
+    ensures within { OnOk result (sum_by padded_len (rule_avps form rule.now) ≤ rule_room) }
 {
     let quality = quality_value(alloc, rule)?;
     let mut group = AvpWriter::start(alloc);
     put_name(alloc, &mut group, rule.name())?;
-    put_filters(alloc, &mut group, rule.filters())?;
+    put_filters(alloc, &mut group, form, rule.filters())?;
     group.tgpp_number(avps::FLOW_STATUS, NEEDED, rule.status().number())?;
     group.put_tgpp(avps::QOS_INFORMATION, NEEDED, quality)?;
     group.tgpp_number(avps::PRECEDENCE, NEEDED, rule.precedence())?;
@@ -113,11 +143,16 @@ fn rule_value(alloc: Global, rule: &Rule) -> Result<Vec<u8>, AllocError>
 }
 
 /// Writes a rule that is installed.
-fn put_rule(alloc: Global, group: &mut AvpWriter, rule: &Rule) -> Result<(), AllocError>
-    ensures added { OnOk result (group.new ≡ group.old ++ rule_avp rule.now ∷ []) }
-    ensures within { OnOk result (padded_len (rule_avp rule.now) ≤ definition_room) }
+fn put_rule(
+    alloc: Global,
+    group: &mut AvpWriter,
+    form: MessageForm,
+    rule: &Rule,
+) -> Result<(), AllocError>
+    ensures added { OnOk result (group.new ≡ group.old ++ rule_avp form rule.now ∷ []) }
+    ensures within { OnOk result (padded_len (rule_avp form rule.now) ≤ definition_room) }
 {
-    let value = rule_value(alloc, rule)?;
+    let value = rule_value(alloc, form, rule)?;
     group.put_tgpp(avps::CHARGING_RULE_DEFINITION, NEEDED, value)
 }
 
@@ -137,16 +172,16 @@ fn remove_value(alloc: Global, names: &[RuleName]) -> Result<Vec<u8>, AllocError
 }
 
 /// The value of the Charging-Rule-Install of these rules.
-fn install_value(alloc: Global, rules: &[Rule]) -> Result<Vec<u8>, AllocError>
+fn install_value(alloc: Global, form: MessageForm, rules: &[Rule]) -> Result<Vec<u8>, AllocError>
     requires { length rules.now ≤ delta_limit }
     ensures value { IfOk result (λ value.
-        value.items ≡ flat_map written_avp (map rule_avp rules.now)) }
+        value.items ≡ flat_map written_avp (map (rule_avp form) rules.now)) }
     ensures within { OnOk result
-        (sum_by padded_len (map rule_avp rules.now) ≤ definition_room * length rules.now) }
+        (sum_by padded_len (map (rule_avp form) rules.now) ≤ definition_room * length rules.now) }
 {
     let mut group = AvpWriter::start(alloc);
     for rule in rules {
-        put_rule(alloc, &mut group, rule)?;
+        put_rule(alloc, &mut group, form, rule)?;
     }
     group.into_group()
 }
@@ -166,16 +201,21 @@ fn put_removed(alloc: Global, out: &mut AvpWriter, names: &[RuleName]) -> Result
 }
 
 /// Writes the rules that are installed, where there are any.
-fn put_installed(alloc: Global, out: &mut AvpWriter, rules: &[Rule]) -> Result<(), AllocError>
+fn put_installed(
+    alloc: Global,
+    out: &mut AvpWriter,
+    form: MessageForm,
+    rules: &[Rule],
+) -> Result<(), AllocError>
     requires { length rules.now ≤ delta_limit }
-    ensures added { OnOk result (out.new ≡ out.old ++ install_avps rules.now) }
-    ensures within { OnOk result (sum_by padded_len (install_avps rules.now)
+    ensures added { OnOk result (out.new ≡ out.old ++ install_avps form rules.now) }
+    ensures within { OnOk result (sum_by padded_len (install_avps form rules.now)
         ≤ vendor_avp_header_bytes + definition_room * length rules.now) }
 {
     if rules.is_empty() {
         return Ok(());
     }
-    let value = install_value(alloc, rules)?;
+    let value = install_value(alloc, form, rules)?;
     out.put_tgpp(avps::CHARGING_RULE_INSTALL, NEEDED, value)
 }
 
@@ -184,12 +224,13 @@ fn put_installed(alloc: Global, out: &mut AvpWriter, rules: &[Rule]) -> Result<(
 pub(crate) fn put_delta(
     alloc: Global,
     out: &mut AvpWriter,
+    form: MessageForm,
     delta: &FirstEntries,
 ) -> Result<(), AllocError>
-    ensures added { OnOk result (out.new ≡ out.old ++ delta_avps delta.now) }
-    ensures within { OnOk result (sum_by padded_len (delta_avps delta.now) ≤ delta_room) }
+    ensures added { OnOk result (out.new ≡ out.old ++ delta_avps form delta.now) }
+    ensures within { OnOk result (sum_by padded_len (delta_avps form delta.now) ≤ delta_room) }
 {
     put_removed(alloc, out, delta.removed())?;
-    put_installed(alloc, out, delta.installed())?;
+    put_installed(alloc, out, form, delta.installed())?;
     Ok(())
 }

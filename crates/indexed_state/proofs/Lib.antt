@@ -3,4 +3,6 @@ pub mod Near
 pub mod DueByRules
 pub mod Agreeing
 pub mod PlacedRecord
+pub mod BindingAlike
 pub mod Telling
+pub mod NothingNew

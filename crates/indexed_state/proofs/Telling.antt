@@ -12,18 +12,15 @@ use Rattle.pcrf_facts.proofs.ShownLaws.{shown-held, is_ended-held}
 use Rattle.pcrf_model.specs.Bindings.{Party, Stamp, last_reached}
 use Rattle.pcrf_model.specs.Holdings.{Holding, facts_on}
 use Rattle.pcrf_model.specs.Laws.{DifferInOne, BindsAlike}
-use Rattle.pcrf_model.specs.Sessions.{Session, gx}
+use Rattle.pcrf_model.specs.Sessions.{gx}
 use Rattle.pcrf_model.specs.Tables.{Tables}
-use Rattle.pcrf_model.specs.Views.{view, value}
-use Rattle.pcrf_model.proofs.NeighbourLaws.{which, said, all_keep}
+use Rattle.pcrf_model.specs.Views.{view}
 use Rattle.pcrf_model.proofs.ToldFacts.{Tells, is_told, field_shows, ended_same}
-use Rattle.pcrf_model.proofs.WaitingLaws.{one_enough}
 use Rattle.session_index.specs.Index.{IndexValue}
 use Rattle.kept_rules.specs.Kept.{RulesValue}
-use Rattle.waiting_sessions.specs.Waits.{WaitingValue, waiting_of, Keeps, WaitsIfDue}
-use Rattle.waiting_sessions.proofs.Waited.{keeps_itself, may_wait}
-use Rattle.waiting_aborts.proofs.Followed.{told_followed}
+use Rattle.waiting_sessions.specs.Waits.{WaitingValue, Keeps, WaitsIfDue}
 use Rattle.indexed_state.specs.Indexed.{Agree, IsTold, tells}
+use Rattle.indexed_state.proofs.BindingAlike.{agree_alike}
 use Rattle.indexed_state.proofs.PlacedRecord.{held-append}
 
 -- such a fact tells something of a rule's name
@@ -88,29 +85,7 @@ module _ (h k : Holding) (id : List ℕ) (known : List Fact) (told : IsTold h (g
     stands = ap (λ (shows : Shows). option_map (λ (t : Stamp). (t.0, (t.1, id))) (last_reached shows)) fields_on;
   }
 
-  -- each session shows what it showed at a place where this one does
-  same_value : (s : Session) (p : Place) → value (view h.facts) (gx id) p ≡ value (view k.facts) (gx id) p → value (view h.facts) s p ≡ value (view k.facts) s p
-  same_value s p here = elim (which (gx id) s) [
-    | inl e ↦ subst (λ (r : Session). value (view h.facts) r p ≡ value (view k.facts) r p) (sym e) here
-    | inr n ↦ ap (option_map (λ (e : Entry). e.1)) ((said h.facts k.facts (gx id) s differs n).shows p)
-  ]
-
   -- so the parts agree, where the session waits
   pub agree_told : (t : Tables) (i : ℕ) (b : Bool) (index : IndexValue) (r : RulesValue) (u w x : WaitingValue) → Keeps u w → WaitsIfDue (view k.facts) w (gx id)
       → Agree t i h b index r u x → Agree t i k b index r w x
-  agree_told t i b index r u w x keeps waits a = record {
-    covers = λ e. record {
-      addresses = λ s x f. (a.covers e).addresses s x (same_value s address (ap (λ (p : Party). p.address) alike.reads) ∙ f);
-      prefixes = λ s p f. (a.covers e).prefixes s p (same_value s prefix (ap (λ (q : Party). q.prefix) alike.reads) ∙ f);
-      subscribed = λ other xs x f m. (a.covers e).subscribed other xs x (same_value (gx other) subscribers (ap (λ (p : Party). p.subscribers) alike.reads) ∙ f) m;
-    };
-    kept = record {
-      each = λ other rs f. a.kept.each other rs f ∙ all_keep t h.facts k.facts (gx id) (gx other) differs alike;
-      apart = a.kept.apart;
-    };
-    due = record {
-      listed = λ all. one_enough t i h.facts k.facts (gx id) (waiting_of u) (waiting_of w) differs
-          (a.due.listed (keeps.some all)) (keeps.stay all) (may_wait i (view k.facts) w (gx id) all (λ _. waits)) alike;
-    };
-    abandoned = told_followed i h.facts k.facts (gx id) x x differs (keeps_itself x) a.abandoned alike;
-  }
+  agree_told = agree_alike h k id differs alike

@@ -1,3 +1,4 @@
+pub mod Alike
 pub mod Indexed
 pub use Rattle.kept_rules.specs.Kept
 pub use Rattle.many_rules.specs.Many

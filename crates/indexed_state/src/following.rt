@@ -11,6 +11,7 @@ ghost use Rattle.site_join.specs.States.{record_facts};
 ghost use Rattle.indexed_state.specs.Indexed.{Agree, Unsettled};
 
 use crate::aborting::wait_lost;
+use crate::alike::show_alike;
 use crate::forgetting::{forget_gateway, forget_stood};
 use crate::reached::gateway_reached_in;
 use crate::unsettling::{unsettle_all, unsettle_gateway, wait_gateway};
@@ -21,7 +22,7 @@ use session_index::Index;
 use site_join::State;
 use std::alloc::Global;
 use waiting_aborts::WaitingCalls;
-use waiting_sessions::Waiting;
+use waiting_sessions::{Waiting, wait_one};
 
 /// Has an index, lists of rules and those that wait agree with a state in which one gateway's session, of which this record
 /// stood, has another than before. Where memory is refused the index isn't whole, no list is kept and all wait.
@@ -46,6 +47,11 @@ pub(crate) fn follow(
         return;
     }
     let known = state.gx(id);
+    if show_alike(stood.as_ref(), known) {
+        // No rule of any session depends on what changed.
+        wait_one(state, waiting, id);
+        return;
+    }
     if !list_known(known, index, id) {
         keep_nothing(alloc, is_whole, rules, waiting, aborts);
         return;

@@ -3,12 +3,14 @@
 #![tactic(auto)]
 
 mod aborting;
+mod alike;
 mod following;
 mod forgetting;
 mod held;
 mod indexed;
 mod reached;
 mod recorded;
+mod refreshed;
 mod renewing;
 mod unsettling;
 mod whole;

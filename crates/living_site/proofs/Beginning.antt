@@ -9,7 +9,7 @@ use Rattle.pcrf_model.specs.Tables.{Tables}
 use Rattle.pcrf_model.specs.Letters.{LetterBody, Range, Snapshot, LetterValue, meaning}
 use Rattle.pcrf_model.specs.Cursors.{Cursor, CursorsValue, nothing_taken, start_cursors, maker_entry, maker_after, peer_entry, raised_cursor, question_past, ask}
 use Rattle.pcrf_model.specs.Steps.{SiteEvent, AskOwn, AskWhole}
-use Rattle.pcrf_model.specs.Worlds.{WorldEvent, WorldAnswer, ServeAt, PushAt, AbortAt, Letter, Merge, Ack, Restart, Replied, PushedOut, AbortedOut, Lettered, Merged, Restarted, NoMemory, Setting, ByCursors, by_cursors, asked_body, SiteView, SiteTook, SentLetter, WorldTook, epoch_of, log_in, start, cursors_after, with_letter_taken, with_first_taken, restart_of, change, change_by, letter_to, with_letter, site_view, after, after_all}
+use Rattle.pcrf_model.specs.Worlds.{WorldEvent, WorldAnswer, ServeAt, PushAt, AbortAt, RetellAt, Letter, Merge, Ack, Restart, Replied, PushedOut, AbortedOut, RetoldOut, Lettered, Merged, Restarted, NoMemory, Setting, ByCursors, by_cursors, asked_body, SiteView, SiteTook, SentLetter, WorldTook, epoch_of, log_in, start, cursors_after, with_letter_taken, with_first_taken, restart_of, change, change_by, letter_to, with_letter, site_view, after, after_all}
 use Rattle.pcrf_model.specs.CursorLaws.{FirstTaken, Reaches, Grew, WorldGrew, Backed, Said, IsSound, BodyFits, Fits, AllSound, PeerTook, IsPast}
 use Rattle.pcrf_model.proofs.CursorLists.{get_more, get_changed, read_changed, get_last, read_set, read_replicate, lists_more}
 use Rattle.pcrf_model.proofs.CursorEntries.{there, after_same, after_backed, first_none}
@@ -114,6 +114,7 @@ module _ (g : Setting) (k : ℕ) (l : SentLetter) where
   letter_stays w h (ServeAt i q) (Ok (Replied r)) = h
   letter_stays w h (PushAt i name) (Ok (PushedOut p)) = h
   letter_stays w h (AbortAt i name) (Ok (AbortedOut a)) = h
+  letter_stays w h (RetellAt i id) (Ok (RetoldOut done)) = h
   letter_stays w h (Letter i j) (Ok (Lettered n)) = get_more w.letters _ k l h
   letter_stays w h (Merge j n) (Ok Merged) = subst (λ (ls : List SentLetter). slice_get ls k ≡ Some l) (sym (letters_by w j n (with_letter_taken g.writes))) h
   letter_stays w h (Merge j n) (Err (NoMemory m)) = subst (λ (ls : List SentLetter). slice_get ls k ≡ Some l) (sym (letters_by w j n (with_first_taken m))) h

@@ -8,7 +8,8 @@ use Rattle.pcrf_model.specs.Replies.{ReplyValue, Taken}
 use Rattle.pcrf_model.specs.Serving.{serve}
 use Rattle.pcrf_model.specs.Pushing.{push}
 use Rattle.pcrf_model.specs.Aborting.{abort}
-use Rattle.pcrf_model.specs.Steps.{SiteState, SiteEvent, with_own, state_after, kept_state_after, Serve, Push, Ops, Whole, Abort}
+use Rattle.pcrf_model.specs.Retelling.{retell}
+use Rattle.pcrf_model.specs.Steps.{SiteState, SiteEvent, with_own, state_after, kept_state_after, Serve, Push, Ops, Whole, Abort, Retell}
 use Rattle.pcrf_model.proofs.UnionLaws.{union_assoc, union_nothing, kept_of-union, kept_of_twice}
 use Rattle.site_book.specs.Books.{called}
 use Rattle.site_book.specs.Gains.{gain, gained, holding_added, HoldsAll}
@@ -25,6 +26,7 @@ step_adds t i s (Push name) r = added s (push delta_limit t i s.holding name).ad
 step_adds t i s (Ops os) (Taken n) = refl
 step_adds t i s (Whole k) r = refl
 step_adds t i s (Abort name) r = added s (abort i s.holding name).added
+step_adds t i s (Retell id) r = added s (retell i s.holding id).added
 step_adds t i s e r = sym (union_nothing s.holding)
 
 -- what it adds doesn't depend on what was made before
@@ -34,6 +36,7 @@ same_gain t i s q (Push name) r same = ap (λ (h : Holding). holding_added (push
 same_gain t i s q (Ops os) (Taken n) same = refl
 same_gain t i s q (Whole k) r same = refl
 same_gain t i s q (Abort name) r same = ap (λ (h : Holding). holding_added (abort i h name).added) same
+same_gain t i s q (Retell id) r same = ap (λ (h : Holding). holding_added (retell i h id).added) same
 same_gain t i s q e r same = refl
 
 same_after : (t : Tables) (i : ℕ) (s q : SiteState) (e : SiteEvent) (r : ReplyValue) → s.holding ≡ q.holding

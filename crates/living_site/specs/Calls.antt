@@ -16,3 +16,7 @@ IsAccount seats opening history seat = ((site : SiteValue) × LeadsTo opening hi
 -- a history leads from the opening to the site, and the seat has just a receipt for each of its entries in it: the seat may find the site so
 abbrev pub IsFound : ℕ → SiteState → SeatValue → SiteValue → Type 0
 IsFound seats opening seat site = (history : List Deed) × LeadsTo opening history site × IsAccountOf seats history seat
+
+-- a history leads from the opening to a site of which this holds
+abbrev pub HoldsWhereLed : SiteState → (SiteValue → Type 0) → Type 0
+HoldsWhereLed opening P = (site : SiteValue) × ((history : List Deed) × LeadsTo opening history site) × P site

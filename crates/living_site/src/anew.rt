@@ -18,6 +18,7 @@ pub(crate) fn names_of(site: &Site) -> Result<Identity, AllocError>
         host,
         realm,
         address: names.address,
+        form: names.form,
     })
 }
 

@@ -7,7 +7,7 @@ ghost use Rattle.site_book.specs.Gains.{HoldsAll};
 ghost use Rattle.site_book.specs.Settling.{EachOnce, Settles};
 ghost use Rattle.site_lock.specs.Calls.{FindsNoneAbandoned, FindsNothingDue, GainsReceipt, TellsPast};
 ghost use Rattle.site_lock.specs.Locked.{beside};
-ghost use Rattle.living_site.specs.Calls.{GainsBeginning, IsAccount, IsFound};
+ghost use Rattle.living_site.specs.Calls.{GainsBeginning, HoldsWhereLed, IsAccount, IsFound};
 ghost use Rattle.living_site.specs.Deeds.{IsAccountOf, LeadsTo, OfSeats, as_book, beginnings, calls, epoch_of};
 ghost use Rattle.living_site.specs.Epochs.{HasBegun, IfBegun, IfTold, IsAnswered};
 ghost use Rattle.living_site.specs.Sound.{AreNames};
@@ -149,9 +149,11 @@ impl<L: Roll> LivingSite<L> {
         chronicle.site().is_aborting(host)
     }
 
-    /// Lets someone see the site as it is, once the lock is free, and nobody else until that one has. It makes no entry, and wakes
-    /// nobody.
-    pub fn look<R: Wait, K: Looker>(&self, rt: &R, looker: &mut K) {
+    /// Lets someone see the site as it is, once the lock is free, and nobody else until that one has: what is seen is a site that
+    /// a history led to. It changes nothing, makes no entry, and wakes nobody.
+    pub fn look<R: Wait, K: Looker>(&self, rt: &R, looker: &mut K)
+        ensures { HoldsWhereLed L.opening (λ site. K.saw looker.old site looker.new) }
+    {
         let chronicle = self.chronicle.lock(rt);
         looker.see(chronicle.site());
     }

@@ -12,7 +12,7 @@ use site_core::{Event, Site};
 use site_join::State;
 use std::alloc::Global;
 use std::io::Print;
-use world_checks::request_of;
+use world_checks::{request_of, session_of};
 
 /// The edition of the operator tables, and of who writes letters.
 pub const EDITION: u32 = 7;
@@ -56,6 +56,7 @@ impl<R> Given<'_, R> {
         match word {
             "push" => Some(Event::Push(None)),
             "abort" => Some(Event::Abort(None)),
+            "retell" => Some(Event::Retell(session_of(self.alloc, "gw;1;1")?)),
             "whole" => Some(Event::AskWhole),
             "own" | "grown" => Some(Event::AskOwn(0)),
             _ => event_of(self.alloc, self.bytes(word)?.as_slice()),

@@ -19,7 +19,8 @@ const LIMIT: usize = 80;
 const ROOM: usize = 1 << 12;
 
 /// What is called, by words.
-const CALLS: &str = "other-request other-call other-end abort request call push whole own updates";
+const CALLS: &str =
+    "other-request other-call other-end abort request call push retell push whole own updates";
 
 /// Where a seat calls.
 #[derive(Drop)]

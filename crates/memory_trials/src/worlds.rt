@@ -79,8 +79,7 @@ impl<R: Print> Given<'_, R> {
 
     /// Tries each event of a script, under the comment before it. All is the same then in both worlds.
     pub fn try_events(&self, script: &str) -> Option<bool> {
-        let mut world = self.world()?;
-        let mut sound = self.world()?;
+        let (mut world, mut sound) = (self.world()?, self.world()?);
         for part in script.split("# ").skip(1) {
             let (what, lines) = part.split_once('\n').unwrap_or((part, ""));
             self.obey(&mut world, &mut sound, what, lines);
@@ -90,8 +89,7 @@ impl<R: Print> Given<'_, R> {
 
     /// Runs events; whether none of that was refused. The world is then what the others make.
     fn run(&self, events: &[WorldEvent]) -> Option<bool> {
-        let mut sound = self.world()?;
-        let tables = self.tables()?;
+        let (mut sound, tables) = (self.world()?, self.tables()?);
         self.begin("World::run", "the events of a script");
         let Ok((world, answers)) = World::run(self.alloc, tables, SITES, events) else {
             self.end(true);

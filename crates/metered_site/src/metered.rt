@@ -1,29 +1,33 @@
-//! A site whose calls are timed.
+//! A site whose calls are timed and noted.
 ghost use Rattle.std.specs.Prelude.{◌≡◌};
 
+use crate::meters::Meters;
 use dia_base::Identity;
 use pcrf_values::DiameterIdentity;
 use shared_site::{Dated, Event, Grown, Reply, SharedSite, StepFault};
-use site_status::Times;
 use std::io;
 use std::sync::Wait;
 use std::thread::Threads;
 use std::time::{Clock, Duration};
 
-/// A site that threads share, with the times of its calls.
+/// A site that threads share, with what is noted of its calls.
 #[derive(Drop)]
 pub struct MeteredSite<'r, S, C> {
     site: S,
     clock: &'r C,
-    times: &'r Times,
+    meters: &'r Meters,
 }
 
 impl<'r, S, C: Clock> MeteredSite<'r, S, C> {
-    /// That site. The times of its calls are noted there.
-    pub fn of(site: S, clock: &'r C, times: &'r Times) -> MeteredSite<'r, S, C>
+    /// That site. Its calls are noted there.
+    pub fn of(site: S, clock: &'r C, meters: &'r Meters) -> MeteredSite<'r, S, C>
         ensures { result.site ≡ site }
     {
-        MeteredSite { site, clock, times }
+        MeteredSite {
+            site,
+            clock,
+            meters,
+        }
     }
 
     /// The site beneath.
@@ -39,11 +43,18 @@ impl<'r, S, C: Clock> MeteredSite<'r, S, C> {
             return;
         };
         let taken = ended.saturating_sub(begun).as_nanos();
-        self.times.add(u64::try_from(taken).unwrap_or(u64::MAX));
+        self.meters
+            .times
+            .add(u64::try_from(taken).unwrap_or(u64::MAX));
     }
 }
 
-/// Timed are the calls that wait for nothing but the lock: from when it is asked for to the reply.
+/// Whether an event only asks what the site made or holds, as is done again and again.
+fn is_asking(event: &Event) -> bool {
+    matches!(event, Event::AskOwn(_) | Event::AskWhole)
+}
+
+/// Timed and noted are the calls that wait for nothing but the lock, unless they only ask: from when it is asked for to the reply.
 impl<S: SharedSite, C: Clock> SharedSite for MeteredSite<'_, S, C> {
     type Seat = S::Seat;
 
@@ -98,6 +109,9 @@ impl<S: SharedSite, C: Clock> SharedSite for MeteredSite<'_, S, C> {
         let begun = self.clock.monotonic();
         let reply = self.site.call(rt, seat, event);
         self.tell(begun);
+        if let Ok(told) = &reply {
+            self.meters.note(rt, event, told);
+        }
         reply
     }
 
@@ -110,6 +124,9 @@ impl<S: SharedSite, C: Clock> SharedSite for MeteredSite<'_, S, C> {
         let begun = self.clock.monotonic();
         let told = self.site.call_dated(rt, seat, event);
         self.tell(begun);
+        if let Ok(dated) = &told {
+            self.meters.note(rt, event, &dated.reply);
+        }
         told
     }
 
@@ -119,7 +136,16 @@ impl<S: SharedSite, C: Clock> SharedSite for MeteredSite<'_, S, C> {
         seat: &mut S::Seat,
         event: &Event,
     ) -> Result<Reply, StepFault> {
-        self.site.call_alone(rt, seat, event)
+        let begun = self.clock.monotonic();
+        let reply = self.site.call_alone(rt, seat, event);
+        if is_asking(event) {
+            return reply;
+        }
+        self.tell(begun);
+        if let Ok(told) = &reply {
+            self.meters.note(rt, event, told);
+        }
+        reply
     }
 
     fn call_grown<R: Threads + Wait + Sync>(

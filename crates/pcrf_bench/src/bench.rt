@@ -10,7 +10,7 @@ use crate::states::{
 use crate::streams::{events_of, measure_parts, time_reading, time_stream};
 use crate::words::{choice_before, number_before, word_before};
 use crate::{records, renewals, tables};
-use dia_base::Identity;
+use dia_base::{Identity, MessageForm};
 use op_tables::Tables;
 use pcrf_values::{BoundedText, DiameterIdentity};
 use site_core::{Event, Site};
@@ -43,6 +43,7 @@ fn identity(alloc: Global) -> io::Result<Identity> {
         host,
         realm,
         address: Ipv4Addr::LOCALHOST,
+        form: MessageForm::Own,
     })
 }
 

@@ -102,7 +102,7 @@ In-union : (h k : Holding) (x : SessionFact) → In x h.facts → In x (union h 
 In-union h k x i = (sorted-In (h.facts ++ k.facts) x).1 (In-left x h.facts k.facts i)
 
 -- the fact is in a holding with the operation
-In-operation : (h : Holding) (o : Operation) (f : Fact) → In f o.facts
+pub In-operation : (h : Holding) (o : Operation) (f : Fact) → In f o.facts
     → In (o.session, f) (with_operation h o).facts
 In-operation h o f i =
     (sorted-In (h.facts ++ under o.session o.facts) (o.session, f)).1
@@ -240,7 +240,7 @@ abort_alone i h name = of_session (abandoned_session i (view h.facts) name) refl
 -- ---- form
 
 -- a live session of a holding of the form is of the form
-live_in_form : (h : Holding) → is_holding h ≡ true → (s : Session)
+pub live_in_form : (h : Holding) → is_holding h ≡ true → (s : Session)
     → is_live (view h.facts) s ≡ true → is_session s ≡ true
 live_in_form h form s l =
     let r = live_reached (view h.facts) s l in

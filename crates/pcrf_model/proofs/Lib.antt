@@ -23,6 +23,7 @@ pub mod ProvisionLaws
 pub mod RangeLaws
 pub mod ReadingLaws
 pub mod RecordForms
+pub mod RetellingLaws
 pub mod RuleForms
 pub mod RuleNames
 pub mod SeenLaws
@@ -30,6 +31,7 @@ pub mod ServedForms
 pub mod StepLaws
 pub mod TakingLaws
 pub mod TellingLaws
+pub mod ToldAlike
 pub mod ToldFacts
 pub mod ToldLaws
 pub mod ToldTagLaws

@@ -94,14 +94,14 @@ module _ (most : ℕ) (t : Tables) (xs : List SessionFact) (s : Session) (names 
 -- ---- nothing told is gone, where the session is not ended
 
 -- the end alone blocks a rule's name
-end_alone : (n : List ℕ) (f : Fact) → blocks (OfRuleName n) f ≡ true → ends f ≡ true
+pub end_alone : (n : List ℕ) (f : Fact) → blocks (OfRuleName n) f ≡ true → ends f ≡ true
 end_alone n End h = refl
 end_alone n (Removed (Component c)) h = clash false h refl
 end_alone n (Removed (Flow c m)) h = clash false h refl
 end_alone n f h = clash false h refl
 
 -- so no told name is gone
-told_not_gone : (facts : List Fact) (n : List ℕ) → is_ended facts ≡ false → is_gone facts (OfRuleName n) ≡ false
+pub told_not_gone : (facts : List Fact) (n : List ℕ) → is_ended facts ≡ false → is_gone facts (OfRuleName n) ≡ false
 told_not_gone facts n open_ = is_false _ (λ h. let r = any-In (blocks (OfRuleName n)) facts h in clash (is_ended facts) (In-any ends r.0 facts r.1 (end_alone n r.0 r.2)) open_)
 
 -- ---- the fields of a request
@@ -130,7 +130,7 @@ of_request q t = (said_each (ccr_says q) t (λ g v e. record { name = g; tag = t
 
 module _ (h : Holding) (i : ℕ) (told_up_to : ToldUpTo h.clock h.facts) where
   -- what is told next is above all that was told
-  above_all : (s : Session) (m : List ℕ) (u : Tag) (x : Value) → In (Field (OfRuleName m) u x) (facts_on h.facts s) → tag_cmp u (next_tag i h 0) ≡ Less
+  pub above_all : (s : Session) (m : List ℕ) (u : Tag) (x : Value) → In (Field (OfRuleName m) u x) (facts_on h.facts s) → tag_cmp u (next_tag i h 0) ≡ Less
   above_all s m u x j =
       let tag = told_up_to.each (s, Field (OfRuleName m) u x) (facts_on-In h.facts s (Field (OfRuleName m) u x) j) in
       let low = tag.1 in
@@ -176,7 +176,7 @@ module _ (h : Holding) (s : Session) (fs : List Fact) (fields : (f : Fact) → I
   ]
 
 -- the facts of a holding with an operation, as one list
-one_list : (xs : List SessionFact) (s : Session) (ts : List Fact) → Same (ascending session_fact_cmp (xs ++ under s (ascending fact_cmp ts))) (xs ++ under s ts)
+pub one_list : (xs : List SessionFact) (s : Session) (ts : List Fact) → Same (ascending session_fact_cmp (xs ++ under s (ascending fact_cmp ts))) (xs ++ under s ts)
 one_list xs s ts =
     let new : List SessionFact = under s (ascending fact_cmp ts) in
     Same-through (ascending session_fact_cmp (xs ++ new)) (xs ++ new) (xs ++ under s ts)
@@ -190,7 +190,7 @@ in_two xs s fs ts = ap (λ (l : List SessionFact). xs ++ l) (map-append (λ (f :
 -- ---- an initial request or an update, and a push
 
 -- a session that is read has a fact
-sessions_are : (facts : List SessionFact) (s : Session) → In s (view facts).sessions → In s (map its_session facts)
+pub sessions_are : (facts : List SessionFact) (s : Session) → In s (view facts).sessions → In s (map its_session facts)
 unfolding view
 sessions_are facts s i = (ascending-In session_cmp session_ranked (map its_session facts) s).0 i
 

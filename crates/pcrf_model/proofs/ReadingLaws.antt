@@ -20,6 +20,7 @@ use Rattle.pcrf_model.specs.Refusals.{ccr_refusal, aar_refusal, str_refusal}
 use Rattle.pcrf_model.specs.Serving.{accepted_ccr, serve, serve_ccr, serve_aar, serve_str, provision_outcome}
 use Rattle.pcrf_model.specs.Pushing.{push, lacks_counter}
 use Rattle.pcrf_model.specs.Aborting.{abort, lacks_counter_to_abort}
+use Rattle.pcrf_model.specs.Retelling.{retell, lacks_counter_to_retell}
 use Rattle.pcrf_model.specs.Laws.{ReadsAlike, ReadsTheSame}
 use Rattle.pcrf_model.proofs.ViewLaws.{view-Same, view-kept}
 use Rattle.pcrf_model.proofs.UnionLaws.{view_sorted, view_with}
@@ -151,3 +152,14 @@ pub lacks_counter_to_abort-kept_of : (i : ℕ) (h : Holding) (name : Option (Lis
     → lacks_counter_to_abort i (kept_of h) name ≡ lacks_counter_to_abort i h name
 unfolding lacks_counter_to_abort
 lacks_counter_to_abort-kept_of i h name = rw (view_sorted h.facts) refl
+
+-- the same is retold
+pub retell-kept_of : (i : ℕ) (h : Holding) (id : List ℕ) → retell i (kept_of h) id ≡ retell i h id
+unfolding retell
+retell-kept_of i h id = rw (view_sorted h.facts) refl
+
+-- and a counter is lacking for it just then
+pub lacks_counter_to_retell-kept_of : (h : Holding) (id : List ℕ)
+    → lacks_counter_to_retell (kept_of h) id ≡ lacks_counter_to_retell h id
+unfolding lacks_counter_to_retell
+lacks_counter_to_retell-kept_of h id = rw (view_sorted h.facts) refl

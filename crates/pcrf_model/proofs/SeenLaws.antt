@@ -9,12 +9,13 @@ use Rattle.pcrf_model.specs.Replies.{Outcome}
 use Rattle.pcrf_model.specs.Serving.{serve}
 use Rattle.pcrf_model.specs.Pushing.{push}
 use Rattle.pcrf_model.specs.Aborting.{abort}
+use Rattle.pcrf_model.specs.Retelling.{retell}
 use Rattle.pcrf_model.specs.Letters.{LetterBody, Range, Snapshot, Acknowledgement, LetterValue, meaning}
-use Rattle.pcrf_model.specs.Worlds.{ServeAt, PushAt, AbortAt, Letter, Merge, Ack, Restart, Replied, PushedOut, AbortedOut, Lettered, Merged, Restarted, NoMemory, Writing, SiteView, SiteTook, SentLetter, WorldTook, taken_holding, site_view, world_view, with_operation_made, with_letter_taken, with_first_taken, first_taken, restart_of, change, change_by, letter_to, ack_to, with_letter}
+use Rattle.pcrf_model.specs.Worlds.{ServeAt, PushAt, AbortAt, RetellAt, Letter, Merge, Ack, Restart, Replied, PushedOut, AbortedOut, RetoldOut, Lettered, Merged, Restarted, NoMemory, Writing, SiteView, SiteTook, SentLetter, WorldTook, taken_holding, site_view, world_view, with_operation_made, with_letter_taken, with_first_taken, first_taken, restart_of, change, change_by, letter_to, ack_to, with_letter}
 use Rattle.pcrf_model.specs.CursorLaws.{HoldsBehind}
 use Rattle.pcrf_model.specs.Seen.{view_made, brought_holding, view_merged, view_in_part, view_again, view_letter, view_ack, see_change, see_change_by, see_letter, SeenIsWhatWasTaken, SnapshotsStay}
 use Rattle.pcrf_model.proofs.UnionLaws.{kept_of-union, union_comm, holding_of-append, holding_of-Same}
-use Rattle.pcrf_model.proofs.ReadingLaws.{serve-kept_of, push-kept_of, abort-kept_of}
+use Rattle.pcrf_model.proofs.ReadingLaws.{serve-kept_of, push-kept_of, abort-kept_of, retell-kept_of}
 use Rattle.pcrf_model.proofs.CursorSnapshots.{event_holds}
 
 -- ---- one site
@@ -140,6 +141,8 @@ seen_is_taken g w (PushAt i name) (Ok (PushedOut p)) all =
     (λ n h. push-kept_of g.most g.tables n h name)
 seen_is_taken g w (AbortAt i name) (Ok (AbortedOut a)) all =
     makes_seen w i (λ n h. abort n h name) (λ n h. abort-kept_of n h name)
+seen_is_taken g w (RetellAt i id) (Ok (RetoldOut done)) all =
+    makes_seen w i (λ n h. retell n h id) (λ n h. retell-kept_of n h id)
 seen_is_taken g w (Letter i j) (Ok (Lettered k)) all = letter_seen w i (view_letter g j) (letter_to g j) (λ s. refl)
 seen_is_taken g w (Merge j k) (Ok Merged) all = change_by_seen w j k (view_merged g.writes) (with_letter_taken g.writes) (λ l at s. site_merges g.writes l s (all k l at))
 seen_is_taken g w (Merge j k) (Err (NoMemory n)) all = change_by_seen w j k (view_in_part n) (with_first_taken n) (λ l at s. site_merges_in_part n l s)

@@ -196,22 +196,23 @@ telling_in_form counter i s stamp of_gateway session d tell some =
     (subst (λ (z : Kind). MayMake z counter i 0 (told_facts u d)) k makes)
 
 -- as many facts tell as there are entries
-told_length : (u : Tag) (d : DeltaValue) → length (told_facts u d) ≡ length d.removed + length d.installed
+pub told_length : (u : Tag) (d : DeltaValue) → length (told_facts u d) ≡ length d.removed + length d.installed
 told_length u d = simp (length-append, length-map)
+
+-- what is not 0 is at least 1
+pub not_none : (n : ℕ) → not (n == 0) ≡ true → 1 ≤ n
+not_none n k = let e = not_true _ k in grind (arith, nat_tests, e)
 
 -- something is told of what is due, where a message carries an entry
 pub told_some : (most : ℕ) (t : Tables) (i : ℕ) (v : View) (name : Option (List ℕ)) (s : Session) (u : Tag) → 1 ≤ most → is_due t i v name s ≡ true → 1 ≤ length (told_facts u (delta_of most t v s))
 told_some most t i v name s u one w =
     let d : DeltaValue = difference (told_rules_of v s) (rules t v s) in
     let open_ = second_so (is_gx s.kind && is_live v s && is_home i v s && is_of_host v name s) (not (is_empty d)) w in
-    let lacks = not_empty (length d.removed + length d.installed) open_ in
+    let lacks = not_none (length d.removed + length d.installed) open_ in
     let count = told_length u (delta_of most t v s) in
     let names = length-take most d.removed in
     let installed = length-take (most - length d.removed) d.installed in
     omega (arith, one, lacks, count, names, installed)
-  where
-    not_empty : (n : ℕ) → not (n == 0) ≡ true → 1 ≤ n
-    not_empty n k = let e = not_true _ k in grind (arith, nat_tests, e)
 
 -- ---- AA requests, under any counter
 

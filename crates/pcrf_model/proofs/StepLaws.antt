@@ -7,9 +7,10 @@ use Rattle.pcrf_model.specs.Replies.{ReplyValue, Taken, Copy, Outcome}
 use Rattle.pcrf_model.specs.Serving.{serve}
 use Rattle.pcrf_model.specs.Pushing.{push}
 use Rattle.pcrf_model.specs.Aborting.{abort}
-use Rattle.pcrf_model.specs.Steps.{SiteState, kept_state, SiteEvent, Serve, Push, Ops, Whole, AskOwn, AskWhole, Abort, with_own, MayReply, state_after}
+use Rattle.pcrf_model.specs.Retelling.{retell}
+use Rattle.pcrf_model.specs.Steps.{SiteState, kept_state, SiteEvent, Serve, Push, Ops, Whole, AskOwn, AskWhole, Abort, Retell, with_own, MayReply, state_after}
 use Rattle.pcrf_model.proofs.UnionLaws.{kept_of-union, kept_of_twice}
-use Rattle.pcrf_model.proofs.ReadingLaws.{serve-kept_of, push-kept_of, lacks_counter-kept_of, abort-kept_of, lacks_counter_to_abort-kept_of}
+use Rattle.pcrf_model.proofs.ReadingLaws.{serve-kept_of, push-kept_of, lacks_counter-kept_of, abort-kept_of, lacks_counter_to_abort-kept_of, retell-kept_of, lacks_counter_to_retell-kept_of}
 
 module _ (most : ℕ) (t : Tables) (i : ℕ) (s : SiteState) where
   -- the reply to the kept state is the reply to the state
@@ -32,6 +33,9 @@ module _ (most : ℕ) (t : Tables) (i : ℕ) (s : SiteState) where
   may_reply (Abort name) r =
       reply_where r _ _ (lacks_counter_to_abort-kept_of i s.holding name)
       (abort-kept_of i s.holding name)
+  may_reply (Retell id) r =
+      reply_where r _ _ (lacks_counter_to_retell-kept_of s.holding id)
+      (retell-kept_of i s.holding id)
   may_reply (Ops os) r = (λ h. h, λ h. h)
   may_reply (Whole k) r = (λ h. h, λ h. h)
   may_reply (AskOwn p) r = (λ h. h, λ h. h)
@@ -63,6 +67,9 @@ module _ (most : ℕ) (t : Tables) (i : ℕ) (s : SiteState) where
   steps (Abort name) r =
       ap (λ (o : Outcome). kept_state (with_own (kept_state s) o.added)) (abort-kept_of i s.holding name)
       ∙ adds (abort i s.holding name).added
+  steps (Retell id) r =
+      ap (λ (o : Outcome). kept_state (with_own (kept_state s) o.added)) (retell-kept_of i s.holding id)
+      ∙ adds (retell i s.holding id).added
   steps (Ops os) (Taken n) = with_more (holding_of (take n os)) s.log
   steps (Whole k) r = with_more k s.log
   steps e r = unchanged

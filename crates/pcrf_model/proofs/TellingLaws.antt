@@ -36,11 +36,11 @@ use Rattle.pcrf_model.proofs.DifferenceLaws.{told_ranked, there, stays_if, stays
 -- ---- what is read without the told entries
 
 -- what shows is no told entry
-abbrev is_field : Shown → Bool
+abbrev pub is_field : Shown → Bool
 is_field x = not (is_told x.place)
 
 -- the view without the told entries, and without what is removed
-abbrev fields_of : View → View
+abbrev pub fields_of : View → View
 fields_of v = record { shows = λ s p. cond (is_told p) None (v.shows s p); ended = v.ended; removals = λ s. []; aborted = λ s. false; all = filter is_field v.all; sessions = v.sessions }
 
 -- what a filter leaves out may give nothing
@@ -65,7 +65,7 @@ no_rule t v s x e = elim (is_bound_to v s x.session) as (λ b. cond b (option_an
     no_flow (OfFlow c n f) h = clash true refl h
 
 -- the rules are read without the told entries
-rules-fields_of : (t : Tables) (v : View) (s : Session) → rules t (fields_of v) s ≡ rules t v s
+pub rules-fields_of : (t : Tables) (v : View) (s : Session) → rules t (fields_of v) s ≡ rules t v s
 unfolding rules bind
 rules-fields_of t v s = ap (λ (l : List RuleValue). cond (is_live v s) (ascending listed_cmp (operator_rules t v s ++ l)) [])
     (filter_map-filter (rule_at t v s) is_field (no_rule t v s) v.all)
@@ -99,7 +99,7 @@ module _ (xs : List SessionFact) (s : Session) (ts : List Fact) (tells : (f : Fa
   facts_after r = filter_map-append (on_session r) xs (under s ts)
 
   -- a field shows what it showed
-  field_same : (r : Session) (p : Place) → is_told p ≡ false → w.shows r p ≡ v.shows r p
+  pub field_same : (r : Session) (p : Place) → is_told p ≡ false → w.shows r p ≡ v.shows r p
   field_same r p h =
       (sessions_alone (xs ++ under s ts) r).shows p
       ∙ ap (λ (l : List Fact). entry_shown l p) (facts_after r)
@@ -149,7 +149,7 @@ module _ (xs : List SessionFact) (s : Session) (ts : List Fact) (tells : (f : Fa
   known_sessions known = ascending-Same session_cmp session_ranked (map its_session (xs ++ under s ts)) (map its_session xs) (same_sessions known)
 
   -- so the fields are read the same
-  fields_same : In s (map its_session xs) → fields_of w ≡ fields_of v
+  pub fields_same : In s (map its_session xs) → fields_of w ≡ fields_of v
   fields_same known =
       let all : filter is_field w.all ≡ filter is_field v.all =
       same_ascending shown_cmp shown_ranked _ _

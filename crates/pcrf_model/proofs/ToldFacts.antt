@@ -44,7 +44,7 @@ same_name {a} {b} h = cc
 
 module _ (xs ts : List Fact) (tells : (f : Fact) → In f ts → Tells f) where
   -- a test that none of them passes
-  any_same : (test : Fact → Bool) → ((f : Fact) → In f ts → test f ≡ false) → list_any test (xs ++ ts) ≡ list_any test xs
+  pub any_same : (test : Fact → Bool) → ((f : Fact) → In f ts → test f ≡ false) → list_any test (xs ++ ts) ≡ list_any test xs
   any_same test none = both_ways _ _
       (λ h. let r = any-In test (xs ++ ts) h in elim (In-cases r.0 xs ts r.1) [
         | inl i ↦ In-any test r.0 xs i r.2

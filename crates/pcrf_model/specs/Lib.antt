@@ -22,6 +22,8 @@ pub mod Pushing
 pub mod Refusals
 pub mod Replies
 pub mod Requests
+pub mod Retelling
+pub mod Retold
 pub mod Rules
 pub mod Samples
 pub mod Scenes

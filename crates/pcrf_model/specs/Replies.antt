@@ -1,5 +1,5 @@
 -- What a site replies to an event, and what the event adds to it.
-use Rattle.std.specs.Prelude.{ℕ, List, Option}
+use Rattle.std.specs.Prelude.{ℕ, Bool, List, Option}
 use Rattle.pcrf_values.specs.declared.default_quality.DefaultQuality.{DefaultQuality}
 use Rattle.pcrf_values.specs.declared.refusal.Refusal.{Refusal}
 use Rattle.pcrf_values.specs.RuleValues.{DeltaValue}
@@ -28,6 +28,7 @@ pub record AbortValue : Type 0 where
 -- To a request: on Gx; on Rx done or refused; of the base protocol a Result-Code. What was pushed, if
 -- anything. That so many operations stand taken; a state that was taken is done. Own operations, or a
 -- copy of all that is kept, each with the length of the log. Which session was aborted, if one was.
+-- Whether what a gateway was told counts as not there now; not where nothing was to be done.
 pub data ReplyValue : Type 0 where
   OnGx : GxReplyValue → ReplyValue
   Done : ReplyValue
@@ -38,6 +39,7 @@ pub data ReplyValue : Type 0 where
   Own : List Operation → ℕ → ReplyValue
   Copy : Holding → ℕ → ReplyValue
   Aborted : Option AbortValue → ReplyValue
+  Retold : Bool → ReplyValue
 
 -- a reply, and the operation that is added, if one is
 pub record Outcome : Type 0 where

@@ -9,9 +9,10 @@ use Rattle.pcrf_model.specs.Replies.{Outcome}
 use Rattle.pcrf_model.specs.Serving.{serve}
 use Rattle.pcrf_model.specs.Pushing.{push}
 use Rattle.pcrf_model.specs.Aborting.{abort}
+use Rattle.pcrf_model.specs.Retelling.{retell}
 use Rattle.pcrf_model.specs.Letters.{LetterBody, Range, Snapshot, Acknowledgement, LetterValue}
 use Rattle.pcrf_model.specs.Cursors.{start_cursors, ack_of, ack_letter}
-use Rattle.pcrf_model.specs.Worlds.{WorldEvent, ServeAt, PushAt, AbortAt, Letter, Merge, Ack, Restart, Replied, PushedOut, AbortedOut, Lettered, Merged, Restarted, NoMemory, WorldAnswer, SiteView, WorldView, Writing, Setting, letter_body, first_taken, cursors_after, WorldTook, world_view, after}
+use Rattle.pcrf_model.specs.Worlds.{WorldEvent, ServeAt, PushAt, AbortAt, RetellAt, Letter, Merge, Ack, Restart, Replied, PushedOut, AbortedOut, RetoldOut, Lettered, Merged, Restarted, NoMemory, WorldAnswer, SiteView, WorldView, Writing, Setting, letter_body, first_taken, cursors_after, WorldTook, world_view, after}
 use Rattle.pcrf_model.specs.CursorLaws.{AllHoldBehind}
 
 -- ---- one site
@@ -36,6 +37,10 @@ view_pushed g name s = push g.most g.tables s.number s.state.holding name
 -- and which session they abort
 abbrev pub view_aborted : Option (List ℕ) → SiteView → Outcome
 view_aborted name s = abort s.number s.state.holding name
+
+-- and which session they retell
+abbrev pub view_retold : List ℕ → SiteView → Outcome
+view_retold id s = retell s.number s.state.holding id
 
 -- what a letter brings: the operations of a range, the state of a snapshot
 abbrev pub brought_holding : LetterBody → Holding
@@ -91,6 +96,8 @@ world_view_after g v (ServeAt i q) (Ok (Replied r)) = see_change v i (λ s. view
 world_view_after g v (PushAt i name) (Ok (PushedOut p)) = see_change v i (λ s. view_made (view_pushed g name s).added s)
 world_view_after g v (AbortAt i name) (Ok (AbortedOut a)) =
     see_change v i (λ s. view_made (view_aborted name s).added s)
+world_view_after g v (RetellAt i id) (Ok (RetoldOut done)) =
+    see_change v i (λ s. view_made (view_retold id s).added s)
 world_view_after g v (Letter i j) (Ok (Lettered k)) = see_letter v i (view_letter g j)
 world_view_after g v (Merge j k) (Ok Merged) = see_change_by v j k (view_merged g.writes)
 world_view_after g v (Merge j k) (Err (NoMemory n)) = see_change_by v j k (view_in_part n)

@@ -9,10 +9,12 @@ use Rattle.pcrf_model.specs.Replies.{ReplyValue, Done, Taken, Own, Copy}
 use Rattle.pcrf_model.specs.Serving.{serve, with_added}
 use Rattle.pcrf_model.specs.Pushing.{push, lacks_counter}
 use Rattle.pcrf_model.specs.Aborting.{abort, lacks_counter_to_abort}
+use Rattle.pcrf_model.specs.Retelling.{retell, lacks_counter_to_retell}
 
 -- A request to serve; something to push to a host, any where none is named; operations, or the whole
 -- state of another site, to take in; the site's own operations from a position on, or its whole state,
--- asked for; a session to abort at a host, any where none is named.
+-- asked for; a session to abort at a host, any where none is named; a gateway's session, of which
+-- what the gateway was told is to count as not there.
 pub data SiteEvent : Type 0 where
   Serve : RequestValue → SiteEvent
   Push : Option (List ℕ) → SiteEvent
@@ -21,6 +23,7 @@ pub data SiteEvent : Type 0 where
   AskOwn : ℕ → SiteEvent
   AskWhole : SiteEvent
   Abort : Option (List ℕ) → SiteEvent
+  Retell : List ℕ → SiteEvent
 
 -- what a site holds, and the operations that it made itself, in order
 pub record SiteState : Type 0 where
@@ -51,6 +54,8 @@ MayReply most t i s (AskOwn p) r = r ≡ Own (own_from s.log p) (length s.log)
 MayReply most t i s AskWhole r = r ≡ Copy (kept_of s.holding) (length s.log)
 MayReply most t i s (Abort name) r =
     (lacks_counter_to_abort i s.holding name ≡ false) × (r ≡ (abort i s.holding name).reply)
+MayReply most t i s (Retell id) r =
+    (lacks_counter_to_retell s.holding id ≡ false) × (r ≡ (retell i s.holding id).reply)
 
 -- the site after the event to which it gave that reply
 abbrev pub state_after : ℕ → Tables → ℕ → SiteState → SiteEvent → ReplyValue → SiteState
@@ -59,6 +64,7 @@ state_after most t i s (Push name) r = with_own s (push most t i s.holding name)
 state_after most t i s (Ops os) (Taken n) = record s { holding = union s.holding (holding_of (take n os)) }
 state_after most t i s (Whole k) r = record s { holding = union s.holding k }
 state_after most t i s (Abort name) r = with_own s (abort i s.holding name).added
+state_after most t i s (Retell id) r = with_own s (retell i s.holding id).added
 state_after most t i s e r = s
 
 -- the site after the event, with what is kept of what it then holds

@@ -1,5 +1,5 @@
 -- Several sites and the letters between them: what each event answers, and what each site took, read from the events and the answers alone.
-use Rattle.std.specs.Prelude.{◌≡◌, ℕ, zero, suc, ◌+◌, ◌<◌, ◌==◌, if◌then◌else◌, List, [], ◌∷◌, ◌++◌, take, length, map, slice_get, slice_set, slice_index_or, Option, Some, None, Result, Ok, Err}
+use Rattle.std.specs.Prelude.{◌≡◌, ℕ, zero, suc, ◌+◌, ◌<◌, ◌==◌, Bool, if◌then◌else◌, List, [], ◌∷◌, ◌++◌, take, length, map, slice_get, slice_set, slice_index_or, Option, Some, None, Result, Ok, Err}
 use Rattle.std.proofs.Common.{option_to_list, option_map, unwrap_or}
 use Rattle.ranked.specs.Sets.{Same}
 use Rattle.pcrf_values.specs.Limits.{last_epoch}
@@ -7,33 +7,36 @@ use Rattle.pcrf_model.specs.Holdings.{Holding, kept_of}
 use Rattle.pcrf_model.specs.Operations.{Operation, holding_of}
 use Rattle.pcrf_model.specs.Tables.{Tables}
 use Rattle.pcrf_model.specs.Requests.{RequestValue}
-use Rattle.pcrf_model.specs.Replies.{PushValue, AbortValue, ReplyValue, Pushed, Aborted}
+use Rattle.pcrf_model.specs.Replies.{PushValue, AbortValue, ReplyValue, Pushed, Aborted, Retold}
 use Rattle.pcrf_model.specs.Serving.{serve}
 use Rattle.pcrf_model.specs.Pushing.{push, lacks_counter}
 use Rattle.pcrf_model.specs.Aborting.{abort, lacks_counter_to_abort}
+use Rattle.pcrf_model.specs.Retelling.{retell, lacks_counter_to_retell}
 use Rattle.pcrf_model.specs.OperatorValues.{operator_value}
 use Rattle.pcrf_model.specs.Steps.{SiteState, SiteEvent, AskOwn, own_from}
 use Rattle.pcrf_model.specs.Letters.{LetterBody, Range, Snapshot, Acknowledgement, LetterValue, meaning}
 use Rattle.pcrf_model.specs.Cursors.{CursorsValue, start_cursors, ask, cursors_after_letter, ack_of, ack_letter, carried_ack, cursors_after_ack}
 
--- Site i serves a request, pushes to a host, or aborts a session there; site i makes a letter for site
--- j; site j takes letter k; site j acknowledges to site i what it took of it; site i starts again,
--- empty.
+-- Site i serves a request, pushes to a host, or aborts a session there; site i counts what the gateway
+-- of a session was told as not there; site i makes a letter for site j; site j takes letter k; site j
+-- acknowledges to site i what it took of it; site i starts again, empty.
 pub data WorldEvent : Type 0 where
   ServeAt : ℕ → RequestValue → WorldEvent
   PushAt : ℕ → Option (List ℕ) → WorldEvent
   AbortAt : ℕ → Option (List ℕ) → WorldEvent
+  RetellAt : ℕ → List ℕ → WorldEvent
   Letter : ℕ → ℕ → WorldEvent
   Merge : ℕ → ℕ → WorldEvent
   Ack : ℕ → ℕ → WorldEvent
   Restart : ℕ → WorldEvent
 
--- the reply; what was pushed; which session was aborted; the number of the new letter; that it was
--- taken; the new epoch
+-- the reply; what was pushed; which session was aborted; whether what a gateway was told counts as not
+-- there now; the number of the new letter; that it was taken; the new epoch
 pub data WorldOutcome : Type 0 where
   Replied : ReplyValue → WorldOutcome
   PushedOut : Option PushValue → WorldOutcome
   AbortedOut : Option AbortValue → WorldOutcome
+  RetoldOut : Bool → WorldOutcome
   Lettered : ℕ → WorldOutcome
   Merged : WorldOutcome
   Restarted : ℕ → WorldOutcome
@@ -110,6 +113,16 @@ abort_answer name s =
     outcome (Aborted a) = Ok (AbortedOut a)
     outcome r = Ok (Replied r)
 
+-- whether what the gateway was told counts as not there now, if a counter is left for it
+abbrev pub retell_answer : List ℕ → SiteView → WorldAnswer
+retell_answer id s =
+    if lacks_counter_to_retell s.state.holding id then Err ClockFull
+    else outcome (retell s.number s.state.holding id).reply
+  where
+    outcome : ReplyValue → WorldAnswer
+    outcome (Retold done) = Ok (RetoldOut done)
+    outcome r = Ok (Replied r)
+
 -- that the letter was taken, if there is one
 abbrev pub merge_answer : Option LetterValue → WorldAnswer
 merge_answer None = Err NoSuchLetter
@@ -124,6 +137,7 @@ abbrev pub answer_of : Setting → WorldView → WorldEvent → WorldAnswer
 answer_of g w (ServeAt i q) = at_site (slice_get w.sites i) (λ s. Ok (Replied (serve g.most g.tables s.number s.state.holding q).reply))
 answer_of g w (PushAt i name) = at_site (slice_get w.sites i) (push_answer g name)
 answer_of g w (AbortAt i name) = at_site (slice_get w.sites i) (abort_answer name)
+answer_of g w (RetellAt i id) = at_site (slice_get w.sites i) (retell_answer id)
 answer_of g w (Letter i j) = at_site (slice_get w.sites i) (λ s. at_site (slice_get w.sites j) (λ peer. Ok (Lettered (length w.letters))))
 answer_of g w (Merge j k) = at_site (slice_get w.sites j) (λ s. merge_answer (slice_get w.letters k))
 answer_of g w (Ack j i) = at_site (slice_get w.sites j) (λ s. at_site (slice_get w.sites i) (λ maker. Ok (Lettered (length w.letters))))
@@ -140,6 +154,7 @@ abbrev pub MayRefuse : WorldView → WorldEvent → ℕ → Type 0
 MayRefuse w (ServeAt i q) n = (i < length w.sites) × (n ≡ 0)
 MayRefuse w (PushAt i name) n = (i < length w.sites) × (n ≡ 0)
 MayRefuse w (AbortAt i name) n = (i < length w.sites) × (n ≡ 0)
+MayRefuse w (RetellAt i id) n = (i < length w.sites) × (n ≡ 0)
 MayRefuse w (Letter i j) n = (i < length w.sites) × (j < length w.sites) × (n ≡ 0)
 MayRefuse w (Merge j k) n = (j < length w.sites) × (l : LetterValue) × (slice_get w.letters k ≡ Some l) × MayStopAfter l.body n
 MayRefuse w (Ack j i) n = (j < length w.sites) × (i < length w.sites) × (n ≡ 0)
@@ -263,14 +278,16 @@ ack_to g maker s = sent_letter s (ack_letter g.tables.edition (ack_of s.cursors 
 abbrev pub with_letter : WorldTook → ℕ → (SiteTook → SentLetter) → WorldTook
 with_letter w i write = record w { letters = w.letters ++ option_to_list (option_map write (slice_get w.sites i)) }
 
--- An answered request, push or abort adds what the definitions give on what the site took; a letter
--- gives its meaning to whoever takes it; a restart empties; a fault changes nothing, but that the
--- first operations of a range stand where memory was refused.
+-- An answered request, push, abort or retelling adds what the definitions give on what the site took;
+-- a letter gives its meaning to whoever takes it; a restart empties; a fault changes nothing, but that
+-- the first operations of a range stand where memory was refused.
 abbrev pub after : Setting → WorldTook → WorldEvent → WorldAnswer → WorldTook
 after g w (ServeAt i q) (Ok (Replied r)) = change w i (λ s. with_operation_made (serve g.most g.tables s.number (taken_holding s) q).added s)
 after g w (PushAt i name) (Ok (PushedOut p)) = change w i (λ s. with_operation_made (push g.most g.tables s.number (taken_holding s) name).added s)
 after g w (AbortAt i name) (Ok (AbortedOut a)) =
     change w i (λ s. with_operation_made (abort s.number (taken_holding s) name).added s)
+after g w (RetellAt i id) (Ok (RetoldOut done)) =
+    change w i (λ s. with_operation_made (retell s.number (taken_holding s) id).added s)
 after g w (Letter i j) (Ok (Lettered k)) = with_letter w i (letter_to g j)
 after g w (Merge j k) (Ok Merged) = change_by w j k (with_letter_taken g.writes)
 after g w (Merge j k) (Err (NoMemory n)) = change_by w j k (with_first_taken n)

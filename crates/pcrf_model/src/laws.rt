@@ -1,6 +1,6 @@
 //! The laws of the definitions, each the contract of a function without a body.
 
-ghost use Rattle.pcrf_model.specs.Laws.{KeepsUnions, KeepsUnionsOfHoldings, KeepsEachSession, KeepsOnce, ReplacingChangesOne, UnionIsCommutative, UnionIsAssociative, UnionIsIdempotent, OnlyOperationsCount, HoldsTheUnion, HoldsJustTheFacts, SameOperationsHoldTheSame, SessionsAreReadAlone, KeptShowsTheSame, OnlyMembersCount, KeptReadsTheSame, MembersReadTheSame, KeptHasTheSameValue, KeptServesTheSame, KeptPushesTheSame, KeptAbortsTheSame, KeptStepsTheSame, DifferenceLeadsThere, NoNameTwice, FirstLeavesTheRest, FirstIsAll, ToldIsTold, BindsToTheGreatest, BindsToNoneWhereNoneMatches, PushesTheFirstDue, PushesNoneWhereNoneIsDue, AbortsTheFirstAbandoned, AbortsNoneWhereNoneIsAbandoned, AbortsOnce, AbortChangesNothingElse, RuleNamesDiffer, SessionIsTold, ProvisioningTells, PushingTells, TakingChangesOne, UnionShowsWhatOneShows, ShowsAFact, OthersKeepTheirRules, AllKeepTheirRules, UnboundKeepTheirRules, HistoriesCompose, HistoriesKeep, UnionKeepsTheForm, KeepingKeepsTheForm, OperationsMakeTheForm, ServingAddsTheForm, PushingAddsTheForm, AbortingAddsTheForm};
+ghost use Rattle.pcrf_model.specs.Laws.{KeepsUnions, KeepsUnionsOfHoldings, KeepsEachSession, KeepsOnce, ReplacingChangesOne, UnionIsCommutative, UnionIsAssociative, UnionIsIdempotent, OnlyOperationsCount, HoldsTheUnion, HoldsJustTheFacts, SameOperationsHoldTheSame, SessionsAreReadAlone, KeptShowsTheSame, OnlyMembersCount, KeptReadsTheSame, MembersReadTheSame, KeptHasTheSameValue, KeptServesTheSame, KeptPushesTheSame, KeptAbortsTheSame, KeptRetellsTheSame, KeptStepsTheSame, DifferenceLeadsThere, NoNameTwice, FirstLeavesTheRest, FirstIsAll, ToldIsTold, BindsToTheGreatest, BindsToNoneWhereNoneMatches, PushesTheFirstDue, PushesNoneWhereNoneIsDue, AbortsTheFirstAbandoned, AbortsNoneWhereNoneIsAbandoned, AbortsOnce, AbortChangesNothingElse, RetellingLeavesAllRules, RetellingChangesNothingElse, RetellsOnce, RetellingIsAgreed, RuleNamesDiffer, SessionIsTold, ProvisioningTells, PushingTells, TakingChangesOne, UnionShowsWhatOneShows, ShowsAFact, OthersKeepTheirRules, AllKeepTheirRules, UnboundKeepTheirRules, HistoriesCompose, HistoriesKeep, UnionKeepsTheForm, KeepingKeepsTheForm, OperationsMakeTheForm, ServingAddsTheForm, PushingAddsTheForm, AbortingAddsTheForm, RetellingAddsTheForm};
 ghost use Rattle.pcrf_model.specs.CursorLaws.{EntriesAreTaken, PeersSaidWhatTheyTook, RangesLeaveNoGap, SnapshotsHoldWhatWasTaken, TakingHoldsTheUnion};
 ghost use Rattle.pcrf_model.specs.Seen.{SeenIsWhatWasTaken, SnapshotsStay};
 ghost use Rattle.pcrf_model.specs.Waiting.{PushesTheFirstWaiting, OnlyTheDueNeedWait, NeighboursAreEnough, OneIsEnough, BoundAreEnough, AllAtHomeAreEnough};
@@ -47,11 +47,12 @@ pub fn kept_facts_read_the_same()
     ensures value { KeptHasTheSameValue }
 {}
 
-/// A site answers, adds, pushes and aborts the same on what is kept of what it took.
+/// A site answers, adds, pushes, aborts and retells the same on what is kept of what it took.
 pub fn kept_facts_serve_the_same()
     ensures requests { KeptServesTheSame }
     ensures pushes { KeptPushesTheSame }
     ensures aborts { KeptAbortsTheSame }
+    ensures retellings { KeptRetellsTheSame }
     ensures steps { KeptStepsTheSame }
 {}
 
@@ -83,6 +84,16 @@ pub fn first_abandoned_session_is_aborted_once()
     ensures none { AbortsNoneWhereNoneIsAbandoned }
     ensures once { AbortsOnce }
     ensures alone { AbortChangesNothingElse }
+{}
+
+/// After a session's retelling its gateway is still to be told all rules, and nothing else that is read
+/// has changed: no rule, no binding, no home, nothing of another session. A second one makes no
+/// operation, and each site that takes the operation counts what the gateway was told as not told.
+pub fn retelling_leaves_all_rules_to_be_told()
+    ensures whole { RetellingLeavesAllRules }
+    ensures alone { RetellingChangesNothingElse }
+    ensures once { RetellsOnce }
+    ensures agreed { RetellingIsAgreed }
 {}
 
 /// An operation changes its session alone, and what a place shows after it the place showed before, or the operation gives it.
@@ -125,11 +136,12 @@ pub fn holdings_keep_their_form()
     ensures operations { OperationsMakeTheForm }
 {}
 
-/// Served requests, pushes and aborts add operations of the form.
+/// Served requests, pushes, aborts and retellings add operations of the form.
 pub fn sites_add_operations_of_the_form()
     ensures serving { ServingAddsTheForm }
     ensures pushing { PushingAddsTheForm }
     ensures aborting { AbortingAddsTheForm }
+    ensures retelling { RetellingAddsTheForm }
 {}
 
 /// The session that is pushed to a host is the first that is due of those that wait under it, where all that are due wait; and they do after one

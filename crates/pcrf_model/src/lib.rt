@@ -9,3 +9,4 @@ pub mod laws;
 pub mod neighbour_examples;
 pub mod prefix_examples;
 pub mod ranges;
+pub mod retell_examples;

@@ -10,6 +10,7 @@ use crate::told::{tell_line, tell_tables};
 use crate::words::{Asked, ServeWords, StayWords, read_words};
 use clap::Error;
 use clap::error::ErrorKind;
+use dia_base::MessageForm;
 use dia_codec::Counted;
 use log::{LevelFilter, Log, Logged};
 use op_tables::Tables;
@@ -147,13 +148,14 @@ fn run_world<G: Log, R: Read + Drop, W: Write + Drop, F: Write>(
     alloc: Global,
     log: &G,
     tables: Tables,
+    form: MessageForm,
     reader: R,
     writer: W,
     faults: &mut F,
 ) -> u8 {
     let mut reader = Counted::start(reader);
     let mut writer = Counted::start(writer);
-    let run = run_told(alloc, tables, &mut reader, &mut writer);
+    let run = run_told(alloc, tables, form, &mut reader, &mut writer);
     ended(log, faults, run)
 }
 
@@ -277,12 +279,13 @@ fn run_script_with<G: Log, R: Read + Drop, W: Write + Drop, F: Write>(
     alloc: Global,
     log: &G,
     tables: Result<Tables, TablesFault>,
+    form: MessageForm,
     reader: R,
     writer: W,
     faults: &mut F,
 ) -> u8 {
     match tables {
-        Ok(tables) => run_world(alloc, log, tables, reader, writer, faults),
+        Ok(tables) => run_world(alloc, log, tables, form, reader, writer, faults),
         Err(why) => refused_tables(log, faults, why),
     }
 }
@@ -299,11 +302,19 @@ fn run_asked<H: Host, G: Log + Sync, R: Input, W: Output, F: Write>(
     match asked {
         Asked::Held => {
             let tables = operator_tables::held(rt.alloc());
-            run_script_with(rt.alloc(), log, tables, reader, writer, faults)
+            run_script_with(
+                rt.alloc(),
+                log,
+                tables,
+                MessageForm::Own,
+                reader,
+                writer,
+                faults,
+            )
         }
-        Asked::World(file) => {
-            let tables = operator_tables::of_file(rt, file);
-            run_script_with(rt.alloc(), log, tables, reader, writer, faults)
+        Asked::World(words) => {
+            let tables = operator_tables::of_file(rt, words.tables);
+            run_script_with(rt.alloc(), log, tables, words.form, reader, writer, faults)
         }
         Asked::Serve(serve) => { run_server(rt, log, &serve, Console { reader, writer }, faults) }
     }

@@ -2,7 +2,7 @@
 use crate::socket_server::{Addresses, SeatPlan, ServerFault, Settings, SiteEpoch, run_server};
 use crate::staying::{Console, Input, Machine, Output, StaySettings, run_staying};
 use crate::words::{Names, ServeWords, StayWords};
-use dia_base::Identity;
+use dia_base::{Identity, MessageForm};
 use log::Log;
 use op_tables::Tables;
 use pcrf_values::DiameterIdentity;
@@ -21,8 +21,13 @@ pub struct Start {
     plan: SeatPlan,
 }
 
-/// The names of the words; `None` where a name is empty or too long, or the address is none of IPv4.
-fn identity_of(alloc: Global, names: Names<'_>) -> Result<Option<Identity>, AllocError> {
+/// The names of the words, and the form in which the site writes; `None` where a name is empty or too long, or the address is none of
+/// IPv4.
+fn identity_of(
+    alloc: Global,
+    names: Names<'_>,
+    form: MessageForm,
+) -> Result<Option<Identity>, AllocError> {
     let Ok(address) = names.address.parse::<Ipv4Addr>() else {
         return Ok(None);
     };
@@ -36,6 +41,7 @@ fn identity_of(alloc: Global, names: Names<'_>) -> Result<Option<Identity>, Allo
         host,
         realm,
         address,
+        form,
     }))
 }
 
@@ -51,7 +57,7 @@ pub fn start_of(
     let Some(plan) = SeatPlan::of(words.connections as usize, words.peers.len()) else {
         return Ok(None);
     };
-    let Some(identity) = identity_of(alloc, words.names)? else {
+    let Some(identity) = identity_of(alloc, words.names, words.form)? else {
         return Ok(None);
     };
     Ok(Some(Start {
@@ -114,6 +120,7 @@ pub fn stay<M: Machine, G: Log + Sync, R: Input, W: Output>(
         watchdog: stay.watchdog,
         wait: stay.wait,
         over: stay.over,
+        again: stay.again,
         log_limit: stay.log,
         epoch_file: stay.epoch_file,
         secret,

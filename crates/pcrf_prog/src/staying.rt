@@ -10,6 +10,7 @@ pub mod keeping;
 pub mod machine;
 mod own_log;
 mod reach;
+mod retelling;
 mod serving;
 pub mod showing;
 mod sockets;

@@ -1,5 +1,6 @@
 //! What the words of the command line ask for.
 use clap::{Arg, ArgAction, ArgMatches, Command, Error, value_parser};
+use dia_base::MessageForm;
 use pcrf_serve::SEAT_LIMIT;
 use pcrf_values::limits::SITE_LIMIT;
 use std::alloc::{AllocError, Global};
@@ -25,18 +26,33 @@ const WAIT: u16 = 10;
 /// Behind how many seconds without a link to a peer sessions are taken over, where nobody says.
 const OVER: u16 = 5;
 
+/// Behind how many seconds a session is told again whose gateway refused a push, where nobody says.
+const AGAIN: u16 = 60;
+
 /// How many operations of its own a site makes in an epoch at most before it begins the next, where nobody says.
 const LOG: u64 = 1_000_000;
+
+/// The forms that may be asked for by name.
+const FORMS: &[&str] = &["standard"];
 
 /// What a run is asked to do.
 #[derive(Drop)]
 pub enum Asked<'a> {
     /// To run the script of standard input with the tables that the program holds.
     Held,
-    /// To run it with the tables of that file.
-    World(&'a str),
+    /// To run it with the tables of a file.
+    World(WorldWords<'a>),
     /// To serve.
     Serve(ServeWords<'a>),
+}
+
+/// The words of a world.
+#[derive(Clone, Copy)]
+pub struct WorldWords<'a> {
+    /// The form in which its sites answer.
+    pub form: MessageForm,
+    /// The file of its operator tables.
+    pub tables: &'a str,
 }
 
 /// The words of a server that stays.
@@ -48,6 +64,8 @@ pub struct StayWords<'a> {
     pub wait: u16,
     /// For how many seconds a peer site may have no link before the sessions of its gateways are taken over.
     pub over: u16,
+    /// Behind how many seconds a session is told again whose gateway refused a push.
+    pub again: u16,
     /// How many operations of its own it makes in an epoch at most before it begins the next.
     pub log: u64,
     /// The file that says how often the site has started, in place of its epoch.
@@ -73,6 +91,8 @@ pub struct ServeWords<'a> {
     pub turns: u32,
     /// Its names.
     pub names: Names<'a>,
+    /// The form in which it writes messages.
+    pub form: MessageForm,
     /// Where it listens for connections.
     pub listen: &'a str,
     /// Where it listens for peers.
@@ -112,6 +132,17 @@ fn tables<'a>(alloc: Global) -> Arg<'a> {
     Arg::new(alloc, "TABLES").required(true).help(
         "The file with the operator tables, in TOML; examples/ has some",
     )
+}
+
+/// The form in which messages are written.
+fn forms<'a>(alloc: Global) -> Arg<'a> {
+    choice(
+        alloc,
+        "forms",
+        "FORM",
+        "Writes messages as the strictest readers of the standards want them; without it in a form of its own",
+    )
+    .value_parser(FORMS)
 }
 
 /// Adds the options that are numbers.
@@ -171,6 +202,7 @@ fn with_stay<'a>(alloc: Global, serve: Command<'a>) -> Result<Command<'a>, Alloc
     .requires_arg("stay")?;
     let serve = serve.arg(wait.value_parser(value_parser!(u16).range(..WAITS)))?;
     let serve = with_over(alloc, serve)?;
+    let serve = with_again(alloc, serve)?;
     let serve = with_log(alloc, serve)?;
     with_files(alloc, serve)
 }
@@ -185,6 +217,18 @@ fn with_over<'a>(alloc: Global, serve: Command<'a>) -> Result<Command<'a>, Alloc
     )
     .requires_arg("stay")?;
     serve.arg(over.value_parser(value_parser!(u16).range(..WAITS)))
+}
+
+/// Adds the option of a server that stays which says when it tells a session again of which something was refused.
+fn with_again<'a>(alloc: Global, serve: Command<'a>) -> Result<Command<'a>, AllocError> {
+    let again = choice(
+        alloc,
+        "again",
+        "SECONDS",
+        "Behind how many seconds a session is told all its rules again whose gateway refused some, 1 to 3600, with --stay; 60 by default",
+    )
+    .requires_arg("stay")?;
+    serve.arg(again.value_parser(value_parser!(u16).range(1..WAITS)))
 }
 
 /// Adds the option of a server that stays which says how long its log may be.
@@ -248,6 +292,7 @@ fn serve_command<'a>(alloc: Global) -> Result<Command<'a>, AllocError> {
     );
     let serve = with_numbers(alloc, serve)?;
     let serve = with_names(alloc, serve)?;
+    let serve = serve.arg(forms(alloc))?;
     let serve = with_stay(alloc, serve)?;
     let serve = serve.arg(tables(alloc))?;
     let peers = Arg::new(alloc, "PEER")
@@ -261,6 +306,7 @@ fn serve_command<'a>(alloc: Global) -> Result<Command<'a>, AllocError> {
 fn command<'a>(alloc: Global) -> Result<Command<'a>, AllocError> {
     let world = Command::new(alloc, "world")
         .about("Runs the script of standard input on several sites with these operator tables")
+        .arg(forms(alloc))?
         .arg(tables(alloc))?;
     let pcrf = Command::new(alloc, "pcrf")
         .about(
@@ -275,6 +321,14 @@ fn command<'a>(alloc: Global) -> Result<Command<'a>, AllocError> {
 /// The text of an argument that has to be there.
 fn text<'a>(matches: &ArgMatches<'a>, name: &str) -> &'a str {
     matches.get_str(name).unwrap_or_default()
+}
+
+/// The form that is asked for. `clap` reads no other name than those that there are.
+fn form_of(matches: &ArgMatches<'_>) -> MessageForm {
+    match matches.get_str("forms") {
+        Some(_) => MessageForm::Standard,
+        None => MessageForm::Own,
+    }
 }
 
 /// The texts of the peers.
@@ -294,6 +348,7 @@ fn stay_words<'a>(matches: &ArgMatches<'a>) -> Option<StayWords<'a>> {
         watchdog: matches.get_one::<u16>("watchdog").unwrap_or(WATCHDOG),
         wait: matches.get_one::<u16>("wait").unwrap_or(WAIT),
         over: matches.get_one::<u16>("over").unwrap_or(OVER),
+        again: matches.get_one::<u16>("again").unwrap_or(AGAIN),
         log: matches.get_one::<u64>("log").unwrap_or(LOG),
         epoch_file: matches.get_str("epoch-file"),
         secret: matches.get_str("secret"),
@@ -314,6 +369,7 @@ fn serve_words<'a>(alloc: Global, matches: &ArgMatches<'a>) -> Result<ServeWords
             realm: text(matches, "realm"),
             address: text(matches, "address"),
         },
+        form: form_of(matches),
         listen: text(matches, "listen"),
         exchange: text(matches, "exchange"),
         tables: text(matches, "TABLES"),
@@ -330,10 +386,11 @@ pub fn read_words<'a>(alloc: Global, words: &'a [String]) -> Result<Asked<'a>, E
     if let Some(serve) = matches.subcommand_matches("serve") {
         return Ok(Asked::Serve(serve_words(alloc, serve)?));
     }
-    let world = matches.subcommand_matches("world");
-    Ok(Asked::World(
-        world
-            .and_then(|world| world.get_str("TABLES"))
-            .unwrap_or_default(),
-    ))
+    let Some(world) = matches.subcommand_matches("world") else {
+        return Ok(Asked::Held);
+    };
+    Ok(Asked::World(WorldWords {
+        form: form_of(world),
+        tables: text(world, "TABLES"),
+    }))
 }

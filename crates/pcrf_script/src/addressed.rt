@@ -2,7 +2,7 @@
 ghost use Rattle.pcrf_script.specs.Addressed.{HappensAt};
 ghost use Rattle.site_core.specs.Frames.{NeverFull};
 
-use dia_base::Identity;
+use dia_base::{Identity, MessageForm};
 use pcrf_world::{World, WorldOutcome};
 use ranked::Ranked;
 use site_core::{Reply, Request, Serve, ServeFault, Site};
@@ -25,8 +25,8 @@ pub(crate) enum Unaddressed {
     NoMemory(World),
 }
 
-/// A copy of a site's names.
-fn names_of(site: &Site) -> Result<Identity, AllocError> {
+/// A copy of a site's names, with a form of its own.
+fn names_of(site: &Site, form: MessageForm) -> Result<Identity, AllocError> {
     let names = site.identity();
     let host = names.host.try_copy()?;
     let realm = names.realm.try_copy()?;
@@ -34,16 +34,21 @@ fn names_of(site: &Site) -> Result<Identity, AllocError> {
         host,
         realm,
         address: names.address,
+        form,
     })
 }
 
 impl AddressedSite {
-    /// The site of a number.
-    pub(crate) fn of(world: World, number: usize) -> Result<AddressedSite, Unaddressed> {
+    /// The site of a number, which answers in this form.
+    pub(crate) fn of(
+        world: World,
+        number: usize,
+        form: MessageForm,
+    ) -> Result<AddressedSite, Unaddressed> {
         let Some(site) = world.site(number) else {
             return Err(Unaddressed::NoSuchSite(world));
         };
-        let Ok(identity) = names_of(site) else {
+        let Ok(identity) = names_of(site, form) else {
             return Err(Unaddressed::NoMemory(world));
         };
         Ok(AddressedSite {

@@ -3,9 +3,12 @@ use crate::fault::{BadLine, Unobeyed};
 use crate::lines::{Line, SiteCount, read_line};
 use crate::messages::put_stream;
 use crate::printing::{put_outcome, put_restart};
+use dia_base::MessageForm;
 use op_tables::Tables;
 use operator_view::put_value;
+use pcrf_values::GxSid;
 use pcrf_world::{World, WorldEvent};
+use ranked::Ranked;
 use std::alloc::Global;
 use watched_io::{LineFault, Obey};
 
@@ -14,6 +17,7 @@ use watched_io::{LineFault, Obey};
 pub(crate) struct Console {
     alloc: Global,
     tables: Tables,
+    form: MessageForm,
     world: Option<World>,
     refused: Option<BadLine>,
 }
@@ -39,11 +43,12 @@ fn step(world: &mut World, event: &WorldEvent, out: &mut String) -> Result<(), U
 }
 
 impl Console {
-    /// No world yet; its sites will have these tables.
-    pub(crate) fn start(alloc: Global, tables: Tables) -> Console {
+    /// No world yet; its sites will have these tables, and answer in this form.
+    pub(crate) fn start(alloc: Global, tables: Tables, form: MessageForm) -> Console {
         Console {
             alloc,
             tables,
+            form,
             world: None,
             refused: None,
         }
@@ -70,6 +75,7 @@ impl Console {
             Line::Message(i, bytes) => self.give(*i, bytes.as_slice(), out),
             Line::Push(i) => self.happen(WorldEvent::Push(*i, None), out),
             Line::Abort(i) => self.happen(WorldEvent::Abort(*i, None), out),
+            Line::Retell(i, session) => self.retell(*i, session, out),
             Line::Letter(i, j) => self.happen(WorldEvent::Letter(*i, *j), out),
             Line::Merge(j, k) => self.happen(WorldEvent::Merge(*j, *k), out),
             Line::Ack(j, i) => self.happen(WorldEvent::Ack(*j, *i), out),
@@ -95,12 +101,18 @@ impl Console {
         let Some(world) = self.world.take() else {
             return Err(Unobeyed::Bad(BadLine::NoWorld));
         };
-        let (world, put) = put_stream(self.alloc, world, i, bytes, out);
+        let (world, put) = put_stream(self.alloc, world, i, self.form, bytes, out);
         self.world = Some(world);
         put
     }
 
-    /// Has a push or an abort, or a letter made or taken.
+    /// Has a site count what the gateway of a session was told as not there.
+    fn retell(&mut self, i: usize, session: &GxSid, out: &mut String) -> Result<(), Unobeyed> {
+        let session = session.try_copy()?;
+        self.happen(WorldEvent::Retell(i, session), out)
+    }
+
+    /// Has a push, an abort or a retelling, or a letter made or taken.
     fn happen(&mut self, event: WorldEvent, out: &mut String) -> Result<(), Unobeyed> {
         let happened = match &mut self.world {
             Some(world) => step(world, &event, out),

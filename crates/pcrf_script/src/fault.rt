@@ -27,6 +27,9 @@ pub enum BadLine {
     /// A word that should be bytes is no pairs of hexadecimal digits.
     #[error("a word is no bytes in hexadecimal")]
     NoBytes,
+    /// A word that should be a Session-Id isn't spelled as one is printed, or is longer than one may be.
+    #[error("a word is no Session-Id")]
+    NoSessionId,
     /// No world has so many sites.
     #[error("a world has 1 to 16 sites")]
     SiteCount,

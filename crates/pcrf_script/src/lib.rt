@@ -8,7 +8,9 @@ mod lines;
 mod messages;
 mod printing;
 mod script;
+mod session_words;
 
 pub use fault::BadLine;
 pub use script::{ScriptRun, run_script, run_told};
+pub use session_words::read_session;
 pub use watched_io::ScriptEnd;

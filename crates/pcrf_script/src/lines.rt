@@ -1,7 +1,8 @@
 //! The lines of a script.
 use crate::fault::{BadLine, Unobeyed};
-use pcrf_values::BoundedNumber;
+use crate::session_words::read_session;
 use pcrf_values::limits::SITE_LIMIT;
+use pcrf_values::{BoundedNumber, GxSid};
 use std::alloc::Global;
 
 /// A site or a letter as a script names it: any decimal number. Those that no world has are `usize::MAX`.
@@ -26,6 +27,8 @@ pub(crate) enum Line {
     Push(Named),
     /// A site aborts a session.
     Abort(Named),
+    /// A site counts what the gateway of a session was told as not there.
+    Retell(Named, GxSid),
     /// A site makes a letter for a peer.
     Letter(Named, Named),
     /// A site takes a letter.
@@ -59,6 +62,14 @@ fn bytes(alloc: Global, word: &str) -> Result<Vec<u8>, Unobeyed> {
         Ok(bytes) => Ok(bytes),
         Err(hex::FromHexError::OutOfMemory) => Err(Unobeyed::NoMemory),
         Err(_) => Err(Unobeyed::Bad(BadLine::NoBytes)),
+    }
+}
+
+/// The Session-Id that a word spells.
+fn session(alloc: Global, word: &str) -> Result<GxSid, Unobeyed> {
+    match read_session(alloc, word)? {
+        Some(session) => Ok(session),
+        None => Err(Unobeyed::Bad(BadLine::NoSessionId)),
     }
 }
 
@@ -115,6 +126,10 @@ fn read_words(alloc: Global, first: &str, further: Further<'_>) -> Result<Line, 
         }
         "push" => Ok(Line::Push(one_number(further)?)),
         "abort" => Ok(Line::Abort(one_number(further)?)),
+        "retell" => {
+            let (site, id) = two(further)?;
+            Ok(Line::Retell(number(site)?, session(alloc, id)?))
+        }
         "letter" => {
             let (site, peer) = two_numbers(further)?;
             Ok(Line::Letter(site, peer))

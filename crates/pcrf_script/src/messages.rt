@@ -4,21 +4,23 @@ ghost use Rattle.dia_codec.specs.Spelling.{IsFrame};
 use crate::addressed::{AddressedSite, Unaddressed};
 use crate::fault::Unobeyed;
 use crate::printing::put_answer;
+use dia_base::MessageForm;
 use dia_codec::{FrameFault, StreamEnd, frames_of};
 use pcrf_world::World;
 use site_core::answer_frame;
 use std::alloc::{AllocError, Global};
 
-/// Gives a site of a world the bytes of a stream: prints a line for each message, and one for what is left of the stream. An
-/// unknown site is told once, whatever the bytes. The world comes back.
+/// Gives a site of a world, which answers in this form, the bytes of a stream: prints a line for each message, and one for what is
+/// left of the stream. An unknown site is told once, whatever the bytes. The world comes back.
 pub(crate) fn put_stream(
     alloc: Global,
     world: World,
     i: usize,
+    form: MessageForm,
     bytes: &[u8],
     out: &mut String,
 ) -> (World, Result<(), Unobeyed>) {
-    match AddressedSite::of(world, i) {
+    match AddressedSite::of(world, i, form) {
         Ok(mut site) => {
             let put = put_messages(alloc, &mut site, bytes, out);
             (site.into_world(), put)

@@ -28,6 +28,8 @@ pub(crate) fn put_outcome(
         Ok(WorldOutcome::Replied(_) | WorldOutcome::Restarted(_)) => Ok(()),
         Ok(WorldOutcome::Pushed(push)) => put_push(out, push.as_ref()),
         Ok(WorldOutcome::Aborted(abort)) => put_abort(out, abort.as_ref()),
+        Ok(WorldOutcome::Retold(true)) => out.push_str("retold\n"),
+        Ok(WorldOutcome::Retold(false)) => out.push_str("none\n"),
         Ok(WorldOutcome::Lettered(k)) => writeln!(out, "letter {k}"),
         Ok(WorldOutcome::Merged) => out.push_str("merged\n"),
         Err(WorldFault::NoSuchSite) => out.push_str("refused NoSuchSite\n"),

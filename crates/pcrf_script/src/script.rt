@@ -5,6 +5,7 @@ ghost use Rattle.watched_io.specs.Limits.{read_limit};
 
 use crate::console::Console;
 use crate::fault::BadLine;
+use dia_base::MessageForm;
 use dia_codec::Counted;
 use op_tables::Tables;
 use std::alloc::Global;
@@ -28,11 +29,12 @@ fn refusal(end: ScriptEnd, console: &Console) -> Option<BadLine> {
     }
 }
 
-/// Runs a script whose sites have these tables: reads it to its end, in 2^40 reads at most, obeys line after line, and writes what
-/// each prints. Answers how it ended, and why a line was refused.
+/// Runs a script whose sites have these tables and answer in this form: reads it to its end, in 2^40 reads at most, obeys line after
+/// line, and writes what each prints. Answers how it ended, and why a line was refused.
 pub fn run_told<R: Read, W: Write>(
     alloc: Global,
     tables: Tables,
+    form: MessageForm,
     reader: &mut Counted<R>,
     writer: &mut Counted<W>,
 ) -> ScriptRun
@@ -48,13 +50,13 @@ pub fn run_told<R: Read, W: Write>(
     ensures no_read_failed { result.end ≡ ScriptEnd.Done → reader.new.failed ≡ reader.old.failed }
     ensures written { result.end ≡ ScriptEnd.Done → writer.new.failed ≡ writer.old.failed }
 {
-    let mut console = Console::start(alloc, tables);
+    let mut console = Console::start(alloc, tables, form);
     let end = run_lines(alloc, &mut console, reader, writer);
     let refused = refusal(end, &console);
     ScriptRun { end, refused }
 }
 
-/// Runs a script as `run_told` does, and answers how it ended.
+/// Runs a script as `run_told` does, with answers of this project's own form, and answers how it ended.
 pub fn run_script<R: Read, W: Write>(
     alloc: Global,
     tables: Tables,
@@ -73,5 +75,5 @@ pub fn run_script<R: Read, W: Write>(
     ensures no_read_failed { result ≡ ScriptEnd.Done → reader.new.failed ≡ reader.old.failed }
     ensures written { result ≡ ScriptEnd.Done → writer.new.failed ≡ writer.old.failed }
 {
-    run_told(alloc, tables, reader, writer).end
+    run_told(alloc, tables, MessageForm::Own, reader, writer).end
 }

@@ -8,7 +8,8 @@ use Rattle.pcrf_model.specs.Steps.{Serve}
 use Rattle.link_ends.specs.Books.{ReceiptValue, SeatValue}
 use Rattle.link_ends.specs.Events.{IsPushToHost, IsServed}
 use Rattle.site_core.specs.Asking.{AskedValue, ToServe, ToRefuse, Nothing}
-use Rattle.site_core.specs.Frames.{Answers, Unanswered}
+use Rattle.site_core.specs.Realms.{meaning_at}
+use Rattle.site_core.specs.Frames.{Answers, AnswersFrame, Unanswered}
 use Rattle.site_core.specs.Frames as frames
 use Rattle.link_ends.specs.Earlier.{Gains}
 use Rattle.link_ends.proofs.Chains.{gains_equal, gains_called, gains_weaker}
@@ -42,6 +43,13 @@ pub answered_gained : {A : Type 0} (seat : A → SeatValue) (names : A → Ident
 answered_gained seat names may full step old (ToServe header request) bytes last new a = served_gained seat names may full step old header request bytes last new a
 answered_gained seat names may full step old (ToRefuse header session refusal) bytes last new a = gains_equal IsOfWorker (seat old) (seat new) (ap seat a.0)
 answered_gained seat names may full step old Nothing bytes last new a = gains_equal IsOfWorker (seat old) (seat new) (ap seat a.0)
+
+-- a frame, in whatever form it is answered
+pub frame_gained : {A : Type 0} (seat : A → SeatValue) (names : A → Identity) (may : A → RequestValue → ReplyValue → A → Type 0) (full : A → Type 0)
+    → ((old new : A) (request : RequestValue) (reply : ReplyValue) → may old request reply new → Gains IsOfWorker (seat old) (seat new))
+    → (old : A) (frame : List ℕ) (bytes : List ℕ) (last : Bool) (new : A)
+    → AnswersFrame names may full old frame bytes last new → Gains IsOfWorker (seat old) (seat new)
+frame_gained seat names may full step old frame bytes last new a = answered_gained seat names may full step old (meaning_at (names old) frame) a.0 last new a.1
 
 -- a request that may have been served without an answer
 pub perhaps_gained : {A : Type 0} (seat : A → SeatValue) (may : A → RequestValue → ReplyValue → A → Type 0)

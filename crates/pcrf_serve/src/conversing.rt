@@ -53,7 +53,8 @@ fn push<T: Threads + Wait + Sync, S: SharedSite, W: Write + Drop, O: Observer, G
     )
 }
 
-/// Gathers an answer. The host of a capabilities exchange that it accepts is registered first.
+/// Gathers an answer. The host of a capabilities exchange that it accepts is registered first, and one whose request it grants is
+/// followed.
 fn gather<
     T: Threads + Wait + Sync,
     S: SharedSite,
@@ -71,6 +72,9 @@ fn gather<
 {
     if let Some(peer) = at.take_accepted() {
         link.register(rt, peer.host)?;
+    }
+    if let Some(host) = at.take_followed() {
+        link.follow(rt, host)?;
     }
     link.gather(answer.bytes.as_slice())
 }
@@ -127,6 +131,7 @@ fn serve_frame<
     if link.repeat(rt, frame)? {
         return Ok(false);
     }
+    link.prepare(rt, frame)?;
     serve_anew(rt, alloc, at, link, frame)
 }
 

@@ -96,6 +96,15 @@ impl<'a, W: Write + Drop, O: Observer, G: Gate, K: Repeats> Link<'a, W, O, G, K>
         Ok(true)
     }
 
+    /// A message is about to be answered anew.
+    pub(crate) fn prepare(&self, rt: &impl Wait, frame: &[u8]) -> Result<(), AllocError> {
+        let Some(head) = frame.first_chunk() else {
+            return Ok(());
+        };
+        let header = read_header(head);
+        self.repeats.prepare(rt, self.alloc, &header, frame)
+    }
+
     /// A request was served, and is answered so.
     pub(crate) fn keep(&self, rt: &impl Wait, frame: &[u8], answer: &[u8]) {
         self.repeats.keep(rt, self.alloc, frame, answer);
@@ -122,6 +131,11 @@ impl<'a, W: Write + Drop, O: Observer, G: Gate, K: Repeats> Link<'a, W, O, G, K>
         host: DiameterIdentity,
     ) -> Result<(), AllocError> {
         self.gateways.register(rt, host, self.number, self.half)
+    }
+
+    /// A host's request came by this connection: it is reached by it from now on.
+    pub(crate) fn follow(&self, rt: &impl Wait, host: DiameterIdentity) -> Result<(), AllocError> {
+        self.gateways.follow(rt, host, self.number, self.half)
     }
 
     /// The connection is over: its gateway is reached by it no more, and it is closed.

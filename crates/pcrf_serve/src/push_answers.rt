@@ -27,14 +27,16 @@ fn read_push_answer(alloc: Global, frame: &[u8]) -> Option<(u32, Raa)> {
     Some((header.hop_id, answer))
 }
 
-/// Tells an observer of a re-authorisation answer that is none of success. An answer that can't be read is passed over, also for
-/// want of memory.
+/// Tells an observer of a re-authorisation answer, whether it is one of success. An answer that can't be read is passed over, also for want
+/// of memory.
 pub(crate) fn tell_push_answer<O: Observer>(alloc: Global, observer: &O, frame: &[u8]) {
     let Some((hop_id, answer)) = read_push_answer(alloc, frame) else {
         return;
     };
     let code = answer.result.or(answer.experimental);
-    if !code.is_some_and(is_success) {
+    if code.is_some_and(is_success) {
+        observer.push_accepted(&answer.session);
+    } else {
         observer.push_refused(hop_id, &answer.session, code);
     }
 }

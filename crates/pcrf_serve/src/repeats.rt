@@ -17,6 +17,18 @@ pub trait Repeats {
         Ok(None)
     }
 
+    /// A message that isn't answered again is about to be answered anew, before the site is asked. Whoever is called here may call the site
+    /// itself, by a seat of its own.
+    fn prepare<R: Wait>(
+        &self,
+        _rt: &R,
+        _alloc: Global,
+        _header: &Header,
+        _message: &[u8],
+    ) -> Result<(), AllocError> {
+        Ok(())
+    }
+
     /// A request was served, and is answered so.
     fn keep<R: Wait>(&self, _rt: &R, _alloc: Global, _request: &[u8], _answer: &[u8]) {}
 }

@@ -7,9 +7,11 @@ ghost use Rattle.link_ends.specs.Values.{event_value, reply_value, request_value
 
 use base_profile::BaseKind;
 use dia_base::codes::results::SUCCESS;
-use dia_base::{Identity, Origin};
+use dia_base::{Identity, MessageForm, Origin};
 use gateway_links::{Observer, tell_entries};
 use link_ends::{Event, Reply, Request, SharedSite, StepFault};
+use pcrf_values::DiameterIdentity;
+use ranked::Ranked;
 use site_core::{Serve, ServeFault};
 use std::alloc::AllocError;
 use std::sync::Wait;
@@ -24,6 +26,8 @@ pub struct SeatAtSite<'a, R, S: SharedSite, O> {
     pub(crate) seat: S::Seat,
     /// The peer of the capabilities exchange that was accepted, until it is asked for.
     accepted: Option<Origin>,
+    /// The host whose request was granted, until it is asked for: in the standards' form alone, where pushes follow requests.
+    followed: Option<DiameterIdentity>,
 }
 
 /// The peer of a capabilities exchange.
@@ -42,6 +46,36 @@ fn copied_peer(request: &Request) -> Result<Option<Origin>, AllocError> {
     match exchanging_peer(request) {
         Some(peer) => Ok(Some(peer.try_copy()?)),
         None => Ok(None),
+    }
+}
+
+/// The host that made a request of Gx or Rx.
+fn requesting_host(request: &Request) -> Option<&DiameterIdentity> {
+    match request {
+        Request::Ccr(ccr) => Some(&ccr.origin.host),
+        Request::Aar(aar) => Some(&aar.origin.host),
+        Request::Str(call) => Some(&call.origin.host),
+        Request::Base(_) => None,
+    }
+}
+
+/// The host that made a request of Gx or Rx, copied in the standards' form.
+fn copied_host(
+    form: MessageForm,
+    request: &Request,
+) -> Result<Option<DiameterIdentity>, AllocError> {
+    match (form, requesting_host(request)) {
+        (MessageForm::Standard, Some(host)) => Ok(Some(host.try_copy()?)),
+        _ => Ok(None),
+    }
+}
+
+/// Whether a request of Gx or Rx is granted.
+fn is_granted(reply: &Reply) -> bool {
+    match reply {
+        Reply::Gx(reply) => reply.refusal().is_none(),
+        Reply::Done => true,
+        _ => false,
     }
 }
 
@@ -65,7 +99,8 @@ fn request_of(event: Event) -> Request
         | Event::Whole(_)
         | Event::AskOwn(_)
         | Event::AskWhole
-        | Event::Abort(_) => { unreachable!() }
+        | Event::Abort(_)
+        | Event::Retell(_) => { unreachable!() }
     }
 }
 
@@ -89,6 +124,7 @@ impl<'a, R: Wait, S: SharedSite, O: Observer> SeatAtSite<'a, R, S, O> {
             site,
             seat,
             accepted: None,
+            followed: None,
         }
     }
 
@@ -102,6 +138,7 @@ impl<'a, R: Wait, S: SharedSite, O: Observer> SeatAtSite<'a, R, S, O> {
             site: _,
             seat,
             accepted: _,
+            followed: _,
         } = self;
         seat
     }
@@ -116,6 +153,13 @@ impl<'a, R: Wait, S: SharedSite, O: Observer> SeatAtSite<'a, R, S, O> {
         ensures seat { self.new.seat ≡ self.old.seat }
     {
         self.accepted.take()
+    }
+
+    /// The host whose request was granted since this was asked last, where pushes follow requests.
+    pub(crate) fn take_followed(&mut self) -> Option<DiameterIdentity>
+        ensures seat { self.new.seat ≡ self.old.seat }
+    {
+        self.followed.take()
     }
 
     /// Tells the observer what came of a call that was made, by a peer if it was a capabilities exchange.
@@ -134,8 +178,13 @@ impl<'a, R: Wait, S: SharedSite, O: Observer> SeatAtSite<'a, R, S, O> {
         }
     }
 
-    /// Has a request served, of which this peer is known if it is a capabilities exchange.
-    fn call(&mut self, event: &Event, peer: Option<Origin>) -> Result<Reply, ServeFault>
+    /// Has a request served, of which this peer is known if it is a capabilities exchange, and this host if pushes follow it.
+    fn call(
+        &mut self,
+        event: &Event,
+        peer: Option<Origin>,
+        host: Option<DiameterIdentity>,
+    ) -> Result<Reply, ServeFault>
         ensures site { self.new.site ≡ self.old.site }
         ensures receipt { IfOk result (λ reply. GainsReceipt (S.seen self.old.seat)
             (event_value event.now) (reply_value reply) (S.seen self.new.seat)) }
@@ -147,6 +196,9 @@ impl<'a, R: Wait, S: SharedSite, O: Observer> SeatAtSite<'a, R, S, O> {
                 self.tell(peer.as_ref(), code);
                 if code == Some(SUCCESS) {
                     self.accepted = peer;
+                }
+                if is_granted(&reply) {
+                    self.followed = host;
                 }
                 Ok(reply)
             }
@@ -176,8 +228,11 @@ impl<R: Wait, S: SharedSite, O: Observer> Serve for SeatAtSite<'_, R, S, O> {
         let Ok(peer) = copied_peer(&request) else {
             return (request, Err(ServeFault::NoMemory));
         };
+        let Ok(host) = copied_host(self.site.identity().form, &request) else {
+            return (request, Err(ServeFault::NoMemory));
+        };
         let event = Event::Serve(request);
-        let called = self.call(&event, peer);
+        let called = self.call(&event, peer, host);
         (request_of(event), called)
     }
 }

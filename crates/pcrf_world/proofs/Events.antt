@@ -1,16 +1,17 @@
 -- What is seen of a world after each event is what the definitions say by what was seen before.
-use Rattle.std.proofs.Common.{◌≡◌, ℕ, true, false, List, [], ◌∷◌, ◌++◌, slice_get, slice_set, Option, Some, None, Ok, Err, refl, sym, ap, ◌∙◌}
+use Rattle.std.proofs.Common.{◌≡◌, ℕ, Bool, true, false, List, [], ◌∷◌, ◌++◌, slice_get, slice_set, Option, Some, None, Ok, Err, refl, sym, ap, ◌∙◌}
 use Rattle.pcrf_model.specs.Operations.{Operation}
 use Rattle.pcrf_model.specs.Requests.{RequestValue}
-use Rattle.pcrf_model.specs.Replies.{PushValue, AbortValue, ReplyValue, Pushed, Aborted}
+use Rattle.pcrf_model.specs.Replies.{PushValue, AbortValue, ReplyValue, Pushed, Aborted, Retold}
 use Rattle.pcrf_model.specs.Pushing.{lacks_counter}
 use Rattle.pcrf_model.specs.Aborting.{lacks_counter_to_abort}
+use Rattle.pcrf_model.specs.Retelling.{lacks_counter_to_retell}
 use Rattle.pcrf_model.specs.Tables.{Tables}
 use Rattle.pcrf_model.specs.Letters.{LetterBody, LetterValue}
 use Rattle.pcrf_model.specs.Cursors.{ask, ack_letter, ack_of}
-use Rattle.pcrf_model.specs.Worlds.{ServeAt, PushAt, AbortAt, Letter, Merge, Ack, Restart, Replied, PushedOut, AbortedOut, Lettered, Merged, Restarted, ClockFull, NoMemory, Gives, SiteView, WorldView, ByCursors, asked_body}
-use Rattle.pcrf_model.specs.Seen.{view_made, view_served, view_pushed, view_aborted, view_merged, view_in_part, view_again, view_letter, view_ack, see_change, see_change_by, world_view_after}
-use Rattle.site_machine.specs.Sites.{with_made, serve_outcome, push_outcome_at, abort_outcome_at}
+use Rattle.pcrf_model.specs.Worlds.{ServeAt, PushAt, AbortAt, RetellAt, Letter, Merge, Ack, Restart, Replied, PushedOut, AbortedOut, RetoldOut, Lettered, Merged, Restarted, ClockFull, NoMemory, Gives, SiteView, WorldView, ByCursors, asked_body}
+use Rattle.pcrf_model.specs.Seen.{view_made, view_served, view_pushed, view_aborted, view_retold, view_merged, view_in_part, view_again, view_letter, view_ack, see_change, see_change_by, world_view_after}
+use Rattle.site_machine.specs.Sites.{with_made, serve_outcome, push_outcome_at, abort_outcome_at, retell_outcome_at}
 use Rattle.pcrf_world.specs.Members.{seen_of, with_site, started_again}
 use Rattle.pcrf_world.specs.Values.{setting}
 use Rattle.peer_cursors.specs.Writing.{letter_made}
@@ -52,6 +53,17 @@ module _ (g : Tables) (ms : List Member) (ls : List LetterValue) (i : ℕ) (m : 
   pub full_to_abort : (name : Option (List ℕ)) → lacks_counter_to_abort m.site.number m.site.state.holding name ≡ true → Gives (setting g) (world_of ms ls) (AbortAt i name) (Err ClockFull)
   full_to_abort name full = rw (seen_at ms i m at, full) refl
 
+  -- whether it counts what a gateway was told as not there
+  pub retold_gives : (id : List ℕ) (done : Bool) → Retold done ≡ (retell_outcome_at m.site id).reply → lacks_counter_to_retell m.site.state.holding id ≡ false
+      → Gives (setting g) (world_of ms ls) (RetellAt i id) (Ok (RetoldOut done))
+  retold_gives id done so room =
+      let reply : (view_retold id (seen_of m)).reply ≡ Retold done = sym so in
+      rw (seen_at ms i m at, room, reply) refl
+
+  -- that no counter is left
+  pub full_to_retell : (id : List ℕ) → lacks_counter_to_retell m.site.state.holding id ≡ true → Gives (setting g) (world_of ms ls) (RetellAt i id) (Err ClockFull)
+  full_to_retell id full = rw (seen_at ms i m at, full) refl
+
 -- ---- each event, at a site of a world
 
 -- with an operation that the site made, it is seen with that operation
@@ -79,6 +91,10 @@ module _ (g : Tables) (ms : List Member) (ls : List LetterValue) (i : ℕ) (m : 
   -- it aborted a session
   pub aborted_at : (name : Option (List ℕ)) (a : Option AbortValue) → world_of (slice_set ms i (with_site m (with_made m.site (abort_outcome_at m.site name).added))) ls ≡ world_view_after (setting g) (world_of ms ls) (AbortAt i name) (Ok (AbortedOut a))
   aborted_at name a = changes (λ (x : SiteView). view_made (view_aborted name x).added x) (with_site m (with_made m.site (abort_outcome_at m.site name).added)) (seen_made m (abort_outcome_at m.site name).added)
+
+  -- it counted what a gateway was told as not there
+  pub retold_at : (id : List ℕ) (done : Bool) → world_of (slice_set ms i (with_site m (with_made m.site (retell_outcome_at m.site id).added))) ls ≡ world_view_after (setting g) (world_of ms ls) (RetellAt i id) (Ok (RetoldOut done))
+  retold_at id done = changes (λ (x : SiteView). view_made (view_retold id x).added x) (with_site m (with_made m.site (retell_outcome_at m.site id).added)) (seen_made m (retell_outcome_at m.site id).added)
 
   module _ (is : m.site.tables ≡ g) where
     -- it served a request

@@ -29,6 +29,7 @@ abbrev pub event_value : WorldEvent → model.WorldEvent
 event_value (event.Serve i q) = model.ServeAt i (request_value q)
 event_value (event.Push i name) = model.PushAt i name
 event_value (event.Abort i name) = model.AbortAt i name
+event_value (event.Retell i session) = model.RetellAt i session
 event_value (event.Letter i j) = model.Letter i j
 event_value (event.Merge j k) = model.Merge j k
 event_value (event.Ack j i) = model.Ack j i
@@ -39,6 +40,7 @@ abbrev pub outcome_value : WorldOutcome → model.WorldOutcome
 outcome_value (outcome.Replied r) = model.Replied (reply_value r)
 outcome_value (outcome.Pushed push) = model.PushedOut (option_map push_view push)
 outcome_value (outcome.Aborted abort) = model.AbortedOut (option_map abort_view abort)
+outcome_value (outcome.Retold done) = model.RetoldOut done
 outcome_value (outcome.Lettered k) = model.Lettered k
 outcome_value outcome.Merged = model.Merged
 outcome_value (outcome.Restarted e) = model.Restarted e

@@ -2,7 +2,7 @@
 ghost use Rattle.std.specs.Prelude.{◌≡◌, IfOk};
 ghost use Rattle.pcrf_world.specs.Identities.{host_text, identity_of};
 
-use dia_base::Identity;
+use dia_base::{Identity, MessageForm};
 use pcrf_values::DiameterIdentity;
 use std::alloc::{AllocError, Global};
 use std::net::Ipv4Addr;
@@ -33,5 +33,6 @@ pub(crate) fn identity_of(alloc: Global, number: u8) -> Result<Identity, AllocEr
         host,
         realm,
         address: Ipv4Addr::LOCALHOST,
+        form: MessageForm::Own,
     })
 }

@@ -1,4 +1,4 @@
-//! A world of sites that serve, push, abort sessions, make letters, take them and start again.
+//! A world of sites that serve, push, abort sessions, retell them, make letters, take them and start again.
 #![tactic(auto)]
 
 mod identity;

@@ -1,4 +1,4 @@
-//! A world of sites, which serve requests, push, abort sessions, make letters and take them.
+//! A world of sites, which serve requests, push, abort sessions, retell them, make letters and take them.
 ghost use Rattle.std.specs.Prelude.{◌≡◌, ◌<◌, ◌≤◌, slice_get, IfOk, option_map};
 ghost use Rattle.std.specs.Option.{option_copied};
 ghost use Rattle.pcrf_model.specs.CursorLaws.{LeavesNoGap, MakersAreTaken, PeersTook};
@@ -10,7 +10,7 @@ ghost use Rattle.pcrf_world.specs.Values.{event_value, answer_value, events_valu
 
 use crate::site::Member;
 use op_tables::Tables;
-use pcrf_values::{DefaultQuality, DiameterIdentity};
+use pcrf_values::{DefaultQuality, DiameterIdentity, GxSid};
 use peer_cursors::Cursors;
 use peer_exchange::Letter;
 use reply_values::{GxReply, PushOut};
@@ -30,6 +30,8 @@ pub enum WorldEvent {
     /// A site asks the application function of a session to which no gateway's session is bound any more to end it: one of
     /// this host, of any where none is given (TS 29.214, 4.4.6.1).
     Abort(usize, Option<DiameterIdentity>),
+    /// A site counts what the gateway of this session was told as not there (TS 29.212, 4.5.2).
+    Retell(usize, GxSid),
     /// The first site makes a letter for the second: all that it holds, or, where it knows what the second took of it, the
     /// operations that it made itself since.
     Letter(usize, usize),
@@ -50,6 +52,8 @@ pub enum WorldOutcome {
     Pushed(Option<PushOut>),
     /// Which session was aborted; nothing where none was to be.
     Aborted(Option<AbortOut>),
+    /// Whether what a gateway was told counts as not there now: not where nothing was to be done.
+    Retold(bool),
     /// The number of the new letter.
     Lettered(usize),
     /// The letter was taken.
@@ -166,6 +170,7 @@ impl World {
             WorldEvent::Serve(i, request) => self.serve(*i, request),
             WorldEvent::Push(i, host) => self.push_at(*i, host),
             WorldEvent::Abort(i, host) => self.abort_at(*i, host),
+            WorldEvent::Retell(i, session) => self.retell_at(*i, session),
             WorldEvent::Letter(i, j) => self.make_letter(*i, *j),
             WorldEvent::Merge(j, k) => self.take_letter(*j, *k),
             WorldEvent::Ack(j, i) => self.acknowledge(*j, *i),
@@ -226,6 +231,23 @@ impl World {
         let member = &mut self.sites[i];
         match member.site.abort(name) {
             Ok(abort) => Ok(WorldOutcome::Aborted(abort)),
+            Err(StepFault::ClockFull) => Err(WorldFault::ClockFull),
+            Err(StepFault::NoMemory) => Err(WorldFault::NoMemory { taken: 0 }),
+            Err(StepFault::HistoryFull) => unreachable!(),
+        }
+    }
+
+    /// Has a site count what a gateway was told as not there.
+    fn retell_at(&mut self, i: usize, session: &GxSid) -> Result<WorldOutcome, WorldFault>
+        ensures { HappensIn self.old self.new
+            (event_value (WorldEvent.Retell i session.now)) (answer_value result) }
+    {
+        if i >= self.sites.len() {
+            return Err(WorldFault::NoSuchSite);
+        }
+        let member = &mut self.sites[i];
+        match member.site.retell(session) {
+            Ok(done) => Ok(WorldOutcome::Retold(done)),
             Err(StepFault::ClockFull) => Err(WorldFault::ClockFull),
             Err(StepFault::NoMemory) => Err(WorldFault::NoMemory { taken: 0 }),
             Err(StepFault::HistoryFull) => unreachable!(),

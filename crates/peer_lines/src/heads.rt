@@ -1,6 +1,8 @@
 //! The heads of letters in a stream, judged as soon as they are there (docs/LETTERS.md, "The frame and the head").
+use crate::letters::{Head, head_of};
 use pcrf_values::limits::SITE_LIMIT;
 use std::alloc::Global;
+use std::mem::replace;
 use thiserror::Error;
 
 /// How many bytes the length and the head of a letter have.
@@ -91,6 +93,8 @@ pub struct Heads {
     left: usize,
     /// Who sent the letters so far.
     sender: Option<Sender>,
+    /// The heads of the letters that came and weren't counted yet.
+    uncounted: Vec<Head>,
 }
 
 /// So many bytes at most.
@@ -106,12 +110,18 @@ impl Heads {
             begun: Vec::new(alloc),
             left: 0,
             sender: None,
+            uncounted: Vec::new(alloc),
         }
     }
 
     /// Who sent the letters so far.
     pub fn sender(&self) -> Option<Sender> {
         self.sender
+    }
+
+    /// The heads of the letters that came since this was asked last.
+    pub(crate) fn uncounted(&mut self, alloc: Global) -> Vec<Head> {
+        replace(&mut self.uncounted, Vec::new(alloc))
     }
 
     /// Judges the heads among the bytes that come next.
@@ -155,6 +165,11 @@ impl Heads {
         let sender = judge_head(head, self.expected)?;
         if self.sender.is_some_and(|first| first.site != sender.site) {
             return Err(HeadFault::OtherSite);
+        }
+        if let Some(begun) = head_of(head) {
+            if self.uncounted.push(begun).is_err() {
+                return Err(HeadFault::NoMemory);
+            }
         }
         self.left = length_of(head).saturating_sub(HEAD_BYTES - LENGTH_BYTES);
         self.sender = Some(sender);

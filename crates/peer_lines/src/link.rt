@@ -4,6 +4,7 @@ ghost use Rattle.std.specs.Prelude.{◌≤◌, length};
 use crate::ends::{Ends, Input};
 use crate::heads::{Expected, HeadFault, Sender};
 use crate::hearing::Hearing;
+use crate::letters::{LetterTraffic, head_of};
 use crate::line::Line;
 use crate::notice::Notice;
 use crate::sieve::{Sieve, Sieved};
@@ -68,6 +69,8 @@ pub struct Link<'r, C: Clock> {
     given: usize,
     /// Who hears the notices of a site, and of which.
     hearing: Option<(&'r Hearing, u8)>,
+    /// Where its letters are counted.
+    traffic: Option<&'r LetterTraffic>,
     /// A letter is being written.
     is_writing: bool,
 }
@@ -121,6 +124,7 @@ impl<'r, C: Clock> Link<'r, C> {
             came: Sieved::nothing(alloc),
             given: 0,
             hearing: None,
+            traffic: None,
             is_writing: false,
         })
     }
@@ -133,6 +137,28 @@ impl<'r, C: Clock> Link<'r, C> {
     /// Has the notices that come heard as those of a site.
     pub fn hear(&mut self, hearing: &'r Hearing, site: u8) {
         self.hearing = Some((hearing, site));
+    }
+
+    /// Has its letters counted, those that came too.
+    pub fn count(&mut self, traffic: &'r LetterTraffic) {
+        self.traffic = Some(traffic);
+        self.count_taken();
+    }
+
+    /// Counts the letters that came since it did so last, if they are to be counted.
+    fn count_taken(&mut self) {
+        for head in self.sieve.uncounted() {
+            if let Some(traffic) = self.traffic {
+                traffic.taken.count(&head);
+            }
+        }
+    }
+
+    /// Counts a letter that is written, if they are to be counted.
+    fn count_sent(&self, letter: &[u8]) {
+        if let (Some(traffic), Some(head)) = (self.traffic, head_of(letter)) {
+            traffic.sent.count(&head);
+        }
     }
 
     /// Reads until the head of the first letter is there: who sends it.
@@ -196,6 +222,7 @@ impl<C: Clock + Wait> Link<'_, C> {
         if self.sieve.take(bytes, &mut self.came).is_err() {
             return Err(io::Error::from(ErrorKind::InvalidData));
         }
+        self.count_taken();
         match self.pass_notices() {
             Ok(()) => Ok(count > 0),
             Err(_) => Err(io::Error::from(ErrorKind::OutOfMemory)),
@@ -237,6 +264,7 @@ impl<C: Clock + Wait> Write for Link<'_, C> {
     fn write(&mut self, buf: &[u8]) -> io::Result<usize> {
         if !self.is_writing {
             self.is_writing = true;
+            self.count_sent(buf);
             if let Some(told) = told_by(buf) {
                 self.line.tell(told);
             }

@@ -1,5 +1,6 @@
 //! Notices are taken out of what comes over a link, and letters handed on.
 use crate::heads::{Expected, HeadFault, Heads, Sender, up_to};
+use crate::letters::Head;
 use crate::notice::{FRONT_BYTES, MARK, Notice, read_notice, said_bytes};
 use std::alloc::Global;
 
@@ -50,6 +51,11 @@ impl Sieve {
     /// Who sent the letters so far.
     pub fn sender(&self) -> Option<Sender> {
         self.heads.sender()
+    }
+
+    /// The heads of the letters that came since this was asked last.
+    pub(crate) fn uncounted(&mut self) -> Vec<Head> {
+        self.heads.uncounted(self.alloc)
     }
 
     /// Takes the bytes that come next.

@@ -1,5 +1,6 @@
 //! Notices between letters, in pieces of whatever size, as docs/LETTERS.md has their bytes.
 use crate::heads::{Expected, HeadFault};
+use crate::letters::{LetterKind, LetterTraffic, head_of};
 use crate::notice::{Notice, put_all, put_change};
 use crate::sieve::{Sieve, Sieved};
 use pcrf_values::DiameterIdentity;
@@ -126,4 +127,28 @@ fn what_is_no_notice_is_refused(rt: HostRuntime) {
         fault(alloc, b"\0\0\0\x14\x04\0\0\0\x07\x01\0\x01\x03"),
         Some(HeadFault::Version(4))
     );
+}
+
+#[test]
+fn letters_are_counted_by_their_kinds(rt: HostRuntime) {
+    let alloc = rt.alloc();
+    let traffic = LetterTraffic::start();
+    let mut sieve = sieve(alloc);
+    let mut came = Sieved::nothing(alloc);
+    for bytes in [LETTER, REACHED, LETTER] {
+        for piece in bytes.chunks(5) {
+            assert!(rt; sieve.take(piece, &mut came).is_ok());
+        }
+    }
+    for head in sieve.uncounted() {
+        traffic.taken.count(&head);
+    }
+    assert_eq!(rt; sieve.uncounted().len(), 0);
+    let acknowledgements = traffic.taken.of(LetterKind::Acknowledgement);
+    assert_eq!(rt; acknowledgements.letters.get(), 2);
+    assert_eq!(rt; acknowledgements.bytes.get(), 2 * LETTER.len() as u64);
+    assert_eq!(rt; traffic.taken.of(LetterKind::Range).letters.get(), 0);
+    assert_eq!(rt; traffic.taken.of(LetterKind::Snapshot).letters.get(), 0);
+    assert_eq!(rt; LetterKind::Acknowledgement.name(), "acknowledgement");
+    assert!(rt; head_of(b"\0\0\0\x14\x03\0\0\0\x07\x01\0\x01").is_none());
 }

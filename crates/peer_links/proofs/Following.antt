@@ -5,7 +5,7 @@ use Rattle.std.proofs.lemmas.List.Elements.{All-nil, All-cons, All-head, All-tai
 use Rattle.std.proofs.lemmas.List.Sums.{fold-append}
 use Rattle.pcrf_model.specs.Letters.{AckValue, LetterValue}
 use Rattle.pcrf_model.specs.Cursors.{Cursor, CursorsValue, cursors_after_ack, cursors_after_letter, is_acknowledgement}
-use Rattle.pcrf_model.specs.Steps.{SiteEvent, Serve, Push, Ops, Whole, AskOwn, AskWhole, Abort}
+use Rattle.pcrf_model.specs.Steps.{SiteEvent, Serve, Push, Ops, Whole, AskOwn, AskWhole, Abort, Retell}
 use Rattle.link_ends.specs.Books.{ReceiptValue, SeatValue}
 use Rattle.link_ends.specs.Earlier.{Gains, Adds, with_receipts}
 use Rattle.link_ends.specs.Events.{IsExchange, IsPushToHost, event_to}
@@ -106,6 +106,7 @@ exchanged_brought s t c d l at (Push name) is body g counted = absurd is
 exchanged_brought s t c d l at (AskOwn from) is body g counted = absurd is
 exchanged_brought s t c d l at AskWhole is body g counted = absurd is
 exchanged_brought s t c d l at (Abort name) is body g counted = absurd is
+exchanged_brought s t c d l at (Retell id) is body g counted = absurd is
 
 -- it was not taken whole, and it was not counted
 brought_exchange : (event : SiteEvent) → IsBrought event → IsExchange event
@@ -116,6 +117,7 @@ brought_exchange (Push name) is = absurd is
 brought_exchange (AskOwn from) is = absurd is
 brought_exchange AskWhole is = absurd is
 brought_exchange (Abort name) is = absurd is
+brought_exchange (Retell id) is = absurd is
 
 part_idle : (event : SiteEvent) → IsExchange event → (r : ReceiptValue) → (r.event ≡ event) × (holds_whole r ≡ false) → IsIdle r
 part_idle event is r a = (inl (subst IsExchange (sym a.0) is), a.1)

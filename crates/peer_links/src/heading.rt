@@ -59,6 +59,7 @@ impl Heading {
             Event::Serve(_)
             | Event::Push(_)
             | Event::Abort(_)
+            | Event::Retell(_)
             | Event::AskOwn(_)
             | Event::AskWhole => { unreachable!() }
         };

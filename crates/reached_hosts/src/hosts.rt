@@ -1,7 +1,7 @@
 //! What all sites said.
 ghost use Rattle.std.specs.Prelude.{◌≡◌, ◌<◌, IfOk, OnOk, OnErr, replicate, if◌then◌else◌};
-ghost use Rattle.reached_hosts.specs.Hosts.{goes_over, hosts_at_first, with_said};
-ghost use Rattle.reached_hosts.specs.Said.{NoLink, Silent, with_all, with_host, without_host};
+ghost use Rattle.reached_hosts.specs.Hosts.{goes_over, hosts_at_first, is_said, with_said};
+ghost use Rattle.reached_hosts.specs.Said.{NoLink, Silent, is_left, with_all, with_host, without_host};
 ghost use Rattle.pcrf_values.specs.Limits.{site_limit};
 
 use crate::said::Said;
@@ -98,6 +98,16 @@ impl ReachedHosts {
             return;
         };
         said.say_left(host);
+    }
+
+    /// Whether a host left a site: the site said that it doesn't reach the host, or has had no link for long enough.
+    pub fn is_left(&self, host: &DiameterIdentity, site: u8, moment: Moment) -> bool
+        ensures { result ≡ is_said self.now.said site (is_left moment host.now) }
+    {
+        match self.places.get(site as usize) {
+            Some(said) => said.is_left(host, moment),
+            None => false,
+        }
     }
 
     /// Whether this site takes over the sessions of a host that have that home: it reaches the host, which left its home.

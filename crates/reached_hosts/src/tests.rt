@@ -28,11 +28,15 @@ fn alone(rt: &impl Abort, alloc: Global, name: &[u8]) -> BTreeSet<DiameterIdenti
 
 /// Whether the sessions of the host `gw` are taken over at that time.
 fn goes_over(rt: &impl Abort, alloc: Global, hosts: &ReachedHosts, now: u64) -> bool {
-    let moment = Moment {
+    hosts.goes_over(&host(rt, alloc, b"gw"), HOME, at(now))
+}
+
+/// That time, where it is borne for as long that a site has no link.
+fn at(now: u64) -> Moment {
+    Moment {
         now,
         patience: PATIENCE,
-    };
-    hosts.goes_over(&host(rt, alloc, b"gw"), HOME, moment)
+    }
 }
 
 #[test]
@@ -65,6 +69,25 @@ fn a_host_goes_over_once_its_home_doesnt_reach_it(rt: HostRuntime) {
     hosts.unlink(HOME, 10_000);
     assert!(rt; !goes_over(&rt, alloc, &hosts, 14_999));
     assert!(rt; goes_over(&rt, alloc, &hosts, 15_000));
+}
+
+#[test]
+fn a_host_left_a_site_that_says_so_or_is_long_gone(rt: HostRuntime) {
+    let alloc = rt.alloc();
+    let mut hosts = ReachedHosts::start(alloc, OWN, 1_000).expect(&rt, "memory");
+    let gw = host(&rt, alloc, b"gw");
+    // It has had no link since this site started, and then one over which it said nothing yet.
+    assert!(rt; !hosts.is_left(&gw, HOME, at(5_999)));
+    assert!(rt; hosts.is_left(&gw, HOME, at(6_000)));
+    hosts.link(HOME);
+    assert!(rt; !hosts.is_left(&gw, HOME, at(9_000)));
+    // It says whom it reaches: the host, and then nobody.
+    hosts.say_all(HOME, alone(&rt, alloc, b"gw"));
+    assert!(rt; !hosts.is_left(&gw, HOME, at(9_000)));
+    hosts.say_left(HOME, &gw);
+    assert!(rt; hosts.is_left(&gw, HOME, at(9_000)));
+    // A site that isn't there is left by nobody.
+    assert!(rt; !hosts.is_left(&gw, 200, at(9_000)));
 }
 
 #[test]

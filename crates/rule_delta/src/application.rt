@@ -58,7 +58,7 @@ fn add_rules(pairs: &mut Vec<(RuleName, Rule)>, rules: &[Rule]) -> Result<(), Al
 }
 
 /// Whether a rule has this name.
-fn has_name(rules: &[Rule], name: &RuleName) -> bool
+pub(crate) fn has_name(rules: &[Rule], name: &RuleName) -> bool
     ensures { result ≡ list_any (has_name name.now) rules.now }
 {
     rules

@@ -7,8 +7,10 @@ mod differences;
 mod names;
 mod pushing;
 mod telling;
+mod told_all;
 
 pub use application::apply;
 pub use differences::difference;
 pub use pushing::{Asked, is_asked, is_empty, next_push, push_to};
 pub use telling::{told_rules_of, untold_difference};
+pub use told_all::is_told_all;

@@ -1,6 +1,6 @@
 //! Texts and names.
 use crate::fault::SampleFault;
-use dia_base::{Identity, Origin};
+use dia_base::{Identity, MessageForm, Origin};
 use pcrf_values::{BoundedText, Filters, Subscriber, Subscribers, SubscriptionType};
 use std::alloc::Global;
 use std::net::Ipv4Addr;
@@ -28,6 +28,7 @@ pub fn names(alloc: Global, host: &[u8]) -> Result<Identity, SampleFault> {
         host,
         realm,
         address: Ipv4Addr::LOCALHOST,
+        form: MessageForm::Own,
     })
 }
 

@@ -6,3 +6,4 @@ pub mod Records
 pub mod Forgotten
 pub mod BySubscriber
 pub mod Neighbours
+pub mod Spelt

@@ -2,3 +2,4 @@ pub mod Forgetting
 pub mod Index
 pub mod Neighbours
 pub mod Networks
+pub mod Numbers

@@ -14,6 +14,7 @@ ghost use Rattle.session_index.specs.Forgetting.{ForgetsEach, SameKeyed, SamePre
 ghost use Rattle.session_index.specs.Index.{Covers, Grows, GrowsUnder, ListedUnder, address_cmp, listed_at, listed_in, listed_of};
 ghost use Rattle.session_index.specs.Networks.{network_of};
 
+use crate::addresses::AddressLists;
 use crate::networks::network_of;
 use pcrf_values::{AfSid, GxSid, Ipv6Prefix, Subscriber};
 use session_lists::{SessionIds, SessionLists};
@@ -26,8 +27,8 @@ use std::net::Ipv4Addr;
 /// IPv6 prefix that they were given. A session may show nothing of what it is listed under.
 #[derive(Drop)]
 pub struct Index {
-    gateways: SessionLists<Ipv4Addr, GxSid>,
-    calls: SessionLists<Ipv4Addr, AfSid>,
+    gateways: AddressLists<GxSid>,
+    calls: AddressLists<AfSid>,
     pub(crate) subscribed: SessionLists<Subscriber, GxSid>,
     gateway_networks: SessionLists<Ipv6Prefix, GxSid>,
     call_networks: SessionLists<Ipv6Prefix, AfSid>,
@@ -57,8 +58,8 @@ impl Index {
         ensures call_networks { (n : PrefixValue) → listed_in result Af n ≡ [] }
     {
         Index {
-            gateways: SessionLists::start(alloc),
-            calls: SessionLists::start(alloc),
+            gateways: AddressLists::start(alloc),
+            calls: AddressLists::start(alloc),
             subscribed: SessionLists::start(alloc),
             gateway_networks: SessionLists::start(alloc),
             call_networks: SessionLists::start(alloc),

@@ -2,6 +2,7 @@
 //! among the sessions of one address, or where it has a prefix alone among those of its network.
 #![tactic(auto)]
 
+mod addresses;
 mod cover;
 mod forget;
 mod index;

@@ -8,7 +8,8 @@ use Rattle.pcrf_model.specs.Replies.{ReplyValue, Taken}
 use Rattle.pcrf_model.specs.Serving.{serve}
 use Rattle.pcrf_model.specs.Pushing.{push}
 use Rattle.pcrf_model.specs.Aborting.{abort}
-use Rattle.pcrf_model.specs.Steps.{SiteState, SiteEvent, Replays, with_own, state_after, kept_state_after, Serve, Push, Ops, Whole, AskOwn, AskWhole, Abort}
+use Rattle.pcrf_model.specs.Retelling.{retell}
+use Rattle.pcrf_model.specs.Steps.{SiteState, SiteEvent, Replays, with_own, state_after, kept_state_after, Serve, Push, Ops, Whole, AskOwn, AskWhole, Abort, Retell}
 use Rattle.pcrf_model.proofs.UnionLaws.{union_assoc, union_nothing, kept_of-union, kept_of_twice}
 use Rattle.site_book.specs.Books.{BookValue, called, IsHistoryOf}
 use Rattle.site_book.specs.Gains.{gain, gained, holding_added, HoldsAll}
@@ -24,6 +25,7 @@ step_adds t i s (Push name) r = added s (push delta_limit t i s.holding name).ad
 step_adds t i s (Ops os) (Taken n) = refl
 step_adds t i s (Whole k) r = refl
 step_adds t i s (Abort name) r = added s (abort i s.holding name).added
+step_adds t i s (Retell id) r = added s (retell i s.holding id).added
 step_adds t i s e r = sym (union_nothing s.holding)
 
 -- so it is after all of them

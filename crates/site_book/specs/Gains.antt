@@ -8,7 +8,8 @@ use Rattle.pcrf_model.specs.Replies.{ReplyValue, Taken}
 use Rattle.pcrf_model.specs.Serving.{serve}
 use Rattle.pcrf_model.specs.Pushing.{push}
 use Rattle.pcrf_model.specs.Aborting.{abort}
-use Rattle.pcrf_model.specs.Steps.{SiteState, SiteEvent, kept_state_after, Serve, Push, Ops, Whole, Abort}
+use Rattle.pcrf_model.specs.Retelling.{retell}
+use Rattle.pcrf_model.specs.Steps.{SiteState, SiteEvent, kept_state_after, Serve, Push, Ops, Whole, Abort, Retell}
 use Rattle.site_book.specs.Books.{BookValue, called}
 
 -- what an operation says, if there is one
@@ -23,6 +24,7 @@ gain t i s (Push name) r = holding_added (push delta_limit t i s.holding name).a
 gain t i s (Ops os) (Taken n) = holding_of (take n os)
 gain t i s (Whole k) r = k
 gain t i s (Abort name) r = holding_added (abort i s.holding name).added
+gain t i s (Retell id) r = holding_added (retell i s.holding id).added
 gain t i s e r = nothing_held
 
 -- what all of them add, one after the other

@@ -7,7 +7,7 @@ use crate::entry::Receipt;
 use crate::fault::SettleFault;
 use crate::seat::Seat;
 use crate::settling::Unsettled;
-use dia_base::Identity;
+use dia_base::{Identity, MessageForm};
 use op_tables::read_tables;
 use pcrf_values::DiameterIdentity;
 use site_machine::{Event, Reply, Site};
@@ -48,6 +48,7 @@ fn new_site(rt: &impl Abort, alloc: Global) -> Site {
         host,
         realm,
         address: Ipv4Addr::LOCALHOST,
+        form: MessageForm::Own,
     };
     Site::start(
         alloc,

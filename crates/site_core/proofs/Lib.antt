@@ -7,3 +7,4 @@ pub mod Somes
 pub mod ServedAnswers
 pub mod Values
 pub mod AnswersLaws
+pub mod OwnRealms

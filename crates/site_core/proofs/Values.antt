@@ -7,8 +7,10 @@ use Rattle.dia_base.specs.declared.identity.Identity.{Identity}
 use Rattle.dia_codec.specs.declared.message.Header.{Header}
 use Rattle.site_machine.specs.Sites.{SiteValue, serve_outcome, with_made}
 use Rattle.site_core.specs.Answering.{answer_to}
-use Rattle.site_core.specs.Asking.{AskedValue, ToServe, ToRefuse, Nothing, meaning_of_frame}
-use Rattle.site_core.specs.Frames.{Answers, IsServed, NeverFull, Unanswered, SiteReplies, disconnects, answer_by, ends_by, after_by, answer_of, ends, after}
+use Rattle.site_core.specs.Asking.{AskedValue, ToServe, ToRefuse, Nothing}
+use Rattle.site_core.specs.Realms.{meaning_at}
+use Rattle.site_core.specs.Completing.{completed, completion_of}
+use Rattle.site_core.specs.Frames.{Answers, AnswersFrame, IsServed, NeverFull, Unanswered, SiteReplies, disconnects, answer_by, ends_by, after_by, answer_of, ends, after}
 
 -- an operation changes no names
 same_names : (s : SiteValue) (o : Option Operation) → (with_made s o).identity ≡ s.identity
@@ -35,10 +37,20 @@ answered_by old (ToServe h q) bytes last new (inr a) = absurd a.0
 answered_by old (ToRefuse h session refusal) bytes last new a = (a.1, a.2, a.0)
 answered_by old Nothing bytes last new a = (a.1, a.2, a.0)
 
+-- nothing that is asked changes its names
+names_after : (old : SiteValue) (asked : AskedValue) → names (after_by old asked) ≡ names old
+names_after old (ToServe h q) = same_names old (serve_outcome old q).added
+names_after old (ToRefuse h session refusal) = refl
+names_after old Nothing = refl
+
 -- a frame was answered
-pub site_answers : (old : SiteValue) (frame : List ℕ) (bytes : List ℕ) (last : Bool) (new : SiteValue) → Answers names SiteReplies NeverFull old (meaning_of_frame frame) bytes last new → (bytes ≡ answer_of old frame) × (last ≡ ends old frame) × (new ≡ after old frame)
+pub site_answers : (old : SiteValue) (frame : List ℕ) (bytes : List ℕ) (last : Bool) (new : SiteValue) → AnswersFrame names SiteReplies NeverFull old frame bytes last new → (bytes ≡ answer_of old frame) × (last ≡ ends old frame) × (new ≡ after old frame)
 unfolding answer_of ends after
-site_answers old frame bytes last new a = answered_by old (meaning_of_frame frame) bytes last new a
+site_answers old frame bytes last new a =
+    let asked : AskedValue = meaning_at (names old) frame in
+    let plain = answered_by old asked a.0 last new a.1 in
+    let same : names new ≡ names old = ap names plain.2 ∙ names_after old asked in
+    (a.2 ∙ ap (λ (i : Identity). completed i.form (completion_of asked) frame a.0) same ∙ ap (completed old.identity.form (completion_of asked) frame) plain.0, plain.1, plain.2)
 
 unanswered_by : (old : SiteValue) (asked : AskedValue) (new : SiteValue) → Unanswered SiteReplies old asked new → (new ≡ old) ⊎ (new ≡ after_by old asked)
 unanswered_by old (ToServe h q) new (inl same) = inl same
@@ -47,6 +59,6 @@ unanswered_by old (ToRefuse h session refusal) new same = inl same
 unanswered_by old Nothing new same = inl same
 
 -- there was no answer to it
-pub site_unanswered : (old : SiteValue) (frame : List ℕ) (new : SiteValue) → Unanswered SiteReplies old (meaning_of_frame frame) new → (new ≡ old) ⊎ (new ≡ after old frame)
+pub site_unanswered : (old : SiteValue) (frame : List ℕ) (new : SiteValue) → Unanswered SiteReplies old (meaning_at (names old) frame) new → (new ≡ old) ⊎ (new ≡ after old frame)
 unfolding after
-site_unanswered old frame new u = unanswered_by old (meaning_of_frame frame) new u
+site_unanswered old frame new u = unanswered_by old (meaning_at (names old) frame) new u

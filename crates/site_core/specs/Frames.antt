@@ -6,7 +6,9 @@ use Rattle.pcrf_model.specs.Requests.{BaseKind, CapabilitiesExchange, DeviceWatc
 use Rattle.dia_codec.specs.declared.message.Header.{Header}
 use Rattle.dia_base.specs.declared.identity.Identity.{Identity}
 use Rattle.site_core.specs.Answering.{answer_to, busy_answer, refusal_bytes}
-use Rattle.site_core.specs.Asking.{AskedValue, ToServe, ToRefuse, Nothing, meaning_of_frame}
+use Rattle.site_core.specs.Asking.{AskedValue, ToServe, ToRefuse, Nothing}
+use Rattle.site_core.specs.Realms.{meaning_at}
+use Rattle.site_core.specs.Completing.{completed, completion_of}
 use Rattle.site_machine.specs.Sites.{SiteValue, serve_outcome, with_made}
 
 -- ---- the end of the connection
@@ -47,6 +49,12 @@ Answers names may full old (ToRefuse header session refusal) bytes last new =
     (new ≡ old) × (bytes ≡ refusal_bytes (names old) header session refusal) × (last ≡ false)
 Answers names may full old Nothing bytes last new = (new ≡ old) × (bytes ≡ []) × (last ≡ false)
 
+-- What a frame asks for is done, and answered by these bytes, in the form of whoever answers.
+abbrev pub AnswersFrame : {A : Type 0} → (A → Identity) → (A → RequestValue → ReplyValue → A → Type 0) → (A → Type 0) → A → List ℕ → List ℕ → Bool → A → Type 0
+AnswersFrame names may full old frame bytes last new =
+    (plain : List ℕ) × Answers names may full old (meaning_at (names old) frame) plain last new
+    × (bytes ≡ completed (names new).form (completion_of (meaning_at (names old) frame)) frame plain)
+
 -- There is no answer: nothing was done, or a request was served.
 abbrev pub Unanswered : {A : Type 0} → (A → RequestValue → ReplyValue → A → Type 0) → A → AskedValue → A → Type 0
 Unanswered may old (ToServe header request) new = (new ≡ old) ⊎ ((reply : ReplyValue) × may old request reply new)
@@ -84,12 +92,12 @@ after_by s Nothing = s
 
 -- the bytes of the answer
 unfoldable pub answer_of : SiteValue → List ℕ → List ℕ
-answer_of s frame = answer_by s (meaning_of_frame frame)
+answer_of s frame = completed s.identity.form (completion_of (meaning_at s.identity frame)) frame (answer_by s (meaning_at s.identity frame))
 
 -- the stream ends with it: it is a request for the end of the connection that succeeds
 unfoldable pub ends : SiteValue → List ℕ → Bool
-ends s frame = ends_by s (meaning_of_frame frame)
+ends s frame = ends_by s (meaning_at s.identity frame)
 
 -- the site after it
 unfoldable pub after : SiteValue → List ℕ → SiteValue
-after s frame = after_by s (meaning_of_frame frame)
+after s frame = after_by s (meaning_at s.identity frame)

@@ -5,3 +5,5 @@ pub mod Conversations
 pub mod Conversing
 pub mod Answering
 pub mod Asking
+pub mod Completing
+pub mod Realms

@@ -5,11 +5,14 @@ ghost use Rattle.dia_codec.specs.Limits.{command_bound};
 ghost use Rattle.dia_codec.specs.Spelling.{IsFrame};
 ghost use Rattle.base_profile.specs.Requests.{kind_view};
 ghost use Rattle.site_core.specs.Answering.{answer_to, busy_answer, refusal_bytes};
-ghost use Rattle.site_core.specs.Asking.{HeaderFits, ToServe, asked_value, meaning_of_frame};
-ghost use Rattle.site_core.specs.Frames.{Answers, IsServed, Unanswered, asks_to_disconnect, disconnects, is_disconnect, succeeds};
+ghost use Rattle.site_core.specs.Asking.{HeaderFits, ToServe, asked_value};
+ghost use Rattle.site_core.specs.Frames.{Answers, AnswersFrame, IsServed, Unanswered, asks_to_disconnect, disconnects, is_disconnect, succeeds};
+ghost use Rattle.site_core.specs.Realms.{meaning_at};
 ghost use Rattle.site_machine.specs.Values.{reply_value, request_value};
 
-use crate::reading::{Asked, read_request};
+use crate::completing::{completed, completion_of};
+use crate::reading::Asked;
+use crate::realms::read_request_at;
 use crate::serving::{Serve, ServeFault};
 use crate::writing::{write_busy, write_refusal, write_reply};
 use base_profile::BaseKind;
@@ -155,19 +158,22 @@ fn answer_asked<S: Serve>(alloc: Global, server: &mut S, asked: Asked) -> Result
     }
 }
 
-/// Has a frame answered: a request is served, or refused by its first fault, and what isn't one is passed over. Where memory
-/// runs out, a request may have been served without an answer.
+/// Has a frame answered: a request is served, or refused by its first fault, and what isn't one is passed over. The answer is in the
+/// form of whoever answers. Where memory runs out, a request may have been served without an answer.
 pub fn answer_frame<S: Serve>(
     alloc: Global,
     server: &mut S,
     frame: &[u8],
 ) -> Result<Answer, AllocError>
     requires { IsFrame frame.now }
-    ensures answered { IfOk result (λ answer. Answers S.names S.may_reply S.is_full
-        server.old (meaning_of_frame frame.now) answer.bytes.items answer.last server.new) }
+    ensures answered { IfOk result (λ answer. AnswersFrame S.names S.may_reply S.is_full
+        server.old frame.now answer.bytes.items answer.last server.new) }
     ensures unanswered { OnErr result
-        (Unanswered S.may_reply server.old (meaning_of_frame frame.now) server.new) }
+        (Unanswered S.may_reply server.old (meaning_at (S.names server.old) frame.now) server.new) }
 {
-    let asked = read_request(alloc, frame)?;
-    answer_asked(alloc, server, asked)
+    let asked = read_request_at(alloc, server.identity(), frame)?;
+    let how = completion_of(&asked);
+    let Answer { bytes, last } = answer_asked(alloc, server, asked)?;
+    let bytes = completed(alloc, server.identity().form, how, frame, bytes)?;
+    Ok(Answer { bytes, last })
 }

@@ -121,7 +121,11 @@ fn read_as(alloc: Global, command: Command, message: &Message) -> Result<Request
 }
 
 /// A message that is to be refused.
-fn refused(alloc: Global, message: &Message, refusal: Refusal) -> Result<Asked, AllocError>
+pub(crate) fn refused(
+    alloc: Global,
+    message: &Message,
+    refusal: Refusal,
+) -> Result<Asked, AllocError>
     requires { message.now.header.command < command_bound }
     ensures asked { IfOk result (λ asked. asked_value asked ≡ ToRefuse message.now.header
         (session_among (avp_views message.now.avps.items)) refusal) }
@@ -146,7 +150,7 @@ fn asked_as(alloc: Global, command: Command, message: &Message) -> Result<Asked,
 }
 
 /// What a message asks for.
-fn asked_by(alloc: Global, message: &Message) -> Result<Asked, AllocError>
+pub(crate) fn asked_by(alloc: Global, message: &Message) -> Result<Asked, AllocError>
     requires { message.now.header.command < command_bound }
     ensures asked { IfOk result (λ asked.
         asked_value asked ≡ meaning_of_request [] (Ok (message_view message.now))) }
@@ -156,6 +160,22 @@ fn asked_by(alloc: Global, message: &Message) -> Result<Asked, AllocError>
         Ok(command) => asked_as(alloc, command, message),
         Err(refusal) => refused(alloc, message, refusal),
     }
+}
+
+/// What a request asks for whose message can't be read, whose AVPs are these bytes.
+pub(crate) fn unread(
+    alloc: Global,
+    header: Header,
+    bytes: &[u8],
+    fault: MsgFault,
+) -> Result<Asked, AllocError>
+    requires { header.command < command_bound }
+    ensures asked { IfOk result (λ asked. asked_value asked
+        ≡ ToRefuse header (session_if_cut (avps_of bytes.now)) (fault_refusal fault)) }
+    ensures command { IfOk result HeaderFits }
+{
+    let session = session_if_cut(alloc, bytes)?;
+    Ok(Asked::Refused(header, session, fault_refusal(fault)))
 }
 
 /// What a frame asks for: an answer of the peer's is passed over, whatever else is wrong with it; then the first of
@@ -176,9 +196,6 @@ pub fn read_request(alloc: Global, frame: &[u8]) -> Result<Asked, AllocError>
     match read_message_with(alloc, header, frame) {
         Ok(message) => asked_by(alloc, &message),
         Err(MsgFault::NoMemory) => Err(AllocError),
-        Err(fault) => {
-            let session = session_if_cut(alloc, rest)?;
-            Ok(Asked::Refused(header, session, fault_refusal(fault)))
-        }
+        Err(fault) => unread(alloc, header, rest, fault),
     }
 }

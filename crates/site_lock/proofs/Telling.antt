@@ -1,5 +1,5 @@
 -- Which replies tell how many operations the site made itself, and what they tell.
-use Rattle.std.proofs.Common.{◌≡◌, ℕ, ◌<◌, leb, Bool, true, false, not, ◌&&◌, List, length, Option, Some, None, option_map, unwrap_or, Result, Ok, Err, IfOk, refl, sym, subst}
+use Rattle.std.proofs.Common.{◌≡◌, ℕ, ◌<◌, leb, Bool, true, false, cond, not, ◌&&◌, List, length, Option, Some, None, option_map, unwrap_or, Result, Ok, Err, IfOk, refl, sym, subst}
 use Rattle.std.proofs.lemmas.Bool.{leb-false}
 use Rattle.pcrf_values.specs.declared.refusal.Refusal.{Refusal}
 use Rattle.pcrf_values.specs.declared.request_kind.RequestKind.{RequestKind}
@@ -7,7 +7,7 @@ use Rattle.pcrf_values.specs.declared.request_kind.RequestKind.TheVariants.{Init
 use Rattle.pcrf_values.specs.Limits.{delta_limit}
 use Rattle.pcrf_model.specs.Tables.{Tables}
 use Rattle.pcrf_model.specs.Holdings.{Holding}
-use Rattle.pcrf_model.specs.Sessions.{Session}
+use Rattle.pcrf_model.specs.Sessions.{Session, gx}
 use Rattle.pcrf_model.specs.Views.{View, view}
 use Rattle.pcrf_model.specs.Requests.{CcrValue, AarValue, StrValue, RequestValue, Ccr, Aar, Str, Base}
 use Rattle.pcrf_model.specs.Replies.{ReplyValue, OnGx, Rejected, Refused, Outcome}
@@ -15,7 +15,8 @@ use Rattle.pcrf_model.specs.Refusals.{ccr_refusal, aar_refusal, str_refusal}
 use Rattle.pcrf_model.specs.Serving.{serve, serve_ccr, serve_aar, serve_str, accepted_ccr, description_outcome, session_end_outcome, provision_outcome, refusal_or}
 use Rattle.pcrf_model.specs.Pushing.{push, due_session, push_outcome, nothing_pushed}
 use Rattle.pcrf_model.specs.Aborting.{abort, abandoned_session, abort_outcome, nothing_aborted}
-use Rattle.pcrf_model.specs.Steps.{SiteState, SiteEvent, MayReply, Serve, Push, Ops, Whole, AskOwn, AskWhole, Abort}
+use Rattle.pcrf_model.specs.Retelling.{retell, was_told, retell_outcome, nothing_retold}
+use Rattle.pcrf_model.specs.Steps.{SiteState, SiteEvent, MayReply, Serve, Push, Ops, Whole, AskOwn, AskWhole, Abort, Retell}
 use Rattle.site_machine.specs.declared.event.Reply.{Reply}
 use Rattle.site_machine.specs.declared.fault.StepFault.{StepFault}
 use Rattle.site_machine.specs.Values.{reply_value}
@@ -73,7 +74,15 @@ module _ (past most : ℕ) (t : Tables) (i : ℕ) (h : Holding) where
   unfolding abort
   abort_tells name = one_abort_told (view h.facts) (abandoned_session i (view h.facts) name)
 
--- A reply to a request, a push or an abort tells nothing of it, and one to whoever asks tells how many there are.
+  retold_or_not : (v : View) (s : Session) (told : Bool) → TellsPast past (cond told (retell_outcome i h v s) nothing_retold).reply
+  retold_or_not v s true = tt
+  retold_or_not v s false = tt
+
+  retell_tells : (id : List ℕ) → TellsPast past (retell i h id).reply
+  unfolding retell
+  retell_tells id = retold_or_not (view h.facts) (gx id) (was_told (view h.facts) (gx id))
+
+-- A reply to a request, a push, an abort or a retelling tells nothing of it, and one to whoever asks tells how many there are.
 pub told_past : (past most : ℕ) (t : Tables) (i : ℕ) (s : SiteState) (e : SiteEvent) (r : ReplyValue) → past < length s.log → MayReply most t i s e r → TellsPast past r
 told_past past most t i s (Serve q) r lt may = subst (TellsPast past) (sym may) (serve_tells past most t i s.holding q)
 told_past past most t i s (Push name) r lt may = subst (TellsPast past) (sym may.1) (push_tells past most t i s.holding name)
@@ -82,6 +91,7 @@ told_past past most t i s (Whole holding) r lt may = subst (TellsPast past) (sym
 told_past past most t i s (AskOwn from) r lt may = subst (TellsPast past) (sym may) lt
 told_past past most t i s AskWhole r lt may = subst (TellsPast past) (sym may) lt
 told_past past most t i s (Abort name) r lt may = subst (TellsPast past) (sym may.1) (abort_tells past most t i s.holding name)
+told_past past most t i s (Retell id) r lt may = subst (TellsPast past) (sym may.1) (retell_tells past most t i s.holding id)
 
 -- who waits doesn't have to wait longer though an entry can be added, so there are more
 grown : (full fits : Bool) → (full ≡ true → ⊥) → not full && fits ≡ false → fits ≡ false

@@ -49,6 +49,7 @@ fn names_of(site: &Site) -> Result<Identity, AllocError>
         host,
         realm,
         address: names.address,
+        form: names.form,
     })
 }
 

@@ -2,10 +2,12 @@ pub mod Aborts
 pub mod CallLaws
 pub mod Formed
 pub mod Left
+pub mod NothingTold
 pub mod PlacedRecord
 pub mod Pushes
 pub mod Replies
 pub mod Restoring
+pub mod Retellings
 pub mod SameFacts
 pub mod Shown
 pub mod Taking

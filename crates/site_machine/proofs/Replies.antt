@@ -33,7 +33,7 @@ use Rattle.pcrf_model.proofs.HoldingLaws.{sorted-In}
 use Rattle.pcrf_model.proofs.ViewLaws.{view-Same, view-kept}
 use Rattle.site_machine.specs.Facts.{opens, operation_made, operation_told}
 use Rattle.fact_making.specs.Gateway.{made_facts}
-use Rattle.site_machine.specs.Replies.{told_reply}
+use Rattle.site_machine.specs.Replies.{quality_shown, told_reply}
 use Rattle.site_machine.specs.Sites.{ccr_served}
 use Rattle.fact_making.proofs.ToldOrder.{fields_then_told, host_is_set}
 
@@ -113,16 +113,19 @@ shown_with h o =
     ∙ view-kept both
     ∙ view-Same both all (sorted-In all)
 
--- where a session shows no access point, it has no default quality of service
-pub no_access_point : (t : Tables) (facts : List SessionFact) (s : Session) → entry_shown (facts_on facts s) apn ≡ None → quality_of t (view facts) s ≡ None
+-- what is held of a session has the default quality of service that its facts show
+pub quality_is : (t : Tables) (facts : List SessionFact) (s : Session) → quality_of t (view facts) s ≡ quality_shown t (facts_on facts s)
 unfolding view
-no_access_point t facts s h = rw h refl
+quality_is t facts s = refl
 
--- else it has that of its access point
-pub access_point : (t : Tables) (facts : List SessionFact) (s : Session) (g : Tag) (name : List ℕ) → entry_shown (facts_on facts s) apn ≡ Some (g, Text name)
-    → quality_of t (view facts) s ≡ option_and_then (λ (r : ApnRow). r.default) (apn_row t name)
-unfolding view
-access_point t facts s g name h = rw h refl
+-- where facts show no access point, there is none
+pub no_access_point : (t : Tables) (facts : List Fact) → entry_shown facts apn ≡ None → quality_shown t facts ≡ None
+no_access_point t facts h = rw h refl
+
+-- else it is that of the access point
+pub access_point : (t : Tables) (facts : List Fact) (g : Tag) (name : List ℕ) → entry_shown facts apn ≡ Some (g, Text name)
+    → quality_shown t facts ≡ option_and_then (λ (r : ApnRow). r.default) (apn_row t name)
+access_point t facts g name h = rw h refl
 
 -- a request that leaves its session open sets its fields
 pub fields_made : (q : CcrValue) (k : RequestKind) (t : Tag) → opens k ≡ true → made_facts q k t ≡ ccr_fields q t

@@ -46,7 +46,7 @@ operation_with site counter q facts = record {
 abbrev pub operation_told : ℕ → ℕ → CcrValue → RequestKind → DeltaValue → Operation
 operation_told site counter q k d = operation_with site counter q (fields_of site counter q k ++ facts_told site counter d)
 
--- the operation of a push of a session at a site, under a counter
+-- the operation of a push of a session at a site, or of its retelling, under a counter
 abbrev pub operation_pushed : ℕ → ℕ → List ℕ → DeltaValue → Operation
 operation_pushed site counter session d = record {
   counter = counter;

@@ -1,4 +1,4 @@
--- What is seen of a site, and what serving, pushes, aborts and letters make of it.
+-- What is seen of a site, and what serving, pushes, aborts, retellings and letters make of it.
 use Rattle.std.specs.Prelude.{◌≡◌, ℕ, List, [], ◌∷◌, ◌++◌, Option, Some, None}
 use Rattle.pcrf_facts.specs.Facts.{Fact}
 use Rattle.pcrf_values.specs.Limits.{delta_limit}
@@ -10,6 +10,7 @@ use Rattle.pcrf_model.specs.Replies.{Outcome, ReplyValue}
 use Rattle.pcrf_model.specs.Serving.{serve, serve_ccr, serve_aar, serve_str}
 use Rattle.pcrf_model.specs.Pushing.{due_session, push}
 use Rattle.pcrf_model.specs.Aborting.{abandoned_session, abort}
+use Rattle.pcrf_model.specs.Retelling.{retell}
 use Rattle.pcrf_model.specs.Steps.{SiteState, SiteEvent, MayReply, kept_state, state_after}
 use Rattle.pcrf_model.specs.Tables.{Tables}
 use Rattle.pcrf_model.specs.Views.{view}
@@ -53,6 +54,10 @@ push_outcome_at s name = push delta_limit s.tables s.number s.state.holding name
 -- which session of a host they abort on it, of any where none is named
 abbrev pub abort_outcome_at : SiteValue → Option (List ℕ) → Outcome
 abort_outcome_at s name = abort s.number s.state.holding name
+
+-- and what comes of a session's retelling
+abbrev pub retell_outcome_at : SiteValue → List ℕ → Outcome
+retell_outcome_at s session = retell s.number s.state.holding session
 
 -- nothing is due to the gateways of a host
 abbrev pub OwesNothing : SiteValue → List ℕ → Type 0

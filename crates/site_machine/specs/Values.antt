@@ -9,6 +9,7 @@ use Rattle.pcrf_model.specs.Replies.{ReplyValue}
 use Rattle.pcrf_model.specs.Replies as replies
 use Rattle.pcrf_model.specs.Pushing.{lacks_counter}
 use Rattle.pcrf_model.specs.Aborting.{lacks_counter_to_abort}
+use Rattle.pcrf_model.specs.Retelling.{lacks_counter_to_retell}
 use Rattle.pcrf_model.specs.Steps.{SiteEvent}
 use Rattle.pcrf_model.specs.Steps as events
 use Rattle.reply_values.specs.Replies.{push_view}
@@ -37,6 +38,7 @@ abbrev pub event_value : Event → SiteEvent
 event_value (event.Serve q) = events.Serve (request_value q)
 event_value (event.Push name) = events.Push name
 event_value (event.Abort name) = events.Abort name
+event_value (event.Retell session) = events.Retell session
 event_value (event.Ops operations) = events.Ops operations.items
 event_value (event.Whole state) = events.Whole state
 event_value (event.AskOwn from) = events.AskOwn from
@@ -50,12 +52,15 @@ reply_value (reply.Refused r) = replies.Refused r
 reply_value (reply.Base code) = replies.OnBase code
 reply_value (reply.Pushed push) = replies.Pushed (option_map push_view push)
 reply_value (reply.Aborted abort) = replies.Aborted (option_map abort_view abort)
+reply_value (reply.Retold done) = replies.Retold done
 reply_value (reply.Taken count) = replies.Taken count
 reply_value (reply.Own operations length) = replies.Own operations.items length
 reply_value (reply.Copy state length) = replies.Copy state length
 
--- the event pushes what is due, or aborts a session that is abandoned, and no counter is left for it
+-- the event pushes what is due, aborts a session that is abandoned, or retells what a gateway was told,
+-- and no counter is left for it
 abbrev pub event_lacks_counter : Tables → ℕ → Holding → SiteEvent → Bool
 event_lacks_counter t i h (events.Push name) = lacks_counter t i h name
 event_lacks_counter t i h (events.Abort name) = lacks_counter_to_abort i h name
+event_lacks_counter t i h (events.Retell session) = lacks_counter_to_retell h session
 event_lacks_counter t i h e = false

@@ -4,6 +4,7 @@ ghost use Rattle.pcrf_facts.specs.Held.{kept_list, join_of};
 ghost use Rattle.pcrf_model.specs.Holdings.{facts_on, kept_of};
 ghost use Rattle.pcrf_model.specs.Operations.{with_operation};
 ghost use Rattle.pcrf_model.specs.Sessions.{gx, af};
+ghost use Rattle.indexed_state.specs.Alike.{ShowAlike};
 ghost use Rattle.indexed_state.specs.Indexed.{IsTold};
 
 use crate::site::Site;
@@ -78,6 +79,28 @@ impl Site {
         if let Some(known) = known {
             self.held.take_told(&operation, id, known)?;
         }
+        self.log.push(operation).unwrap();
+        Ok(())
+    }
+
+    /// Adds an operation of the site's own on a gateway's session as `add_to_gateway` does, where rules and bindings by the record
+    /// that is known of it then are those by what was known.
+    pub(crate) fn add_refreshed(
+        &mut self,
+        operation: Operation,
+        id: &GxSid,
+        known: GxRec,
+    ) -> Result<(), AllocError>
+        requires later { length self.old.state.log < operation.counter }
+        requires session { operation.session ≡ gx id.now }
+        requires joins { known ≡ join_of
+            (facts_on self.old.state.holding.facts (gx id.now)) (kept_list operation.facts) }
+        requires alike { ShowAlike (facts_on self.old.state.holding.facts (gx id.now)) known }
+        ensures ok { OnOk result (self.new ≡ with_made self.old (Some operation)) }
+        ensures err { OnErr result (self.new ≡ self.old) }
+    {
+        self.log.try_reserve(1)?;
+        self.held.take_refreshed(&operation, id, known)?;
         self.log.push(operation).unwrap();
         Ok(())
     }

@@ -7,7 +7,7 @@ use crate::operations::same_operations;
 use crate::request::Request;
 use crate::site::copy_all;
 use exact_values::{Exact, same};
-use pcrf_values::{DiameterIdentity, Refusal};
+use pcrf_values::{DiameterIdentity, GxSid, Refusal};
 use ranked::Ranked;
 use reply_values::{GxReply, PushOut};
 use rx_profile::AbortOut;
@@ -24,6 +24,8 @@ pub enum Event {
     /// An application function of this host is to be asked to end a session that is bound to none, one of any host where none is
     /// given.
     Abort(Option<DiameterIdentity>),
+    /// What the gateway of this session was told is to count as not there.
+    Retell(GxSid),
     /// Operations of a letter are to be taken.
     Ops(Vec<Operation>),
     /// All that another site holds is to be taken.
@@ -49,6 +51,8 @@ pub enum Reply {
     Pushed(Option<PushOut>),
     /// What was asked to end; nothing where no session is to be aborted.
     Aborted(Option<AbortOut>),
+    /// Whether what a gateway was told counts as not there now: not where the session isn't live or its gateway was told nothing.
+    Retold(bool),
     /// So many operations, the first of those that were given, stand taken: less than all only where memory was refused.
     Taken(usize),
     /// Operations that the site made itself, the first 100 if there are more, and how many it made in all.
@@ -66,6 +70,7 @@ impl Event {
             Event::Serve(request) => Ok(Event::Serve(request.try_copy()?)),
             Event::Push(host) => Ok(Event::Push(host.try_copy()?)),
             Event::Abort(host) => Ok(Event::Abort(host.try_copy()?)),
+            Event::Retell(session) => Ok(Event::Retell(session.try_copy()?)),
             Event::Ops(operations) => Ok(Event::Ops(copy_operations(operations)?)),
             Event::Whole(state) => Ok(Event::Whole(state.try_copy()?)),
             Event::AskOwn(from) => Ok(Event::AskOwn(*from)),
@@ -81,6 +86,7 @@ impl Event {
             (Event::Serve(ours), Event::Serve(theirs)) => ours.equal(theirs),
             (Event::Push(ours), Event::Push(theirs)) => same(ours, theirs),
             (Event::Abort(ours), Event::Abort(theirs)) => same(ours, theirs),
+            (Event::Retell(ours), Event::Retell(theirs)) => same(ours, theirs),
             (Event::Ops(ours), Event::Ops(theirs)) => {
                 same_operations(ours.as_slice(), theirs.as_slice())
             }
@@ -107,6 +113,7 @@ impl Reply {
             Reply::Pushed(None) => Ok(Reply::Pushed(None)),
             Reply::Aborted(Some(abort)) => Ok(Reply::Aborted(Some(abort.try_copy()?))),
             Reply::Aborted(None) => Ok(Reply::Aborted(None)),
+            Reply::Retold(done) => Ok(Reply::Retold(*done)),
             Reply::Taken(count) => Ok(Reply::Taken(*count)),
             Reply::Own(operations, length) => {
                 Ok(Reply::Own(copy_operations(operations)?, *length))
@@ -126,6 +133,7 @@ impl Reply {
             (Reply::Base(ours), Reply::Base(theirs)) => *ours == *theirs,
             (Reply::Pushed(ours), Reply::Pushed(theirs)) => same_push(ours, theirs),
             (Reply::Aborted(ours), Reply::Aborted(theirs)) => same_abort(ours, theirs),
+            (Reply::Retold(ours), Reply::Retold(theirs)) => *ours == *theirs,
             (Reply::Taken(ours), Reply::Taken(theirs)) => *ours == *theirs,
             (Reply::Own(ours, length), Reply::Own(theirs, other_length)) => {
                 *length == *other_length && same_operations(ours.as_slice(), theirs.as_slice())

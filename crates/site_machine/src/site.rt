@@ -33,6 +33,7 @@ ghost use Rattle.site_machine.specs.Values.{reply_value, request_value};
 
 use crate::event::Reply;
 use crate::fault::StepFault;
+use crate::refreshing::quality_by;
 use crate::refusals::{has_ended, is_live, lacks, row_refusal};
 use crate::request::Request;
 use crate::witness::{Witness, shown, shown_plain, shown_to_gateway};
@@ -290,7 +291,8 @@ impl Site {
         Ok(reply)
     }
 
-    /// Sets the fields of an accepted request and tells the gateway what it lacks then, or changes nothing.
+    /// Sets the fields of an accepted request and tells the gateway what it lacks then, or changes nothing. Where the request
+    /// brings nothing new, no rules are derived and nothing is compared but the record.
     fn provision<W: Witness>(
         &mut self,
         ccr: &Ccr,
@@ -313,9 +315,13 @@ impl Site {
         self.note_kept();
         self.note_told();
         self.note_form();
-        let clock = self.held.clock();
         let facts = facts_made(self.alloc, ccr, self.tag(ccr.number, counter))?;
-        let stood = self.set_fields(ccr, counter, facts.as_slice())?;
+        let known = self.fields_joined(ccr, counter, facts.as_slice())?;
+        if self.held.brings_nothing(&ccr.session, &known) {
+            return self.refresh(ccr, counter, facts, known, witness);
+        }
+        let clock = self.held.clock();
+        let stood = self.set_fields(ccr, counter, known)?;
         match self.tell(ccr, counter, facts, witness) {
             Ok(reply) => Ok(reply),
             Err(refused) => {
@@ -326,7 +332,7 @@ impl Site {
     }
 
     /// The record of a session with what a request sets.
-    fn with_fields(&self, session: &GxSid, made: GxRec) -> Result<GxRec, AllocError>
+    pub(crate) fn with_fields(&self, session: &GxSid, made: GxRec) -> Result<GxRec, AllocError>
         ensures { IfOk result (λ both. both
             ≡ join_of (facts_on self.now.state.holding.facts (gx session.now)) made) }
     {
@@ -349,17 +355,19 @@ impl Site {
         self.held.put_gx(session, before, clock).unwrap();
     }
 
-    /// Sets the fields of an accepted request, which are these facts, and hands back the record that stood; or changes nothing.
+    /// Sets the fields of an accepted request, with which this record is known of its session, and hands back the record that
+    /// stood; or changes nothing.
     fn set_fields(
         &mut self,
         ccr: &Ccr,
         counter: u64,
-        facts: &[GxFact],
+        known: GxRec,
     ) -> Result<Option<GxRec>, AllocError>
         requires within { counter ≤ last_counter }
         requires next { counter ≡ self.old.state.holding.clock + 1 }
-        requires fields { map fact_of facts.now
-            ≡ fields_of self.old.number counter (ccr_view ccr.now) ccr.now.kind }
+        requires joins { known ≡ join_of
+            (facts_on self.old.state.holding.facts (gx ccr.now.session))
+            (kept_list (fields_of self.old.number counter (ccr_view ccr.now) ccr.now.kind)) }
         ensures ok { OnOk result (self.new ≡ with_one self.old
             (operation_made self.old.number counter (ccr_view ccr.now) ccr.now.kind)) }
         ensures stood { IfOk result (λ stood. record_facts stood
@@ -370,9 +378,7 @@ impl Site {
         self.note_number();
         self.note_kept();
         self.note_form();
-        let made = GxRec::of_facts(self.alloc, facts)?;
-        let record = self.with_fields(&ccr.session, made)?;
-        self.held.put_gx(&ccr.session, Some(record), counter)
+        self.held.put_gx(&ccr.session, Some(known), counter)
     }
 
     /// Tells the gateway, whose request made these facts, what it lacks of the rules that its session has now, or changes
@@ -470,7 +476,7 @@ impl Site {
     }
 
     /// The operation of the fields that an accepted request sets, which are these facts, and of what the gateway is told.
-    fn all_made(
+    pub(crate) fn all_made(
         &self,
         ccr: &Ccr,
         counter: u64,
@@ -491,7 +497,7 @@ impl Site {
     }
 
     /// The tag of what an operation of this site says.
-    fn tag(&self, number: u32, counter: u64) -> Tag
+    pub(crate) fn tag(&self, number: u32, counter: u64) -> Tag
         ensures { result ≡ record { number = number; counter = counter; site = self.now.number } }
     {
         Tag {
@@ -506,8 +512,10 @@ impl Site {
         ensures { result
             ≡ quality_of self.now.tables (view self.now.state.holding.facts) (gx session.now) }
     {
-        let (_, apn) = self.held.gx(session)?.apn()?;
-        self.held.tables().apn(apn)?.default_quality()
+        match self.held.gx(session) {
+            Some(known) => quality_by(self.held.tables(), known),
+            None => None,
+        }
     }
 
     /// The refusal by what is known of the session, given by the request and stands in the tables; the end of the clock

@@ -1,6 +1,6 @@
 //! The steps of a site.
 ghost use Rattle.std.specs.Prelude.{◌≡◌, ◌≢◌, true, IfOk, IfErr, OnErr};
-ghost use Rattle.pcrf_model.specs.Steps.{Serve, Push, Abort, Ops, Whole, AskOwn, AskWhole};
+ghost use Rattle.pcrf_model.specs.Steps.{Serve, Push, Abort, Retell, Ops, Whole, AskOwn, AskWhole};
 ghost use Rattle.site_machine.specs.Replies.{is_plain};
 ghost use Rattle.site_machine.specs.Values.{event_lacks_counter, event_value, reply_value, request_value};
 
@@ -9,7 +9,7 @@ use crate::fault::StepFault;
 use crate::request::Request;
 use crate::site::Site;
 use crate::witness::{Witness, shown, shown_plain};
-use pcrf_values::DiameterIdentity;
+use pcrf_values::{DiameterIdentity, GxSid};
 use site_join::{Operation, State};
 
 impl Site {
@@ -50,6 +50,7 @@ impl Site {
             Event::Serve(request) => self.step_serve(request, witness),
             Event::Push(host) => self.step_push(host, witness),
             Event::Abort(host) => self.step_abort(host, witness),
+            Event::Retell(session) => Ok(shown_plain(self.step_retell(session)?, witness)),
             Event::Ops(operations) => {
                 Ok(shown_plain(self.step_take(operations.as_slice()), witness))
             }
@@ -120,6 +121,22 @@ impl Site {
         self.note_kept();
         let host = host.as_ref().map(|host| host.as_slice());
         Ok(Reply::Aborted(self.abort_seen_by(host, witness)?))
+    }
+
+    /// Retells as an event asks for it.
+    fn step_retell(&mut self, session: &GxSid) -> Result<Reply, StepFault>
+        ensures plain { IfOk result (λ reply. is_plain reply ≡ true) }
+        ensures reply { IfOk result (λ reply. SiteMayReply self.old
+            (Retell session.now) (reply_value reply)) }
+        ensures ok { IfOk result (λ reply. self.new
+            ≡ after_event self.old (Retell session.now) (reply_value reply)) }
+        ensures full { IfErr result (λ fault. fault ≡ StepFault.ClockFull → event_lacks_counter
+            self.old.tables self.old.number self.old.state.holding (Retell session.now) ≡ true) }
+        ensures memory { IfErr result (λ fault. fault ≢ StepFault.HistoryFull) }
+        ensures err { OnErr result (self.new ≡ self.old) }
+    {
+        self.note_kept();
+        Ok(Reply::Retold(self.retell(session)?))
     }
 
     /// Takes the operations of an event.

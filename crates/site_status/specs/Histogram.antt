@@ -3,7 +3,7 @@ use Rattle.std.specs.Prelude.{ℕ, ◌+◌, List, [], ◌∷◌, ◌++◌, min, 
 use Rattle.site_status.specs.declared.exposition.Family.{Family}
 use Rattle.site_status.specs.declared.exposition.Number.TheVariants.{Nanos, Whole}
 use Rattle.site_status.specs.declared.times.TheConstants.{BOUNDS}
-use Rattle.site_status.specs.declared.times.TimesTold.{TimesTold}
+use Rattle.site_status.specs.declared.times.TimesSnapshot.{TimesSnapshot}
 use Rattle.site_status.specs.Exposition.{heading_text, number_text, sample_text}
 
 -- a sum that isn't told beyond 2^64 - 1
@@ -35,7 +35,7 @@ abbrev pub last_text : List ℕ → ℕ → List ℕ
 last_text name all = bound_text name ++ codes "+Inf" ++ count_text all
 
 -- a histogram of times: its buckets, the sum of all times in seconds, and how many there are
-abbrev pub histogram_text : Family → TimesTold → List ℕ
+abbrev pub histogram_text : Family → TimesSnapshot → List ℕ
 histogram_text family told =
     heading_text family
     ++ buckets_text family.name.now BOUNDS told.counts.items 0

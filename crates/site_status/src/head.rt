@@ -1,8 +1,8 @@
 //! The head of a request (RFC 9112, sections 2 to 5), as far as it is read: its method and its target.
 ghost use Rattle.std.specs.Prelude.{◌≡◌, ◌≤◌, ◌<◌, List, ℕ, length};
 ghost use Rattle.httparse.specs.Grammar.{HasNoRequest, NeverHasRequest, ReadsRequest, RequestHead, print_request};
-ghost use Rattle.site_status.specs.Head.{IfWhole, IsWhole, IsHeadOf};
-ghost use Rattle.site_status.specs.declared.head.Head.TheVariants.{Begun, Malformed};
+ghost use Rattle.site_status.specs.Head.{IfWhole, IsWhole, IsHeadOf, IsPartOfHead, IsPastLimits};
+ghost use Rattle.site_status.specs.declared.head.Head.TheVariants.{Begun, TooLong, Malformed};
 
 use httparse::spans::{EMPTY_HEADER_SPAN, parse_request};
 use httparse::{Error, Status};
@@ -34,6 +34,8 @@ pub fn read_head(bytes: &[u8]) -> Head<'_>
         → IsWhole result }
     ensures begun { result ≡ Begun → HasNoRequest bytes.now }
     ensures short { result ≡ Begun → length bytes.now < HEAD_LIMIT }
+    ensures part { length bytes.now < HEAD_LIMIT → IsPartOfHead bytes.now → result ≡ Begun }
+    ensures long { result ≡ TooLong → IsPastLimits bytes.now }
     ensures malformed { result ≡ Malformed → NeverHasRequest bytes.now }
 {
     let mut fields = [EMPTY_HEADER_SPAN; FIELD_LIMIT];

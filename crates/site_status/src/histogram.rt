@@ -3,7 +3,7 @@ ghost use Rattle.std.specs.Prelude.{◌≡◌, ◌++◌, OnOk};
 ghost use Rattle.site_status.specs.Histogram.{all_of, bound_text, buckets_text, count_text, histogram_text, last_text};
 
 use crate::exposition::{Exposition, Family, Number, put_number};
-use crate::times::{BOUNDS, TimesTold};
+use crate::times::{BOUNDS, TimesSnapshot};
 use itoa::Buffer;
 use std::alloc::AllocError;
 
@@ -72,7 +72,7 @@ fn put_last(out: &mut Vec<u8>, name: &str, all: u64) -> Result<(), AllocError>
 
 impl Exposition {
     /// A histogram of times, in seconds.
-    pub fn histogram(&mut self, family: &Family<'_>, told: &TimesTold) -> Result<(), AllocError>
+    pub fn histogram(&mut self, family: &Family<'_>, told: &TimesSnapshot) -> Result<(), AllocError>
         ensures { OnOk result
             (self.new.text.items ≡ self.old.text.items ++ histogram_text family.now told.now) }
     {

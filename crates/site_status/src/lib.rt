@@ -7,6 +7,7 @@ mod counts;
 mod exposition;
 mod head;
 mod histogram;
+mod names;
 mod pages;
 mod response;
 #[cfg(test)]
@@ -14,9 +15,10 @@ mod tests;
 mod times;
 
 pub use codes::{CODE_LIMIT, CodeCounts};
-pub use counts::Count;
+pub use counts::{Counter, Gauge};
 pub use exposition::{Exposition, Family, Kind, Label, Number};
 pub use head::{FIELD_LIMIT, HEAD_LIMIT, Head, read_head};
-pub use pages::{Page, page_of};
-pub use response::{Status, put_response};
-pub use times::{BOUNDS, Times, TimesTold, bucket_of};
+pub use names::{NAME_LIMIT, name_of};
+pub use pages::{Page, page_of, query_of};
+pub use response::{Media, Status, put_response};
+pub use times::{BOUNDS, Times, TimesSnapshot, bucket_of};

@@ -1,7 +1,8 @@
 //! What no clause says: texts as a reader of the format and a client see them, and calls that take memory.
 use crate::{
     BOUNDS, CODE_LIMIT, CodeCounts, Exposition, FIELD_LIMIT, Family, HEAD_LIMIT, Head, Kind, Label,
-    Number, Page, Status, Times, bucket_of, page_of, put_response, read_head,
+    Media, NAME_LIMIT, Number, Page, Status, Times, bucket_of, name_of, page_of, put_response,
+    read_head,
 };
 use std::test::Fail;
 
@@ -45,7 +46,7 @@ fn times_fall_into_buckets(rt: HostRuntime) -> Result<(), Fail> {
     for nanos in [1, 1_000, 1_001, 1_000_000_000, 1_000_000_001] {
         times.add(nanos);
     }
-    let told = times.tell(alloc)?;
+    let told = times.snapshot(alloc)?;
     assert_eq!(rt;
         told.counts.as_slice(),
         [2, 1, 0, 0, 0, 0, 0, 0, 0, 0, 0, 0, 0, 0, 0, 0, 0, 0, 1, 1].as_slice()
@@ -112,15 +113,25 @@ fn targets_name_pages(rt: HostRuntime) {
     assert_eq!(rt; page_of(b"/metrics?a=b?c"), Some(Page::Metrics));
     assert_eq!(rt; page_of(b"/metrics/"), None);
     assert_eq!(rt; page_of(b"?/metrics"), None);
+    assert_eq!(rt;
+        page_of(b"/sessions/a%3Bb/c?d"),
+        Some(Page::Session(b"a%3Bb/c"))
+    );
+    assert_eq!(rt; page_of(b"/subscribers/1"), Some(Page::Subscriber(b"1")));
+    assert_eq!(rt;
+        page_of(b"/addresses/10.0.0.1"),
+        Some(Page::Address(b"10.0.0.1"))
+    );
+    assert_eq!(rt; page_of(b"/gateways/g"), Some(Page::Gateway(b"g")));
     assert_eq!(rt; BOUNDS.len(), bucket_of(1_000_000_001));
 }
 
 #[test]
 fn responses_end_connections(rt: HostRuntime) -> Result<(), Fail> {
     let mut out = Vec::new(rt.alloc());
-    put_response(&mut out, Status::MethodNotAllowed, b"GET\n")?;
+    put_response(&mut out, Status::MethodNotAllowed, Media::Text, b"GET\n")?;
     let text =
-        b"HTTP/1.1 405 Method Not Allowed\r\nContent-Type: text/plain; version=0.0.4; charset=utf-8\r\nAllow: GET\r\nConnection: close\r\nContent-Length: 4\r\n\r\nGET\n";
+        b"HTTP/1.1 405 Method Not Allowed\r\nAllow: GET\r\nContent-Security-Policy: default-src 'self'\r\nX-Content-Type-Options: nosniff\r\nContent-Type: text/plain; version=0.0.4; charset=utf-8\r\nConnection: close\r\nContent-Length: 4\r\n\r\nGET\n";
     assert_eq!(rt; out.as_slice(), text.as_slice());
     Ok(())
 }
@@ -142,5 +153,20 @@ fn codes_are_counted_apart(rt: HostRuntime) -> Result<(), Fail> {
     assert_eq!(rt; codes.at(CODE_LIMIT - 1), Some((29, 1)));
     assert_eq!(rt; codes.at(CODE_LIMIT), None);
     assert_eq!(rt; codes.others(), 34);
+    Ok(())
+}
+
+#[test]
+fn names_have_escapes_and_a_limit(rt: HostRuntime) -> Result<(), Fail> {
+    let alloc = rt.alloc();
+    let name = name_of(alloc, b"a%3Bb%2fc%zz")?.expect(&rt, "a name");
+    assert_eq!(rt; name.as_slice(), b"a;b/c%zz".as_slice());
+    let mut long = Vec::new(alloc);
+    for _ in 0..NAME_LIMIT {
+        long.extend_from_slice(b"%41")?;
+    }
+    assert!(rt; name_of(alloc, long.as_slice())?.is_some());
+    long.push(b'a')?;
+    assert!(rt; name_of(alloc, long.as_slice())?.is_none());
     Ok(())
 }

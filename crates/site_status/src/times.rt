@@ -34,12 +34,13 @@ pub const BOUNDS: [u64; BOUND_COUNT] = [
 pub fn bucket_of(nanos: u64) -> usize
     ensures { result ≡ count_by (λ bound. nat_lt bound nanos) BOUNDS }
 {
-    BOUNDS.iter().filter(|bound| **bound < nanos).count()
+    BOUNDS.partition_point(|bound| *bound < nanos)
 }
 
-/// What was counted of each bucket, the last of which is above all bounds, and the sum of all times in nanoseconds.
+/// A snapshot of a histogram: what was counted of each bucket, the last of which is above all bounds, and the sum of all times in
+/// nanoseconds.
 #[derive(Drop)]
-pub struct TimesTold {
+pub struct TimesSnapshot {
     pub counts: Vec<u64>,
     pub nanos: u64,
 }
@@ -73,12 +74,12 @@ impl Times {
     }
 
     /// What was counted so far. Each number is read at its own moment.
-    pub fn tell(&self, alloc: Global) -> Result<TimesTold, AllocError> {
+    pub fn snapshot(&self, alloc: Global) -> Result<TimesSnapshot, AllocError> {
         let nanos = self.nanos.load(Ordering::SeqCst);
         let mut counts = Vec::with_capacity(alloc, self.counts.len())?;
         for count in &self.counts {
             counts.push(count.load(Ordering::SeqCst))?;
         }
-        Ok(TimesTold { counts, nanos })
+        Ok(TimesSnapshot { counts, nanos })
     }
 }

@@ -1,9 +1,10 @@
 //! What the gateway of a session is still to be told, and its push, by rules that are kept.
-ghost use Rattle.std.specs.Prelude.{◌≡◌, Some, IfOk, IfSome, OnOk, map, option_map};
+ghost use Rattle.std.specs.Prelude.{◌≡◌, true, Some, IfOk, IfSome, OnOk, map, option_map};
 ghost use Rattle.std.specs.Option.{option_copied};
 ghost use Rattle.ranked.specs.Sets.{Distinct};
-ghost use Rattle.pcrf_model.specs.Differences.{rule_name_of};
+ghost use Rattle.pcrf_model.specs.Differences.{difference, rule_name_of, told_rules_of};
 ghost use Rattle.pcrf_model.specs.Rules.{rules};
+ghost use Rattle.pcrf_model.specs.Serving.{empty_delta};
 ghost use Rattle.pcrf_model.specs.Sessions.{gx};
 ghost use Rattle.pcrf_model.specs.Views.{view};
 ghost use Rattle.reply_values.specs.Replies.{push_view};
@@ -16,12 +17,15 @@ ghost use Rattle.waiting_pushes.specs.Due.{push_if_due};
 use gx_records::GxRec;
 use kept_rules::Rules;
 use op_tables::Tables;
-use pcrf_values::{Delta, GxSid};
+use pcrf_values::{Delta, GxSid, Rule};
 use reply_values::{FirstEntries, PushOut};
-use rule_delta::{Asked, difference, is_asked, is_empty, push_to, told_rules_of};
+use rule_delta::{Asked, difference, is_asked, is_empty, is_told_all, push_to, told_rules_of};
 use session_index::Index;
 use site_join::State;
 use std::alloc::{AllocError, Global};
+
+/// So many rules at most are compared with all that was told.
+const FEW_RULES: usize = 8;
 
 /// What the gateway of a session is still to be told, as `untold_difference` gives it, by an index that covers the state and by the rules
 /// that are kept: those of the session are kept then. A refusal leaves what is kept so far.
@@ -45,8 +49,26 @@ pub fn untold_difference_by(
     let Some(list) = lists.get(session) else {
         unreachable!()
     };
+    if is_told(state, session, list) {
+        return Ok(Delta::of(Vec::new(alloc), Vec::new(alloc)));
+    }
     let told = told_rules_of(alloc, state, session)?;
     difference(alloc, &told, list)
+}
+
+/// Whether the gateway of a session was told just these rules; false where they are many, each of which would be compared with all
+/// that was told.
+fn is_told(state: &State, session: &GxSid, rules: &[Rule]) -> bool
+    ensures { result ≡ true → difference
+        (told_rules_of (view state.now.facts) (gx session.now)) rules.now ≡ empty_delta }
+{
+    if rules.len() > FEW_RULES {
+        return false;
+    }
+    match state.gx(session) {
+        Some(known) => is_told_all(known, rules),
+        None => false,
+    }
 }
 
 /// The push of a session, if it is one of those that are asked for and is due.

@@ -4,18 +4,18 @@ use crate::avps::first_avp;
 use crate::kinds::{KIND_COUNT, MessageKind};
 use dia_base::codes::avps::{EXPERIMENTAL_RESULT, EXPERIMENTAL_RESULT_CODE, RESULT_CODE};
 use dia_codec::{HEADER_BYTES, Header, read_header};
-use site_status::{CodeCounts, Count};
+use site_status::{CodeCounts, Counter};
 use std::alloc::{AllocError, Global};
 
 /// What is counted of the messages of one kind.
 #[derive(Drop)]
 pub struct KindCounts {
     /// Requests that came.
-    pub requests_taken: Count,
+    pub requests_taken: Counter,
     /// Requests that went out.
-    pub requests_sent: Count,
+    pub requests_sent: Counter,
     /// Answers that came.
-    pub answers_taken: Count,
+    pub answers_taken: Counter,
     /// Answers that went out, by their codes, 0 where one has none.
     pub answers_sent: CodeCounts,
 }
@@ -69,9 +69,9 @@ fn length_of(head: &[u8; HEADER_BYTES]) -> usize {
 fn no_counts(alloc: Global) -> Result<KindCounts, AllocError> {
     let answers_sent = CodeCounts::start(alloc)?;
     Ok(KindCounts {
-        requests_taken: Count::start(),
-        requests_sent: Count::start(),
-        answers_taken: Count::start(),
+        requests_taken: Counter::start(),
+        requests_sent: Counter::start(),
+        answers_taken: Counter::start(),
         answers_sent,
     })
 }

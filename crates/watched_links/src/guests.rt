@@ -13,7 +13,9 @@ struct Guest {
     host: DiameterIdentity,
     /// How many connections it has.
     connections: u32,
-    /// That something may wait for it was told since it went.
+    /// As it was looked at last, something may have waited for it that no other site tells it.
+    is_noticed: bool,
+    /// That was told.
     is_told: bool,
     /// Something may wait for it.
     is_waiting: bool,
@@ -21,7 +23,7 @@ struct Guest {
 
 /// What is known of a host that came.
 #[derive(Drop)]
-pub struct GuestSeen {
+pub struct HostStatus {
     pub host: DiameterIdentity,
     /// How many connections it has.
     pub connections: u32,
@@ -66,6 +68,7 @@ impl Guests {
         let number = number_of(all.as_slice(), host);
         if let Some(guest) = all.get_mut(number) {
             guest.connections = guest.connections.saturating_add(1);
+            guest.is_noticed = false;
             guest.is_told = false;
             return Some(number);
         }
@@ -75,6 +78,7 @@ impl Guests {
         let guest = Guest {
             host: host.try_copy().ok()?,
             connections: 1,
+            is_noticed: false,
             is_told: false,
             is_waiting: false,
         };
@@ -108,10 +112,10 @@ impl Guests {
     }
 
     /// What is known of the host of a number; none where there is none, or memory ran out.
-    pub fn seen(&self, rt: &impl Wait, number: usize) -> Option<GuestSeen> {
+    pub fn seen(&self, rt: &impl Wait, number: usize) -> Option<HostStatus> {
         let all = self.all.lock(rt);
         let guest = all.get(number)?;
-        Some(GuestSeen {
+        Some(HostStatus {
             host: guest.host.try_copy().ok()?,
             connections: guest.connections,
             is_waiting: guest.is_waiting,
@@ -126,11 +130,15 @@ impl Guests {
         }
     }
 
-    /// It was told that something may wait for that host.
-    pub fn tell(&self, rt: &impl Wait, number: usize) {
+    /// A host that is away was looked at: whether something may wait for it that no other site tells it. Answers whether that is to be told,
+    /// which it is where two looks behind each other saw it: a host that goes over to another site is there by the second.
+    pub fn notice(&self, rt: &impl Wait, number: usize, is_missed: bool) -> bool {
         let mut all = self.all.lock(rt);
-        if let Some(guest) = all.get_mut(number) {
-            guest.is_told = true;
-        }
+        let Some(guest) = all.get_mut(number) else {
+            return false;
+        };
+        guest.is_told = is_missed && guest.is_noticed;
+        guest.is_noticed = is_missed;
+        guest.is_told
     }
 }

@@ -21,7 +21,7 @@ pub use avps::{AvpBytes, first_avp};
 pub use cause::Cause;
 pub use counted::{KindCounts, MessageCounts};
 pub use desk::{Desk, desks};
-pub use guests::{GuestSeen, Guests};
+pub use guests::{Guests, HostStatus};
 pub use hall::{Arrived, Hall};
 pub use kinds::{KIND_COUNT, KINDS, MessageKind};
 pub use own::Own;

@@ -1,5 +1,6 @@
 //! The events that the lines of a script make in a world, where each message of a line is one request.
 use dia_codec::HEADER_BYTES;
+use pcrf_values::{GxSid, SessionId};
 use pcrf_world::WorldEvent;
 use site_core::{Asked, Request, read_request};
 use std::alloc::Global;
@@ -26,6 +27,12 @@ fn number(word: Option<&str>) -> usize {
     word.unwrap_or("").parse::<usize>().unwrap_or(usize::MAX)
 }
 
+/// The Session-Id of a gateway's session that has the letters of a word.
+pub fn session_of(alloc: Global, word: &str) -> Option<GxSid> {
+    let id = SessionId::read(alloc, word.as_bytes()).ok()??;
+    Some(GxSid::of(id))
+}
+
 /// The event of a line, if it makes one.
 pub fn event_of(alloc: Global, line: &str) -> Option<WorldEvent> {
     let mut words = line.split(' ');
@@ -36,6 +43,7 @@ pub fn event_of(alloc: Global, line: &str) -> Option<WorldEvent> {
         "msg" => served(alloc, one, last.unwrap_or("")),
         "push" => Some(WorldEvent::Push(one, None)),
         "abort" => Some(WorldEvent::Abort(one, None)),
+        "retell" => Some(WorldEvent::Retell(one, session_of(alloc, last.unwrap_or(""))?)),
         "letter" => Some(WorldEvent::Letter(one, number(last))),
         "merge" => Some(WorldEvent::Merge(one, number(last))),
         "ack" => Some(WorldEvent::Ack(one, number(last))),

@@ -8,4 +8,4 @@ mod events;
 
 pub use answers::{Answer, follows, gives, gives_all, is_short, replies, taken};
 pub use equality::{same_but, same_sites, same_worlds};
-pub use events::{event_of, events_of, request_of};
+pub use events::{event_of, events_of, request_of, session_of};

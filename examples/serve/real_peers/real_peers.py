@@ -4,7 +4,8 @@ them, freeDiameter as a relay, and Kamailio's cdp as a P-CSCF that describes cal
 nothing is to go wrong for a while, then each peer is killed twice, and a site once. What each stack tells that sounds like a complaint is
 printed, and how soon each was served again.
 
-usage: real_peers.py PROGRAM [SECONDS]   SECONDS are the calm ones, 600 if they aren't given; the faults take some five minutes more.
+usage: real_peers.py PROGRAM [SECONDS [WORD..]]   SECONDS are the calm ones, 600 if they aren't given; the faults take some five minutes
+    more. WORDs are for both sites, as `--forms standard`.
     With openssl and Debian's erlang-base, erlang-diameter, freediameterd, freediameter-extensions, kamailio and kamailio-ims-modules; the
     gate doesn't run it. With the environment's REAL_PEERS_LOGS, a folder that is there, all logs are left in it.
 """
@@ -206,8 +207,8 @@ class Gateway(threading.Thread):
 class Network:
     """Two sites with their gateways, and the six peers."""
 
-    def __init__(self, program, folder):
-        self.program, self.folder, self.ports = program, folder, [free_ports(2), free_ports(2)]
+    def __init__(self, program, folder, words):
+        self.program, self.folder, self.words, self.ports = program, folder, words, [free_ports(2), free_ports(2)]
         self.told, self.sites, self.gateways, self.peers = [[], []], [None, None], [], []
         secret = folder / "secret"
         secret.write_text("5a" * 40 + "\n")
@@ -215,7 +216,7 @@ class Network:
 
     def start_site(self, number):
         """Starts a site."""
-        self.sites[number] = Staying(self.program, 16, "--secret", self.folder / "secret", watchdog=WATCHDOGS[number], number=number,
+        self.sites[number] = Staying(self.program, 16, "--secret", self.folder / "secret", *self.words, watchdog=WATCHDOGS[number], number=number,
                                      ports=self.ports[number], epoch=("--epoch-file", self.folder / f"epoch{number}"),
                                      peers=[self.ports[1 - number][1]])
 
@@ -362,10 +363,10 @@ def prepare(folder):
         subprocess.run(words, check=True, stderr=subprocess.DEVNULL)
 
 
-def run(program, folder, seconds):
+def run(program, folder, seconds, words):
     """The calm, and the faults."""
     prepare(folder)
-    network = Network(program, folder)
+    network = Network(program, folder, words)
     try:
         network.start()
         print(f"all are connected and served; {seconds} calm seconds begin")
@@ -383,15 +384,15 @@ def run(program, folder, seconds):
         network.stop()
 
 
-def main(program, seconds="600"):
+def main(program, seconds="600", *words):
     """Runs all in a folder of its own."""
     with tempfile.TemporaryDirectory() as folder:
         try:
-            run(program, pathlib.Path(os.environ.get("REAL_PEERS_LOGS", folder)), int(seconds))
+            run(program, pathlib.Path(os.environ.get("REAL_PEERS_LOGS", folder)), int(seconds), words)
         except (OSError, RuntimeError, TimeoutError, subprocess.SubprocessError) as fault:
             sys.exit(f"real_peers: {type(fault).__name__}: {fault}")
 
 
-if len(sys.argv) not in (2, 3):
+if len(sys.argv) < 2:
     sys.exit(__doc__)
 main(*sys.argv[1:])

@@ -86,7 +86,7 @@ pub fn tell_exchanged<G: Log>(
 }
 
 /// A gateway didn't do what a push asks for. The site counts the rules as told all the same.
-pub fn tell_refused_push<G: Log>(log: &G, session: &GxSid, code: Option<u32>) {
+fn tell_refused_push<G: Log>(log: &G, session: &GxSid, code: Option<u32>) {
     let session = Printable(session.as_slice());
     match code {
         Some(code) => {

@@ -3,7 +3,7 @@ use crate::staying::journal::{tell_crowded, tell_no_memory, tell_unaccepted, tel
 use crate::staying::machine::Machine;
 use crate::staying::sockets::ready;
 use log::Log;
-use site_status::Count;
+use site_status::Counter;
 use std::net::{SocketAddr, TcpListener, TcpStream};
 use std::time::{Duration, Instant};
 use std::{io, thread};
@@ -21,7 +21,7 @@ pub fn accept_all<M: Machine, G: Log>(
     hall: &Hall,
     seats: usize,
     listener: &TcpListener,
-    refused: &Count,
+    refused: &Counter,
     log: &G,
 ) {
     let mut crowded = Quiet::of(QUIET_SECONDS);
@@ -61,7 +61,7 @@ fn admit<M: Machine, G: Log>(
     seats: usize,
     stream: TcpStream,
     address: SocketAddr,
-    refused: &Count,
+    refused: &Counter,
     crowded: &mut Quiet,
     log: &G,
 ) {

@@ -1,20 +1,17 @@
 //! Answers that are kept for requests which are repeated.
+use crate::staying::retelling::Glance;
 use dia_codec::{HEADER_BYTES, Header, read_header};
 use kept_messages::{KeptMessage, KeptMessages, with_hop_id};
 use pcrf_serve::Repeats;
 use std::alloc::{AllocError, Global};
 use std::sync::{Mutex, Wait};
 use std::time::Clock;
-use watched_links::first_avp;
 
 /// How much room answers have: 64 MiB.
 const ROOM: u32 = 1 << 26;
 
 /// How many seconds they are kept.
 const KEPT_SECONDS: u64 = 240;
-
-/// The AVP Origin-Host (RFC 6733, 6.3).
-const ORIGIN_HOST: u32 = 264;
 
 /// The application of the base protocol, whose messages make no event that counts (RFC 6733, 2.4).
 const BASE: u32 = 0;
@@ -24,19 +21,6 @@ const BASE: u32 = 0;
 pub struct KeptAnswers<'r, C> {
     clock: &'r C,
     kept: Mutex<KeptMessages>,
-}
-
-/// The value of the first Origin-Host of a message.
-fn origin_host(message: &[u8]) -> Option<&[u8]> {
-    let mut rest = message.get(HEADER_BYTES..)?;
-    for _ in 0..message.len() {
-        let avp = first_avp(rest)?;
-        if !avp.has_vendor && avp.code == ORIGIN_HOST {
-            return Some(avp.value);
-        }
-        rest = avp.rest;
-    }
-    None
 }
 
 impl<'r, C: Clock> KeptAnswers<'r, C> {
@@ -61,7 +45,7 @@ fn kept_answer(alloc: Global, at: u64, request: &[u8], answer: &[u8]) -> Option<
     if header.application == BASE {
         return None;
     }
-    let name = Vec::from_slice(alloc, origin_host(request)?).ok()?;
+    let name = Vec::from_slice(alloc, Glance::of(request).host?).ok()?;
     let bytes = Vec::from_slice(alloc, answer).ok()?;
     KeptMessage::of(header.end_id, name, at, bytes)
 }
@@ -74,7 +58,7 @@ impl<C: Clock> Repeats for KeptAnswers<'_, C> {
         header: &Header,
         request: &[u8],
     ) -> Result<Option<Vec<u8>>, AllocError> {
-        let (Some(host), Some(now)) = (origin_host(request), self.now()) else {
+        let (Some(host), Some(now)) = (Glance::of(request).host, self.now()) else {
             return Ok(None);
         };
         let kept = self.kept.lock(rt);

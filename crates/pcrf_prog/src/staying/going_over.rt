@@ -23,8 +23,9 @@ use watched_links::Quiet;
 /// How many milliseconds lie between two looks at which hosts went over.
 const LOOK_MILLIS: u64 = 250;
 
-/// How many milliseconds lie between two pieces of a pass over all sessions.
-const PIECE_MILLIS: u64 = 10;
+/// How many microseconds lie at least between two sessions that are taken over: the site's lock isn't fair, and who gives it back and
+/// takes it at once has others wait.
+const PAUSE_MICROS: u64 = 200;
 
 /// A pass over all sessions that is made since letters came, while no other host went over, takes this part of the time at most, and there is
 /// one a second.
@@ -147,7 +148,8 @@ fn next_piece<'s, 'r, S: SharedSite, M: Machine, G: Log>(
     next_updates(all.server.alloc, &known, sessions)
 }
 
-/// Takes over these sessions, and tells their gateways all that is due then: how many were taken over.
+/// Takes over these sessions, with a pause behind each for other messages, and tells their gateways all that is due then: how many were
+/// taken over.
 fn take_over_each<'s, 'r, S: SharedSite, M: Machine, G: Log>(
     rt: &'s M,
     all: &'s Shared<'s, 'r, S, M, G>,
@@ -162,12 +164,13 @@ fn take_over_each<'s, 'r, S: SharedSite, M: Machine, G: Log>(
             GoneOver::Refused | GoneOver::Unreached => {}
             GoneOver::Full => break,
         }
+        thread::sleep(rt, Duration::from_micros(PAUSE_MICROS));
     }
     gateways.push_all(rt, alloc, site, seat)?;
     Ok(taken)
 }
 
-/// Takes over those of these sessions that are to be, in pieces, between which other messages are served: how many were.
+/// Takes over those of these sessions that are to be, in pieces: how many were.
 fn take_over_among<'s, 'r, S: SharedSite, M: Machine, G: Log>(
     rt: &'s M,
     all: &'s Shared<'s, 'r, S, M, G>,
@@ -182,7 +185,6 @@ fn take_over_among<'s, 'r, S: SharedSite, M: Machine, G: Log>(
         if updates.len() < PIECE {
             break;
         }
-        thread::sleep(rt, Duration::from_millis(PIECE_MILLIS));
     }
     Ok(taken)
 }

@@ -1,20 +1,26 @@
 //! What an operator is told of a server that stays: a line for each thing, if anybody listens.
-use crate::socket_server::{Ending, tell_exchanged, tell_refused_push, tell_unreached};
+use crate::socket_server::{Ending, tell_exchanged, tell_unreached};
 use crate::staying::chairs::Chair;
 use crate::staying::keeping::Unbegun;
+use crate::staying::retelling::Losses;
 use crate::staying::status::SiteFigures;
 use dia_base::Origin;
 use dia_base::codes::results::SUCCESS;
 use log::{Log, error, info, warn};
+use lost_rules::Refused;
 use pcrf_serve::{LinkEnd, Observer};
 use pcrf_values::{DiameterIdentity, GxSid};
 use std::io;
 use std::net::SocketAddr;
 use std::sync::Wait;
+use std::time::Clock;
 use watched_links::{Cause, Guests, Printable, SentPushes};
 
 /// What stands before each line as its target.
 const TARGET: &str = "pcrf";
+
+/// What stands for the names of rules whose push isn't kept any more.
+const UNKNOWN_RULES: &str = "rules that aren't known any more";
 
 /// Tells what happens at connections, and notes whose capabilities exchange was accepted.
 #[derive(Drop)]
@@ -25,9 +31,10 @@ pub struct Journal<'r, M, G> {
     pub(crate) sent: &'r SentPushes,
     pub(crate) guests: &'r Guests,
     pub(crate) figures: &'r SiteFigures,
+    pub(crate) losses: &'r Losses,
 }
 
-impl<M: Wait, G: Log> Observer for Journal<'_, M, G> {
+impl<M: Wait + Clock, G: Log> Observer for Journal<'_, M, G> {
     fn exchanged(&self, connection: usize, peer: &Origin, code: u32) {
         if let Some(chair) = self.chairs.get(connection) {
             chair.exchanged(code == SUCCESS);
@@ -43,10 +50,15 @@ impl<M: Wait, G: Log> Observer for Journal<'_, M, G> {
 
     fn push_refused(&self, hop_id: u32, session: &GxSid, code: Option<u32>) {
         self.figures.refusals.add(code.unwrap_or(0));
+        let refused = self.losses.refuse(self.rt, session);
         match self.sent.names(self.rt, hop_id) {
-            Some(names) => tell_refused_rules(self.log, session, names.as_str(), code),
-            None => tell_refused_push(self.log, session, code),
+            Some(names) => tell_refused_rules(self.log, session, names.as_str(), code, refused),
+            None => tell_refused_rules(self.log, session, UNKNOWN_RULES, code, refused),
         }
+    }
+
+    fn push_accepted(&self, session: &GxSid) {
+        self.losses.accept(self.rt, session);
     }
 
     fn unreached(&self, host: &DiameterIdentity) {
@@ -55,17 +67,39 @@ impl<M: Wait, G: Log> Observer for Journal<'_, M, G> {
     }
 }
 
-/// A gateway didn't do what a push asks for of these rules. The site counts them as told all the same.
-fn tell_refused_rules<G: Log>(log: &G, session: &GxSid, names: &str, code: Option<u32>) {
+/// What comes of a push that was refused.
+fn outcome_of(refused: Refused) -> &'static str {
+    match refused {
+        Refused::ToldAgain => "all rules of the session are told again soon",
+        Refused::GivenUp =>
+            "they were told again: these rules stand as told until the session's rules change",
+        Refused::Stands => "these rules stand as told all the same",
+    }
+}
+
+/// A gateway didn't do what a push asks for of these rules.
+fn tell_refused_rules<G: Log>(
+    log: &G,
+    session: &GxSid,
+    names: &str,
+    code: Option<u32>,
+    refused: Refused,
+) {
     let session = Printable(session.as_slice());
+    let outcome = outcome_of(refused);
     match code {
         Some(code) => {
-            warn!(log; target: TARGET, "the re-authorisation of {session} with {names} was answered by {code}; these rules stand as told all the same");
+            warn!(log; target: TARGET, "the re-authorisation of {session} with {names} was answered by {code}; {outcome}");
         }
         None => {
-            warn!(log; target: TARGET, "the re-authorisation of {session} with {names} was answered without a code; these rules stand as told all the same");
+            warn!(log; target: TARGET, "the re-authorisation of {session} with {names} was answered without a code; {outcome}");
         }
     }
+}
+
+/// Sessions are told again whose gateways refused something of them.
+pub fn tell_told_again<G: Log>(log: &G, count: u64) {
+    warn!(log; target: TARGET, "{count} sessions are told all their rules again, of which their gateways refused some");
 }
 
 /// Whether a connection that ended so was lost.
@@ -143,6 +177,11 @@ pub fn tell_not_begun<G: Log>(log: &G, made: u64, why: Unbegun) {
 /// The next epoch will never be begun.
 pub fn tell_unkept<G: Log>(log: &G) {
     warn!(log; target: TARGET, "no thread could be started for the epochs: the site stays in this one");
+}
+
+/// Nobody counts sessions.
+pub fn tell_uncounted<G: Log>(log: &G) {
+    warn!(log; target: TARGET, "no thread could be started that counts sessions: their figures are missing");
 }
 
 /// Sessions of gateways that went over to this site were taken over.

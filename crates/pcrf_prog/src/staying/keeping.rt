@@ -1,5 +1,6 @@
 //! What is looked at once a second at a site that stays: it begins its next epoch in place, where the log of its own operations has become too
-//! long, so that doesn't grow for ever; and it is told which hosts are away while something may wait for them.
+//! long, so that doesn't grow for ever; it is told which hosts are away while something may wait for them; and sessions are told again whose
+//! gateways refused a push.
 ghost use Rattle.std.specs.Prelude.{◌≡◌, []};
 
 use crate::kept_files::FileFault;
@@ -7,11 +8,15 @@ use crate::socket_server::SiteEpoch;
 use crate::staying::journal::{tell_begun_anew, tell_missed, tell_not_begun};
 use crate::staying::machine::Machine;
 use crate::staying::own_log::log_length;
+use crate::staying::retelling::tell_refused_again;
 use crate::staying::working::Shared;
 use link_ends::SharedSite;
 use living_site::{BeginFault, Keeper, LivingSite, Roll};
 use log::Log;
 use metered_site::MeteredSite;
+use pcrf_values::DiameterIdentity;
+use pcrf_values::limits::SITE_LIMIT;
+use peer_lines::Hearing;
 use std::alloc::Global;
 use std::sync::atomic::Ordering;
 use std::thread;
@@ -129,7 +134,25 @@ fn keep_log_short<'s, 'r, S: SharedSite, M: Machine, G: Log, K: Housekeeper<S>>(
     }
 }
 
-/// Tells, once for each time that it went, which gateways' host is away while a push may wait for it.
+/// Whether a host left all other sites: each said that it doesn't reach the host, or has had no link for long. One whose link is new has yet
+/// to say whom it reaches.
+fn is_left_elsewhere<'s, 'r, S: SharedSite, M: Machine, G: Log>(
+    rt: &'s M,
+    all: &'s Shared<'s, 'r, S, M, G>,
+    host: &DiameterIdentity,
+) -> bool {
+    let own = all.exchange.place.number;
+    let moment = Hearing::moment(rt, all.exchange.patience);
+    let known = all.exchange.hosts.lock(rt);
+    for site in 0..SITE_LIMIT {
+        if site != own && !known.is_left(host, site, moment) {
+            return false;
+        }
+    }
+    true
+}
+
+/// Tells, once for each time that it went, which gateways' host is away, here and at the other sites, while a push may wait for it.
 fn tell_all_missed<'s, 'r, S: SharedSite, M: Machine, G: Log>(
     rt: &'s M,
     all: &'s Shared<'s, 'r, S, M, G>,
@@ -142,9 +165,9 @@ fn tell_all_missed<'s, 'r, S: SharedSite, M: Machine, G: Log>(
         let Some((number, host)) = guests.missed(rt, from) else {
             break;
         };
-        if site.wants_push(rt, seat, &host) {
+        let is_missed = site.wants_push(rt, seat, &host) && is_left_elsewhere(rt, all, &host);
+        if guests.notice(rt, number, is_missed) {
             tell_missed(all.log, &host);
-            guests.tell(rt, number);
         }
         from = number.saturating_add(1);
     }
@@ -165,8 +188,8 @@ fn see_all_waiting<'s, 'r, S: SharedSite, M: Machine, G: Log>(
     }
 }
 
-/// Looks again and again how long the log is, and who is away, as long as the server runs: the site begins its next epoch behind so many
-/// operations.
+/// Looks again and again how long the log is, who is away, and which sessions are to be told again, as long as the server runs: the site
+/// begins its next epoch behind so many operations.
 pub fn keep_house<'s, 'r, S: SharedSite, M: Machine, G: Log, K: Housekeeper<S>>(
     rt: &'s M,
     all: &'s Shared<'s, 'r, S, M, G>,
@@ -180,6 +203,7 @@ pub fn keep_house<'s, 'r, S: SharedSite, M: Machine, G: Log, K: Housekeeper<S>>(
         thread::sleep(rt, Duration::from_secs(LOOK_SECONDS));
         tell_all_missed(rt, all, &mut seat);
         see_all_waiting(rt, all, &mut seat);
+        tell_refused_again(rt, all, &mut seat);
         keep_log_short(rt, all, &mut seat, limit, &mut keeper, &mut unbegun);
     }
 }

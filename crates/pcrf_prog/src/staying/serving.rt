@@ -9,13 +9,15 @@ use crate::staying::chairs::{Doors, chairs};
 use crate::staying::exchange::{Exchange, accept_links, dial_on, take_links};
 use crate::staying::going_over::look_for_moved;
 use crate::staying::journal::{
-    Journal, tell_no_start, tell_no_taking_over, tell_unkept, tell_unlinked_peer, tell_unstaffed,
+    Journal, tell_no_start, tell_no_taking_over, tell_uncounted, tell_unkept, tell_unlinked_peer,
+    tell_unstaffed,
 };
 use crate::staying::keeping::{EpochKeeper, Housekeeper, keep_house};
 use crate::staying::machine::Machine;
+use crate::staying::retelling::{Losses, Remembering};
 use crate::staying::showing::{Console, Input, Output, show_on};
 use crate::staying::sockets::{address_of, bind};
-use crate::staying::status::{ASKS, Figures, accept_asks, answer_asks};
+use crate::staying::status::{ASKS, Figures, Looked, accept_asks, answer_asks, count_sessions};
 use crate::staying::working::{Furniture, Shared, work};
 use dia_base::Identity;
 use gateway_links::first_end_id;
@@ -52,6 +54,8 @@ pub struct StaySettings<'a> {
     pub wait: u16,
     /// For how many seconds a peer site may have no link before the sessions of its gateways are taken over that are connected here.
     pub over: u16,
+    /// How many seconds behind a push that a gateway refused its session is told again.
+    pub again: u16,
     /// How many operations of its own it makes in an epoch at most before it begins the next.
     pub log_limit: u64,
     /// The file that says its epoch, if one does.
@@ -70,6 +74,7 @@ fn copied(identity: &Identity) -> Result<Identity, AllocError> {
         host: identity.host.try_copy()?,
         realm: identity.realm.try_copy()?,
         address: identity.address,
+        form: identity.form,
     })
 }
 
@@ -110,7 +115,13 @@ fn furnished<M: Machine, G: Log>(
         guests: Guests::start(alloc),
         beginnings: AtomicU64::new(0),
         asking: Hall::start(alloc, ASKS),
-        figures: Figures::start(rt, alloc, settings.addresses.peers.len())?,
+        losses: Losses::start(alloc, settings.again),
+        figures: Figures::start(
+            rt,
+            alloc,
+            settings.addresses.peers.len(),
+            settings.status.is_some(),
+        )?,
     })
 }
 
@@ -126,7 +137,7 @@ struct Sockets {
 }
 
 /// Seats of a server: of who serves, of who sends letters, of who asks for those how much there is, of who shows what the site holds, of
-/// who looks how long its log is, and of who takes over sessions.
+/// who looks how long its log is, of who takes over sessions, and of who tells sessions again before a request.
 #[derive(Drop)]
 struct Seats<S: Drop> {
     serving: Vec<S>,
@@ -135,6 +146,7 @@ struct Seats<S: Drop> {
     showing: Option<S>,
     keeping: Option<S>,
     going: Option<S>,
+    retelling: Option<S>,
 }
 
 impl<S: Drop> Seats<S> {
@@ -155,7 +167,7 @@ impl<S: Drop> Seats<S> {
 }
 
 /// How many seats there are beside those of connections and of peer sites.
-const OTHER_SEATS: usize = 3;
+const OTHER_SEATS: usize = 4;
 
 /// How many seats there are for each peer site.
 const SEATS_OF_A_PEER: usize = 3;
@@ -183,6 +195,7 @@ fn seated<S: SharedSite>(
         showing: None,
         keeping: None,
         going: None,
+        retelling: None,
     };
     for seat in all {
         let number = site.number_of(&seat);
@@ -194,8 +207,11 @@ fn seated<S: SharedSite>(
             seats.keeping = Some(seat);
         } else if number - connections == 2 {
             seats.going = Some(seat);
+        } else if number - connections == 3 {
+            seats.retelling = Some(seat);
         } else {
-            seats.give(seat, number - connections, &mut taking)?;
+            let number = (number - connections).saturating_sub(OTHER_SEATS);
+            seats.give(seat, number, &mut taking)?;
         }
     }
     Ok((seats, taking))
@@ -316,11 +332,11 @@ where
 }
 
 /// Starts who answers what is asked over HTTP.
-fn answer_all<'s, 'r, E, S: SharedSite + Sync + 's, M: Machine, G: Log + Sync>(
+fn answer_all<'s, 'r, E, S: Looked + Sync + 's, M: Machine, G: Log + Sync>(
     rt: &'s M,
     scope: &Scope<'s, E>,
     all: &'s Shared<'s, 'r, S, M, G>,
-    asking: &'s Option<TcpListener>,
+    asking: Option<&'s TcpListener>,
 )
 where
     S::Seat: Send,
@@ -334,6 +350,9 @@ where
         }
     }
     let _ = scope.spawn(move || accept_asks(rt, all, listener));
+    if scope.spawn(move || count_sessions(rt, all)).is_err() {
+        tell_uncounted(all.log);
+    }
 }
 
 /// Starts who has the site begin its next epoch.
@@ -417,7 +436,7 @@ fn stay<
     's,
     'r,
     E,
-    S: SharedSite + Sync + 's,
+    S: Looked + Sync + 's,
     M: Machine,
     G: Log + Sync,
     R: Input + 's,
@@ -442,8 +461,9 @@ where
         showing,
         keeping,
         going,
+        retelling: _,
     } = seats;
-    answer_all(rt, scope, all, &premises.sockets.asking);
+    answer_all(rt, scope, all, premises.sockets.asking.as_ref());
     show_all(rt, scope, all, showing, &premises.tables, console);
     keep_all(rt, scope, all, keeping, premises.log_limit, keeper);
     go_over_all(rt, scope, all, going);
@@ -465,13 +485,13 @@ struct Premises {
 }
 
 /// Serves with what all workers share.
-fn serve_shared<'s, 'r, S: SharedSite + Sync, M: Machine, G: Log + Sync, R: Input, W: Output, K>(
+fn serve_shared<'s, 'r, S: Looked + Sync, M: Machine, G: Log + Sync, R: Input, W: Output, K>(
     rt: &'r M,
     premises: &'r Premises,
     site: &'s S,
     gateways: &'s Gateways<Posting<'r, M>, Journal<'r, M, G>>,
     doors: &'s Doors<'r>,
-    repeats: &'s KeptAnswers<'r, M>,
+    repeats: &'s Remembering<'s, 'r, S, M>,
     board: &'s Board<S::Seat>,
     seats: Seats<S::Seat>,
     console: Console<R, W>,
@@ -505,7 +525,7 @@ where
 }
 
 /// Serves with all seats.
-fn serve_seated<'r, S: SharedSite + Sync, M: Machine, G: Log + Sync, R: Input, W: Output, K>(
+fn serve_seated<'r, S: Looked + Sync, M: Machine, G: Log + Sync, R: Input, W: Output, K>(
     rt: &'r M,
     premises: &'r Premises,
     site: &S,
@@ -520,7 +540,7 @@ where
 {
     let alloc = premises.furniture.alloc;
     let chairs = premises.furniture.chairs.as_slice();
-    let (seats, taking) = seated(alloc, site, all, chairs.len())?;
+    let (mut seats, taking) = seated(alloc, site, all, chairs.len())?;
     let board = Board::start(taking);
     let journal = Journal {
         rt,
@@ -529,9 +549,15 @@ where
         sent: &premises.furniture.sent,
         guests: &premises.furniture.guests,
         figures: &premises.furniture.figures.site,
+        losses: &premises.furniture.losses,
     };
     let gateways = Gateways::observed(alloc, journal);
-    let repeats = KeptAnswers::start(alloc, rt);
+    let repeats = Remembering {
+        kept: KeptAnswers::start(alloc, rt),
+        losses: &premises.furniture.losses,
+        site,
+        seat: Mutex::new(seats.retelling.take()),
+    };
     let doors = Doors { chairs };
     serve_shared(
         rt, premises, site, &gateways, &doors, &repeats, &board, seats, console, log, keeper,
@@ -558,7 +584,7 @@ fn serve_living<'r, L: Roll + Send + Sync, M: Machine, G: Log + Sync, R: Input, 
         return Err(ServerFault::NoMemory);
     };
     let keeper = EpochKeeper::starting(alloc, keeper, premises.exchange.place, epoch_file);
-    let metered = MeteredSite::of(site, rt, &premises.furniture.figures.calls);
+    let metered = MeteredSite::of(site, rt, &premises.furniture.figures.meters);
     let served = serve_seated(rt, premises, &metered, seats, console, log, keeper);
     drop(metered);
     Ok(served?)

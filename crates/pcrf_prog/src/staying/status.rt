@@ -2,11 +2,20 @@
 //! connection.
 
 mod accepting;
+mod answered;
 mod answering;
+mod counting;
 mod families;
 mod figures;
+mod history;
+mod letters;
+mod looked;
+mod looking;
+mod sessions;
 mod telling;
 
 pub use accepting::accept_asks;
 pub use answering::{ASKS, answer_asks};
+pub use counting::count_sessions;
 pub use figures::{ConnectionFigures, Figures, SenderFigures, SiteFigures};
+pub use looked::Looked;

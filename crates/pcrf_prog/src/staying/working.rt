@@ -1,10 +1,10 @@
 //! The worker of a seat: it serves one connection behind the other.
 use crate::socket_server::tell_connected;
-use crate::staying::answers::KeptAnswers;
 use crate::staying::chairs::{Chair, Doors};
 use crate::staying::exchange::Exchange;
 use crate::staying::journal::{Journal, tell_ended, tell_no_memory};
 use crate::staying::machine::Machine;
+use crate::staying::retelling::{Losses, Remembering};
 use crate::staying::status::Figures;
 use gateway_links::Half;
 use link_ends::{LinkEnd, SharedSite};
@@ -32,6 +32,8 @@ pub struct Furniture {
     pub beginnings: AtomicU64,
     /// Where connections wait whose requests for its status are to be answered.
     pub asking: Hall,
+    /// What gateways may have lost.
+    pub losses: Losses,
     /// What is counted of it.
     pub figures: Figures,
 }
@@ -44,7 +46,14 @@ pub struct Shared<'s, 'r, S: SharedSite, M: Machine, G> {
     pub furniture: &'r Furniture,
     pub exchange: &'r Exchange,
     pub board: &'s Board<S::Seat>,
-    pub server: Server<'s, S, Posting<'r, M>, Journal<'r, M, G>, Doors<'r>, KeptAnswers<'r, M>>,
+    pub server: Server<
+        's,
+        S,
+        Posting<'r, M>,
+        Journal<'r, M, G>,
+        Doors<'r>,
+        Remembering<'s, 'r, S, M>,
+    >,
 }
 
 /// The two halves of a connection, and its post.

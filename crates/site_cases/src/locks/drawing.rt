@@ -1,6 +1,7 @@
 //! What threads ask of a site that they share: drawn from numbers of the thread's own, on sessions that all of them ask for at
 //! about the same time.
 use crate::locks::requests::{Asking, Kind, request};
+use crate::locks::sites::retell_at;
 use pcrf_values::DiameterIdentity;
 use rand_core::Rng;
 use rand_xoshiro::SplitMix64;
@@ -63,7 +64,7 @@ fn abort_to_function(rt: &impl Abort, alloc: Global) -> Event {
 
 /// What a thread asks at a turn: of 4,096 calls four ask for all that the site holds, 16 for operations that it made, 200 have
 /// it push to any gateway and as many to the one that there is, 40 have it abort a session of any application function and as
-/// many of the one that there is, and the others have it serve a request.
+/// many of the one that there is, 40 have it count what a gateway was told as not there, and the others have it serve a request.
 pub fn event_at(rt: &impl Abort, alloc: Global, draws: &mut SplitMix64, turn: u32) -> Event {
     let draw = draws.next_u64();
     let n = draw % 4_096;
@@ -79,6 +80,8 @@ pub fn event_at(rt: &impl Abort, alloc: Global, draws: &mut SplitMix64, turn: u3
         Event::Abort(None)
     } else if n < 500 {
         abort_to_function(rt, alloc)
+    } else if n < 540 {
+        retell_at(rt, alloc, place_at(draw, turn))
     } else {
         serve(rt, alloc, draw, turn)
     }

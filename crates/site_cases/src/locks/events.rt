@@ -3,7 +3,7 @@
 use crate::checks::{check, check_same};
 use crate::locks::requests::{Asking, Kind, request};
 use crate::locks::sites::{
-    abort_to, attach, attach_of, new_site, numbered_site, push_to, take_last,
+    abort_to, attach, attach_of, new_site, numbered_site, push_to, retell_at, retell_of, take_last,
 };
 use crate::locks::told::{Told, told_by};
 use dia_codec::{Flags, Header};
@@ -281,6 +281,58 @@ fn at_the_end_of_the_clock_only_an_abort_of_a_call_is_refused(rt: HostRuntime) {
     drop(site);
 }
 
+/// What the gateway of the session of a letter was told counts as not there now, or nothing was to be done.
+fn is_retold(rt: &(impl AllocGlobal + Abort), site: &mut Site, letter: u8, wanted: Told) {
+    happens(rt, site, retell_of(rt, rt.alloc(), letter), wanted);
+}
+
+#[test]
+fn a_gateway_that_was_told_41_rules_is_told_all_again(rt: HostRuntime) {
+    let mut site = with_rest(&rt);
+    push_the_rest(&rt, &mut site);
+    is_retold(&rt, &mut site, b'2', Told::Retold(false));
+    is_retold(&rt, &mut site, b'1', Told::Retold(true));
+    is_retold(&rt, &mut site, b'1', Told::Retold(false));
+    is_due(&rt, &mut site, b"other", Told::NothingPushed);
+    is_due(&rt, &mut site, b"gw", Told::Pushed(40));
+    is_retold(&rt, &mut site, b'1', Told::Retold(true));
+    is_due(&rt, &mut site, b"gw", Told::Pushed(40));
+    is_due(&rt, &mut site, b"gw", Told::Pushed(1));
+    is_due(&rt, &mut site, b"gw", Told::NothingPushed);
+    happens(&rt, &mut site, Event::AskOwn(6), Told::Own(1, 7));
+    drop(site);
+}
+
+/// What the gateway of the session of a place was told counts as not there now, or nothing was to be done.
+fn is_retold_at(rt: &(impl AllocGlobal + Abort), site: &mut Site, place: u32, wanted: Told) {
+    happens(rt, site, retell_at(rt, rt.alloc(), place), wanted);
+}
+
+#[test]
+fn an_update_brings_what_counts_as_not_there(rt: HostRuntime) {
+    let mut site = new_site(&rt, rt.alloc(), 2);
+    is_retold_at(&rt, &mut site, 1, Told::Retold(false));
+    answers(&rt, &mut site, Kind::Initial, 1, Told::Granted(2));
+    answers(&rt, &mut site, Kind::Update, 1, Told::Granted(0));
+    is_retold_at(&rt, &mut site, 1, Told::Retold(true));
+    answers(&rt, &mut site, Kind::Update, 1, Told::Granted(2));
+    answers(&rt, &mut site, Kind::Termination, 1, Told::Granted(0));
+    is_retold_at(&rt, &mut site, 1, Told::Retold(false));
+    drop(site);
+}
+
+#[test]
+fn at_the_end_of_the_clock_only_what_was_told_is_refused_to_count_as_not_there(rt: HostRuntime) {
+    let mut site = new_site(&rt, rt.alloc(), 2);
+    answers(&rt, &mut site, Kind::Initial, 1, Told::Granted(2));
+    takes_last(&rt, &mut site);
+    let before = held(&rt, &site);
+    is_retold_at(&rt, &mut site, 2, Told::Retold(false));
+    is_retold_at(&rt, &mut site, 1, Told::Fault(StepFault::ClockFull));
+    holds_still(&rt, &site, before);
+    drop(site);
+}
+
 /// A reply to another event than a request has no answer.
 fn has_no_answer(rt: &(impl AllocGlobal + Abort), site: &Site, asked: &Request, reply: Reply) {
     let header = Header {
@@ -312,6 +364,7 @@ fn have_no_answers(rt: &(impl AllocGlobal + Abort), site: &Site) {
     has_no_answer(rt, site, &asked, Reply::Taken(1));
     has_no_answer(rt, site, &asked, Reply::Pushed(None));
     has_no_answer(rt, site, &asked, Reply::Aborted(None));
+    has_no_answer(rt, site, &asked, Reply::Retold(true));
     drop(asked);
 }
 

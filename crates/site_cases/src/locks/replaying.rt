@@ -56,6 +56,10 @@ fn world_event(rt: &impl Abort, event: &Event) -> Option<WorldEvent> {
         }
         Event::Push(host) => Some(WorldEvent::Push(0, host.try_copy().expect(rt, "memory"))),
         Event::Abort(host) => Some(WorldEvent::Abort(0, host.try_copy().expect(rt, "memory"))),
+        Event::Retell(session) => {
+            let copy = session.try_copy().expect(rt, "memory");
+            Some(WorldEvent::Retell(0, copy))
+        }
         _ => None,
     }
 }
@@ -82,13 +86,17 @@ fn is_answer(answer: &Answer, reply: &Reply) -> bool {
             ours.equal(theirs)
         }
         (Ok(WorldOutcome::Aborted(None)), Reply::Aborted(None)) => true,
+        (Ok(WorldOutcome::Retold(ours)), Reply::Retold(theirs)) => *ours == *theirs,
         _ => false,
     }
 }
 
 /// Whether an event is one that a world answers.
 fn is_answered(event: &Event) -> bool {
-    matches!(event, Event::Serve(_) | Event::Push(_) | Event::Abort(_))
+    matches!(
+        event,
+        Event::Serve(_) | Event::Push(_) | Event::Abort(_) | Event::Retell(_)
+    )
 }
 
 /// Whether the answers of a world are the replies of a history, in order.

@@ -2,7 +2,7 @@
 use base_profile::{BaseKind, BaseRequest};
 use dia_codec::HEADER_BYTES;
 use gx_profile::{Ccr, RequestKind};
-use pcrf_values::AfSid;
+use pcrf_values::{AfSid, GxSid};
 use rx_profile::{Aar, Str};
 use samples::{SampleFault, ccr, initial, messages, origin, text};
 use site_core::{Asked, read_request};
@@ -59,6 +59,12 @@ fn attach(alloc: Global, asking: Asking) -> Result<Ccr, SampleFault> {
 fn later(alloc: Global, asking: Asking, kind: RequestKind) -> Result<Ccr, SampleFault> {
     let id = session_id(alloc, "gw", asking.place)?;
     ccr(alloc, id.as_bytes(), kind, asking.number)
+}
+
+/// The Session-Id of the gateway's session of a place.
+pub fn gateway_id(alloc: Global, place: u32) -> Result<GxSid, SampleFault> {
+    let id = session_id(alloc, "gw", place)?;
+    Ok(GxSid::of(text(alloc, id.as_bytes())?))
 }
 
 /// The Session-Id of the application function's session of a place.

@@ -2,6 +2,8 @@
 ghost use Rattle.std.specs.Prelude.{◌<◌};
 ghost use Rattle.pcrf_values.specs.Limits.{site_limit};
 
+use crate::locks::requests::gateway_id;
+use pcrf_values::GxSid;
 use samples::{SampleFault, initial_of, last_end, names, text, with_rules};
 use site_machine::{Event, Request, Site};
 use std::alloc::Global;
@@ -50,6 +52,17 @@ pub fn attach(rt: &impl Abort, alloc: Global, letter: u8) -> Event {
 /// A session of an application function of a host is to be aborted.
 pub fn abort_to(rt: &impl Abort, alloc: Global, host: &[u8]) -> Event {
     Event::Abort(Some(text(alloc, host).expect(rt, "a host")))
+}
+
+/// What the gateway of the session of a place was told is to count as not there.
+pub fn retell_at(rt: &impl Abort, alloc: Global, place: u32) -> Event {
+    Event::Retell(gateway_id(alloc, place).expect(rt, "a Session-Id"))
+}
+
+/// The same of the session of a letter.
+pub fn retell_of(rt: &impl Abort, alloc: Global, letter: u8) -> Event {
+    let id = [b'g', b'w', b';', letter];
+    Event::Retell(GxSid::of(text(alloc, &id).expect(rt, "a Session-Id")))
 }
 
 /// A push to the gateways of a host is to be made.

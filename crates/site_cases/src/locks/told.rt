@@ -19,6 +19,8 @@ pub enum Told {
     /// An application function is asked to end a session.
     Aborted,
     NothingAborted,
+    /// What a gateway was told counts as not there now, or nothing was to be done.
+    Retold(bool),
     /// So many of the site's own operations, of how many.
     Own(usize, u64),
     /// A copy with this clock, and how many operations the site made itself.
@@ -40,6 +42,7 @@ pub fn told_by(reply: &Result<Reply, StepFault>) -> Told {
         Ok(Reply::Pushed(None)) => Told::NothingPushed,
         Ok(Reply::Aborted(Some(_))) => Told::Aborted,
         Ok(Reply::Aborted(None)) => Told::NothingAborted,
+        Ok(Reply::Retold(done)) => Told::Retold(*done),
         Ok(Reply::Own(operations, made)) => Told::Own(operations.len(), *made),
         Ok(Reply::Copy(state, made)) => Told::Copy(state.clock(), *made),
         Ok(_) => Told::Other,

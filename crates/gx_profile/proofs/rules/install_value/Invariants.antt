@@ -8,6 +8,6 @@ use Rattle.gx_profile.proofs.rules.install_value.Given as goal
 -- those so far are written, and take so many bytes at most
 abbrev pub invariant-loop-rule : goal.invariant-loop-rule
 invariant-loop-rule l = record {
-  so_far : l.group ≡ map rule_avp (take l.rule-index l.rules);
-  within : sum_by padded_len (map rule_avp (take l.rule-index l.rules)) ≤ definition_room * l.rule-index;
+  so_far : l.group ≡ map (rule_avp l.form) (take l.rule-index l.rules);
+  within : sum_by padded_len (map (rule_avp l.form) (take l.rule-index l.rules)) ≤ definition_room * l.rule-index;
 }

@@ -10,6 +10,6 @@ loop-filter-preserved c =
     let lt : c.loop-filter.filter-index < length items = search rules in
     let is : c.filter-item.result ≡ get_or items c.loop-filter.filter-index c.filter-item.result = search rules in
     record {
-      so_far = one_more filter_avp items _ c.filter-item.result _ _ _ lt is c.loop-filter.invariant.so_far c.in_ok-put_filter.ensures.added;
-      within = one_more_within filter_avp items _ c.filter-item.result filter_room lt is c.loop-filter.invariant.within c.in_ok-put_filter.ensures.within;
+      so_far = one_more (filter_avp c.args.form) items _ c.filter-item.result _ _ _ lt is c.loop-filter.invariant.so_far c.in_ok-put_filter.ensures.added;
+      within = one_more_within (filter_avp c.args.form) items _ c.filter-item.result filter_room lt is c.loop-filter.invariant.within c.in_ok-put_filter.ensures.within;
     }

@@ -8,6 +8,6 @@ use Rattle.gx_profile.proofs.rules.put_filters.Given as goal
 -- those so far are written, and take so many bytes at most
 abbrev pub invariant-loop-filter : goal.invariant-loop-filter
 invariant-loop-filter l = record {
-  so_far : l.group ≡ l.initial.group ++ map filter_avp (take l.filter-index l.filter-items);
-  within : sum_by padded_len (map filter_avp (take l.filter-index l.filter-items)) ≤ filter_room * l.filter-index;
+  so_far : l.group ≡ l.initial.group ++ map (filter_avp l.form) (take l.filter-index l.filter-items);
+  within : sum_by padded_len (map (filter_avp l.form) (take l.filter-index l.filter-items)) ≤ filter_room * l.filter-index;
 }

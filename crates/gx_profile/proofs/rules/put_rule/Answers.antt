@@ -7,5 +7,5 @@ use Rattle.gx_profile.proofs.rules.put_rule.Goals as goal
 
 pub returns-clause-within : goal.returns-clause-within
 returns-clause-within c =
-    let within : padded_len (rule_avp c.args.rule.now) ≤ definition_room = definition_within c.args.rule.now c.in_ok-value.ensures.within in
+    let within : padded_len (rule_avp c.args.form c.args.rule.now) ≤ definition_room = definition_within c.args.form c.args.rule.now c.in_ok-value.ensures.within in
     search rules

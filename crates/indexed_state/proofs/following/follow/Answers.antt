@@ -5,12 +5,21 @@ use Rattle.pcrf_model.specs.Views.{view}
 use Rattle.site_join.specs.States.{record_facts}
 use Rattle.waiting_sessions.proofs.Waited.{keeps_through, waits_on}
 use Rattle.indexed_state.proofs.Agreeing.{Followed, agree_anew, agree_followed}
+use Rattle.indexed_state.proofs.BindingAlike.{binds_alike, agree_alike}
 use Rattle.indexed_state.proofs.following.follow.Goals as goal
 
 pub returns-then-not-is_whole : goal.returns-then-not-is_whole
 returns-then-not-is_whole c = λ t i h differs was a.
     agree_anew t i c.args.state.now c.keep_nothing.new.is_whole c.args.index.now c.keep_nothing.new.rules c.keep_nothing.new.waiting c.keep_nothing.new.aborts
     (λ e. clash _ e c.keep_nothing.ensures.whole) c.keep_nothing.ensures.unsettled c.keep_nothing.ensures.calls
+
+pub returns-then-show_alike : goal.returns-then-show_alike
+returns-then-show_alike c = λ t i h differs was a.
+    let k = c.args.state.now in
+    let id = c.args.id.now in
+    let alike = binds_alike h k id _ _ (ap record_facts c.as_ref.ensures.value ∙ was) c.gx-known.ensures (c.show_alike.ensures c.if-show_alike.true) in
+    agree_alike h k id differs alike t i c.args.is_whole.now c.args.index.now c.args.rules.now c.args.waiting.now c.wait_one.new.waiting c.args.aborts.now
+    c.wait_one.ensures.keeps c.wait_one.ensures.waits a
 
 pub returns-then-not-list_known : goal.returns-then-not-list_known
 returns-then-not-list_known c = λ t i h differs was a.
@@ -34,7 +43,7 @@ returns c = λ t i h differs was a.
       kept = a.kept;
       due = a.due;
       grows = c.list_known.ensures.grows;
-      was_at = c.gateway_reached_in-before.ensures h.facts id (ap record_facts c.as_ref.ensures.value ∙ was);
+      was_at = c.gateway_reached_in-before.ensures h.facts id (ap record_facts c.as_ref-2.ensures.value ∙ was);
       is_at = c.gateway_reached_in-after.ensures k.facts id c.gx-known.ensures;
       gone_before = c.unsettle_gateway.ensures.before.gone;
       gone_after = c.unsettle_gateway.ensures.after.gone;

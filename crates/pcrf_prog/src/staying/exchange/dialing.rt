@@ -8,7 +8,7 @@ use crate::staying::sockets::ready;
 use crate::staying::working::Shared;
 use link_ends::{LinkEnd, SharedSite};
 use log::Log;
-use peer_lines::{Line, Link};
+use peer_lines::{Line, Link, Teller};
 use peer_links::{Cursors, Role, exchange_with};
 use sealed_links::Side;
 use std::alloc::Global;
@@ -49,26 +49,18 @@ fn dialled<M: Machine>(rt: &M, alloc: Global, peer: SocketAddr) -> io::Result<Ar
     }
 }
 
-/// Sends letters over a link until it ends so: how many were acknowledged.
-fn send<'s, 'r, S: SharedSite, M: Machine, G: Log>(
-    rt: &'s M,
-    all: &'s Shared<'s, 'r, S, M, G>,
-    seat: &mut S::Seat,
-    probe: &Mutex<S::Seat>,
+/// What lets letters to a peer site go over a link.
+fn growing_of<'b, 'r, S: SharedSite, M: Machine, G: Log>(
+    rt: &M,
+    all: &'b Shared<'b, 'r, S, M, G>,
+    probe: &'b Mutex<S::Seat>,
     line: Arc<Line>,
-    link: Link<'r, M>,
+    teller: Arc<Teller>,
     peer: SocketAddr,
     place: usize,
-) -> (u64, LinkEnd) {
-    let Ok(teller) = link.teller() else {
-        return (0, LinkEnd::NoMemory);
-    };
-    let figures = &all.furniture.figures;
-    figures.link(place, true);
-    let own = all.exchange.place;
-    let mut cursors = Cursors::start(own.number, own.epoch);
+) -> Growing<'b, 'r, S, M, G> {
     let beginnings = &all.furniture.beginnings;
-    let growing = Growing {
+    Growing {
         rt: all.rt,
         log: all.log,
         site: all.server.site,
@@ -84,14 +76,26 @@ fn send<'s, 'r, S: SharedSite, M: Machine, G: Log>(
         beginnings,
         begun: AtomicU64::new(beginnings.load(Ordering::SeqCst)),
         quiet: Mutex::new(Quiet::of(LETTERS_SECONDS)),
-        figures,
+        figures: &all.furniture.figures,
         place,
-    };
+    }
+}
+
+/// Sends letters over a link until it ends so.
+fn send_on<'s, 'r, S: SharedSite, M: Machine, G: Log>(
+    rt: &'s M,
+    all: &'s Shared<'s, 'r, S, M, G>,
+    seat: &mut S::Seat,
+    link: Link<'r, M>,
+    growing: &Growing<'_, 'r, S, M, G>,
+) -> LinkEnd {
+    let own = all.exchange.place;
+    let mut cursors = Cursors::start(own.number, own.epoch);
     let reach = Reach {
         rt: all.rt,
         gateways: all.server.gateways,
     };
-    let end = exchange_with(
+    exchange_with(
         rt,
         all.server.alloc,
         all.server.site,
@@ -101,8 +105,30 @@ fn send<'s, 'r, S: SharedSite, M: Machine, G: Log>(
         Role::Dial,
         link,
         LETTERS,
-        &growing,
-    );
+        growing,
+    )
+}
+
+/// Sends letters over a link until it ends so: how many were acknowledged.
+fn send<'s, 'r, S: SharedSite, M: Machine, G: Log>(
+    rt: &'s M,
+    all: &'s Shared<'s, 'r, S, M, G>,
+    seat: &mut S::Seat,
+    probe: &Mutex<S::Seat>,
+    line: Arc<Line>,
+    link: Link<'r, M>,
+    peer: SocketAddr,
+    place: usize,
+) -> (u64, LinkEnd) {
+    let Ok(teller) = link.teller() else {
+        return (0, LinkEnd::NoMemory);
+    };
+    let mut link = link;
+    let figures = &all.furniture.figures;
+    link.count(&figures.traffic);
+    figures.link(place, true);
+    let growing = growing_of(rt, all, probe, line, teller, peer, place);
+    let end = send_on(rt, all, seat, link, &growing);
     figures.link(place, false);
     (growing.letters.load(Ordering::SeqCst), end)
 }

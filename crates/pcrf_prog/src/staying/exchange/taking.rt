@@ -129,6 +129,7 @@ fn take_claimed<'s, 'r, S: SharedSite, M: Machine, G: Log>(
     tell_taking(all.log, sender.site, sender.epoch, peer);
     hosts.link(rt, sender.site);
     link.hear(hosts, sender.site);
+    link.count(&all.furniture.figures.traffic);
     take(rt, all, &mut seat, link, sender, peer);
     hosts.unlink(rt, sender.site);
     all.board.give_back(rt, claim, seat);

@@ -1,11 +1,14 @@
 //! One request behind the other is answered.
 use crate::staying::machine::Machine;
+use crate::staying::status::answered::Answered;
+use crate::staying::status::looked::Looked;
+use crate::staying::status::looking::{address, gateway, session, subscriber};
 use crate::staying::status::telling::figures_of;
 use crate::staying::working::Shared;
-use link_ends::SharedSite;
 use log::{Log, debug};
-use site_status::{Head, Page, Status, page_of, put_response, read_head};
-use std::alloc::{AllocError, Global};
+use overview_page::{CSS, HTML, SCRIPT};
+use site_status::{Head, Media, Page, Status, page_of, put_response, query_of, read_head};
+use std::alloc::AllocError;
 use std::io::{self, ErrorKind, Read, Write};
 use std::net::{Shutdown, TcpStream};
 use std::sync::Wait;
@@ -38,51 +41,48 @@ fn left<M: Machine>(rt: &M, since: Instant) -> io::Result<Duration> {
     }
 }
 
-/// How a request is answered, and by what.
-#[derive(Drop)]
-struct Answered {
-    status: Status,
-    body: Vec<u8>,
-}
-
-/// A text as an answer.
-fn plain(alloc: Global, status: Status, text: &[u8]) -> Result<Answered, AllocError> {
-    let body = Vec::from_slice(alloc, text)?;
-    Ok(Answered { status, body })
-}
-
 /// Whether the site serves.
-fn health<'s, 'r, S: SharedSite, M: Machine, G: Log>(
+fn health<'s, 'r, S: Looked, M: Machine, G: Log>(
     all: &Shared<'s, 'r, S, M, G>,
 ) -> Result<Answered, AllocError> {
     let alloc = all.furniture.alloc;
     if all.furniture.figures.site.serving.get() == 0 {
-        return plain(
+        return Answered::plain(
             alloc,
             Status::Unavailable,
             b"it waits for a peer site to tell it all\n",
         );
     }
-    plain(alloc, Status::Ok, b"ok\n")
+    Answered::plain(alloc, Status::Ok, b"ok\n")
 }
 
 /// What a page has.
-fn page<'s, 'r, S: SharedSite, M: Machine, G: Log>(
+fn page<'s, 'r, S: Looked, M: Machine, G: Log>(
     rt: &M,
     all: &Shared<'s, 'r, S, M, G>,
-    page: Page,
+    page: Page<'_>,
+    query: &[u8],
 ) -> Result<Answered, AllocError> {
+    let alloc = all.furniture.alloc;
     match page {
         Page::Health => health(all),
         Page::Metrics => {
             let figures = figures_of(rt, all)?;
-            plain(all.furniture.alloc, Status::Ok, figures.text())
+            Answered::plain(alloc, Status::Ok, figures.text())
         }
+        Page::Overview => Answered::part(alloc, Media::Html, HTML),
+        Page::Style => Answered::part(alloc, Media::Css, CSS),
+        Page::Script => Answered::part(alloc, Media::Script, SCRIPT),
+        Page::History => Answered::json(all.furniture.figures.history.shown(rt, alloc)?),
+        Page::Session(name) => session(rt, all, name),
+        Page::Subscriber(name) => subscriber(rt, all, name, query),
+        Page::Address(name) => address(rt, all, name, query),
+        Page::Gateway(name) => gateway(rt, all, name),
     }
 }
 
 /// The answer to a request.
-fn answer_to<'s, 'r, S: SharedSite, M: Machine, G: Log>(
+fn answer_to<'s, 'r, S: Looked, M: Machine, G: Log>(
     rt: &M,
     all: &Shared<'s, 'r, S, M, G>,
     method: &[u8],
@@ -90,20 +90,20 @@ fn answer_to<'s, 'r, S: SharedSite, M: Machine, G: Log>(
 ) -> Result<Answered, AllocError> {
     let alloc = all.furniture.alloc;
     if method != b"GET".as_slice() {
-        return plain(
+        return Answered::plain(
             alloc,
             Status::MethodNotAllowed,
             b"nothing but GET is answered\n",
         );
     }
     match page_of(target) {
-        Some(named) => page(rt, all, named),
-        None => plain(alloc, Status::NotFound, b"there is no such page\n"),
+        Some(named) => page(rt, all, named, query_of(target)),
+        None => Answered::plain(alloc, Status::NotFound, b"there is no such page\n"),
     }
 }
 
 /// The answer to what stands at the front of the bytes of a connection; none where that isn't whole yet.
-fn answer_at<'s, 'r, S: SharedSite, M: Machine, G: Log>(
+fn answer_at<'s, 'r, S: Looked, M: Machine, G: Log>(
     rt: &M,
     all: &Shared<'s, 'r, S, M, G>,
     bytes: &[u8],
@@ -112,8 +112,8 @@ fn answer_at<'s, 'r, S: SharedSite, M: Machine, G: Log>(
     let answered = match read_head(bytes) {
         Head::Begun => return Ok(None),
         Head::Whole { method, target } => answer_to(rt, all, method, target),
-        Head::TooLong => plain(alloc, Status::HeadTooLong, b"the head is too long\n"),
-        Head::Malformed => plain(alloc, Status::BadRequest, b"this is no request\n"),
+        Head::TooLong => Answered::plain(alloc, Status::HeadTooLong, b"the head is too long\n"),
+        Head::Malformed => Answered::plain(alloc, Status::BadRequest, b"this is no request\n"),
     };
     Ok(Some(answered?))
 }
@@ -157,7 +157,7 @@ fn pass_over<M: Machine>(
 }
 
 /// Reads a request and answers it, if a whole one comes. It is counted before it is answered, so that whoever got an answer finds it counted.
-fn answer<'s, 'r, S: SharedSite, M: Machine, G: Log>(
+fn answer<'s, 'r, S: Looked, M: Machine, G: Log>(
     rt: &M,
     all: &Shared<'s, 'r, S, M, G>,
     mut stream: &TcpStream,
@@ -172,9 +172,16 @@ fn answer<'s, 'r, S: SharedSite, M: Machine, G: Log>(
             return Ok(());
         }
         bytes.extend_from_slice(piece.get(..count).unwrap_or(&[]))?;
-        if let Some(Answered { status, body }) = answer_at(rt, all, bytes.as_slice())? {
+        if let Some(
+            Answered {
+                status,
+                media,
+                body,
+            },
+        ) = answer_at(rt, all, bytes.as_slice())?
+        {
             let mut response = Vec::new(all.furniture.alloc);
-            put_response(&mut response, status, body.as_slice())?;
+            put_response(&mut response, status, media, body.as_slice())?;
             all.furniture.figures.asks.add(status.code());
             send(rt, stream, since, response.as_slice())?;
             let _ = pass_over(rt, stream, since, &mut piece);
@@ -185,7 +192,7 @@ fn answer<'s, 'r, S: SharedSite, M: Machine, G: Log>(
 }
 
 /// Answers one connection behind the other, as long as the server runs. Nothing of what they send is told above DEBUG.
-pub fn answer_asks<'s, 'r, S: SharedSite, M: Machine, G: Log>(
+pub fn answer_asks<'s, 'r, S: Looked, M: Machine, G: Log>(
     rt: &'s M,
     all: &'s Shared<'s, 'r, S, M, G>,
 ) {

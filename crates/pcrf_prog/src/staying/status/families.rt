@@ -168,3 +168,69 @@ pub const ASKS: Family<'static> = Family {
     help: "Requests of this kind that were answered, by code.",
     kind: Kind::Counter,
 };
+
+pub const SESSIONS: Family<'static> = Family {
+    name: "pcrf_sessions",
+    help: "Sessions of gateways and of application functions that the site knows, as they were counted last.",
+    kind: Kind::Gauge,
+};
+
+pub const CALLS_BOUND: Family<'static> = Family {
+    name: "pcrf_calls_bound",
+    help: "Live sessions of application functions that a gateway's session carries, as they were counted last.",
+    kind: Kind::Gauge,
+};
+
+pub const COUNT_AGE: Family<'static> = Family {
+    name: "pcrf_sessions_count_age_seconds",
+    help: "Seconds since sessions were begun to be counted last.",
+    kind: Kind::Gauge,
+};
+
+pub const UNCOUNTED: Family<'static> = Family {
+    name: "pcrf_sessions_unnoted_total",
+    help: "Times that a session was served or told of and could not be noted, so that it may be missing where they are counted.",
+    kind: Kind::Counter,
+};
+
+pub const OPERATIONS_TAKEN: Family<'static> = Family {
+    name: "pcrf_operations_taken_total",
+    help: "Operations of letters that were taken, by the site that made them.",
+    kind: Kind::Counter,
+};
+
+pub const WHOLES_TAKEN: Family<'static> = Family {
+    name: "pcrf_whole_states_taken_total",
+    help: "Whole states of other sites that were taken.",
+    kind: Kind::Counter,
+};
+
+pub const PEER_TOLD: Family<'static> = Family {
+    name: "pcrf_peer_operations_told",
+    help: "Operations that the site made itself in its epoch and that a peer site acknowledged.",
+    kind: Kind::Gauge,
+};
+
+pub const LETTERS_SENT: Family<'static> = Family {
+    name: "pcrf_letters_sent_total",
+    help: "Letters that were begun to be sent, by kind.",
+    kind: Kind::Counter,
+};
+
+pub const LETTERS_TAKEN: Family<'static> = Family {
+    name: "pcrf_letters_taken_total",
+    help: "Letters that began to come, by kind.",
+    kind: Kind::Counter,
+};
+
+pub const LETTER_BYTES_SENT: Family<'static> = Family {
+    name: "pcrf_letter_bytes_sent_total",
+    help: "Bytes of the letters that were begun to be sent, by kind.",
+    kind: Kind::Counter,
+};
+
+pub const LETTER_BYTES_TAKEN: Family<'static> = Family {
+    name: "pcrf_letter_bytes_taken_total",
+    help: "Bytes of the letters that began to come, by kind.",
+    kind: Kind::Counter,
+};

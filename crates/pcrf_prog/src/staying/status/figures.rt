@@ -1,7 +1,10 @@
 //! What a server that stays counts of itself.
 use crate::staying::journal::is_lost;
+use crate::staying::status::history::History;
 use link_ends::LinkEnd;
-use site_status::{CodeCounts, Count, Times};
+use metered_site::Meters;
+use peer_lines::LetterTraffic;
+use site_status::{CodeCounts, Counter, Gauge};
 use std::alloc::{AllocError, Global};
 use std::time::{Clock, Instant};
 use watched_links::{Cause, MessageCounts};
@@ -13,50 +16,64 @@ const SITES: usize = 16;
 #[derive(Drop)]
 pub struct ConnectionFigures {
     /// How many got a seat.
-    pub seated: Count,
+    pub seated: Counter,
     /// How many of them ended.
-    pub ended: Count,
+    pub ended: Counter,
     /// How many of those were lost, or ended by the site.
-    pub lost: Count,
+    pub lost: Counter,
     /// How many were closed since all seats were taken.
-    pub refused: Count,
+    pub refused: Counter,
 }
 
 /// What is counted of the site and of what it tells hosts.
 #[derive(Drop)]
 pub struct SiteFigures {
     /// 1 once it serves.
-    pub serving: Count,
+    pub serving: Gauge,
     /// How many operations it made itself in its epoch, when that was looked at last.
-    pub operations: Count,
+    pub operations: Gauge,
     /// How often it began its next epoch in place.
-    pub begun: Count,
+    pub begun: Counter,
     /// How many capabilities exchanges were refused.
-    pub strangers: Count,
+    pub strangers: Counter,
     /// How many re-authorisation requests could not be written.
-    pub unwritten: Count,
+    pub unwritten: Counter,
     /// The codes of those that were answered by none of success, 0 where an answer had none.
     pub refusals: CodeCounts,
+}
+
+/// How many sessions the site knows, as they were counted last.
+#[derive(Drop)]
+pub struct SessionFigures {
+    /// For how many nanoseconds the server had run when they were; 0 before they were counted first.
+    pub since: Gauge,
+    /// Live sessions of gateways, and ended ones.
+    pub gateways_live: Gauge,
+    pub gateways_ended: Gauge,
+    /// Live sessions of application functions, ended ones, and how many of the live ones are bound.
+    pub calls_live: Gauge,
+    pub calls_ended: Gauge,
+    pub calls_bound: Gauge,
 }
 
 /// What is counted of the letters to a peer site.
 #[derive(Drop)]
 pub struct PeerFigures {
     /// 1 while there is a link.
-    pub linked: Count,
+    pub linked: Gauge,
     /// How many letters it acknowledged.
-    pub letters: Count,
+    pub letters: Counter,
     /// How many operations of the epoch it was told when it acknowledged last.
-    pub told: Count,
+    pub told: Gauge,
 }
 
 /// What is counted of the letters of a site with some number.
 #[derive(Drop)]
 pub struct SenderFigures {
     /// 1 while there is a link.
-    pub linked: Count,
+    pub linked: Gauge,
     /// How many letters were taken.
-    pub letters: Count,
+    pub letters: Counter,
 }
 
 /// What a server that stays counts of itself.
@@ -68,8 +85,14 @@ pub struct Figures {
     pub connections: ConnectionFigures,
     /// The messages of these.
     pub messages: MessageCounts,
-    /// How long calls of the site took.
-    pub calls: Times,
+    /// How long calls of the site took, and what they brought.
+    pub meters: Meters,
+    /// How many sessions there are.
+    pub sessions: SessionFigures,
+    /// The letters of its links.
+    pub traffic: LetterTraffic,
+    /// What was seen every few seconds of the last minutes.
+    pub history: History,
     /// Of each peer site that it was told of, in that order.
     pub peers: Vec<PeerFigures>,
     /// Of each number that a site can have.
@@ -82,10 +105,10 @@ impl ConnectionFigures {
     /// There were none.
     fn start() -> ConnectionFigures {
         ConnectionFigures {
-            seated: Count::start(),
-            ended: Count::start(),
-            lost: Count::start(),
-            refused: Count::start(),
+            seated: Counter::start(),
+            ended: Counter::start(),
+            lost: Counter::start(),
+            refused: Counter::start(),
         }
     }
 
@@ -103,13 +126,27 @@ impl SiteFigures {
     fn start(alloc: Global) -> Result<SiteFigures, AllocError> {
         let refusals = CodeCounts::start(alloc)?;
         Ok(SiteFigures {
-            serving: Count::start(),
-            operations: Count::start(),
-            begun: Count::start(),
-            strangers: Count::start(),
-            unwritten: Count::start(),
+            serving: Gauge::start(),
+            operations: Gauge::start(),
+            begun: Counter::start(),
+            strangers: Counter::start(),
+            unwritten: Counter::start(),
             refusals,
         })
+    }
+}
+
+impl SessionFigures {
+    /// None was counted.
+    fn start() -> SessionFigures {
+        SessionFigures {
+            since: Gauge::start(),
+            gateways_live: Gauge::start(),
+            gateways_ended: Gauge::start(),
+            calls_live: Gauge::start(),
+            calls_ended: Gauge::start(),
+            calls_bound: Gauge::start(),
+        }
     }
 }
 
@@ -118,9 +155,9 @@ fn peer_figures(alloc: Global, count: usize) -> Result<Vec<PeerFigures>, AllocEr
     let mut peers = Vec::with_capacity(alloc, count)?;
     for _ in 0..count {
         peers.push(PeerFigures {
-            linked: Count::start(),
-            letters: Count::start(),
-            told: Count::start(),
+            linked: Gauge::start(),
+            letters: Counter::start(),
+            told: Gauge::start(),
         })?;
     }
     Ok(peers)
@@ -131,28 +168,37 @@ fn sender_figures(alloc: Global) -> Result<Vec<SenderFigures>, AllocError> {
     let mut senders = Vec::with_capacity(alloc, SITES)?;
     for _ in 0..SITES {
         senders.push(SenderFigures {
-            linked: Count::start(),
-            letters: Count::start(),
+            linked: Gauge::start(),
+            letters: Counter::start(),
         })?;
     }
     Ok(senders)
 }
 
 impl Figures {
-    /// Of a server with so many peer sites that starts now.
-    pub fn start<C: Clock>(clock: &C, alloc: Global, peers: usize) -> Result<Figures, AllocError> {
+    /// Of a server with so many peer sites that starts now, and that can be asked over HTTP or can't.
+    pub fn start<C: Clock>(
+        clock: &C,
+        alloc: Global,
+        peers: usize,
+        is_asked: bool,
+    ) -> Result<Figures, AllocError> {
         let site = SiteFigures::start(alloc)?;
         let peers = peer_figures(alloc, peers)?;
         let senders = sender_figures(alloc)?;
         let asks = CodeCounts::start(alloc)?;
         let messages = MessageCounts::start(alloc)?;
-        let calls = Times::start(alloc)?;
+        let meters = Meters::start(alloc, is_asked)?;
+        let history = History::start(alloc)?;
         Ok(Figures {
             since: Instant::now(clock).ok(),
             site,
             connections: ConnectionFigures::start(),
             messages,
-            calls,
+            meters,
+            sessions: SessionFigures::start(),
+            traffic: LetterTraffic::start(),
+            history,
             peers,
             senders,
             asks,

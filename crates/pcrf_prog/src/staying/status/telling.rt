@@ -2,11 +2,13 @@
 use crate::staying::machine::Machine;
 use crate::staying::status::families::{
     ANSWERS_TAKEN, ASKS, CALLS, CONNECTIONS, CROWDED, EPOCH, EPOCHS_BEGUN, HOST_CONNECTIONS,
-    HOST_WAITING, LOST, MESSAGES, OPERATIONS, PEER_LACKING, PEER_LETTERS, PEER_LINK, PUSH_REFUSALS,
-    PUSH_UNWRITTEN, REQUESTS_SENT, REQUESTS_TAKEN, RESIDENT, SEATED, SEATS, SENDER_LETTERS,
-    SENDER_LINK, SERVING, SITE, STRANGERS, UPTIME,
+    HOST_WAITING, LOST, MESSAGES, OPERATIONS, PEER_LACKING, PEER_LETTERS, PEER_LINK, PEER_TOLD,
+    PUSH_REFUSALS, PUSH_UNWRITTEN, REQUESTS_SENT, REQUESTS_TAKEN, RESIDENT, SEATED, SEATS,
+    SENDER_LETTERS, SENDER_LINK, SERVING, SITE, STRANGERS, UPTIME,
 };
 use crate::staying::status::figures::{Figures, PeerFigures};
+use crate::staying::status::letters::put_traffic;
+use crate::staying::status::sessions::{put_sessions, put_taken};
 use crate::staying::working::Shared;
 use link_ends::SharedSite;
 use log::Log;
@@ -18,12 +20,12 @@ use std::time::Clock;
 use watched_links::{Guests, KINDS, KindCounts, MessageCounts, MessageKind, Printable};
 
 /// Writes a figure of one number.
-fn put(out: &mut Exposition, family: &Family<'_>, count: u64) -> Result<(), AllocError> {
+pub(crate) fn put(out: &mut Exposition, family: &Family<'_>, count: u64) -> Result<(), AllocError> {
     out.figure(family, Number::Whole(count))
 }
 
 /// Writes one sample of a figure, which one label tells from the others.
-fn put_labelled(
+pub(crate) fn put_labelled(
     out: &mut Exposition,
     family: &Family<'_>,
     label: &str,
@@ -146,6 +148,7 @@ fn put_pushes(out: &mut Exposition, alloc: Global, figures: &Figures) -> Result<
 enum PeerFigure {
     Linked,
     Letters,
+    Told,
     Lacking,
 }
 
@@ -155,6 +158,7 @@ impl PeerFigure {
         match self {
             PeerFigure::Linked => peer.linked.get(),
             PeerFigure::Letters => peer.letters.get(),
+            PeerFigure::Told => peer.told.get(),
             PeerFigure::Lacking => operations.saturating_sub(peer.told.get()),
         }
     }
@@ -207,7 +211,7 @@ fn put_senders(out: &mut Exposition, alloc: Global, figures: &Figures) -> Result
 
 /// Writes how long calls of the site took.
 fn put_calls(out: &mut Exposition, alloc: Global, figures: &Figures) -> Result<(), AllocError> {
-    let told = figures.calls.tell(alloc)?;
+    let told = figures.meters.times.snapshot(alloc)?;
     out.histogram(&CALLS, &told)
 }
 
@@ -234,6 +238,7 @@ fn put_letters(
         figures,
         addresses,
     )?;
+    put_peers(out, alloc, &PEER_TOLD, PeerFigure::Told, figures, addresses)?;
     put_peers(
         out,
         alloc,
@@ -372,7 +377,7 @@ fn put_resident<M: Machine>(out: &mut Exposition, rt: &M) -> Result<(), AllocErr
     }
 }
 
-/// The figures of a server. None of them is found by a pass, and none needs the site's lock.
+/// The figures of a server. None of them is found by a pass here, and none needs the site's lock.
 pub fn figures_of<'s, 'r, S: SharedSite, M: Machine, G: Log>(
     rt: &M,
     all: &Shared<'s, 'r, S, M, G>,
@@ -388,6 +393,9 @@ pub fn figures_of<'s, 'r, S: SharedSite, M: Machine, G: Log>(
     put_pushes(&mut out, alloc, figures)?;
     put_calls(&mut out, alloc, figures)?;
     put_letters(&mut out, alloc, figures, all.exchange.peers.as_slice())?;
+    put_traffic(&mut out, figures)?;
+    put_sessions(&mut out, figures, figures.uptime(rt))?;
+    put_taken(&mut out, alloc, figures)?;
     put_codes(&mut out, alloc, &ASKS, &figures.asks)?;
     Ok(out)
 }

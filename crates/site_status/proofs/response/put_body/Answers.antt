@@ -14,5 +14,5 @@ returns c =
       c.as_bytes.ensures.value,
       c.format.ensures.text,
     )
-    (four_pieces c.args.out.now.items (codes "Connection: close\r\nContent-Length: ") (decimal (length c.args.body.now))
+    (four_pieces c.args.out.now.items (codes "\r\nConnection: close\r\nContent-Length: ") (decimal (length c.args.body.now))
     (codes "\r\n\r\n") c.args.body.now)

@@ -15,4 +15,4 @@ returns c =
       c.line.ensures,
     )
     (four_pieces c.args.out.now.items (codes "HTTP/1.1 ") (status_text c.args.status)
-    (codes "\r\nContent-Type: text/plain; version=0.0.4; charset=utf-8\r\n") (allow_text c.args.status))
+    (codes "\r\n") (allow_text c.args.status))

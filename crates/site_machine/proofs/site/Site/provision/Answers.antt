@@ -1,4 +1,4 @@
-use Rattle.std.proofs.Common.{◌≡◌, ℕ, true, List, [], ◌∷◌, ◌++◌, map, Some, refl, sym, ap, ◌∙◌, subst}
+use Rattle.std.proofs.Common.{◌≡◌, ℕ, true, List, [], ◌∷◌, ◌++◌, map, Option, Some, IfOk, OnOk, refl, sym, ap, ◌∙◌, subst}
 use Rattle.ranked.specs.Sets.{Distinct}
 use Rattle.ranked.proofs.SetLaws.{In-left}
 use Rattle.pcrf_values.specs.RuleValues.{DeltaValue}
@@ -23,7 +23,66 @@ use Rattle.site_machine.proofs.Replies.{provisioned_is, host_is_made}
 use Rattle.site_machine.proofs.Restoring.{restored, once_more, known_after}
 use Rattle.site_machine.proofs.Formed.{put_back_up_to}
 use Rattle.site_machine.proofs.Left.{shown_fields, provisioned_leaves}
+use Rattle.std.proofs.lemmas.Result.{on_ok_weaker}
+use Rattle.fact_making.specs.Gateway.{made_facts}
+use Rattle.gx_records.specs.GxFacts.{fact_of}
+use Rattle.indexed_state.specs.Alike.{BringsNothing}
+use Rattle.pcrf_facts.specs.Held.{kept_list, join_of}
+use Rattle.pcrf_values.specs.RuleValues.{RuleValue}
+use Rattle.pcrf_model.specs.Replies.{ReplyValue}
+use Rattle.site_machine.specs.Facts.{fields_of}
+use Rattle.site_machine.specs.Replies.{gx_reply_value}
+use Rattle.site_machine.proofs.NothingTold.{refreshed_is, same_rules}
 use Rattle.site_machine.proofs.site.Site.provision.Goals as goal
+
+pub fields_joined-requires-clause-fields : goal.fields_joined-requires-clause-fields
+fields_joined-requires-clause-fields g c =
+    let s = c.args.self.now in
+    let q = ccr_view c.args.ccr.now in
+    ap (map fact_of) c.as_slice.ensures.value ∙ c.in_ok-facts.ensures ∙ ap (made_facts q q.kind) c.tag.ensures
+
+pub refresh-requires-clause-alike : goal.refresh-requires-clause-alike
+refresh-requires-clause-alike g c =
+    let q = ccr_view c.args.ccr.now in
+    (subst (λ (x : SiteValue). BringsNothing x.tables x.state.holding (gx q.session) c.in_ok-known.known) c.self.view_is (c.brings_nothing.ensures c.if-brings_nothing.true)).alike
+
+pub returns-then-brings_nothing-clause-reply : goal.returns-then-brings_nothing-clause-reply
+returns-then-brings_nothing-clause-reply g c =
+    let s = c.args.self.now in
+    let h = s.state.holding in
+    let q = ccr_view c.args.ccr.now in
+    let known = c.in_ok-known.known in
+    let nothing = subst (λ (x : SiteValue). BringsNothing x.tables x.state.holding (gx q.session) known) c.self.view_is (c.brings_nothing.ensures c.if-brings_nothing.true) in
+    let joins = c.in_ok-known.ensures ∙ ap (λ (n : ℕ). join_of (facts_on h.facts (gx q.session)) (kept_list (fields_of s.number n q q.kind))) c.requires.next in
+    let is = refreshed_is s q c.requires.opens c.note_kept.ensures known joins nothing in
+    subst (λ (r : ReplyValue). IfOk c.refresh.result (λ reply. gx_reply_value reply ≡ r)) (sym (ap (λ (o : Outcome). o.reply) is)) c.refresh.ensures.reply
+
+pub returns-then-brings_nothing-clause-ok : goal.returns-then-brings_nothing-clause-ok
+returns-then-brings_nothing-clause-ok g c =
+    let s = c.args.self.now in
+    let h = s.state.holding in
+    let q = ccr_view c.args.ccr.now in
+    let known = c.in_ok-known.known in
+    let nothing = subst (λ (x : SiteValue). BringsNothing x.tables x.state.holding (gx q.session) known) c.self.view_is (c.brings_nothing.ensures c.if-brings_nothing.true) in
+    let joins = c.in_ok-known.ensures ∙ ap (λ (n : ℕ). join_of (facts_on h.facts (gx q.session)) (kept_list (fields_of s.number n q q.kind))) c.requires.next in
+    let is = refreshed_is s q c.requires.opens c.note_kept.ensures known joins nothing in
+    let made = ap (λ (n : ℕ). Some (operation_made s.number n q q.kind)) c.requires.next ∙ sym (ap (λ (o : Outcome). o.added) is) in
+    subst (λ (o : Option Operation). OnOk c.refresh.result (c.refresh.new.self ≡ with_made s o)) made c.refresh.ensures.ok
+
+pub returns-then-brings_nothing-clause-left : goal.returns-then-brings_nothing-clause-left
+returns-then-brings_nothing-clause-left g c =
+    let s = c.args.self.now in
+    let h = s.state.holding in
+    let q = ccr_view c.args.ccr.now in
+    let known = c.in_ok-known.known in
+    let nothing = subst (λ (x : SiteValue). BringsNothing x.tables x.state.holding (gx q.session) known) c.self.view_is (c.brings_nothing.ensures c.if-brings_nothing.true) in
+    let joins = c.in_ok-known.ensures ∙ ap (λ (n : ℕ). join_of (facts_on h.facts (gx q.session)) (kept_list (fields_of s.number n q q.kind))) c.requires.next in
+    let stays = same_rules s q c.requires.opens c.note_kept.ensures known joins nothing in
+    let apart = subst (λ (rs : List RuleValue). Distinct (map rule_name_of rs)) stays nothing.apart in
+    let names = subst (λ (v : View). Distinct (map rule_name_of (rules s.tables v (gx q.session)))) (shown_fields s.number h q q.kind c.requires.opens) apart in
+    on_ok_weaker c.refresh.result
+    (provisioned_leaves s c.note_told.ensures q c.requires.alive names c.refresh.new.self)
+    (returns-then-brings_nothing-clause-ok g c)
 
 pub tell-requires-clause-set : goal.tell-requires-clause-set
 tell-requires-clause-set g c =

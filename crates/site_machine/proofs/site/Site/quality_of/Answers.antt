@@ -1,41 +1,24 @@
-use Rattle.std.proofs.Common.{List, ap, sym, ◌∙◌, option_and_then}
-use Rattle.pcrf_facts.specs.Facts.{Fact}
-use Rattle.pcrf_facts.specs.Held.{entry_shown}
-use Rattle.pcrf_facts.specs.Places.{apn}
-use Rattle.pcrf_model.specs.Sessions.{gx}
+use Rattle.std.proofs.Common.{ap, sym, ◌∙◌}
 use Rattle.pcrf_model.specs.Holdings.{facts_on}
-use Rattle.pcrf_model.specs.Tables.{ApnRow, Tables}
-use Rattle.pcrf_model.specs.Rules.{quality_of}
-use Rattle.pcrf_model.specs.Views.{view}
+use Rattle.pcrf_model.specs.Sessions.{gx}
+use Rattle.pcrf_model.specs.Tables.{Tables}
+use Rattle.site_machine.specs.Replies.{quality_shown}
 use Rattle.site_machine.specs.Sites.{SiteValue}
-use Rattle.site_machine.proofs.Replies.{no_access_point, access_point}
+use Rattle.site_machine.proofs.Replies.{quality_is}
 use Rattle.site_machine.proofs.site.Site.quality_of.Goals as goal
 
-pub returns-in_err-gx : goal.returns-in_err-gx
-returns-in_err-gx c =
+pub returns-in-Some : goal.returns-in-Some
+returns-in-Some c =
     let s = gx c.args.session.now in
-    let own = c.in_err-gx.ensures ∙ ap (λ (x : SiteValue). facts_on x.state.holding.facts s) c.self.view_is in
-    c.from_residual.ensures ∙ sym (no_access_point c.self.inside.held.tables c.args.self.now.state.holding.facts s (sym (ap (λ (fs : List Fact). entry_shown fs apn) own))) ∙ ap (λ (x : SiteValue). quality_of x.tables (view c.args.self.now.state.holding.facts) s) c.self.view_is
+    c.quality_by.ensures
+    ∙ ap (λ (t : Tables). quality_shown t c.in-Some.known.now) c.tables.ensures
+    ∙ ap (quality_shown c.self.inside.held.tables) c.in-Some.ensures
+    ∙ ap (λ (x : SiteValue). quality_shown x.tables (facts_on x.state.holding.facts s)) c.self.view_is
+    ∙ sym (quality_is c.args.self.now.tables c.args.self.now.state.holding.facts s)
 
-pub returns-in_err-apn : goal.returns-in_err-apn
-returns-in_err-apn c =
+pub returns-in-None : goal.returns-in-None
+returns-in-None c =
     let s = gx c.args.session.now in
-    let own = c.in_ok-gx.ensures ∙ ap (λ (x : SiteValue). facts_on x.state.holding.facts s) c.self.view_is in
-    let shows = c.in_err-apn.ensures ∙ ap (λ (fs : List Fact). entry_shown fs apn) own in
-    c.from_residual-in_err-apn.ensures ∙ sym (no_access_point c.self.inside.held.tables c.args.self.now.state.holding.facts s (sym shows)) ∙ ap (λ (x : SiteValue). quality_of x.tables (view c.args.self.now.state.holding.facts) s) c.self.view_is
-
-pub returns-in_err-apn-2 : goal.returns-in_err-apn-2
-returns-in_err-apn-2 c =
-    let s = gx c.args.session.now in
-    let own = c.in_ok-gx.ensures ∙ ap (λ (x : SiteValue). facts_on x.state.holding.facts s) c.self.view_is in
-    let shows = c.in_ok-apn.ensures ∙ ap (λ (fs : List Fact). entry_shown fs apn) own in
-    let row = ap (option_and_then (λ (r : ApnRow). r.default)) c.in_err-apn-2.ensures.row in
-    c.from_residual-in_err-apn-2.ensures ∙ row ∙ sym (access_point c.tables.result.now c.args.self.now.state.holding.facts s _ _ (sym shows)) ∙ ap (λ (t : Tables). quality_of t (view c.args.self.now.state.holding.facts) s) c.tables.ensures ∙ ap (λ (x : SiteValue). quality_of x.tables (view c.args.self.now.state.holding.facts) s) c.self.view_is
-
-pub returns : goal.returns
-returns c =
-    let s = gx c.args.session.now in
-    let own = c.in_ok-gx.ensures ∙ ap (λ (x : SiteValue). facts_on x.state.holding.facts s) c.self.view_is in
-    let shows = c.in_ok-apn.ensures ∙ ap (λ (fs : List Fact). entry_shown fs apn) own in
-    let row = ap (option_and_then (λ (r : ApnRow). r.default)) c.in_ok-apn-2.ensures.row in
-    c.default_quality.ensures ∙ row ∙ sym (access_point c.tables.result.now c.args.self.now.state.holding.facts s _ _ (sym shows)) ∙ ap (λ (t : Tables). quality_of t (view c.args.self.now.state.holding.facts) s) c.tables.ensures ∙ ap (λ (x : SiteValue). quality_of x.tables (view c.args.self.now.state.holding.facts) s) c.self.view_is
+    ap (quality_shown c.self.inside.held.tables) c.in-None.ensures
+    ∙ ap (λ (x : SiteValue). quality_shown x.tables (facts_on x.state.holding.facts s)) c.self.view_is
+    ∙ sym (quality_is c.args.self.now.tables c.args.self.now.state.holding.facts s)

@@ -1,0 +1,2 @@
+pub mod RefusalsOfFaults
+pub mod Steps

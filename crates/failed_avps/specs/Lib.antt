@@ -1,0 +1,4 @@
+pub mod Failed
+pub mod Faults
+pub mod Grammars
+pub mod Uncut

@@ -1,0 +1,66 @@
+-- What a frame asks of a node with a realm (RFC 6733, 6.1.4 and 7.1.3): this node passes nothing on, so in the standards' form it refuses a
+-- request for another realm. A request for another host of its realm is served, since sites answer for each other.
+use Rattle.std.specs.Prelude.{◌≡◌, ℕ, not, Bool, true, false, ◌&&◌, ◌==◌, if◌then◌else◌, List, take, Option, Some, None, Result, Ok, Err}
+use Rattle.std.specs.Str.{bytes_eq}
+use Rattle.std.proofs.Common.{option_and_then}
+use Rattle.pcrf_values.specs.declared.refusal.Refusal.{Refusal}
+use Rattle.pcrf_values.specs.Applications.{base_application}
+use Rattle.pcrf_values.specs.Limits.{identity_limit}
+use Rattle.pcrf_values.specs.Results.{base_result}
+use Rattle.pcrf_values.specs.Texts.{one_to, small_letters}
+use Rattle.dia_codec.specs.declared.fault.MsgFault.{MsgFault}
+use Rattle.dia_codec.specs.declared.message.Header.{Header}
+use Rattle.dia_codec.specs.Fields.{AvpValue, MessageValue, header_of}
+use Rattle.dia_codec.specs.Limits.{header_bytes}
+use Rattle.dia_codec.specs.Reading.{message_of}
+use Rattle.dia_base.specs.Avps.{destination_realm}
+use Rattle.dia_base.specs.Rows.{value_of}
+use Rattle.dia_base.specs.declared.form.MessageForm.{MessageForm}
+use Rattle.dia_base.specs.declared.form.MessageForm.TheVariants.{Own, Standard}
+use Rattle.dia_base.specs.declared.identity.Identity.{Identity}
+use Rattle.base_profile.specs.Avps.{is_base_command}
+use Rattle.site_core.specs.Asking.{AskedValue, ToRefuse, Nothing, meaning_of_frame, meaning_of_request, session_among}
+
+-- DIAMETER_REALM_NOT_SERVED
+abbrev pub realm_not_served : Refusal
+realm_not_served = base_result 3003
+
+-- the Destination-Realm, unless it is empty or too long
+abbrev pub realm_among : List AvpValue → Option (List ℕ)
+realm_among avps = option_and_then (one_to identity_limit) (value_of destination_realm avps)
+
+-- a realm is the node's own, whatever the case of its letters (4.3.1, DiameterIdentity; RFC 4343)
+abbrev pub is_own_realm : Identity → List ℕ → Bool
+is_own_realm i realm = bytes_eq (small_letters realm) (small_letters i.realm)
+
+abbrev pub is_other_realm : Identity → Option (List ℕ) → Bool
+is_other_realm i None = false
+is_other_realm i (Some realm) = not (is_own_realm i realm)
+
+-- a request of the base protocol goes to the next node and no further
+abbrev pub is_for_next_node : Header → Bool
+is_for_next_node h = h.application == base_application && is_base_command h.command
+
+abbrev pub is_standard : MessageForm → Bool
+is_standard Own = false
+is_standard Standard = true
+
+-- a request is for another realm, which a node looks at in the standards' form alone
+abbrev pub is_for_another : Identity → MessageValue → Bool
+is_for_another i m = is_standard i.form && not (is_for_next_node m.header) && is_other_realm i (realm_among m.avps)
+
+-- by a request's frame, of which this is read
+abbrev pub meaning_by_realm : Identity → List ℕ → Result MessageValue MsgFault → AskedValue
+meaning_by_realm i frame (Ok m) =
+    if is_for_another i m then ToRefuse m.header (session_among m.avps) realm_not_served else meaning_of_request frame (Ok m)
+meaning_by_realm i frame (Err fault) = meaning_of_request frame (Err fault)
+
+-- What a frame asks of a node: a request for another realm is refused where it could be cut into AVPs, before its application, its command and
+-- its table are looked at; all others are as for every node.
+unfoldable pub meaning_at : Identity → List ℕ → AskedValue
+meaning_at i frame =
+    if (header_of (take header_bytes frame)).flags.request then meaning_by_realm i frame (message_of frame) else Nothing
+
+-- in this project's own form a frame asks for the same in every realm
+abbrev pub OwnFormServesEveryRealm : Type 0
+OwnFormServesEveryRealm = (i : Identity) (frame : List ℕ) → i.form ≡ Own → meaning_at i frame ≡ meaning_of_frame frame

@@ -1,0 +1,21 @@
+//! What an operator looks up at a running site: one session, the sessions of a subscriber, and those at an address, each found by an index under
+//! the site's lock, and shown as JSON apart from it; and how many sessions there are, counted some at a time.
+#![tactic(auto)]
+
+mod counting;
+mod found;
+mod known;
+mod listed;
+mod lookers;
+mod notes;
+mod shown;
+#[cfg(test)]
+mod tests;
+
+pub use counting::{CallCounts, CallPiece, GatewayCounts, GatewayPiece, PIECE};
+pub use found::{CallFound, GatewayFound, Unbound, call, gateway_session};
+pub use known::KnownSessions;
+pub use listed::{calls_at, gateways_at, sessions_named};
+pub use lookers::{AddressLook, SessionLook, SubscriberLook};
+pub use notes::{NOTES_BYTES, SessionNotes};
+pub use shown::{PAGE, address_shown, session_shown, subscriber_shown};

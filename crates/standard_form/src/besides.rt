@@ -1,0 +1,179 @@
+//! What an answer has besides its own AVPs.
+ghost use Rattle.std.specs.Prelude.{◌≡◌, ◌≤◌, ◌++◌, length, IfOk, OnOk};
+ghost use Rattle.dia_codec.specs.Limits.{header_bytes};
+ghost use Rattle.dia_codec.specs.Spelling.{avp_view, avp_views};
+ghost use Rattle.standard_form.specs.Besides.{avps_in, besides, firmware_revision, kind_avps, mark_avps, node_avps, proxies, readable, request_number, request_type, type_of_number};
+
+use crate::answered::Answered;
+use dia_base::codes::{GX, TGPP, avps, commands};
+use dia_base::{AvpWriter, base_key, first_with};
+use dia_codec::{Avp, AvpKey, HEADER_BYTES, Header, MsgFault, read_group};
+use std::alloc::{AllocError, Global};
+
+/// Proxy-Info (RFC 6733, 6.7.2).
+const PROXY_INFO: u32 = 284;
+
+/// Supported-Vendor-Id (RFC 6733, 5.3.6).
+const SUPPORTED_VENDOR_ID: u32 = 265;
+
+/// Firmware-Revision (RFC 6733, 5.3.4).
+const FIRMWARE_REVISION: u32 = 267;
+
+/// The one revision that there is.
+const REVISION: u32 = 1;
+
+/// INITIAL_REQUEST (RFC 8506, 8.3).
+const INITIAL: u32 = 1;
+
+/// UPDATE_REQUEST.
+const UPDATE: u32 = 2;
+
+/// EVENT_REQUEST, the last CC-Request-Type.
+const EVENT: u32 = 4;
+
+/// The AVPs of a frame; none where they can't be cut.
+fn avps_in(alloc: Global, frame: &[u8]) -> Result<Vec<Avp>, AllocError>
+    requires { header_bytes ≤ length frame.now }
+    ensures { IfOk result (λ avps. avp_views avps.items ≡ avps_in frame.now) }
+{
+    let Some((_, rest)) = frame.split_first_chunk::<HEADER_BYTES>() else {
+        unreachable!()
+    };
+    match read_group(alloc, rest) {
+        Ok(avps) => Ok(avps),
+        Err(MsgFault::NoMemory) => Err(AllocError),
+        Err(_) => Ok(Vec::new(alloc)),
+    }
+}
+
+/// The number at a key, where what stands there first has four bytes.
+fn readable(avps: &[Avp], key: AvpKey) -> Option<u32>
+    ensures { result ≡ readable key (avp_views avps.now) }
+{
+    first_with(avps, key)?.number()
+}
+
+/// CC-Request-Number, 0 where none can be read.
+fn request_number(avps: &[Avp]) -> u32
+    ensures { result ≡ request_number (avp_views avps.now) }
+{
+    readable(avps, base_key(avps::CC_REQUEST_NUMBER)).unwrap_or(0)
+}
+
+/// The CC-Request-Type of a request by its number.
+fn type_of_number(number: u32) -> u32
+    ensures { result ≡ type_of_number number }
+{
+    if number == 0 { INITIAL } else { UPDATE }
+}
+
+/// CC-Request-Type, where it is one that there is; else by the number.
+fn request_type(given: Option<u32>, number: u32) -> u32
+    ensures { result ≡ request_type given number }
+{
+    match given {
+        Some(given) if INITIAL <= given && given <= EVENT => given,
+        _ => type_of_number(number),
+    }
+}
+
+/// The CC-Request-Type and CC-Request-Number of a credit control request.
+fn mark_avps(alloc: Global, avps: &[Avp]) -> Result<Vec<Avp>, AllocError>
+    ensures { IfOk result (λ marks. avp_views marks.items ≡ mark_avps (avp_views avps.now)) }
+{
+    let number = request_number(avps);
+    let given = readable(avps, base_key(avps::CC_REQUEST_TYPE));
+    let mut out = AvpWriter::start(alloc);
+    out.number(avps::CC_REQUEST_TYPE, request_type(given, number))?;
+    out.number(avps::CC_REQUEST_NUMBER, number)?;
+    Ok(out.into_avps())
+}
+
+/// The revision of the PCRF, which nobody has to understand.
+#[tactic(auto, unfolding(dia_codec::specs::Written::word_bytes))]
+fn firmware_revision(alloc: Global) -> Result<Avp, AllocError>
+    ensures { IfOk result (λ avp. avp_view avp ≡ firmware_revision) }
+{
+    Ok(Avp {
+        code: FIRMWARE_REVISION,
+        vendor: None,
+        mandatory: false,
+        protected: false,
+        value: Vec::from_slice(alloc, &REVISION.to_be_bytes())?,
+    })
+}
+
+/// What the PCRF is: whose AVPs it understands, and its revision.
+fn node_avps(alloc: Global) -> Result<Vec<Avp>, AllocError>
+    ensures { IfOk result (λ node. avp_views node.items ≡ node_avps) }
+{
+    let mut out = AvpWriter::start(alloc);
+    out.number(SUPPORTED_VENDOR_ID, TGPP)?;
+    let mut node = out.into_avps();
+    node.push(firmware_revision(alloc)?)?;
+    Ok(node)
+}
+
+/// What stands before the way back.
+fn kind_avps(
+    alloc: Global,
+    answered: Answered,
+    header: &Header,
+    avps: &[Avp],
+) -> Result<Vec<Avp>, AllocError>
+    ensures { IfOk result (λ kind.
+        avp_views kind.items ≡ kind_avps answered header.now (avp_views avps.now)) }
+{
+    let is_ccr = header.command == commands::CREDIT_CONTROL && header.application == GX;
+    match answered {
+        Answered::Capabilities => node_avps(alloc),
+        Answered::Unread if is_ccr => mark_avps(alloc, avps),
+        Answered::Unread | Answered::Other => Ok(Vec::new(alloc)),
+    }
+}
+
+/// An AVP that says the same.
+fn copied(alloc: Global, avp: &Avp) -> Result<Avp, AllocError>
+    ensures { IfOk result (λ copy. avp_view copy ≡ avp_view avp.now) }
+{
+    Ok(Avp {
+        code: avp.code,
+        vendor: avp.vendor,
+        mandatory: avp.mandatory,
+        protected: avp.protected,
+        value: Vec::from_slice(alloc, avp.text())?,
+    })
+}
+
+/// Adds each Proxy-Info of a request as it came, in their order.
+fn put_proxies(alloc: Global, out: &mut Vec<Avp>, avps: &[Avp]) -> Result<(), AllocError>
+    ensures { OnOk result (avp_views out.new.items
+        ≡ avp_views out.old.items ++ proxies (avp_views avps.now)) }
+{
+    for avp in avps {
+        if avp.key() == base_key(PROXY_INFO) {
+            out.push(copied(alloc, avp)?)?;
+        }
+    }
+    Ok(())
+}
+
+/// What an answer to the request of this header and frame has besides, in the standards' form: a credit control request that
+/// could not be read its type and number, which RFC 8506, 3.2, asks of each answer; an exchange of capabilities the vendor whose
+/// AVPs are understood; and every answer the request's Proxy-Infos, as they came.
+#[tactic(auto, unfolding(crate::specs::Besides::besides))]
+pub fn avps_besides(
+    alloc: Global,
+    answered: Answered,
+    header: &Header,
+    frame: &[u8],
+) -> Result<Vec<Avp>, AllocError>
+    requires { header_bytes ≤ length frame.now }
+    ensures { IfOk result (λ avps.
+        avp_views avps.items ≡ besides answered header.now frame.now) }
+{
+    let avps = avps_in(alloc, frame)?;
+    let mut all = kind_avps(alloc, answered, header, &avps)?;
+    put_proxies(alloc, &mut all, &avps)?;
+    Ok(all)
+}

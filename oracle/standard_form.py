@@ -1,0 +1,115 @@
+"""Answers in the standards' form, by the part of docs/MESSAGES.md on that: a plain model, apart from the product."""
+import re
+
+from failed_avps import failed_avp
+from grammars import cut, try_cut
+from messages import GX, TGPP, avp, tgpp
+from plain_requests import CCR, CER, MOST_BYTES, Refused, cut_stream, read_header, read_request
+from plain_site import run_script
+
+PROXY_INFO, FIRMWARE_REVISION, SUPPORTED_VENDOR_ID, RESULT_CODE = 284, 267, 265, 268
+GROUPS = (1001, 1003, 1058)
+ADDRESS = r"!?(?:any|assigned|[0-9a-fA-F.:/]+)(?: [0-9,-]+)?"
+FILTER = re.compile(rf"permit (in|out) (ip|[0-9]+) from ({ADDRESS}) to ({ADDRESS})((?: [a-z].*)?)", re.S)
+
+
+def turned(text):
+    """A filter as one of packets to the terminal, and its Flow-Direction."""
+    direction = 2 if text.startswith("permit in ") else 1
+    parts = FILTER.fullmatch(text)
+    if parts and direction == 2:
+        _, protocol, source, destination, options = parts.groups()
+        text = f"permit out {protocol} from {destination} to {source}{options}"
+    return text, direction
+
+
+def spelled(one, value):
+    """An AVP with this value."""
+    return avp(one.code, value, one.vendor or None, one.flags & 0x60)
+
+
+def with_directions(avps):
+    """The AVPs of an answer, with filters to the terminal."""
+    written = []
+    for one in avps:
+        if one.vendor == TGPP and one.code == 1058:
+            text, direction = turned(cut(one.value)[0].value.decode("latin-1"))
+            written.append(spelled(one, tgpp(507, text.encode("latin-1")) + tgpp(1080, direction, 0)))
+        elif one.vendor == TGPP and one.code in GROUPS:
+            written.append(spelled(one, with_directions(cut(one.value))))
+        else:
+            written.append(spelled(one, one.value))
+    return b"".join(written)
+
+
+def number(avps, code):
+    """The number that stands first at a code of the base protocol, None where none can be read."""
+    values = [one.value for one in avps if one.code == code and not one.vendor]
+    return int.from_bytes(values[0], "big") if values and len(values[0]) == 4 else None
+
+
+def unread(request):
+    """By which code a request is refused before a site looks at it, None if it isn't."""
+    try:
+        read_request(request)
+    except Refused as refused:
+        return refused.code
+    return None
+
+
+def besides(request):
+    """What an answer has besides its own AVPs, by their names."""
+    header, asked = read_header(request), try_cut(request[20:]) or []
+    parts, code = {}, unread(request)
+    if code is not None:
+        if (header.command, header.application) == (CCR, GX) and not 3000 <= code < 4000:
+            count, kind = number(asked, 415) or 0, number(asked, 416)
+            kind = kind if kind in (1, 2, 3, 4) else 1 if count == 0 else 2
+            parts["CC-Request-Type and -Number"] = avp(416, kind) + avp(415, count)
+    elif header.command == CER:
+        parts["Supported-Vendor-Id and Firmware-Revision"] = avp(SUPPORTED_VENDOR_ID, TGPP) + avp(FIRMWARE_REVISION, 1, flags=0)
+    ways = [avp(one.code, one.value, one.vendor if one.flags & 0x80 else None, one.flags & 0x60) for one in asked if is_proxy_info(one)]
+    if ways:
+        parts["Proxy-Info"] = b"".join(ways)
+    return parts
+
+
+def is_proxy_info(one):
+    """Whether an AVP is a Proxy-Info; vendor 0 counts as none."""
+    return one.code == PROXY_INFO and not one.vendor
+
+
+def in_standard_form(request, answer, seen):
+    """An answer to a request, in the standards' form."""
+    parts = besides(request)
+    own = with_directions(cut(answer[20:]))
+    more = b"".join(parts.values())
+    if 20 + len(own) + len(more) > MOST_BYTES:
+        more, parts = b"", {"too long": True}
+    seen.update(parts.keys())
+    body = own + more
+    failed = failed_avp(request, number(cut(answer[20:]), RESULT_CODE))
+    if failed and 20 + len(body) + len(failed) <= MOST_BYTES:
+        seen["Failed-AVP"] += 1
+        body += failed
+    return answer[:1] + (20 + len(body)).to_bytes(3, "big") + answer[4:20] + body
+
+
+def run_in_standard_form(tables, text, seen):
+    """What a script prints, and of each message that is answered the message and its answer."""
+    lines = [line for line in text.split("\n") if line and not line.startswith("#")]
+    printed, prints, pairs = iter(run_script(tables, lines)), [], []
+    count = int(lines[0].split(" ")[1])
+    for line in lines[1:]:
+        words = line.split(" ")
+        if words[0] != "msg" or int(words[1]) >= count:
+            continue
+        for request in cut_stream(bytes.fromhex(words[2]))[0]:
+            while not (told := next(printed)).startswith(("answer ", "no answer")):
+                prints.append(told)
+            if told.startswith("answer "):
+                answer = in_standard_form(request, bytes.fromhex(told[7:]), seen)
+                pairs.append((request, answer))
+                told = f"answer {answer.hex()}"
+            prints.append(told)
+    return prints + list(printed), pairs
