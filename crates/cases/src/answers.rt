@@ -40,6 +40,7 @@ fn identity(alloc: Global) -> Result<Identity, AllocError> {
         realm,
         address: Ipv4Addr::new(192, 0, 2, 1),
         form: MessageForm::Own,
+        state: None,
     })
 }
 

@@ -51,6 +51,7 @@ fn identity(alloc: Global) -> Result<Identity, Fault> {
         realm,
         address: Ipv4Addr::LOCALHOST,
         form: MessageForm::Own,
+        state: None,
     })
 }
 

@@ -18,6 +18,8 @@ pub struct Identity {
     pub address: Ipv4Addr,
     /// The form in which it writes.
     pub form: MessageForm,
+    /// Origin-State-Id (8.16), which messages of the standards' form have; `None` where they have none.
+    pub state: Option<u32>,
 }
 
 impl Identity {

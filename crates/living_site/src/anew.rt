@@ -19,6 +19,7 @@ pub(crate) fn names_of(site: &Site) -> Result<Identity, AllocError>
         realm,
         address: names.address,
         form: names.form,
+        state: names.state,
     })
 }
 

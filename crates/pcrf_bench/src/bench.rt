@@ -44,6 +44,7 @@ fn identity(alloc: Global) -> io::Result<Identity> {
         realm,
         address: Ipv4Addr::LOCALHOST,
         form: MessageForm::Own,
+        state: None,
     })
 }
 

@@ -42,6 +42,7 @@ fn identity_of(
         realm,
         address,
         form,
+        state: None,
     }))
 }
 

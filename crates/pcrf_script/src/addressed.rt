@@ -35,6 +35,7 @@ fn names_of(site: &Site, form: MessageForm) -> Result<Identity, AllocError> {
         realm,
         address: names.address,
         form,
+        state: names.state,
     })
 }
 

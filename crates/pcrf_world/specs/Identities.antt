@@ -1,5 +1,5 @@
 -- By which names a site answers: this project's own.
-use Rattle.std.specs.Prelude.{ℕ, List, [], ◌∷◌, ◌++◌, codes}
+use Rattle.std.specs.Prelude.{ℕ, List, [], ◌∷◌, ◌++◌, None, codes}
 use Rattle.std.specs.Fmt.{decimal}
 use Rattle.std.specs.declared.net.ipv4_addr.Ipv4Addr.{Ipv4Addr}
 use Rattle.dia_base.specs.declared.form.MessageForm.TheVariants.{Own}
@@ -15,4 +15,4 @@ loopback = record { octets = 127 ∷ 0 ∷ 0 ∷ 1 ∷ [] }
 
 -- with the Origin-Realm `r`
 abbrev pub identity_of : ℕ → Identity
-identity_of number = record { host = host_text number; realm = codes "r"; address = loopback; form = Own }
+identity_of number = record { host = host_text number; realm = codes "r"; address = loopback; form = Own; state = None }

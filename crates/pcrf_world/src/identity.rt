@@ -34,5 +34,6 @@ pub(crate) fn identity_of(alloc: Global, number: u8) -> Result<Identity, AllocEr
         realm,
         address: Ipv4Addr::LOCALHOST,
         form: MessageForm::Own,
+        state: None,
     })
 }

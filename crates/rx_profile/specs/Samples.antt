@@ -1,5 +1,5 @@
 -- An abort session request of the worked example, and its bytes.
-use Rattle.std.specs.Prelude.{ℕ, List, [], ◌∷◌, ◌++◌, codes}
+use Rattle.std.specs.Prelude.{ℕ, List, [], ◌∷◌, ◌++◌, None, codes}
 use Rattle.std.specs.declared.net.ipv4_addr.Ipv4Addr.{Ipv4Addr}
 use Rattle.pcrf_model.specs.Replies.{AbortValue}
 use Rattle.dia_base.specs.declared.form.MessageForm.TheVariants.{Own}
@@ -11,7 +11,7 @@ call_abort = record { session = codes "af;1"; host = codes "af"; realm = codes "
 
 -- the site `s0`, wherever it is
 abbrev pub own_names : Ipv4Addr → Identity
-own_names address = record { host = codes "s0"; realm = codes "r"; address = address; form = Own }
+own_names address = record { host = codes "s0"; realm = codes "r"; address = address; form = Own; state = None }
 
 -- header; Session-Id and Auth-Application-Id; Origin-Host and Origin-Realm; Destination-Realm and Destination-Host; Abort-Cause
 abbrev pub abort_bytes : List ℕ

@@ -29,6 +29,7 @@ pub fn names(alloc: Global, host: &[u8]) -> Result<Identity, SampleFault> {
         realm,
         address: Ipv4Addr::LOCALHOST,
         form: MessageForm::Own,
+        state: None,
     })
 }
 

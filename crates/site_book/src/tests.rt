@@ -49,6 +49,7 @@ fn new_site(rt: &impl Abort, alloc: Global) -> Site {
         realm,
         address: Ipv4Addr::LOCALHOST,
         form: MessageForm::Own,
+        state: None,
     };
     Site::start(
         alloc,

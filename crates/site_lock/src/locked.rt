@@ -50,6 +50,7 @@ fn names_of(site: &Site) -> Result<Identity, AllocError>
         realm,
         address: names.address,
         form: names.form,
+        state: names.state,
     })
 }
 

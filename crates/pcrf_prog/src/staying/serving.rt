@@ -75,6 +75,7 @@ fn copied(identity: &Identity) -> Result<Identity, AllocError> {
         realm: identity.realm.try_copy()?,
         address: identity.address,
         form: identity.form,
+        state: identity.state,
     })
 }
 
