@@ -6,6 +6,9 @@ use watched_links::{AvpBytes, first_avp};
 /// The AVP Origin-State-Id (RFC 6733, 8.16).
 const ORIGIN_STATE_ID: u32 = 278;
 
+/// The AVP Charging-Rule-Install of 3GPP (TS 29.212, 5.3.2).
+const CHARGING_RULE_INSTALL: u32 = 1001;
+
 /// The values of the first of some AVPs of a message, where they have their lengths.
 #[derive(Clone, Copy)]
 pub struct Glance<'a> {
@@ -17,6 +20,8 @@ pub struct Glance<'a> {
     pub kind: Option<u32>,
     /// Origin-State-Id.
     pub state: Option<u32>,
+    /// There is a Charging-Rule-Install.
+    pub installs: bool,
 }
 
 /// The number that the value of an AVP is.
@@ -32,12 +37,14 @@ impl<'a> Glance<'a> {
             host: None,
             kind: None,
             state: None,
+            installs: false,
         }
     }
 
     /// Sees one more AVP.
     fn see(&mut self, avp: &AvpBytes<'a>) {
         if avp.has_vendor {
+            self.installs = self.installs || avp.code == CHARGING_RULE_INSTALL;
             return;
         }
         match avp.code {

@@ -24,7 +24,9 @@ const BASE: u32 = 0;
 const INITIAL: u32 = 1;
 
 /// Keeps answers for requests that are repeated. Where an initial request is repeated whose answer isn't kept, or its host may have started
-/// again since its session's last request, the gateway has lost what it was told: the session is told all its rules again, by the answer.
+/// again since its session's last request, the gateway has lost what it was told: the session is told all its rules again, by the answer. A
+/// peer's letter may bring the session, and what its gateway was told there, just before the request is served: then the answer has no rule,
+/// and the push behind it has all.
 #[derive(Drop)]
 pub struct Remembering<'s, 'r, S: SharedSite, M> {
     pub(crate) kept: KeptAnswers<'r, M>,
@@ -87,6 +89,48 @@ impl<S: SharedSite, M> Remembering<'_, '_, S, M> {
             Ok(_) | Err(StepFault::HistoryFull | StepFault::ClockFull) => Ok(()),
             Err(StepFault::NoMemory) => Err(AllocError),
         }
+    }
+
+    /// Has the session of an initial request told all its rules again, if its gateway may have lost what it was told.
+    fn tell_lost<R: Wait>(
+        &self,
+        rt: &R,
+        alloc: Global,
+        header: &Header,
+        message: &[u8],
+    ) -> Result<(), AllocError> {
+        if !is_credit_control(header) {
+            return Ok(());
+        }
+        let seen = Glance::of(message);
+        if seen.kind != Some(INITIAL) {
+            return Ok(());
+        }
+        let Some(request) = read_initial(alloc, message)? else {
+            return Ok(());
+        };
+        if self.may_be_lost(rt, header.flags.retransmitted, seen.state, &request) {
+            return self.tell_again(rt, request.session);
+        }
+        Ok(())
+    }
+
+    /// The same behind the answer to it, if that has no rule.
+    fn tell_unheard<R: Wait>(
+        &self,
+        rt: &R,
+        alloc: Global,
+        request: &[u8],
+        answer: &[u8],
+    ) -> Result<(), AllocError> {
+        let Some(head) = request.first_chunk() else {
+            return Ok(());
+        };
+        let header = read_header(head);
+        if is_credit_control(&header) && !Glance::of(answer).installs {
+            return self.tell_lost(rt, alloc, &header, request);
+        }
+        Ok(())
     }
 
     /// Notes in which state a host is that exchanged capabilities.
@@ -162,24 +206,12 @@ impl<S: SharedSite, M: Clock> Repeats for Remembering<'_, '_, S, M> {
         header: &Header,
         message: &[u8],
     ) -> Result<(), AllocError> {
-        if !is_credit_control(header) {
-            return Ok(());
-        }
-        let seen = Glance::of(message);
-        if seen.kind != Some(INITIAL) {
-            return Ok(());
-        }
-        let Some(request) = read_initial(alloc, message)? else {
-            return Ok(());
-        };
-        if self.may_be_lost(rt, header.flags.retransmitted, seen.state, &request) {
-            return self.tell_again(rt, request.session);
-        }
-        Ok(())
+        self.tell_lost(rt, alloc, header, message)
     }
 
-    /// What isn't noted, for want of memory, is taken for lost later.
+    /// What isn't noted, for want of memory, is taken for lost later; what isn't told again stands as told.
     fn keep<R: Wait>(&self, rt: &R, alloc: Global, request: &[u8], answer: &[u8]) {
+        let _ = self.tell_unheard(rt, alloc, request, answer);
         let _ = self.remember(rt, alloc, request);
         self.kept.keep(rt, alloc, request, answer);
     }
