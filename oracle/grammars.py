@@ -263,16 +263,13 @@ def cut_loosely(data):
 
 def departing(kind, result, grammar, session):
     """The grammar of an answer, with where the product departs from it, as the limits in docs/MESSAGES.md say: a request that was refused unread
-    may have no Session-Id that could be repeated, or one that its command hasn't; and what a node is isn't told where an exchange of
-    capabilities was."""
+    may have no Session-Id that could be repeated, or one that its command hasn't."""
     if result not in UNREAD:
         return grammar
     if not session or len(session) > LONGEST_SESSION:
         grammar = grammar.replace("0*1<", "<").replace("< Session-Id >", "0*1< Session-Id >")
     elif kind in ("CEA", "DWA", "DPA"):
         grammar += " < Session-Id >"
-    if kind == "CEA":
-        grammar = re.sub(r"(1\*)?\{ (Host-IP-Address|Vendor-Id|Product-Name) \}", "", grammar).replace("*[ Supported-Vendor-Id ]", "")
     return grammar
 
 
@@ -303,7 +300,7 @@ def judge_answer(request, data):
             given = first(asked or [], code)
             known = given is not None and len(given) == 4 and (code == 415 or 1 <= int.from_bytes(given, "big") <= 4)
             require(not known or first(answer.avps, code) == given, f"AVP {code} isn't the request's")
-    if kind == "CEA" and result not in UNREAD:
+    if kind == "CEA":
         require(first(answer.avps, 265) == TGPP.to_bytes(4, "big"), "3GPP isn't a vendor that it supports")
     judge_flows(answer.avps)
     return kind

@@ -3,11 +3,13 @@ import re
 
 from failed_avps import failed_avp
 from grammars import cut, try_cut
-from messages import GX, TGPP, avp, tgpp
+from messages import BASE, GX, TGPP, avp, tgpp
 from plain_requests import CCR, CER, MOST_BYTES, Refused, cut_stream, read_header, read_request
 from plain_site import run_script
 
 PROXY_INFO, FIRMWARE_REVISION, SUPPORTED_VENDOR_ID, RESULT_CODE = 284, 267, 265, 268
+SUPPORTED = avp(SUPPORTED_VENDOR_ID, TGPP) + avp(FIRMWARE_REVISION, 1, flags=0)
+NODE = avp(257, b"\0\1\x7f\0\0\1") + avp(266, 0) + avp(269, "pcrf", flags=0)  # as in every other answer to an exchange of capabilities
 GROUPS = (1001, 1003, 1058)
 ADDRESS = r"!?(?:any|assigned|[0-9a-fA-F.:/]+)(?: [0-9,-]+)?"
 FILTER = re.compile(rf"permit (in|out) (ip|[0-9]+) from ({ADDRESS}) to ({ADDRESS})((?: [a-z].*)?)", re.S)
@@ -61,13 +63,16 @@ def besides(request):
     """What an answer has besides its own AVPs, by their names."""
     header, asked = read_header(request), try_cut(request[20:]) or []
     parts, code = {}, unread(request)
-    if code is not None:
-        if (header.command, header.application) == (CCR, GX) and not 3000 <= code < 4000:
+    if code is None:
+        if header.command == CER:
+            parts["Supported-Vendor-Id and Firmware-Revision"] = SUPPORTED
+    elif not 3000 <= code < 4000:
+        if (header.command, header.application) == (CCR, GX):
             count, kind = number(asked, 415) or 0, number(asked, 416)
             kind = kind if kind in (1, 2, 3, 4) else 1 if count == 0 else 2
             parts["CC-Request-Type and -Number"] = avp(416, kind) + avp(415, count)
-    elif header.command == CER:
-        parts["Supported-Vendor-Id and Firmware-Revision"] = avp(SUPPORTED_VENDOR_ID, TGPP) + avp(FIRMWARE_REVISION, 1, flags=0)
+        elif (header.command, header.application) == (CER, BASE):
+            parts["what a node is"] = NODE + SUPPORTED
     ways = [avp(one.code, one.value, one.vendor if one.flags & 0x80 else None, one.flags & 0x60) for one in asked if is_proxy_info(one)]
     if ways:
         parts["Proxy-Info"] = b"".join(ways)

@@ -8,6 +8,7 @@ use Rattle.dia_codec.specs.Written.{written_spelling}
 use Rattle.gx_profile.specs.Pushes.{rar}
 use Rattle.rx_profile.specs.Aborts.{asr}
 use Rattle.ranked.proofs.Plain.{none_some, some_same}
+use Rattle.standard_form.specs.Stated.{stated}
 use Rattle.gateway_links.specs.Requests.{asks, identifier_at, request_of, request_saying}
 
 -- the request of the reply that it has, with the identifiers of its place
@@ -26,9 +27,9 @@ asked_by_none names first None at = refl
 
 -- where no request is made nothing is asked
 pub none_asked : (names : Identity) (first place : ℕ) (reply : ReplyValue) → None ≡ request_saying names first place reply → asks reply ≡ false
-none_asked names first place (Pushed (Some p)) e = none_some (written_spelling (rar names (identifier_at place) (identifier_at (first + place)) p)) e
+none_asked names first place (Pushed (Some p)) e = none_some (stated names (written_spelling (rar names (identifier_at place) (identifier_at (first + place)) p))) e
 none_asked names first place (Pushed None) e = refl
-none_asked names first place (Aborted (Some a)) e = none_some (written_spelling (asr names (identifier_at place) (identifier_at (first + place)) a)) e
+none_asked names first place (Aborted (Some a)) e = none_some (stated names (written_spelling (asr names (identifier_at place) (identifier_at (first + place)) a))) e
 none_asked names first place (Aborted None) e = refl
 none_asked names first place reply e = refl
 

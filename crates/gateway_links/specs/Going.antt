@@ -8,6 +8,7 @@ use Rattle.link_ends.specs.Deeds.{counted_place}
 use Rattle.link_ends.specs.Replies.{GxReplyValue, Granted, Rejected, PushValue, ReplyValue, OnGx}
 use Rattle.pcrf_model.specs.Differences.{is_empty}
 use Rattle.pcrf_model.specs.Requests.{CcrValue}
+use Rattle.standard_form.specs.Stated.{stated}
 use Rattle.gateway_links.specs.Requests.{identifier_at}
 
 -- what an answer would remove and install, as a push to the host and the realm of the request; nothing where it would say nothing
@@ -23,7 +24,7 @@ push_of_reply q reply = None
 -- The bytes of the re-authorisation request of what was replied to the request at a place of a history (TS 29.212, 5.6.4), with the identifiers
 -- that a push there has
 abbrev pub request_telling : Identity → ℕ → CcrValue → ℕ → ReplyValue → Option (List ℕ)
-request_telling names first q place reply = option_map (λ push. written_spelling (rar names (identifier_at place) (identifier_at (first + place)) push)) (push_of_reply q reply)
+request_telling names first q place reply = option_map (λ push. stated names (written_spelling (rar names (identifier_at place) (identifier_at (first + place)) push))) (push_of_reply q reply)
 
 -- those of a receipt
 abbrev pub telling_of : Identity → ℕ → CcrValue → ReceiptValue → Option (List ℕ)

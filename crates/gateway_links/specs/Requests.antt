@@ -7,6 +7,7 @@ use Rattle.link_ends.specs.Books.{ReceiptValue}
 use Rattle.link_ends.specs.Deeds.{counted_place}
 use Rattle.link_ends.specs.Replies.{ReplyValue, Pushed, Aborted}
 use Rattle.rx_profile.specs.Aborts.{asr}
+use Rattle.standard_form.specs.Stated.{stated}
 
 -- a number as identifiers have it, which have 32 bits (RFC 6733, 3)
 abbrev pub identifier_at : ℕ → ℕ
@@ -18,10 +19,11 @@ abbrev pub first_end_id : ℕ → ℕ → ℕ
 first_end_id seconds random = seconds % 2 ^ 12 * 2 ^ 20 + random % 2 ^ 20
 
 -- The bytes of the request of what was replied at a place of a history: a re-authorisation request if something was pushed, an abort session
--- request if something was aborted. The Hop-by-Hop Identifier is the place, and the End-to-End Identifier as much behind the first one.
+-- request if something was aborted, in the form in which the site writes. The Hop-by-Hop Identifier is the place, and the End-to-End
+-- Identifier as much behind the first one.
 abbrev pub request_saying : Identity → ℕ → ℕ → ReplyValue → Option (List ℕ)
-request_saying names first place (Pushed (Some push)) = Some (written_spelling (rar names (identifier_at place) (identifier_at (first + place)) push))
-request_saying names first place (Aborted (Some abort)) = Some (written_spelling (asr names (identifier_at place) (identifier_at (first + place)) abort))
+request_saying names first place (Pushed (Some push)) = Some (stated names (written_spelling (rar names (identifier_at place) (identifier_at (first + place)) push)))
+request_saying names first place (Aborted (Some abort)) = Some (stated names (written_spelling (asr names (identifier_at place) (identifier_at (first + place)) abort)))
 request_saying names first place reply = None
 
 -- those of a receipt: its place is as a count of 64 bits has it

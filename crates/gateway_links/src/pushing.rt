@@ -11,6 +11,7 @@ ghost use Rattle.link_ends.specs.declared.demand.Demand.TheVariants as demands;
 ghost use Rattle.link_ends.specs.Values.{event_value, reply_value};
 ghost use Rattle.reply_values.specs.Replies.{push_view};
 ghost use Rattle.rx_profile.specs.Aborts.{abort_view, asr};
+ghost use Rattle.standard_form.specs.Stated.{stated};
 
 use crate::gateways::{Gateways, Reached};
 use crate::half::Half;
@@ -24,6 +25,7 @@ use pcrf_values::DiameterIdentity;
 use ranked::Ranked;
 use reply_values::PushOut;
 use rx_profile::{AbortOut, write_asr};
+use standard_form::stated;
 use std::alloc::{AllocError, Global};
 use std::io::Write;
 use std::sync::Wait;
@@ -45,7 +47,7 @@ enum Pushed {
     ClockFull,
 }
 
-/// The bytes of a push's re-authorisation request with these identifiers.
+/// The bytes of a push's re-authorisation request with these identifiers, in the form in which the site writes.
 #[tactic(auto, unfolding(gx_profile::specs::Pushes::rar))]
 pub(crate) fn request_bytes(
     alloc: Global,
@@ -55,17 +57,18 @@ pub(crate) fn request_bytes(
     push: &PushOut,
 ) -> Result<Vec<u8>, AllocError>
     ensures { IfOk result (λ bytes. bytes.items
-        ≡ written_spelling (rar identity.now hop_id end_id (push_view push.now))) }
+        ≡ stated identity.now (written_spelling
+        (rar identity.now hop_id end_id (push_view push.now)))) }
 {
     let request = write_rar(alloc, identity, hop_id, end_id, push)?;
     match write_message(alloc, &request) {
-        Ok(bytes) => Ok(bytes),
+        Ok(bytes) => stated(alloc, identity, bytes),
         Err(WriteFault::TooLong) => unreachable!(),
         Err(WriteFault::NoMemory) => Err(AllocError),
     }
 }
 
-/// The bytes of an abort session request with these identifiers.
+/// The bytes of an abort session request with these identifiers, in the form in which the site writes.
 #[tactic(auto, unfolding(rx_profile::specs::Aborts::asr))]
 fn abort_bytes(
     alloc: Global,
@@ -75,11 +78,12 @@ fn abort_bytes(
     abort: &AbortOut,
 ) -> Result<Vec<u8>, AllocError>
     ensures { IfOk result (λ bytes. bytes.items
-        ≡ written_spelling (asr identity.now hop_id end_id (abort_view abort.now))) }
+        ≡ stated identity.now (written_spelling
+        (asr identity.now hop_id end_id (abort_view abort.now)))) }
 {
     let request = write_asr(alloc, identity, hop_id, end_id, abort)?;
     match write_message(alloc, &request) {
-        Ok(bytes) => Ok(bytes),
+        Ok(bytes) => stated(alloc, identity, bytes),
         Err(WriteFault::TooLong) => unreachable!(),
         Err(WriteFault::NoMemory) => Err(AllocError),
     }

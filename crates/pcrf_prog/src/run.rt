@@ -267,7 +267,7 @@ fn run_server<H: Host, G: Log + Sync, R: Input, W: Output, F: Write>(
         Ok(epoch) => epoch,
         Err(why) => return refused_file(faults, why),
     };
-    match start_of(rt.alloc(), words, epoch) {
+    match start_of(rt, rt.alloc(), words, epoch) {
         Ok(Some(start)) => run_started(rt, log, words, start, console, faults),
         Ok(None) => fault(faults, "pcrf: command line\n", COMMAND_LINE),
         Err(_) => fault(faults, "pcrf: no memory\n", NO_MEMORY),

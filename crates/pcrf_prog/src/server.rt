@@ -7,6 +7,7 @@ use log::Log;
 use op_tables::Tables;
 use pcrf_values::DiameterIdentity;
 use sealed_links::Key;
+use standard_form::state_at_start;
 use std::alloc::{AllocError, Global};
 use std::net::{Ipv4Addr, Net, TcpListener, TcpStream};
 use std::sync::Wait;
@@ -21,12 +22,21 @@ pub struct Start {
     plan: SeatPlan,
 }
 
-/// The names of the words, and the form in which the site writes; `None` where a name is empty or too long, or the address is none of
-/// IPv4.
+/// How many seconds it is since 1970, if the clock tells it.
+fn seconds_now<R: Clock>(rt: &R) -> Option<u64> {
+    match rt.since_1970() {
+        Ok(time) => Some(time.as_secs()),
+        Err(_) => None,
+    }
+}
+
+/// The names of the words, the form in which the site writes, and the state that it tells; `None` where a name is empty or too long, or
+/// the address is none of IPv4.
 fn identity_of(
     alloc: Global,
     names: Names<'_>,
     form: MessageForm,
+    state: Option<u32>,
 ) -> Result<Option<Identity>, AllocError> {
     let Ok(address) = names.address.parse::<Ipv4Addr>() else {
         return Ok(None);
@@ -42,12 +52,13 @@ fn identity_of(
         realm,
         address,
         form,
-        state: None,
+        state,
     }))
 }
 
-/// What the words ask for in that epoch; `None` where they ask for more seats than there are, or for names that can't be.
-pub fn start_of(
+/// What the words ask for in that epoch, at a start now; `None` where they ask for more seats than there are, or for names that can't be.
+pub fn start_of<R: Clock>(
+    rt: &R,
     alloc: Global,
     words: &ServeWords<'_>,
     epoch: u16,
@@ -58,7 +69,8 @@ pub fn start_of(
     let Some(plan) = SeatPlan::of(words.connections as usize, words.peers.len()) else {
         return Ok(None);
     };
-    let Some(identity) = identity_of(alloc, words.names, words.form)? else {
+    let state = state_at_start(words.form, !words.peers.is_empty(), seconds_now(rt));
+    let Some(identity) = identity_of(alloc, words.names, words.form, state)? else {
         return Ok(None);
     };
     Ok(Some(Start {

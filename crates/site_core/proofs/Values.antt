@@ -50,7 +50,7 @@ site_answers old frame bytes last new a =
     let asked : AskedValue = meaning_at (names old) frame in
     let plain = answered_by old asked a.0 last new a.1 in
     let same : names new ≡ names old = ap names plain.2 ∙ names_after old asked in
-    (a.2 ∙ ap (λ (i : Identity). completed i.form (completion_of asked) frame a.0) same ∙ ap (completed old.identity.form (completion_of asked) frame) plain.0, plain.1, plain.2)
+    (a.2 ∙ ap (λ (i : Identity). completed i (completion_of asked) frame a.0) same ∙ ap (completed old.identity (completion_of asked) frame) plain.0, plain.1, plain.2)
 
 unanswered_by : (old : SiteValue) (asked : AskedValue) (new : SiteValue) → Unanswered SiteReplies old asked new → (new ≡ old) ⊎ (new ≡ after_by old asked)
 unanswered_by old (ToServe h q) new (inl same) = inl same

@@ -10,6 +10,7 @@ use Rattle.dia_base.specs.Answers.{is_protocol_error}
 use Rattle.dia_base.specs.Avps.{result_code}
 use Rattle.dia_base.specs.declared.form.MessageForm.{MessageForm}
 use Rattle.dia_base.specs.declared.form.MessageForm.TheVariants.{Own, Standard}
+use Rattle.dia_base.specs.declared.identity.Identity.{Identity}
 use Rattle.standard_form.specs.Behind.{behind}
 use Rattle.standard_form.specs.Besides.{avps_in, besides, readable}
 use Rattle.standard_form.specs.declared.answered.Answered.{Answered}
@@ -85,11 +86,15 @@ abbrev pub completion_of : AskedValue → Completion
 completion_of asked = record { answered = answered asked; refused = refused_by asked }
 
 -- in the standards' form an answer has further AVPs, and behind them what is at fault, each where there is room for it
-abbrev pub completed_there : Header → Completion → List ℕ → List ℕ → List ℕ
-completed_there header c frame plain =
-    with_failed (failed_by header frame (code_by c.refused plain)) (behind (besides c.answered header frame) plain)
+abbrev pub completed_there : Identity → Header → Completion → List ℕ → List ℕ → List ℕ
+completed_there i header c frame plain =
+    with_failed (failed_by header frame (code_by c.refused plain)) (behind (besides i c.answered header frame) plain)
+
+-- by the form of whoever answers
+abbrev pub completed_in : MessageForm → Identity → Completion → List ℕ → List ℕ → List ℕ
+completed_in Own i c frame plain = plain
+completed_in Standard i c frame plain = completed_there i (header_of (take header_bytes frame)) c frame plain
 
 -- The bytes of an answer to a frame: in this project's own form as they are; in the standards' with what the answer has besides.
-unfoldable pub completed : MessageForm → Completion → List ℕ → List ℕ → List ℕ
-completed Own c frame plain = plain
-completed Standard c frame plain = completed_there (header_of (take header_bytes frame)) c frame plain
+unfoldable pub completed : Identity → Completion → List ℕ → List ℕ → List ℕ
+completed i c frame plain = completed_in i.form i c frame plain

@@ -53,7 +53,7 @@ Answers names may full old Nothing bytes last new = (new ≡ old) × (bytes ≡ 
 abbrev pub AnswersFrame : {A : Type 0} → (A → Identity) → (A → RequestValue → ReplyValue → A → Type 0) → (A → Type 0) → A → List ℕ → List ℕ → Bool → A → Type 0
 AnswersFrame names may full old frame bytes last new =
     (plain : List ℕ) × Answers names may full old (meaning_at (names old) frame) plain last new
-    × (bytes ≡ completed (names new).form (completion_of (meaning_at (names old) frame)) frame plain)
+    × (bytes ≡ completed (names new) (completion_of (meaning_at (names old) frame)) frame plain)
 
 -- There is no answer: nothing was done, or a request was served.
 abbrev pub Unanswered : {A : Type 0} → (A → RequestValue → ReplyValue → A → Type 0) → A → AskedValue → A → Type 0
@@ -92,7 +92,7 @@ after_by s Nothing = s
 
 -- the bytes of the answer
 unfoldable pub answer_of : SiteValue → List ℕ → List ℕ
-answer_of s frame = completed s.identity.form (completion_of (meaning_at s.identity frame)) frame (answer_by s (meaning_at s.identity frame))
+answer_of s frame = completed s.identity (completion_of (meaning_at s.identity frame)) frame (answer_by s (meaning_at s.identity frame))
 
 -- the stream ends with it: it is a request for the end of the connection that succeeds
 unfoldable pub ends : SiteValue → List ℕ → Bool

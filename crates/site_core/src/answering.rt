@@ -174,6 +174,6 @@ pub fn answer_frame<S: Serve>(
     let asked = read_request_at(alloc, server.identity(), frame)?;
     let how = completion_of(&asked);
     let Answer { bytes, last } = answer_asked(alloc, server, asked)?;
-    let bytes = completed(alloc, server.identity().form, how, frame, bytes)?;
+    let bytes = completed(alloc, server.identity(), how, frame, bytes)?;
     Ok(Answer { bytes, last })
 }

@@ -12,7 +12,7 @@ use crate::reading::Asked;
 use base_profile::BaseKind;
 use dia_base::codes::avps::RESULT_CODE;
 use dia_base::codes::results::MISSING_AVP;
-use dia_base::{MessageForm, base_key, first_with};
+use dia_base::{Identity, MessageForm, base_key, first_with};
 use dia_codec::{Avp, AvpKey, HEADER_BYTES, Header, MsgFault, read_group, read_header};
 use failed_avps::failed_avp;
 use pcrf_values::Refusal;
@@ -183,44 +183,45 @@ fn with_failed(alloc: Global, failed: Option<Avp>, bytes: Vec<u8>) -> Result<Vec
 /// The bytes of an answer in the standards' form.
 fn completed_there(
     alloc: Global,
+    identity: &Identity,
     how: Completion,
     header: &Header,
     frame: &[u8],
     plain: Vec<u8>,
 ) -> Result<Vec<u8>, AllocError>
     requires { header_bytes ≤ length frame.now }
-    ensures { IfOk result (λ bytes.
-        bytes.items ≡ completed_there header.now how frame.now plain.items) }
+    ensures { IfOk result (λ bytes. bytes.items
+        ≡ completed_there identity.now header.now how frame.now plain.items) }
 {
     let code = code_by(alloc, how.refused, &plain)?;
     let failed = failed_by(alloc, header, frame, code)?;
-    let avps = avps_besides(alloc, how.answered, header, frame)?;
+    let avps = avps_besides(alloc, identity, how.answered, header, frame)?;
     let bytes = put_behind(alloc, &avps, plain)?;
     with_failed(alloc, failed, bytes)
 }
 
-/// The bytes of an answer to a frame in a form: in the standards' with what the answer has besides, and what is at fault of a request
-/// that it refuses.
+/// The bytes of an answer to a frame in the form of whoever answers: in the standards' with what the answer has besides, and what is at
+/// fault of a request that it refuses.
 #[tactic(auto, unfolding(crate::specs::Completing::completed))]
 pub(crate) fn completed(
     alloc: Global,
-    form: MessageForm,
+    identity: &Identity,
     how: Completion,
     frame: &[u8],
     plain: Vec<u8>,
 ) -> Result<Vec<u8>, AllocError>
     requires { header_bytes ≤ length frame.now }
     ensures { IfOk result (λ bytes.
-        bytes.items ≡ completed form how frame.now plain.items) }
+        bytes.items ≡ completed identity.now how frame.now plain.items) }
 {
-    match form {
+    match identity.form {
         MessageForm::Own => Ok(plain),
         MessageForm::Standard => {
             let Some((first, _)) = frame.split_first_chunk::<HEADER_BYTES>() else {
                 unreachable!()
             };
             let header = read_header(first);
-            completed_there(alloc, how, &header, frame, plain)
+            completed_there(alloc, identity, how, &header, frame, plain)
         }
     }
 }

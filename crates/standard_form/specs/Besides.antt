@@ -1,5 +1,5 @@
--- What an answer in the standards' form has besides its own AVPs, by the request's frame (RFC 6733, 5.3.2 and 6.2; RFC 8506, 3.2).
-use Rattle.std.specs.Prelude.{ℕ, ◌==◌, ◌&&◌, false, nat_le, if◌then◌else◌, List, [], ◌∷◌, ◌++◌, drop, Option, Some, None, unwrap_or}
+-- What an answer in the standards' form has besides its own AVPs, by the request's frame (RFC 6733, 5.3.2, 6.2 and 8.16; RFC 8506, 3.2).
+use Rattle.std.specs.Prelude.{ℕ, Bool, ◌==◌, ◌&&◌, false, nat_le, if◌then◌else◌, List, [], ◌∷◌, ◌++◌, drop, Option, Some, None, unwrap_or}
 use Rattle.std.specs.List.{filter}
 use Rattle.std.proofs.Common.{option_and_then}
 use Rattle.dia_codec.specs.declared.message.AvpKey.{AvpKey}
@@ -11,6 +11,11 @@ use Rattle.dia_codec.specs.Written.{word_bytes}
 use Rattle.dia_base.specs.Answers.{number_avp, is_gx_ccr}
 use Rattle.dia_base.specs.Avps.{base_key, tgpp_vendor, cc_request_type, cc_request_number}
 use Rattle.dia_base.specs.Rows.{has_key, first_at}
+use Rattle.dia_base.specs.declared.identity.Identity.{Identity}
+use Rattle.base_profile.specs.Answers as base
+use Rattle.base_profile.specs.Avps.{capabilities_exchange_command}
+use Rattle.base_profile.specs.OwnRequests.{base_application}
+use Rattle.standard_form.specs.Stated.{state_avps_of}
 use Rattle.standard_form.specs.declared.answered.Answered.{Answered}
 use Rattle.standard_form.specs.declared.answered.Answered.TheVariants.{Capabilities, Unread, Other}
 
@@ -78,13 +83,25 @@ firmware_revision = record { code = 267; vendor = None; mandatory = false; prote
 abbrev pub node_avps : List AvpValue
 node_avps = supported_vendor ∷ firmware_revision ∷ []
 
+-- a Capabilities-Exchange-Request (5.3.1)
+abbrev pub is_cer : Header → Bool
+is_cer h = h.application == base_application && h.command == capabilities_exchange_command
+
+-- the answer to one that could not be read has nothing of what each answer to one has (5.3.2): Host-IP-Address, Vendor-Id, Product-Name
+abbrev pub whole_node_avps : Identity → List AvpValue
+whole_node_avps i = base.node_avps i ++ base.product ∷ node_avps
+
 -- ---- all of it
 
--- by what is answered
-abbrev pub kind_avps : Answered → Header → List AvpValue → List AvpValue
-kind_avps Capabilities h avps = node_avps
-kind_avps Unread h avps = if is_gx_ccr h then mark_avps avps else []
-kind_avps Other h avps = []
+-- to a request that could not be read
+abbrev pub unread_avps : Identity → Header → List AvpValue → List AvpValue
+unread_avps i h avps = if is_gx_ccr h then mark_avps avps else if is_cer h then whole_node_avps i else []
 
-unfoldable pub besides : Answered → Header → List ℕ → List AvpValue
-besides answered h frame = kind_avps answered h (avps_in frame) ++ proxies (avps_in frame)
+-- by what is answered
+abbrev pub kind_avps : Identity → Answered → Header → List AvpValue → List AvpValue
+kind_avps i Capabilities h avps = node_avps
+kind_avps i Unread h avps = unread_avps i h avps
+kind_avps i Other h avps = []
+
+unfoldable pub besides : Identity → Answered → Header → List ℕ → List AvpValue
+besides i answered h frame = kind_avps i answered h (avps_in frame) ++ proxies (avps_in frame) ++ state_avps_of i h

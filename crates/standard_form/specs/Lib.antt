@@ -1,2 +1,3 @@
-pub mod Besides
 pub mod Behind
+pub mod Besides
+pub mod Stated

@@ -2,25 +2,25 @@
 ghost use Rattle.std.specs.Prelude.{◌≡◌, ◌≤◌, ◌++◌, length, IfOk, OnOk};
 ghost use Rattle.dia_codec.specs.Limits.{header_bytes};
 ghost use Rattle.dia_codec.specs.Spelling.{avp_view, avp_views};
-ghost use Rattle.standard_form.specs.Besides.{avps_in, besides, firmware_revision, kind_avps, mark_avps, node_avps, proxies, readable, request_number, request_type, type_of_number};
+ghost use Rattle.standard_form.specs.Besides.{avps_in, besides, is_cer, kind_avps, mark_avps, proxies, readable, request_number, request_type, type_of_number, unread_avps};
+ghost use Rattle.standard_form.specs.Stated.{state_avps_of};
 
 use crate::answered::Answered;
-use dia_base::codes::{GX, TGPP, avps, commands};
-use dia_base::{AvpWriter, base_key, first_with};
+use crate::node::{node_avps, whole_node_avps};
+use crate::stating::state_avps_of;
+use dia_base::codes::{GX, avps, commands};
+use dia_base::{AvpWriter, Identity, base_key, first_with};
 use dia_codec::{Avp, AvpKey, HEADER_BYTES, Header, MsgFault, read_group};
 use std::alloc::{AllocError, Global};
 
 /// Proxy-Info (RFC 6733, 6.7.2).
 const PROXY_INFO: u32 = 284;
 
-/// Supported-Vendor-Id (RFC 6733, 5.3.6).
-const SUPPORTED_VENDOR_ID: u32 = 265;
+/// Capabilities-Exchange (RFC 6733, 5.3).
+const CAPABILITIES_EXCHANGE: u32 = 257;
 
-/// Firmware-Revision (RFC 6733, 5.3.4).
-const FIRMWARE_REVISION: u32 = 267;
-
-/// The one revision that there is.
-const REVISION: u32 = 1;
+/// The base protocol's own messages (RFC 6733, 2.4).
+const BASE: u32 = 0;
 
 /// INITIAL_REQUEST (RFC 8506, 8.3).
 const INITIAL: u32 = 1;
@@ -89,46 +89,47 @@ fn mark_avps(alloc: Global, avps: &[Avp]) -> Result<Vec<Avp>, AllocError>
     Ok(out.into_avps())
 }
 
-/// The revision of the PCRF, which nobody has to understand.
-#[tactic(auto, unfolding(dia_codec::specs::Written::word_bytes))]
-fn firmware_revision(alloc: Global) -> Result<Avp, AllocError>
-    ensures { IfOk result (λ avp. avp_view avp ≡ firmware_revision) }
+/// Whether a header is of a Capabilities-Exchange-Request.
+fn is_cer(header: &Header) -> bool
+    ensures { result ≡ is_cer header.now }
 {
-    Ok(Avp {
-        code: FIRMWARE_REVISION,
-        vendor: None,
-        mandatory: false,
-        protected: false,
-        value: Vec::from_slice(alloc, &REVISION.to_be_bytes())?,
-    })
+    header.application == BASE && header.command == CAPABILITIES_EXCHANGE
 }
 
-/// What the PCRF is: whose AVPs it understands, and its revision.
-fn node_avps(alloc: Global) -> Result<Vec<Avp>, AllocError>
-    ensures { IfOk result (λ node. avp_views node.items ≡ node_avps) }
+/// What the answer to a request has besides that could not be read.
+fn unread_avps(
+    alloc: Global,
+    identity: &Identity,
+    header: &Header,
+    avps: &[Avp],
+) -> Result<Vec<Avp>, AllocError>
+    ensures { IfOk result (λ kind.
+        avp_views kind.items ≡ unread_avps identity.now header.now (avp_views avps.now)) }
 {
-    let mut out = AvpWriter::start(alloc);
-    out.number(SUPPORTED_VENDOR_ID, TGPP)?;
-    let mut node = out.into_avps();
-    node.push(firmware_revision(alloc)?)?;
-    Ok(node)
+    if header.command == commands::CREDIT_CONTROL && header.application == GX {
+        return mark_avps(alloc, avps);
+    }
+    if is_cer(header) {
+        return whole_node_avps(alloc, identity);
+    }
+    Ok(Vec::new(alloc))
 }
 
 /// What stands before the way back.
 fn kind_avps(
     alloc: Global,
+    identity: &Identity,
     answered: Answered,
     header: &Header,
     avps: &[Avp],
 ) -> Result<Vec<Avp>, AllocError>
-    ensures { IfOk result (λ kind.
-        avp_views kind.items ≡ kind_avps answered header.now (avp_views avps.now)) }
+    ensures { IfOk result (λ kind. avp_views kind.items
+        ≡ kind_avps identity.now answered header.now (avp_views avps.now)) }
 {
-    let is_ccr = header.command == commands::CREDIT_CONTROL && header.application == GX;
     match answered {
         Answered::Capabilities => node_avps(alloc),
-        Answered::Unread if is_ccr => mark_avps(alloc, avps),
-        Answered::Unread | Answered::Other => Ok(Vec::new(alloc)),
+        Answered::Unread => unread_avps(alloc, identity, header, avps),
+        Answered::Other => Ok(Vec::new(alloc)),
     }
 }
 
@@ -158,22 +159,39 @@ fn put_proxies(alloc: Global, out: &mut Vec<Avp>, avps: &[Avp]) -> Result<(), Al
     Ok(())
 }
 
+/// Adds a node's Origin-State-Id, where it tells one in answers to requests of this header.
+fn put_state(
+    alloc: Global,
+    out: &mut Vec<Avp>,
+    identity: &Identity,
+    header: &Header,
+) -> Result<(), AllocError>
+    ensures { OnOk result (avp_views out.new.items
+        ≡ avp_views out.old.items ++ state_avps_of identity.now header.now) }
+{
+    let mut state = state_avps_of(alloc, identity, header)?;
+    out.append(&mut state)
+}
+
 /// What an answer to the request of this header and frame has besides, in the standards' form: a credit control request that
 /// could not be read its type and number, which RFC 8506, 3.2, asks of each answer; an exchange of capabilities the vendor whose
-/// AVPs are understood; and every answer the request's Proxy-Infos, as they came.
+/// AVPs are understood, and one that could not be read all that a node says of itself; every answer the request's Proxy-Infos, as they
+/// came, and the Origin-State-Id of whoever answers, if it has one.
 #[tactic(auto, unfolding(crate::specs::Besides::besides))]
 pub fn avps_besides(
     alloc: Global,
+    identity: &Identity,
     answered: Answered,
     header: &Header,
     frame: &[u8],
 ) -> Result<Vec<Avp>, AllocError>
     requires { header_bytes ≤ length frame.now }
     ensures { IfOk result (λ avps.
-        avp_views avps.items ≡ besides answered header.now frame.now) }
+        avp_views avps.items ≡ besides identity.now answered header.now frame.now) }
 {
     let avps = avps_in(alloc, frame)?;
-    let mut all = kind_avps(alloc, answered, header, &avps)?;
+    let mut all = kind_avps(alloc, identity, answered, header, &avps)?;
     put_proxies(alloc, &mut all, &avps)?;
+    put_state(alloc, &mut all, identity, header)?;
     Ok(all)
 }

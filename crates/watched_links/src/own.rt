@@ -1,6 +1,7 @@
 //! What a site says of itself on its own account.
 use base_profile::write_dwr;
 use dia_base::Identity;
+use standard_form::stated;
 use std::alloc::{AllocError, Global};
 use std::sync::atomic::{AtomicU64, Ordering};
 use std::time::Duration;
@@ -32,11 +33,12 @@ impl Own {
         }
     }
 
-    /// The bytes of a Device-Watchdog-Request, with identifiers that no other request of the site has.
+    /// The bytes of a Device-Watchdog-Request in the form in which the site writes, with identifiers that no other request of it has.
     pub fn next_watchdog(&self, alloc: Global) -> Result<Vec<u8>, AllocError> {
         let count = (self.watchdogs.fetch_add(1, Ordering::SeqCst) % IDENTIFIERS) as u32;
         let hop_id = u32::MAX - count;
         let end_id = self.first_end_id.wrapping_sub(count).wrapping_sub(1);
-        write_dwr(alloc, &self.identity, hop_id, end_id)
+        let request = write_dwr(alloc, &self.identity, hop_id, end_id)?;
+        stated(alloc, &self.identity, request)
     }
 }

@@ -4,9 +4,8 @@ be named, each that is required be there. It prints how many answers it takes, a
 
 usage: strict_answers.py PROGRAM SCRIPT..     with the tables of examples/telephony.toml
 
-It fails where OTP finds another fault than these: a Session-Id that is none of UTF-8, or isn't there, since the request's is so; what an exchange
-of capabilities lacks that was refused unread; and a Session-Id that a request of the base protocol has, and so its answer. The gate doesn't run
-it. With Debian's erlang-base, erlang-diameter and erlang-dev.
+It fails where OTP finds another fault than these: a Session-Id that is none of UTF-8, or isn't there, since the request's is so; and one that
+a request of the base protocol has, and so its answer. The gate doesn't run it. With Debian's erlang-base, erlang-diameter and erlang-dev.
 """
 import collections
 import pathlib
@@ -25,7 +24,7 @@ DICTIONARIES = {"strict_gx": (GX, ("CCR", "CCA")), "strict_rx": (RX, ("AAR", "AA
 REQUEST = "< Session-Id > { Origin-Host } { Origin-Realm } *[ AVP ]"  # which are not decoded, but have to be there
 CLOSED = {"<": ">", "{": "}", "[": "]"}
 OWN = "diameter_gen_base_rfc6733"  # which has the AVPs of RFC 6733
-LEFT = {("5004", "263"), ("5005", "263"), ("5001", "263"), ("5005", "257"), ("5005", "266"), ("5005", "269")}
+LEFT = {("5004", "263"), ("5005", "263"), ("5001", "263")}
 
 
 def used_by(grammars):

@@ -1,0 +1,91 @@
+//! What the PCRF says of itself in an exchange of capabilities (RFC 6733, 5.3.2).
+ghost use Rattle.std.specs.Prelude.{◌≡◌, IfOk};
+ghost use Rattle.base_profile.specs.Answers.{address_value, product};
+ghost use Rattle.dia_codec.specs.Spelling.{avp_view, avp_views};
+ghost use Rattle.standard_form.specs.Besides.{firmware_revision, node_avps, whole_node_avps};
+
+use dia_base::codes::TGPP;
+use dia_base::codes::avps::VENDOR_ID;
+use dia_base::{AvpWriter, Identity};
+use dia_codec::Avp;
+use std::alloc::{AllocError, Global};
+
+/// Host-IP-Address (RFC 6733, 5.3.5).
+const HOST_IP_ADDRESS: u32 = 257;
+
+/// Supported-Vendor-Id (5.3.6).
+const SUPPORTED_VENDOR_ID: u32 = 265;
+
+/// Firmware-Revision (5.3.4).
+const FIRMWARE_REVISION: u32 = 267;
+
+/// Product-Name (5.3.7).
+const PRODUCT_NAME: u32 = 269;
+
+/// The name of the program.
+const PRODUCT: &[u8] = b"pcrf";
+
+/// The one revision that there is.
+const REVISION: u32 = 1;
+
+/// The name of the program, which nobody has to understand.
+fn product(alloc: Global) -> Result<Avp, AllocError>
+    ensures { IfOk result (λ avp. avp_view avp ≡ product) }
+{
+    Ok(Avp {
+        code: PRODUCT_NAME,
+        vendor: None,
+        mandatory: false,
+        protected: false,
+        value: Vec::from_slice(alloc, PRODUCT)?,
+    })
+}
+
+/// The revision of the PCRF, which nobody has to understand.
+#[tactic(auto, unfolding(dia_codec::specs::Written::word_bytes))]
+fn firmware_revision(alloc: Global) -> Result<Avp, AllocError>
+    ensures { IfOk result (λ avp. avp_view avp ≡ firmware_revision) }
+{
+    Ok(Avp {
+        code: FIRMWARE_REVISION,
+        vendor: None,
+        mandatory: false,
+        protected: false,
+        value: Vec::from_slice(alloc, &REVISION.to_be_bytes())?,
+    })
+}
+
+/// The value of the Host-IP-Address: the family of IPv4, and the address (RFC 6733, 4.3.1).
+fn address_value(alloc: Global, identity: &Identity) -> Result<Vec<u8>, AllocError>
+    ensures { IfOk result (λ value. value.items ≡ address_value identity.now) }
+{
+    let mut value = Vec::from_slice(alloc, &[0, 1])?;
+    value.extend_from_slice(&identity.address.octets())?;
+    Ok(value)
+}
+
+/// What a granted exchange's answer lacks of what the PCRF is: whose AVPs it understands, and its revision.
+pub(crate) fn node_avps(alloc: Global) -> Result<Vec<Avp>, AllocError>
+    ensures { IfOk result (λ node. avp_views node.items ≡ node_avps) }
+{
+    let mut out = AvpWriter::start(alloc);
+    out.number(SUPPORTED_VENDOR_ID, TGPP)?;
+    let mut node = out.into_avps();
+    node.push(firmware_revision(alloc)?)?;
+    Ok(node)
+}
+
+/// All that the PCRF is: its address, that it is of no vendor, its name, and what `node_avps` says.
+pub(crate) fn whole_node_avps(alloc: Global, identity: &Identity) -> Result<Vec<Avp>, AllocError>
+    ensures { IfOk result (λ node. avp_views node.items ≡ whole_node_avps identity.now) }
+{
+    let address = address_value(alloc, identity)?;
+    let mut out = AvpWriter::start(alloc);
+    out.put(HOST_IP_ADDRESS, address)?;
+    out.number(VENDOR_ID, 0)?;
+    let mut whole = out.into_avps();
+    whole.push(product(alloc)?)?;
+    let mut node = node_avps(alloc)?;
+    whole.append(&mut node)?;
+    Ok(whole)
+}
