@@ -1,4 +1,4 @@
-//! A site that threads share, of any kind, whose calls are timed and noted: what it does is what the site beneath does.
+//! A site that threads share, of any kind, whose calls are noted, and some timed: what it does is what the site beneath does.
 #![tactic(auto)]
 
 mod metered;

@@ -1,14 +1,17 @@
-//! A site whose calls are timed and noted.
+//! A site whose calls are noted, and some of them timed.
 ghost use Rattle.std.specs.Prelude.{◌≡◌};
 
 use crate::meters::Meters;
 use dia_base::Identity;
 use pcrf_values::DiameterIdentity;
 use shared_site::{Dated, Event, Grown, Reply, SharedSite, StepFault};
-use std::io;
 use std::sync::Wait;
 use std::thread::Threads;
 use std::time::{Clock, Duration};
+
+/// Of so many calls of a seat one is timed, from its first on: reading the clock twice costs more than all else that is noted of a call. It
+/// is a prime, so that where kinds of calls take turns, as messages and pushes do, each is timed.
+const TIMED_EVERY: u64 = 7;
 
 /// A site that threads share, with what is noted of its calls.
 #[derive(Drop)]
@@ -37,9 +40,12 @@ impl<'r, S, C: Clock> MeteredSite<'r, S, C> {
         &self.site
     }
 
-    /// A call took the time since then, unless the machine tells no time.
-    fn tell(&self, begun: io::Result<Duration>) {
-        let (Ok(begun), Ok(ended)) = (begun, self.clock.monotonic()) else {
+    /// A call that is timed took the time since then, unless the machine tells no time.
+    fn tell(&self, begun: Option<Duration>) {
+        let Some(begun) = begun else {
+            return;
+        };
+        let Ok(ended) = self.clock.monotonic() else {
             return;
         };
         let taken = ended.saturating_sub(begun).as_nanos();
@@ -49,12 +55,23 @@ impl<'r, S, C: Clock> MeteredSite<'r, S, C> {
     }
 }
 
+impl<S: SharedSite, C: Clock> MeteredSite<'_, S, C> {
+    /// When a call of a seat begins, if it is one that is timed, and the machine tells the time.
+    fn begin(&self, seat: &S::Seat, event: &Event) -> Option<Duration> {
+        if self.site.calls_of(seat) % TIMED_EVERY != 0 || is_asking(event) {
+            return None;
+        }
+        self.clock.monotonic().ok()
+    }
+}
+
 /// Whether an event only asks what the site made or holds, as is done again and again.
 fn is_asking(event: &Event) -> bool {
     matches!(event, Event::AskOwn(_) | Event::AskWhole)
 }
 
-/// Timed and noted are the calls that wait for nothing but the lock, unless they only ask: from when it is asked for to the reply.
+/// Noted are the calls that wait for nothing but the lock. Of each seat's some are timed, unless they only ask: from when the lock is asked
+/// for to the reply.
 impl<S: SharedSite, C: Clock> SharedSite for MeteredSite<'_, S, C> {
     type Seat = S::Seat;
 
@@ -106,7 +123,7 @@ impl<S: SharedSite, C: Clock> SharedSite for MeteredSite<'_, S, C> {
         seat: &mut S::Seat,
         event: &Event,
     ) -> Result<Reply, StepFault> {
-        let begun = self.clock.monotonic();
+        let begun = self.begin(seat, event);
         let reply = self.site.call(rt, seat, event);
         self.tell(begun);
         if let Ok(told) = &reply {
@@ -121,7 +138,7 @@ impl<S: SharedSite, C: Clock> SharedSite for MeteredSite<'_, S, C> {
         seat: &mut S::Seat,
         event: &Event,
     ) -> Result<Dated, StepFault> {
-        let begun = self.clock.monotonic();
+        let begun = self.begin(seat, event);
         let told = self.site.call_dated(rt, seat, event);
         self.tell(begun);
         if let Ok(dated) = &told {
@@ -136,11 +153,8 @@ impl<S: SharedSite, C: Clock> SharedSite for MeteredSite<'_, S, C> {
         seat: &mut S::Seat,
         event: &Event,
     ) -> Result<Reply, StepFault> {
-        let begun = self.clock.monotonic();
+        let begun = self.begin(seat, event);
         let reply = self.site.call_alone(rt, seat, event);
-        if is_asking(event) {
-            return reply;
-        }
         self.tell(begun);
         if let Ok(told) = &reply {
             self.meters.note(rt, event, told);

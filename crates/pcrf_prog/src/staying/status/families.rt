@@ -105,7 +105,7 @@ pub const RESIDENT: Family<'static> = Family {
 
 pub const CALLS: Family<'static> = Family {
     name: "pcrf_site_call_seconds",
-    help: "How long calls of the site took that served a message, pushed, aborted or took a letter, from the lock asked for to the reply.",
+    help: "How long calls took that serve, push, abort or take a letter, from the lock asked for to the reply: one in seven is timed.",
     kind: Kind::Histogram,
 };
 
