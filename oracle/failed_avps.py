@@ -4,13 +4,23 @@ from plain_requests import (AAR, COMPONENT, FLOW, RX, SERVED, SUBSCRIBER_DATA, S
                             read_header)
 
 FAILED_AVP, ADDRESS = 279, 8
-MISSING, TOO_OFTEN, BAD_LENGTH = 5005, 5009, 5014
+UNSUPPORTED, MISSING, TOO_OFTEN, BAD_LENGTH = 5001, 5005, 5009, 5014
 LONGEST = 65532
+MANDATORY = 0x40
 
 # The rows in groups, and of each type the least bytes of a value (RFC 6733, 4.2 to 4.4; RFC 3162, 2.3); those that stand nowhere have 0.
 GROUPS = {(260, 0): [AUTH_APPLICATION], (443, 0): [SUBSCRIBER_TYPE, SUBSCRIBER_DATA], (517, TGPP): COMPONENT, (519, TGPP): FLOW}
 LEAST = {258: 4, 263: 1, 264: 1, 296: 1, 415: 4, 416: 4, 450: 4, 444: 1, 8: 4, 97: 2, 30: 1, 509: 4, 511: 4, 512: 4, 515: 4, 516: 4, 518: 4,
          520: 4}
+
+# The codes that are recognized by their vendors, each range with its last (docs/MESSAGES.md).
+ETSI, TGPP2 = 13019, 5535
+RECOGNIZED = {
+    0: [(1, 255), (257, 301), (363, 366), (400, 408), (411, 461), (480, 485), (486, 507), (508, 578), (621, 627), (648, 669)],
+    TGPP: [(1, 255), (500, 1099), (1200, 1299), (1400, 1699), (2000, 2399), (2800, 2999), (4200, 4299)],
+    ETSI: [(300, 399), (450, 459)],
+    TGPP2: [(9010, 9010)],
+}
 
 
 class Spelled:
@@ -73,6 +83,31 @@ def by_value(row, one):
     return None
 
 
+def is_recognized(key):
+    """Whether a standard whose AVPs requests may have was given this code."""
+    return any(first <= key[0] <= last for first, last in RECOGNIZED.get(key[1], ()))
+
+
+def unsupported(rows, avps):
+    """The bytes of the first AVP with M that isn't recognized, in the groups in which it stands; None where there is none. Those groups are
+    looked into that the rows have."""
+    for one in avps:
+        if one.flags & MANDATORY and not is_recognized(one.key):
+            return one.written()
+        if one.key in GROUPS and any((row.code, row.vendor) == one.key for row in rows):
+            inside, left = cut(one.value)
+            found = None if left else unsupported(GROUPS[one.key], inside)
+            if found is not None:
+                return one.written(found)
+    return None
+
+
+def has_unsupported(request):
+    """Whether a request that is served, and can be cut into AVPs, has an AVP with M that isn't recognized."""
+    header = read_header(request)
+    return header.command in SERVED.get(header.application, ()) and unsupported(TABLES[header.command], cut(request[20:])[0]) is not None
+
+
 def uncut(request, left):
     """The header of an AVP whose length is wrong, with the least value of its type."""
     padded = left[:12].ljust(12, b"\0")
@@ -91,6 +126,8 @@ def at_fault(request, code):
         return uncut(request, left) if code == BAD_LENGTH else None
     if header.command not in SERVED.get(header.application, ()):
         return None
+    if code == UNSUPPORTED:
+        return unsupported(TABLES[header.command], avps)
     found = by_rows(TABLES[header.command], avps)
     if found is not None:
         return found[1] if found[0] == code else None

@@ -99,7 +99,7 @@ COMMANDS = {
 }
 
 # The refusals of a request that can't be read, and those that tell of an AVP by a Failed-AVP (RFC 6733, 7.1.5)
-UNREAD = (5004, 5005, 5009, 5011, 5014)
+UNREAD = (5001, 5004, 5005, 5009, 5011, 5014)
 TOLD_BY_AVP = (5001, 5004, 5005, 5008, 5009, 5014)
 
 LONGEST_SESSION = 512

@@ -86,15 +86,15 @@ def told_facts(session, entries, tag):
 # ---- a site
 
 class Site:
-    """A site of a number, which took and made nothing yet."""
+    """A site of a number, which took and made nothing yet, and how it reads requests."""
 
-    def __init__(self, tables, number, epoch=1):
-        self.tables, self.number, self.epoch = tables, number, epoch
+    def __init__(self, tables, number, epoch=1, read=read_request):
+        self.tables, self.number, self.epoch, self.read = tables, number, epoch, read
         self.operations, self.log, self.letters = [], [], []
 
     def copy(self):
         """A site that took and made the same."""
-        site = Site(self.tables, self.number, self.epoch)
+        site = Site(self.tables, self.number, self.epoch, self.read)
         site.operations, site.log, site.letters = list(self.operations), list(self.log), list(self.letters)
         return site
 
@@ -126,7 +126,7 @@ class Site:
         if not header.is_request:
             return None
         try:
-            values = read_request(frame).values
+            values = self.read(frame).values
         except Refused as refused:
             return refusal(self.number, header, refused.code, first_session_id(frame))
         if header.command == CCR:
@@ -309,9 +309,9 @@ def show_af(view, session):
 class World:
     """Sites of equal tables, and the letters that they made."""
 
-    def __init__(self, tables, count):
+    def __init__(self, tables, count, read=read_request):
         self.tables = tables
-        self.sites = [Site(tables, number) for number in range(count)]
+        self.sites = [Site(tables, number, read=read) for number in range(count)]
         self.letters, self.pushes, self.aborts = [], [], []
 
     def obey(self, line):
@@ -377,7 +377,7 @@ class World:
     def restart(self, site):
         """A site begins anew."""
         epoch = self.sites[site].epoch + 1
-        self.sites[site] = Site(self.tables, site, epoch)
+        self.sites[site] = Site(self.tables, site, epoch, self.sites[site].read)
         return [f"restart {site} epoch {epoch}"]
 
     def show(self, site):
@@ -385,14 +385,14 @@ class World:
         return self.sites[site].show()
 
 
-def run_script(tables, lines):
-    """What a script without bad lines prints."""
+def run_script(tables, lines, read=read_request):
+    """What a script without bad lines prints, by sites that read requests so."""
     world, prints = None, []
     for line in lines:
         if not line or line.startswith("#"):
             continue
         if world is None:
-            world = World(tables, int(line.split(" ")[1]))
+            world = World(tables, int(line.split(" ")[1]), read)
             prints.append(line)
         else:
             prints += world.obey(line)

@@ -1,15 +1,16 @@
 """Answers in the standards' form, by the part of docs/MESSAGES.md on that: a plain model, apart from the product."""
 import re
 
-from failed_avps import failed_avp
+from failed_avps import UNSUPPORTED, failed_avp, has_unsupported
 from grammars import cut, try_cut
-from messages import BASE, GX, TGPP, avp, tgpp
-from plain_requests import CCR, CER, MOST_BYTES, Refused, cut_stream, read_header, read_request
+from messages import GX, TGPP, avp, tgpp
+from plain_requests import BASE, CCR, CER, MOST_BYTES, SERVED, Refused, cut_avps, cut_stream, judge_header, read_header, read_request
 from plain_site import run_script
 
-PROXY_INFO, FIRMWARE_REVISION, SUPPORTED_VENDOR_ID, RESULT_CODE = 284, 267, 265, 268
+PROXY_INFO, FIRMWARE_REVISION, SUPPORTED_VENDOR_ID, RESULT_CODE, DESTINATION_REALM = 284, 267, 265, 268, 283
 SUPPORTED = avp(SUPPORTED_VENDOR_ID, TGPP) + avp(FIRMWARE_REVISION, 1, flags=0)
 NODE = avp(257, b"\0\1\x7f\0\0\1") + avp(266, 0) + avp(269, "pcrf", flags=0)  # as in every other answer to an exchange of capabilities
+REALM, REALM_NOT_SERVED = b"r", 3003
 GROUPS = (1001, 1003, 1058)
 ADDRESS = r"!?(?:any|assigned|[0-9a-fA-F.:/]+)(?: [0-9,-]+)?"
 FILTER = re.compile(rf"permit (in|out) (ip|[0-9]+) from ({ADDRESS}) to ({ADDRESS})((?: [a-z].*)?)", re.S)
@@ -50,10 +51,29 @@ def number(avps, code):
     return int.from_bytes(values[0], "big") if values and len(values[0]) == 4 else None
 
 
+def is_for_another(header, avps):
+    """Whether a request is for another realm than that of the sites of scripts; one of the base protocol is for the next node."""
+    realms = [one.value for one in avps if (one.code, one.vendor) == (DESTINATION_REALM, 0)]
+    is_next = header.application == BASE and header.command in SERVED[BASE]
+    return bool(realms) and not is_next and 1 <= len(realms[0]) <= 255 and realms[0].lower() != REALM
+
+
+def read_strictly(request):
+    """A request as its table has it, or the first cause to refuse it: it is for the site's realm, and, if it is one that is served, has no
+    AVP with M that isn't recognized."""
+    header = read_header(request)
+    judge_header(header)
+    if is_for_another(header, cut_avps(request[20:])):
+        raise Refused(REALM_NOT_SERVED)
+    if has_unsupported(request):
+        raise Refused(UNSUPPORTED)
+    return read_request(request)
+
+
 def unread(request):
     """By which code a request is refused before a site looks at it, None if it isn't."""
     try:
-        read_request(request)
+        read_strictly(request)
     except Refused as refused:
         return refused.code
     return None
@@ -93,7 +113,9 @@ def in_standard_form(request, answer, seen):
         more, parts = b"", {"too long": True}
     seen.update(parts.keys())
     body = own + more
-    failed = failed_avp(request, number(cut(answer[20:]), RESULT_CODE))
+    code = number(cut(answer[20:]), RESULT_CODE)
+    seen[code] += 1
+    failed = failed_avp(request, code)
     if failed and 20 + len(body) + len(failed) <= MOST_BYTES:
         seen["Failed-AVP"] += 1
         body += failed
@@ -103,7 +125,7 @@ def in_standard_form(request, answer, seen):
 def run_in_standard_form(tables, text, seen):
     """What a script prints, and of each message that is answered the message and its answer."""
     lines = [line for line in text.split("\n") if line and not line.startswith("#")]
-    printed, prints, pairs = iter(run_script(tables, lines)), [], []
+    printed, prints, pairs = iter(run_script(tables, lines, read_strictly)), [], []
     count = int(lines[0].split(" ")[1])
     for line in lines[1:]:
         words = line.split(" ")

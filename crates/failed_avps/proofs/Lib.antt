@@ -1,2 +1,3 @@
 pub mod RefusalsOfFaults
+pub mod ServedRecognized
 pub mod Steps

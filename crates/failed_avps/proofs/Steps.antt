@@ -11,6 +11,7 @@ use Rattle.failed_avps.specs.declared.grammar.Grammar.{Grammar}
 use Rattle.failed_avps.specs.Faults.{FaultValue, fault_among, fault_within, or_fault, rows_fault}
 use Rattle.failed_avps.specs.Grammars.{rows_of}
 use Rattle.failed_avps.specs.Uncut.{after_first, rest_after, uncut_within}
+use Rattle.failed_avps.specs.Unsupported.{unsupported_at, unsupported_within}
 
 -- the first of what is left
 pub left_at : {X : Type 0} (xs : List X) (i : ℕ) (x : X) → i < length xs → x ≡ get_or xs i x → drop i xs ≡ x ∷ drop (i + 1) xs
@@ -45,6 +46,10 @@ faulty judge x xs f some = ap (λ (first : Option FaultValue). or_fault first (f
 -- a grammar is judged with groups that stand less deep
 pub judged_within : (n k : ℕ) (grammar : Grammar) (avps : List AvpValue) → n ≡ k + 1 → fault_within n grammar avps ≡ rows_fault (fault_within k) (rows_of grammar) avps
 judged_within n k grammar avps is = let next : n ≡ suc k = omega (arith, is) in ap (λ m. fault_within m grammar avps) next
+
+-- AVPs of a grammar are looked into with groups that stand less deep
+pub looked_into : (n k : ℕ) (grammar : Grammar) (avps : List AvpValue) → n ≡ k + 1 → unsupported_within n grammar avps ≡ fault_among (unsupported_at (unsupported_within k) grammar) avps
+looked_into n k grammar avps is = let next : n ≡ suc k = omega (arith, is) in ap (λ m. unsupported_within m grammar avps) next
 
 -- ---- AVPs that are cut off
 

@@ -14,6 +14,7 @@ use Rattle.failed_avps.specs.Grammars.{address_row, depth, grammar_of}
 use Rattle.failed_avps.specs.declared.grammar.Grammar.{Grammar}
 use Rattle.failed_avps.specs.Faults.{FaultValue, example, fault_within}
 use Rattle.failed_avps.specs.Uncut.{headed, uncut}
+use Rattle.failed_avps.specs.Unsupported.{avp_unsupported, unsupported_within}
 
 -- Failed-AVP
 abbrev pub failed_avp_key : AvpKey
@@ -29,10 +30,13 @@ abbrev pub told_by : Header → ℕ → Option FaultValue → Option AvpValue
 told_by h code None = lacking h code
 told_by h code (Some fault) = if fault.refusal.code == code then fault.avp else None
 
--- among the AVPs of a request with this grammar
+-- among the AVPs of a request with this grammar: what isn't recognized by its code, what breaks the grammar by all others
 abbrev pub among : Header → ℕ → List AvpValue → Option Grammar → Option AvpValue
 among h code avps None = None
-among h code avps (Some grammar) = told_by h code (fault_within depth grammar avps)
+among h code avps (Some grammar) =
+    if code == avp_unsupported.code
+    then option_and_then (λ (fault : FaultValue). fault.avp) (unsupported_within depth grammar avps)
+    else told_by h code (fault_within depth grammar avps)
 
 -- in what stands behind a request's header, which could be cut into AVPs or not
 abbrev pub at_fault_in : Header → ℕ → List ℕ → Option (List AvpValue) → Option AvpValue

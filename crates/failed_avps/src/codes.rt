@@ -1,5 +1,11 @@
 //! Numbers that the standards give out, beside those of `dia_base`.
 
+/// ETSI's enterprise number.
+pub const ETSI: u32 = 13_019;
+
+/// That of 3GPP2.
+pub const TGPP2: u32 = 5535;
+
 /// Commands of the base protocol (RFC 6733, 3.1).
 pub mod commands {
     pub const CAPABILITIES_EXCHANGE: u32 = 257;
@@ -7,6 +13,11 @@ pub mod commands {
     pub const DEVICE_WATCHDOG: u32 = 280;
 
     pub const DISCONNECT_PEER: u32 = 282;
+}
+
+/// Values of Result-Code (RFC 6733, 7.1.5).
+pub mod results {
+    pub const AVP_UNSUPPORTED: u32 = 5001;
 }
 
 /// AVP codes of the base protocol (RFC 6733, 4.5).

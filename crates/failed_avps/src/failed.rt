@@ -7,16 +7,15 @@ ghost use Rattle.failed_avps.specs.Grammars.{grammar_of};
 ghost use Rattle.failed_avps.specs.Faults.{fault_view};
 
 use crate::codes::avps::FAILED_AVP;
+use crate::codes::results::AVP_UNSUPPORTED;
 use crate::fault::{Fault, example, fault_within};
-use crate::requests::{ADDRESS, grammar_of};
+use crate::requests::{ADDRESS, DEPTH, grammar_of};
 use crate::uncut::{headed, uncut};
+use crate::unsupported::unsupported_within;
 use dia_base::codes::results::{INVALID_AVP_LENGTH, MISSING_AVP};
 use dia_base::codes::{RX, commands};
 use dia_codec::{Avp, HEADER_BYTES, Header, MsgFault, WriteFault, read_group, write_group};
 use std::alloc::{AllocError, Global};
-
-/// No group stands deeper than in a group of a request.
-const DEPTH: u32 = 3;
 
 /// What an AA request that its grammar grants lacks, where it is refused by this code.
 fn lacking(alloc: Global, header: &Header, code: u32) -> Result<Option<Avp>, AllocError>
@@ -54,6 +53,12 @@ fn among(alloc: Global, header: &Header, code: u32, avps: &[Avp]) -> Result<Opti
     let Some(grammar) = grammar_of(header) else {
         return Ok(None);
     };
+    if code == AVP_UNSUPPORTED {
+        return match unsupported_within(alloc, DEPTH, grammar, avps)? {
+            Some(fault) => Ok(fault.avp),
+            None => Ok(None),
+        };
+    }
     let fault = fault_within(alloc, DEPTH, grammar, avps)?;
     told_by(alloc, header, code, fault)
 }

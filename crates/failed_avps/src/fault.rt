@@ -39,7 +39,7 @@ fn with_value(avp: &Avp, value: Vec<u8>) -> Avp
 }
 
 /// An AVP is at fault as it came.
-fn as_it_came(alloc: Global, avp: &Avp, refusal: Refusal) -> Result<Fault, AllocError>
+pub fn as_it_came(alloc: Global, avp: &Avp, refusal: Refusal) -> Result<Fault, AllocError>
     ensures { IfOk result (λ fault. fault_view fault ≡ as_it_came (avp_view avp.now) refusal) }
 {
     let value = Vec::from_slice(alloc, avp.text())?;
@@ -144,7 +144,7 @@ fn around(alloc: Global, group: &Avp, avp: Avp) -> Result<Option<Avp>, AllocErro
 }
 
 /// What is at fault in a group, with the group around it.
-fn enclosed(alloc: Global, group: &Avp, fault: Fault) -> Result<Fault, AllocError>
+pub fn enclosed(alloc: Global, group: &Avp, fault: Fault) -> Result<Fault, AllocError>
     ensures { IfOk result (λ both. fault_view both
         ≡ enclosed (avp_view group.now) (fault_view fault)) }
 {

@@ -154,6 +154,9 @@ const FILTER: GrammarRow = up_to!(
 
 const USAGE: GrammarRow = up_to!(1, tgpp!(tgpp::FLOW_USAGE), AvpType::Enumerated(0, 2));
 
+/// No group stands deeper than in a group of a request.
+pub(crate) const DEPTH: u32 = 3;
+
 /// The rows of a grammar, in the order in which they are judged.
 pub fn rows_of(grammar: Grammar) -> &'static [GrammarRow]
     ensures { result.now ≡ rows_of grammar }

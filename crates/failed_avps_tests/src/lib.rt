@@ -4,4 +4,6 @@
 #[cfg(test)]
 mod refusals;
 #[cfg(test)]
+mod unknown_avps;
+#[cfg(test)]
 mod vectors;

@@ -1,11 +1,17 @@
 //! Failed-AVPs, byte for byte.
+use crate::unknown_avps::{
+    COMPONENT_IN_A_CREDIT_REQUEST, FUNCTIONS_AVPS, GATEWAYS_AVPS, OTHER_VENDOR, PEERS_AVPS,
+    SECOND_UNKNOWN, UNKNOWN_AND_NOT_SERVED, UNKNOWN_IN_A_FLOW, UNKNOWN_IN_A_SUBSCRIBER,
+    UNKNOWN_IN_AN_APPLICATION, UNKNOWN_IN_AN_UNCUT_GROUP, UNKNOWN_IN_ANOTHER_GROUP,
+    UNKNOWN_MANDATORY, UNKNOWN_OPTIONAL, UNKNOWN_PROTECTED, UNKNOWN_TO_A_PEER, VENDOR_OF_NONE,
+};
 use crate::vectors::{
     AAR_WITHOUT_AN_ADDRESS, CCR_WITHOUT_A_NUMBER, EVENT_REQUEST, FLOW_WITHOUT_A_NUMBER,
     LENGTH_BELOW_THE_HEADER, LENGTH_PAST_THE_END, NUMBER_OF_THREE_BYTES, Refused, SECOND_SESSION,
     SUBSCRIBER_WITHOUT_DATA, UNCUT_SUBSCRIBER, UNKNOWN_SESSION, WATCHDOG_WITHOUT_A_REALM,
 };
-use dia_codec::{Avp, Flags, HEADER_BYTES, Header, write_group};
-use failed_avps::failed_avp;
+use dia_codec::{Avp, Flags, HEADER_BYTES, Header, read_group, write_group};
+use failed_avps::{failed_avp, has_unsupported};
 use std::alloc::AllocGlobal;
 use std::process::Abort;
 
@@ -63,4 +69,60 @@ fn refusals_tell_of_what_is_at_fault(rt: HostRuntime) {
     ] {
         is_told(&rt, &refused);
     }
+}
+
+/// A request has an AVP with M that isn't recognized.
+fn is_unsupported(rt: &(impl AllocGlobal + Abort), refused: &Refused) -> bool {
+    let avps = read_group(rt.alloc(), refused.avps).expect(rt, "AVPs");
+    has_unsupported(rt.alloc(), &header_of(refused), &avps).expect(rt, "memory")
+}
+
+#[test]
+fn unknown_avps_with_m_are_told(rt: HostRuntime) {
+    for refused in [
+        UNKNOWN_MANDATORY,
+        UNKNOWN_PROTECTED,
+        OTHER_VENDOR,
+        VENDOR_OF_NONE,
+        UNKNOWN_IN_A_SUBSCRIBER,
+        UNKNOWN_IN_A_FLOW,
+        SECOND_UNKNOWN,
+        UNKNOWN_TO_A_PEER,
+        UNKNOWN_IN_AN_APPLICATION,
+    ] {
+        assert!(rt; is_unsupported(&rt, &refused));
+        is_told(&rt, &refused);
+    }
+}
+
+#[test]
+fn other_avps_are_passed_over(rt: HostRuntime) {
+    for passed in [
+        UNKNOWN_OPTIONAL,
+        UNKNOWN_IN_ANOTHER_GROUP,
+        COMPONENT_IN_A_CREDIT_REQUEST,
+        UNKNOWN_IN_AN_UNCUT_GROUP,
+        UNKNOWN_AND_NOT_SERVED,
+        GATEWAYS_AVPS,
+        FUNCTIONS_AVPS,
+        PEERS_AVPS,
+    ] {
+        assert!(rt; !is_unsupported(&rt, &passed));
+        is_told(&rt, &passed);
+    }
+}
+
+/// The header of an AVP with M and the code 1000, whose value has 65,528 bytes.
+const LONG_AVP: [u8; 8] = [0, 0, 3, 232, 0x40, 1, 0, 0];
+
+#[test]
+fn unknown_avp_longer_than_any_message_is_not_told(rt: HostRuntime) {
+    let mut frame = vec![in rt.alloc(); 0; HEADER_BYTES].expect(&rt, "memory");
+    frame.extend_from_slice(&LONG_AVP).expect(&rt, "memory");
+    frame.resize(HEADER_BYTES + 65_536, 0).expect(&rt, "memory");
+    let header = header_of(&UNKNOWN_MANDATORY);
+    let avps = read_group(rt.alloc(), &frame[HEADER_BYTES..]).expect(&rt, "AVPs");
+    assert!(rt; has_unsupported(rt.alloc(), &header, &avps).expect(&rt, "memory"));
+    let failed = failed_avp(rt.alloc(), &header, 5001, &frame).expect(&rt, "memory");
+    assert!(rt; failed.is_none());
 }

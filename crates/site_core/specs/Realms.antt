@@ -1,5 +1,6 @@
 -- What a frame asks of a node with a realm (RFC 6733, 6.1.4 and 7.1.3): this node passes nothing on, so in the standards' form it refuses a
--- request for another realm. A request for another host of its realm is served, since sites answer for each other.
+-- request for another realm. A request for another host of its realm is served, since sites answer for each other. In that form it also
+-- refuses a request with an AVP that has to be understood and isn't (4.1, 7.1.5).
 use Rattle.std.specs.Prelude.{◌≡◌, ℕ, not, Bool, true, false, ◌&&◌, ◌==◌, if◌then◌else◌, List, take, Option, Some, None, Result, Ok, Err}
 use Rattle.std.specs.Str.{bytes_eq}
 use Rattle.std.proofs.Common.{option_and_then}
@@ -19,7 +20,8 @@ use Rattle.dia_base.specs.declared.form.MessageForm.{MessageForm}
 use Rattle.dia_base.specs.declared.form.MessageForm.TheVariants.{Own, Standard}
 use Rattle.dia_base.specs.declared.identity.Identity.{Identity}
 use Rattle.base_profile.specs.Avps.{is_base_command}
-use Rattle.site_core.specs.Asking.{AskedValue, ToRefuse, Nothing, meaning_of_frame, meaning_of_request, session_among}
+use Rattle.failed_avps.specs.Unsupported.{avp_unsupported, has_unsupported}
+use Rattle.site_core.specs.Asking.{AskedValue, ToRefuse, Nothing, command_of, meaning_of_command, meaning_of_frame, meaning_of_request, session_among}
 
 -- DIAMETER_REALM_NOT_SERVED
 abbrev pub realm_not_served : Refusal
@@ -49,18 +51,28 @@ is_standard Standard = true
 abbrev pub is_for_another : Identity → MessageValue → Bool
 is_for_another i m = is_standard i.form && not (is_for_next_node m.header) && is_other_realm i (realm_among m.avps)
 
+-- a node understands each AVP of a request that it has to, which it looks at in the standards' form alone
+abbrev pub is_understood : Identity → MessageValue → Bool
+is_understood i m = not (is_standard i.form && has_unsupported m.header m.avps)
+
+-- by a request that isn't for another realm: one that is served is refused where an AVP isn't understood
+abbrev pub meaning_here : Identity → MessageValue → AskedValue
+meaning_here i m =
+    if is_understood i m then meaning_of_command m (command_of m.header) else ToRefuse m.header (session_among m.avps) avp_unsupported
+
 -- by a request's frame, of which this is read
 abbrev pub meaning_by_realm : Identity → List ℕ → Result MessageValue MsgFault → AskedValue
 meaning_by_realm i frame (Ok m) =
-    if is_for_another i m then ToRefuse m.header (session_among m.avps) realm_not_served else meaning_of_request frame (Ok m)
+    if is_for_another i m then ToRefuse m.header (session_among m.avps) realm_not_served else meaning_here i m
 meaning_by_realm i frame (Err fault) = meaning_of_request frame (Err fault)
 
--- What a frame asks of a node: a request for another realm is refused where it could be cut into AVPs, before its application, its command and
--- its table are looked at; all others are as for every node.
+-- What a frame asks of a node: a request for another realm is refused where it could be cut into AVPs, before its application, its command
+-- and its table are looked at; then one of a command that is served, where an AVP isn't understood, before its table is; all others are as
+-- for every node.
 unfoldable pub meaning_at : Identity → List ℕ → AskedValue
 meaning_at i frame =
     if (header_of (take header_bytes frame)).flags.request then meaning_by_realm i frame (message_of frame) else Nothing
 
--- in this project's own form a frame asks for the same in every realm
+-- in this project's own form a frame asks for the same in every realm, whatever AVPs are recognized
 abbrev pub OwnFormServesEveryRealm : Type 0
 OwnFormServesEveryRealm = (i : Identity) (frame : List ℕ) → i.form ≡ Own → meaning_at i frame ≡ meaning_of_frame frame

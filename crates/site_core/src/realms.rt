@@ -1,21 +1,25 @@
-//! Requests for another realm.
-ghost use Rattle.std.specs.Prelude.{◌≡◌, ◌≤◌, length, option_copied, IfOk};
-ghost use Rattle.dia_codec.specs.Limits.{header_bytes};
+//! Requests for another realm, and requests with AVPs that have to be understood and aren't.
+ghost use Rattle.std.specs.Prelude.{◌≡◌, ◌<◌, ◌≤◌, length, option_copied, IfOk};
+ghost use Rattle.dia_codec.specs.Limits.{command_bound, header_bytes};
 ghost use Rattle.dia_codec.specs.Spelling.{avp_views, message_view};
 ghost use Rattle.site_core.specs.Asking.{HeaderFits, asked_value};
-ghost use Rattle.site_core.specs.Realms.{is_for_another, is_for_next_node, is_other_realm, is_own_realm, meaning_at, realm_among};
+ghost use Rattle.site_core.specs.Realms.{is_for_another, is_for_next_node, is_other_realm, is_own_realm, is_understood, meaning_at, meaning_here, realm_among};
 
 use crate::reading::{Asked, asked_by, refused, unread};
 use base_profile::is_base_command;
 use dia_base::codes::avps;
 use dia_base::{Identity, MessageForm, base_key, first_with};
 use dia_codec::{Avp, HEADER_BYTES, Header, Message, MsgFault, read_header, read_message_with};
+use failed_avps::has_unsupported;
 use pcrf_values::Refusal;
 use pcrf_values::limits::IDENTITY_LIMIT;
 use std::alloc::{AllocError, Global};
 
 /// DIAMETER_REALM_NOT_SERVED (RFC 6733, 7.1.3).
 const REALM_NOT_SERVED: u32 = 3003;
+
+/// DIAMETER_AVP_UNSUPPORTED (RFC 6733, 7.1.5).
+const AVP_UNSUPPORTED: u32 = 5001;
 
 /// The Destination-Realm, unless it is empty or too long.
 fn realm_among(avps: &[Avp]) -> Option<&[u8]>
@@ -64,8 +68,33 @@ fn is_for_another(identity: &Identity, message: &Message) -> bool
     }
 }
 
+/// Whether a node understands each AVP of a message that it has to, which it looks at in the standards' form alone.
+fn is_understood(alloc: Global, identity: &Identity, message: &Message) -> Result<bool, AllocError>
+    ensures { IfOk result (λ is_so. is_so ≡ is_understood identity.now (message_view message.now)) }
+{
+    match identity.form {
+        MessageForm::Own => Ok(true),
+        MessageForm::Standard => Ok(!has_unsupported(alloc, &message.header, &message.avps)?),
+    }
+}
+
+/// What a message asks for that isn't for another realm.
+fn asked_here(alloc: Global, identity: &Identity, message: &Message) -> Result<Asked, AllocError>
+    requires { message.now.header.command < command_bound }
+    ensures asked { IfOk result (λ asked.
+        asked_value asked ≡ meaning_here identity.now (message_view message.now)) }
+    ensures command { IfOk result HeaderFits }
+{
+    if is_understood(alloc, identity, message)? {
+        asked_by(alloc, message)
+    } else {
+        refused(alloc, message, Refusal::base(AVP_UNSUPPORTED))
+    }
+}
+
 /// What a frame asks of the node of this identity: as `read_request` has it, but that in the standards' form a request for another realm
-/// is refused, before its application, its command and its table are looked at.
+/// is refused, before its application, its command and its table are looked at, and one that is served where an AVP has M and isn't
+/// recognized, before its table is.
 #[tactic(auto, unfolding(crate::specs::Realms::meaning_at))]
 pub fn read_request_at(
     alloc: Global,
@@ -88,7 +117,7 @@ pub fn read_request_at(
         Ok(message) if is_for_another(identity, &message) => {
             refused(alloc, &message, Refusal::base(REALM_NOT_SERVED))
         }
-        Ok(message) => asked_by(alloc, &message),
+        Ok(message) => asked_here(alloc, identity, &message),
         Err(MsgFault::NoMemory) => Err(AllocError),
         Err(fault) => unread(alloc, header, rest, fault),
     }
