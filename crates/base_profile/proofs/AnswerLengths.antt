@@ -1,18 +1,16 @@
 -- Every answer of the base protocol fits a message.
-use Rattle.std.proofs.Common.{◌≡◌, ◌≤◌, ◌∷◌, length, sym, subst, arith}
+use Rattle.std.proofs.Common.{◌≡◌, ◌≤◌, ◌+◌, ◌∷◌, ◌++◌, [], ℕ, List, Option, length, arith}
 use Rattle.std.specs.List.{sum_by}
 use Rattle.pcrf_values.specs.Limits.{identity_limit}
-use Rattle.dia_codec.specs.declared.message.Header.{Header}
-use Rattle.dia_codec.specs.Fields.{MessageValue}
 use Rattle.dia_codec.specs.Limits.{longest_message}
-use Rattle.dia_codec.specs.Written.{word_bytes, written_avp, padded_len, written_len}
+use Rattle.dia_codec.specs.Written.{word_bytes, written_avp, padded_len}
 use Rattle.dia_codec.specs.Written as written
 use Rattle.pcrf_model.specs.Requests.{BaseKind, CapabilitiesExchange, DeviceWatchdog, DisconnectPeer, BaseValue}
 use Rattle.pcrf_model.specs.Refusals.{base_refusal}
 use Rattle.dia_base.specs.Answers.{result_avp, origin_avps}
 use Rattle.dia_base.specs.declared.identity.Identity.{Identity}
 use Rattle.dia_base.proofs.AnswerLengths.{result_within, origin_within, both_within, text_within}
-use Rattle.base_profile.specs.Answers.{address_value, kind_avps, base_answer}
+use Rattle.base_profile.specs.Answers.{address_value, kind_avps, base_avps}
 
 -- what an answer has besides the result and the origin
 kind_within : (i : Identity) (k : BaseKind) → length (address_value i) ≡ 6 → sum_by padded_len (kind_avps i k) ≤ 200
@@ -24,12 +22,11 @@ kind_within i DeviceWatchdog six = omega arith
 kind_within i DisconnectPeer six = omega arith
 
 -- every answer
-pub base_fits : (i : Identity) (h : Header) (q : BaseValue) (m : MessageValue) → m ≡ base_answer i h q → length i.host ≤ identity_limit → length i.realm ≤ identity_limit → length (address_value i) ≡ 6
-    → written_len m ≤ longest_message
-unfolding base_answer
-base_fits i h q m is host realm six =
+pub base_within : (i : Identity) (q : BaseValue) → length i.host ≤ identity_limit → length i.realm ≤ identity_limit → length (address_value i) ≡ 6 → 20 + sum_by padded_len (base_avps i q) ≤ longest_message
+unfolding base_avps
+base_within i q host realm six =
     let result = result_within (base_refusal q.kind) in
     let named = origin_within i host realm in
     let first : sum_by padded_len (result_avp (base_refusal q.kind) ∷ origin_avps i) ≤ 560 = omega (arith, result, named) in
     let all = both_within (result_avp (base_refusal q.kind) ∷ origin_avps i) (kind_avps i q.kind) 560 200 first (kind_within i q.kind six) in
-    subst (λ (x : MessageValue). written_len x ≤ longest_message) (sym is) (omega (arith, all))
+    omega (arith, all)

@@ -42,8 +42,8 @@ kind_avps i DeviceWatchdog = []
 kind_avps i DisconnectPeer = []
 
 -- the answer to a request that was read
-unfoldable pub base_answer : Identity → Header → BaseValue → MessageValue
-base_answer i h q = record {
-  header = answer_header h (base_refusal q.kind);
-  avps = result_avp (base_refusal q.kind) ∷ origin_avps i ++ kind_avps i q.kind;
-}
+unfoldable pub base_avps : Identity → BaseValue → List AvpValue
+base_avps i q = result_avp (base_refusal q.kind) ∷ origin_avps i ++ kind_avps i q.kind
+
+abbrev pub base_answer : Identity → Header → BaseValue → MessageValue
+base_answer i h q = record { header = answer_header h (base_refusal q.kind); avps = base_avps i q }

@@ -1,12 +1,12 @@
 //! Answers of the base protocol.
-ghost use Rattle.std.specs.Prelude.{◌≡◌, ◌≤◌, ◌∷◌, ◌++◌, [], None, Some, if◌then◌else◌, length, map, IfOk, OnOk};
+ghost use Rattle.std.specs.Prelude.{◌≡◌, ◌≤◌, ◌+◌, ◌∷◌, [], None, Some, if◌then◌else◌, length, map, IfOk, OnOk};
 ghost use Rattle.dia_codec.specs.Limits.{longest_message};
-ghost use Rattle.std.specs.List.{flat_map, list_any};
+ghost use Rattle.std.specs.List.{list_any, sum_by};
 ghost use Rattle.pcrf_values.specs.Results.{no_common_application};
-ghost use Rattle.dia_codec.specs.Spelling.{avp_view, avp_views, message_view};
-ghost use Rattle.dia_codec.specs.Written.{written_avp, written_len};
+ghost use Rattle.dia_codec.specs.Drafts.{Adds};
+ghost use Rattle.dia_codec.specs.Written.{padded_len, written_len, written_spelling};
 ghost use Rattle.pcrf_model.specs.Refusals.{base_refusal, is_common};
-ghost use Rattle.base_profile.specs.Answers.{address_value, base_answer, capabilities_avps, node_avps, product, supported_application, supported_avps};
+ghost use Rattle.base_profile.specs.Answers.{address_value, base_answer, base_avps, capabilities_avps, kind_avps, node_avps, supported_application, supported_avps};
 ghost use Rattle.base_profile.specs.Requests.{base_view, kind_view, number_of};
 
 use crate::applications::ApplicationId;
@@ -16,7 +16,7 @@ use crate::request::{BaseKind, BaseRequest};
 use dia_base::codes::avps::{AUTH_APPLICATION_ID, VENDOR_ID};
 use dia_base::codes::{GX, RX, TGPP};
 use dia_base::{AvpWriter, Identity, Refusal, answer_header, put_origin, put_result};
-use dia_codec::{Avp, Header, Message};
+use dia_codec::Header;
 use std::alloc::{AllocError, Global};
 
 /// The name of the program, which it tells its peers (RFC 6733, 5.3.7).
@@ -63,43 +63,6 @@ fn refusal_among(applications: &[ApplicationId]) -> Option<Refusal>
     }
 }
 
-/// The Product-Name, which nobody has to understand.
-fn product(alloc: Global) -> Result<Avp, AllocError>
-    ensures { IfOk result (λ avp. avp_view avp ≡ product) }
-{
-    Ok(Avp {
-        code: PRODUCT_NAME,
-        vendor: None,
-        mandatory: false,
-        protected: false,
-        value: Vec::from_slice(alloc, PRODUCT)?,
-    })
-}
-
-/// What a Vendor-Specific-Application-Id of 3GPP holds (RFC 6733, 6.11).
-fn application_value(alloc: Global, application: u32) -> Result<Vec<u8>, AllocError>
-    ensures { IfOk result (λ value.
-        value.items ≡ flat_map written_avp (supported_avps application)) }
-{
-    let mut group = AvpWriter::start(alloc);
-    group.number(VENDOR_ID, TGPP)?;
-    group.number(AUTH_APPLICATION_ID, application)?;
-    group.into_group()
-}
-
-/// The Vendor-Specific-Application-Id of an application that the PCRF speaks.
-fn supported(alloc: Global, application: u32) -> Result<Avp, AllocError>
-    ensures { IfOk result (λ avp. avp_view avp ≡ supported_application application) }
-{
-    Ok(Avp {
-        code: VENDOR_SPECIFIC_APPLICATION_ID,
-        vendor: None,
-        mandatory: true,
-        protected: false,
-        value: application_value(alloc, application)?,
-    })
-}
-
 /// Does nothing: its contract tells a proof how long the value of the Host-IP-Address is.
 fn note_address(identity: &Identity)
     ensures { length (address_value identity.now) ≡ 6 }
@@ -107,67 +70,96 @@ fn note_address(identity: &Identity)
     let _octets = identity.address.octets();
 }
 
-/// The value of the Host-IP-Address: the family of IPv4, and the address (RFC 6733, 4.3.1).
-fn address_value(alloc: Global, identity: &Identity) -> Result<Vec<u8>, AllocError>
-    ensures { IfOk result (λ value. value.items ≡ address_value identity.now) }
+/// Writes the address of the PCRF behind its family, IPv4 (RFC 6733, 4.3.1), and that it is of no vendor.
+fn put_node(out: &mut AvpWriter, identity: &Identity) -> Result<(), AllocError>
+    ensures { OnOk result (Adds out.old out.new (node_avps identity.now)) }
 {
-    let mut value = Vec::from_slice(alloc, &[0, 1])?;
-    value.extend_from_slice(&identity.address.octets())?;
-    Ok(value)
+    let [a0, a1, a2, a3] = identity.address.octets();
+    out.text(HOST_IP_ADDRESS, &[0, 1, a0, a1, a2, a3])?;
+    out.number(VENDOR_ID, 0)?;
+    Ok(())
 }
 
-/// Writes the address of the PCRF, and that it is of no vendor.
-fn put_node(alloc: Global, out: &mut AvpWriter, identity: &Identity) -> Result<(), AllocError>
-    ensures { OnOk result (out.new ≡ out.old ++ node_avps identity.now) }
+/// Writes what a Vendor-Specific-Application-Id of 3GPP holds (RFC 6733, 6.11).
+fn put_application(out: &mut AvpWriter, application: u32) -> Result<(), AllocError>
+    ensures { OnOk result (Adds out.old out.new (supported_avps application)) }
 {
-    let address = address_value(alloc, identity)?;
-    out.put(HOST_IP_ADDRESS, address)?;
-    out.number(VENDOR_ID, 0)
+    out.number(VENDOR_ID, TGPP)?;
+    out.number(AUTH_APPLICATION_ID, application)?;
+    Ok(())
 }
 
-/// The AVPs of the answer to a capabilities exchange, of which these were written: then what the PCRF is and can.
-fn capabilities(
+/// Writes the Vendor-Specific-Application-Id of an application that the PCRF speaks.
+fn put_supported(out: &mut AvpWriter, application: u32) -> Result<(), AllocError>
+    ensures { OnOk result (Adds out.old out.new (supported_application application ∷ [])) }
+{
+    let mark = out.open(VENDOR_SPECIFIC_APPLICATION_ID)?;
+    put_application(out, application)?;
+    out.close(mark);
+    Ok(())
+}
+
+/// Writes what the PCRF is and can.
+fn put_capabilities(out: &mut AvpWriter, identity: &Identity) -> Result<(), AllocError>
+    ensures { OnOk result (Adds out.old out.new (capabilities_avps identity.now)) }
+{
+    put_node(out, identity)?;
+    out.plain_text(PRODUCT_NAME, PRODUCT)?;
+    put_supported(out, GX)?;
+    put_supported(out, RX)?;
+    Ok(())
+}
+
+/// Writes what an answer has besides the result and the origin.
+fn put_kind(out: &mut AvpWriter, identity: &Identity, kind: &BaseKind) -> Result<(), AllocError>
+    ensures { OnOk result (Adds out.old out.new (kind_avps identity.now (kind_view kind.now))) }
+{
+    match kind {
+        BaseKind::CapabilitiesExchange(_) => {
+            put_capabilities(out, identity)?;
+            Ok(())
+        }
+        BaseKind::DeviceWatchdog | BaseKind::DisconnectPeer => Ok(()),
+    }
+}
+
+/// The AVPs of an answer. Every answer fits a message.
+#[tactic(auto, unfolding(crate::specs::Answers::base_avps))]
+fn base_avps(
     alloc: Global,
     identity: &Identity,
-    begun: AvpWriter,
-) -> Result<Vec<Avp>, AllocError>
-    ensures { IfOk result (λ avps.
-        avp_views avps.items ≡ begun ++ capabilities_avps identity.now) }
+    request: &BaseRequest,
+) -> Result<AvpWriter, AllocError>
+    ensures added { IfOk result (λ out.
+        Adds [] out (base_avps identity.now (base_view request.now))) }
+    ensures within { OnOk result
+        (20 + sum_by padded_len (base_avps identity.now (base_view request.now)) ≤ longest_message) }
 {
-    let mut out = begun;
-    put_node(alloc, &mut out, identity)?;
-    let mut avps = out.into_avps();
-    avps.push(product(alloc)?)?;
-    avps.push(supported(alloc, GX)?)?;
-    avps.push(supported(alloc, RX)?)?;
-    Ok(avps)
+    identity.note_names();
+    note_address(identity);
+    let mut out = AvpWriter::start(alloc)?;
+    put_result(&mut out, base_refusal(request))?;
+    put_origin(&mut out, identity)?;
+    put_kind(&mut out, identity, &request.kind)?;
+    Ok(out)
 }
 
-/// The answer to a request of the base protocol: success, or that no application is in common. Every answer fits a
+/// The bytes of the answer to a request of the base protocol: success, or that no application is in common. Every answer fits a
 /// message.
-#[tactic(auto, unfolding(crate::specs::Answers::base_answer))]
-pub fn base_answer(
+pub fn write_base_answer(
     alloc: Global,
     identity: &Identity,
     header: &Header,
     request: &BaseRequest,
-) -> Result<Message, AllocError>
-    ensures message { IfOk result (λ message. message_view message
-        ≡ base_answer identity.now header.now (base_view request.now)) }
-    ensures fits { IfOk result (λ message. written_len (message_view message) ≤ longest_message) }
+) -> Result<Vec<u8>, AllocError>
+    ensures written { IfOk result (λ bytes. bytes.items
+        ≡ written_spelling (base_answer identity.now header.now (base_view request.now))) }
+    ensures fits { OnOk result
+        (written_len (base_answer identity.now header.now (base_view request.now)) ≤ longest_message) }
 {
-    identity.note_names();
-    note_address(identity);
-    let refusal = base_refusal(request);
-    let mut out = AvpWriter::start(alloc);
-    put_result(alloc, &mut out, refusal)?;
-    put_origin(&mut out, identity)?;
-    let avps = match &request.kind {
-        BaseKind::CapabilitiesExchange(_) => capabilities(alloc, identity, out)?,
-        BaseKind::DeviceWatchdog | BaseKind::DisconnectPeer => out.into_avps(),
-    };
-    Ok(Message {
-        header: answer_header(header, refusal),
-        avps,
-    })
+    let out = base_avps(alloc, identity, request)?;
+    match out.into_bytes(&answer_header(header, base_refusal(request))) {
+        Some(bytes) => Ok(bytes),
+        None => unreachable!(),
+    }
 }

@@ -8,7 +8,7 @@ mod codes;
 mod own_request;
 mod request;
 
-pub use answer::{base_answer, base_refusal};
+pub use answer::{base_refusal, write_base_answer};
 pub use applications::ApplicationId;
 pub use own_request::write_dwr;
 pub use request::{BaseKind, BaseRequest, is_base_command, read_base};

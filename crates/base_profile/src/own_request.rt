@@ -1,15 +1,17 @@
 //! Requests of the base protocol that a site sends its peers.
-ghost use Rattle.std.specs.Prelude.{◌≡◌, ◌≤◌, IfOk};
+ghost use Rattle.std.specs.Prelude.{◌≡◌, ◌≤◌, ◌+◌, [], IfOk, OnOk};
+ghost use Rattle.std.specs.List.{sum_by};
+ghost use Rattle.dia_codec.specs.Drafts.{Adds};
 ghost use Rattle.dia_codec.specs.Limits.{longest_message};
-ghost use Rattle.dia_codec.specs.Spelling.{message_view};
-ghost use Rattle.dia_codec.specs.Written.{written_len, written_spelling};
+ghost use Rattle.dia_codec.specs.Written.{padded_len, written_spelling};
+ghost use Rattle.dia_base.specs.Answers.{origin_avps};
 ghost use Rattle.base_profile.specs.Avps.{device_watchdog_command};
 ghost use Rattle.base_profile.specs.OwnRequests.{dwr, neighbour_header};
 
 use crate::codes::BASE;
 use crate::codes::commands::DEVICE_WATCHDOG;
 use dia_base::{AvpWriter, Identity, put_origin};
-use dia_codec::{Flags, Header, Message, WriteFault, write_message};
+use dia_codec::{Flags, Header};
 use std::alloc::{AllocError, Global};
 
 /// The header of a watchdog's request with these identifiers.
@@ -30,25 +32,16 @@ fn watchdog_header(hop_id: u32, end_id: u32) -> Header
     }
 }
 
-/// The Device-Watchdog-Request with these identifiers. Every one fits a message.
-#[tactic(auto, unfolding(crate::specs::OwnRequests::dwr))]
-fn watchdog(
-    alloc: Global,
-    identity: &Identity,
-    hop_id: u32,
-    end_id: u32,
-) -> Result<Message, AllocError>
-    ensures message { IfOk result (λ message. message_view message
-        ≡ dwr identity.now hop_id end_id) }
-    ensures fits { IfOk result (λ message. written_len (message_view message) ≤ longest_message) }
+/// The AVPs of a watchdog's request. Every one fits a message.
+fn watchdog_avps(alloc: Global, identity: &Identity) -> Result<AvpWriter, AllocError>
+    ensures added { IfOk result (λ out. Adds [] out (origin_avps identity.now)) }
+    ensures within { OnOk result
+        (20 + sum_by padded_len (origin_avps identity.now) ≤ longest_message) }
 {
     identity.note_names();
-    let mut out = AvpWriter::start(alloc);
+    let mut out = AvpWriter::start(alloc)?;
     put_origin(&mut out, identity)?;
-    Ok(Message {
-        header: watchdog_header(hop_id, end_id),
-        avps: out.into_avps(),
-    })
+    Ok(out)
 }
 
 /// The bytes of the Device-Watchdog-Request with these identifiers, by which a site asks whether its peer is there (RFC 6733, 5.5.1).
@@ -62,10 +55,9 @@ pub fn write_dwr(
     ensures { IfOk result (λ bytes. bytes.items
         ≡ written_spelling (dwr identity.now hop_id end_id)) }
 {
-    let request = watchdog(alloc, identity, hop_id, end_id)?;
-    match write_message(alloc, &request) {
-        Ok(bytes) => Ok(bytes),
-        Err(WriteFault::TooLong) => unreachable!(),
-        Err(WriteFault::NoMemory) => Err(AllocError),
+    let out = watchdog_avps(alloc, identity)?;
+    match out.into_bytes(&watchdog_header(hop_id, end_id)) {
+        Some(bytes) => Ok(bytes),
+        None => unreachable!(),
     }
 }

@@ -1,6 +1,6 @@
 //! Answers and aborts as bytes.
-use dia_base::{Identity, MessageForm, Refusal, base_key, refusal_answer};
-use dia_codec::{Flags, Header, Message, write_message};
+use dia_base::{Identity, MessageForm, Refusal, base_key, write_refusal_answer};
+use dia_codec::{Flags, Header, Message, WriteFault};
 use pcrf_values::limits::SESSION_ID_LIMIT;
 use pcrf_values::{AfSid, DiameterIdentity, SessionId};
 use rx_profile::{AbortOut, write_aaa, write_asr, write_sta};
@@ -82,13 +82,13 @@ pub fn answer_header(command: u32) -> Header {
     }
 }
 
-/// The answer that a line asks for, in a session.
+/// The bytes of the answer that a line asks for, in a session.
 fn answer_in(
     alloc: Global,
     identity: &Identity,
     session: &AfSid,
     line: &str,
-) -> Result<Message, AllocError> {
+) -> Result<Vec<u8>, AllocError> {
     if let Some(words) = line.strip_prefix("aaa ") {
         return write_aaa(alloc, identity, &header(265), session, told(words));
     }
@@ -96,47 +96,32 @@ fn answer_in(
     write_sta(alloc, identity, &header(275), session, told(words))
 }
 
-/// The answer that a line asks for, by who answers.
-fn answer_by(alloc: Global, identity: &Identity, line: &str) -> Result<Message, AllocError> {
+/// The bytes of the answer that a line asks for, by who answers.
+fn answer_by(alloc: Global, identity: &Identity, line: &str) -> Result<Vec<u8>, AllocError> {
     let session = session(alloc)?;
     let answer = answer_in(alloc, identity, &session, line);
     drop(session);
     answer
 }
 
-/// The answer that a line asks for.
-fn answer(alloc: Global, line: &str) -> Result<Message, AllocError> {
+/// The bytes of the answer that a line asks for.
+fn answer(alloc: Global, line: &str) -> Result<Vec<u8>, AllocError> {
     let identity = identity(alloc)?;
     let answer = answer_by(alloc, &identity, line);
     drop(identity);
     answer
 }
 
-/// The bytes of a message; none where it has none.
-fn bytes_of(alloc: Global, message: &Message) -> Vec<u8> {
-    let header = message.header;
-    if header.flags.error && header.flags.request || header.command >= 1 << 24 {
-        return Vec::new(alloc);
-    }
-    match write_message(alloc, message) {
-        Ok(bytes) => bytes,
-        Err(_) => Vec::new(alloc),
-    }
-}
-
 /// Writes the bytes of a message in hexadecimal digits.
-fn put_bytes(alloc: Global, message: &Message, out: &mut String) -> Result<(), AllocError> {
-    let bytes = bytes_of(alloc, message);
-    let digits = hex::encode(alloc, bytes.as_slice())?;
+fn put_bytes(alloc: Global, bytes: &[u8], out: &mut String) -> Result<(), AllocError> {
+    let digits = hex::encode(alloc, bytes)?;
     out.push_str(digits.as_str())
 }
 
 /// Writes the answer that a line asks for.
 pub fn put_answer(alloc: Global, line: &str, out: &mut String) -> Result<(), AllocError> {
-    let message = answer(alloc, line)?;
-    let put = put_bytes(alloc, &message, out);
-    drop(message);
-    put
+    let bytes = answer(alloc, line)?;
+    put_bytes(alloc, &bytes, out)
 }
 
 /// The abort of the session of the application function `af`.
@@ -151,8 +136,8 @@ fn abort(alloc: Global) -> Result<AbortOut, AllocError> {
     })
 }
 
-/// The request of an abort under two identifiers.
-fn abort_request(alloc: Global, hop_id: u32, end_id: u32) -> Result<Message, AllocError> {
+/// The bytes of the request of an abort under two identifiers.
+fn abort_request(alloc: Global, hop_id: u32, end_id: u32) -> Result<Vec<u8>, AllocError> {
     let identity = identity(alloc)?;
     let abort = abort(alloc)?;
     let request = write_asr(alloc, &identity, hop_id, end_id, &abort);
@@ -165,10 +150,8 @@ fn abort_request(alloc: Global, hop_id: u32, end_id: u32) -> Result<Message, All
 pub fn put_abort(alloc: Global, words: &str, out: &mut String) -> Result<(), AllocError> {
     let (hop_id, end_id) = words.split_once(' ').unwrap_or((words, ""));
     let hop_id = hop_id.parse::<u32>().unwrap_or(0);
-    let message = abort_request(alloc, hop_id, end_id.parse::<u32>().unwrap_or(0))?;
-    let put = put_bytes(alloc, &message, out);
-    drop(message);
-    put
+    let bytes = abort_request(alloc, hop_id, end_id.parse::<u32>().unwrap_or(0))?;
+    put_bytes(alloc, &bytes, out)
 }
 
 /// The Session-Id that an answer repeats.
@@ -186,13 +169,17 @@ fn session_of(request: &Message) -> Option<&[u8]> {
     None
 }
 
-/// The answer that refuses a request.
-fn refused(alloc: Global, request: &Message, refusal: Refusal) -> Result<Message, AllocError> {
+/// The bytes of the answer that refuses a request; none where it has none.
+fn refused(alloc: Global, request: &Message, refusal: Refusal) -> Result<Vec<u8>, AllocError> {
     let identity = identity(alloc)?;
     let session = session_of(request);
-    let answer = refusal_answer(alloc, &identity, &request.header, refusal, session);
+    let bytes = write_refusal_answer(alloc, &identity, &request.header, refusal, session);
     drop(identity);
-    answer
+    match bytes {
+        Ok(bytes) => Ok(bytes),
+        Err(WriteFault::TooLong) => Ok(Vec::new(alloc)),
+        Err(WriteFault::NoMemory) => Err(AllocError),
+    }
 }
 
 /// Writes the answer that refuses a request.
@@ -202,8 +189,6 @@ pub fn put_refusal(
     refusal: Refusal,
     out: &mut String,
 ) -> Result<(), AllocError> {
-    let answer = refused(alloc, request, refusal)?;
-    let put = put_bytes(alloc, &answer, out);
-    drop(answer);
-    put
+    let bytes = refused(alloc, request, refusal)?;
+    put_bytes(alloc, &bytes, out)
 }

@@ -3,7 +3,6 @@
 use crate::outcomes::{Outcomes, put_state};
 use crate::text::mixed;
 use dia_base::Identity;
-use dia_codec::{Message, write_message};
 use gx_profile::{PushOut, write_rar};
 use pcrf_values::limits::SITE_LIMIT;
 use pcrf_world::{World, WorldEvent, WorldOutcome};
@@ -37,15 +36,6 @@ fn put_cursors(out: &mut String, site: usize, cursors: &Cursors) -> Result<(), A
     out.push_str("\n")
 }
 
-/// The bytes of a message; none where it has none.
-fn bytes_of(alloc: Global, message: &Message) -> Vec<u8> {
-    let header = message.header;
-    if header.flags.error || header.command >= 1 << 24 {
-        return Vec::new(alloc);
-    }
-    write_message(alloc, message).unwrap_or(Vec::new(alloc))
-}
-
 /// Puts the re-authorisation request of a push.
 fn put_rar(
     alloc: Global,
@@ -53,8 +43,7 @@ fn put_rar(
     push: &PushOut,
     out: &mut String,
 ) -> Result<(), AllocError> {
-    let message = write_rar(alloc, identity, 1, 2, push)?;
-    let bytes = bytes_of(alloc, &message);
+    let bytes = write_rar(alloc, identity, 1, 2, push)?;
     write!(out, " {:08x}", mixed(bytes.as_slice()))
 }
 
@@ -78,8 +67,7 @@ fn put_asr(
     abort: &AbortOut,
     out: &mut String,
 ) -> Result<(), AllocError> {
-    let message = write_asr(alloc, identity, 7, 8, abort)?;
-    let bytes = bytes_of(alloc, &message);
+    let bytes = write_asr(alloc, identity, 7, 8, abort)?;
     write!(out, " {:08x}", mixed(bytes.as_slice()))
 }
 

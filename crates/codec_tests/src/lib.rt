@@ -14,3 +14,5 @@ mod messages;
 mod streams;
 #[cfg(test)]
 mod vectors;
+#[cfg(test)]
+mod writers;

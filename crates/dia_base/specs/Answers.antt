@@ -8,6 +8,7 @@ use Rattle.pcrf_values.specs.Results.{success}
 use Rattle.pcrf_values.specs.declared.refusal.Refusal.{Refusal}
 use Rattle.dia_codec.specs.declared.message.AvpKey.{AvpKey}
 use Rattle.dia_codec.specs.declared.message.Header.{Header}
+use Rattle.dia_codec.specs.Drafts.{Adds}
 use Rattle.dia_codec.specs.Fields.{AvpValue, MessageValue}
 use Rattle.dia_codec.specs.Written.{word_bytes, written_avp}
 use Rattle.dia_base.specs.Avps.{tgpp_vendor, auth_application_id, session_id, origin_host, vendor_id, result_code, origin_realm, experimental_result, experimental_result_code}
@@ -17,6 +18,10 @@ use Rattle.dia_base.specs.declared.identity.Identity.{Identity}
 -- ---- AVPs as they are written: those of RFC 6733 without a vendor and with M (4.1)
 abbrev pub text_avp : AvpKey → List ℕ → AvpValue
 text_avp key bytes = record { code = key.code; vendor = key.vendor; mandatory = true; protected = false; value = bytes }
+
+-- without M: a receiver may pass it over (4.1)
+abbrev pub plain_avp : AvpKey → List ℕ → AvpValue
+plain_avp key bytes = record { code = key.code; vendor = key.vendor; mandatory = false; protected = false; value = bytes }
 
 -- an Unsigned32 or an Enumerated (4.2, 4.3)
 abbrev pub number_avp : AvpKey → ℕ → AvpValue
@@ -31,8 +36,8 @@ abbrev pub tgpp_avp : AvpKey → Bool → List ℕ → AvpValue
 tgpp_avp key mandatory bytes = record { code = key.code; vendor = key.vendor; mandatory = mandatory; protected = false; value = bytes }
 
 -- the first of these AVPs were added, none or some of them
-abbrev pub AddsSome : List AvpValue → List AvpValue → List AvpValue → Type 0
-AddsSome added old new = (count : ℕ) × (new ≡ old ++ take count added)
+abbrev pub AddsSome : List AvpValue → List ℕ → List ℕ → Type 0
+AddsSome added old new = (count : ℕ) × Adds old new (take count added)
 
 -- ---- answers
 
@@ -101,6 +106,10 @@ application_avps h r = if names_application h r then number_avp auth_application
 abbrev pub IsShortId : Option (List ℕ) → Type 0
 IsShortId None = Unit {0}
 IsShortId (Some id) = length id ≤ session_id_limit
+
+-- what stands in such an answer behind the Session-Id
+abbrev pub refused_avps : Identity → Header → Refusal → List AvpValue
+refused_avps i h r = application_avps h r ++ origin_avps i ++ result_avp (Some r) ∷ []
 
 -- the answer to a request that could not be read, or isn't served (7.2)
 unfoldable pub refusal_answer : Identity → Header → Refusal → Option (List ℕ) → MessageValue

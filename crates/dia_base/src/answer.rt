@@ -1,17 +1,18 @@
 //! What every answer is made of, and the answer that refuses a request.
-ghost use Rattle.std.specs.Prelude.{◌≡◌, ◌≤◌, ◌++◌, ◌∷◌, [], IfOk, OnErr, OnOk};
+ghost use Rattle.std.specs.Prelude.{◌≡◌, ◌≤◌, ◌<◌, ◌++◌, ◌∷◌, [], IfOk, IfErr, OnErr, OnOk};
 ghost use Rattle.std.specs.Option.{option_copied};
-ghost use Rattle.std.specs.List.{flat_map};
-ghost use Rattle.dia_codec.specs.Spelling.{message_view};
-ghost use Rattle.dia_codec.specs.Written.{written_avp, written_len};
+ghost use Rattle.dia_codec.specs.declared.fault.WriteFault.TheVariants as write;
+ghost use Rattle.dia_codec.specs.Drafts.{Adds};
+ghost use Rattle.dia_codec.specs.Written.{written_len, written_spelling};
 ghost use Rattle.dia_codec.specs.Limits.{longest_message};
+ghost use Rattle.dia_base.specs.Avps.{experimental_result};
+ghost use Rattle.dia_base.specs.Answers.{AddsSome, answer_header, application_avps, group_avp, is_protocol_error, is_permanent_failure, names_application, experimental_avps, origin_avps, refusal_answer, refused_avps, result_avp, session_avps};
 ghost use Rattle.dia_base.specs.Requests.{request_header};
-ghost use Rattle.dia_base.specs.Answers.{AddsSome, IsShortId, answer_header, is_protocol_error, is_permanent_failure, names_application, experimental_avps, origin_avps, refusal_answer, result_avp};
 
 use crate::codes::{GX, RX, TGPP, avps, commands, results};
 use crate::identity::Identity;
 use crate::writer::AvpWriter;
-use dia_codec::{Flags, Header, Message};
+use dia_codec::{Flags, Header, WriteFault};
 use pcrf_values::Refusal;
 use std::alloc::{AllocError, Global};
 
@@ -62,41 +63,45 @@ fn is_protocol_error(refusal: Refusal) -> bool
 /// Writes Origin-Host and Origin-Realm (RFC 6733, 6.3 and 6.4). After an error the writer holds what it held, or the
 /// Origin-Host besides.
 pub fn put_origin(out: &mut AvpWriter, identity: &Identity) -> Result<(), AllocError>
-    ensures written { OnOk result (out.new ≡ out.old ++ origin_avps identity.now) }
+    ensures written { OnOk result (Adds out.old out.new (origin_avps identity.now)) }
     ensures begun { OnErr result (AddsSome (origin_avps identity.now) out.old out.new) }
 {
     out.text(avps::ORIGIN_HOST, identity.host.as_slice())?;
-    out.text(avps::ORIGIN_REALM, identity.realm.as_slice())
+    out.text(avps::ORIGIN_REALM, identity.realm.as_slice())?;
+    Ok(())
 }
 
-/// The value of the Experimental-Result of a code of 3GPP (RFC 6733, 7.6).
-fn experimental_result(alloc: Global, code: u32) -> Result<Vec<u8>, AllocError>
-    ensures { IfOk result (λ value. value.items ≡ flat_map written_avp (experimental_avps code)) }
+/// Writes what the Experimental-Result of a code of 3GPP holds (RFC 6733, 7.6).
+fn put_experimental(out: &mut AvpWriter, code: u32) -> Result<(), AllocError>
+    ensures { OnOk result (Adds out.old out.new (experimental_avps code)) }
 {
-    let mut group = AvpWriter::start(alloc);
-    group.number(avps::VENDOR_ID, TGPP)?;
-    group.number(avps::EXPERIMENTAL_RESULT_CODE, code)?;
-    group.into_group()
+    out.number(avps::VENDOR_ID, TGPP)?;
+    out.number(avps::EXPERIMENTAL_RESULT_CODE, code)?;
+    Ok(())
+}
+
+/// Writes the Experimental-Result of a code of 3GPP.
+fn put_experimental_result(out: &mut AvpWriter, code: u32) -> Result<(), AllocError>
+    ensures { OnOk result (Adds out.old out.new
+        (group_avp experimental_result (experimental_avps code) ∷ [])) }
+{
+    let mark = out.open(avps::EXPERIMENTAL_RESULT)?;
+    put_experimental(out, code)?;
+    out.close(mark);
+    Ok(())
 }
 
 /// Writes the result: DIAMETER_SUCCESS where there is no refusal, else the refusal's Result-Code, or the
 /// Experimental-Result of a code of 3GPP (RFC 6733, 7.1 and 7.6).
-pub fn put_result(
-    alloc: Global,
-    out: &mut AvpWriter,
-    refusal: Option<Refusal>,
-) -> Result<(), AllocError>
-    ensures written { OnOk result (out.new ≡ out.old ++ result_avp refusal ∷ []) }
-    ensures unchanged { OnErr result (out.new ≡ out.old) }
+pub fn put_result(out: &mut AvpWriter, refusal: Option<Refusal>) -> Result<(), AllocError>
+    ensures written { OnOk result (Adds out.old out.new (result_avp refusal ∷ [])) }
 {
     match refusal {
-        None => out.number(avps::RESULT_CODE, results::SUCCESS),
-        Some(refusal) if refusal.experimental => {
-            let value = experimental_result(alloc, refusal.code)?;
-            out.put(avps::EXPERIMENTAL_RESULT, value)
-        }
-        Some(refusal) => out.number(avps::RESULT_CODE, refusal.code),
+        None => out.number(avps::RESULT_CODE, results::SUCCESS)?,
+        Some(refusal) if refusal.experimental => put_experimental_result(out, refusal.code)?,
+        Some(refusal) => out.number(avps::RESULT_CODE, refusal.code)?,
     }
+    Ok(())
 }
 
 /// Whether the Auth-Application-Id stands in an answer that tells of this refusal.
@@ -108,34 +113,68 @@ fn names_application(header: &Header, refusal: Refusal) -> bool
     refusal.code / 1000 == 5 && (gx || rx)
 }
 
-/// The answer to a request that could not be read or isn't served (RFC 6733, 7.2): its Session-Id where one is known,
-/// the Auth-Application-Id where the request's own answer would have it and it failed for good, the origin, and the
+/// Writes what such an answer has behind its Session-Id.
+fn put_refused(
+    out: &mut AvpWriter,
+    identity: &Identity,
+    header: &Header,
+    refusal: Refusal,
+) -> Result<(), AllocError>
+    ensures { OnOk result
+        (Adds out.old out.new (refused_avps identity.now header.now refusal)) }
+{
+    put_application(out, header, refusal)?;
+    put_origin(out, identity)?;
+    put_result(out, Some(refusal))?;
+    Ok(())
+}
+
+/// Writes the Session-Id, where there is one.
+fn put_session(out: &mut AvpWriter, session: Option<&[u8]>) -> Result<(), AllocError>
+    ensures { OnOk result (Adds out.old out.new (session_avps (option_copied session.entry))) }
+{
+    let Some(id) = session else {
+        return Ok(());
+    };
+    out.text(avps::SESSION_ID, id)?;
+    Ok(())
+}
+
+/// Writes the Auth-Application-Id, where it stands.
+fn put_application(out: &mut AvpWriter, header: &Header, refusal: Refusal) -> Result<(), AllocError>
+    ensures { OnOk result (Adds out.old out.new (application_avps header.now refusal)) }
+{
+    if !names_application(header, refusal) {
+        return Ok(());
+    }
+    out.number(avps::AUTH_APPLICATION_ID, header.application)?;
+    Ok(())
+}
+
+/// The bytes of the answer to a request that could not be read or isn't served (RFC 6733, 7.2): its Session-Id where one is
+/// known, the Auth-Application-Id where the request's own answer would have it and it failed for good, the origin, and the
 /// result. It fits a message where the Session-Id has at most 512 bytes.
 #[tactic(auto, unfolding(crate::specs::Answers::refusal_answer))]
-pub fn refusal_answer(
+pub fn write_refusal_answer(
     alloc: Global,
     identity: &Identity,
     header: &Header,
     refusal: Refusal,
     session: Option<&[u8]>,
-) -> Result<Message, AllocError>
-    ensures message { IfOk result (λ message. message_view message ≡
-        refusal_answer identity.now header.now refusal (option_copied session.entry)) }
-    ensures fits { IfOk result (λ message. IsShortId (option_copied session.entry)
-        → written_len (message_view message) ≤ longest_message) }
+) -> Result<Vec<u8>, WriteFault>
+    ensures written { IfOk result (λ bytes. bytes.items ≡ written_spelling
+        (refusal_answer identity.now header.now refusal (option_copied session.entry))) }
+    ensures fits { OnOk result (written_len
+        (refusal_answer identity.now header.now refusal (option_copied session.entry))
+        ≤ longest_message) }
+    ensures too_long { IfErr result (λ fault. fault ≡ write.TooLong → longest_message < written_len
+        (refusal_answer identity.now header.now refusal (option_copied session.entry))) }
 {
-    identity.note_names();
-    let mut out = AvpWriter::start(alloc);
-    if let Some(id) = session {
-        out.text(avps::SESSION_ID, id)?;
+    let mut out = AvpWriter::start(alloc)?;
+    put_session(&mut out, session)?;
+    put_refused(&mut out, identity, header, refusal)?;
+    match out.into_bytes(&answer_header(header, Some(refusal))) {
+        Some(bytes) => Ok(bytes),
+        None => Err(WriteFault::TooLong),
     }
-    if names_application(header, refusal) {
-        out.number(avps::AUTH_APPLICATION_ID, header.application)?;
-    }
-    put_origin(&mut out, identity)?;
-    put_result(alloc, &mut out, Some(refusal))?;
-    Ok(Message {
-        header: answer_header(header, Some(refusal)),
-        avps: out.into_avps(),
-    })
 }

@@ -14,7 +14,8 @@ mod session_answer;
 mod subscriptions;
 mod writer;
 
-pub use answer::{answer_header, put_origin, put_result, refusal_answer, request_header};
+pub use answer::{answer_header, put_origin, put_result, request_header, write_refusal_answer};
+pub use dia_codec::Mark;
 pub use form::MessageForm;
 pub use identity::Identity;
 pub use origin::{Origin, read_origin};

@@ -1,126 +1,122 @@
 //! AVPs of an answer, one after another.
-ghost use Rattle.std.specs.Prelude.{◌≡◌, ◌≤◌, [], ◌∷◌, ◌++◌, IfOk, OnOk, OnErr};
-ghost use Rattle.std.specs.List.{flat_map, sum_by};
+ghost use Rattle.std.specs.Prelude.{◌≡◌, ◌+◌, ◌≤◌, ◌<◌, [], ◌∷◌, List, length, IfOk, OnOk, OnErr, IfSome, IfNone, true};
 ghost use Rattle.dia_base.specs.Avps.{base_key, tgpp_key};
-ghost use Rattle.dia_base.specs.Answers.{text_avp, number_avp, tgpp_avp};
-ghost use Rattle.dia_codec.specs.Limits.{longest_message};
-ghost use Rattle.dia_codec.specs.Spelling.{avp_views};
-ghost use Rattle.dia_codec.specs.Written.{padded_len, word_bytes, written_avp};
+ghost use Rattle.dia_base.specs.Answers.{text_avp, number_avp, plain_avp, tgpp_avp};
+ghost use Rattle.dia_codec.specs.Drafts.{Adds, Closes, Opens};
+ghost use Rattle.dia_codec.specs.Fields.{AvpValue};
+ghost use Rattle.dia_codec.specs.Limits.{avp_header_bytes, longest_message};
+ghost use Rattle.dia_codec.specs.Written.{word_bytes, written_len, written_spelling};
 
-use crate::codes::TGPP;
-use dia_codec::{Avp, WriteFault, write_group};
+use crate::rows::{base_key, tgpp_key};
+use dia_codec::{Header, Mark, MessageWriter};
 use std::alloc::{AllocError, Global};
 use std::marker::Model;
 
-/// The AVPs of a message or a group in the order of writing, which contracts see as the list of what they say. RFC 6733's
-/// own stand without a vendor and with the M bit, 3GPP's with its vendor; none has the P bit (4.1, 4.5).
+/// The AVPs of a message in the order of writing, as the bytes that they are. RFC 6733's own stand without a vendor and with
+/// the M bit, 3GPP's with its vendor; none has the P bit (4.1, 4.5). After an error all is as it was.
 #[derive(Drop)]
 pub struct AvpWriter {
-    alloc: Global,
-    avps: Vec<Avp>,
+    message: MessageWriter,
 }
 
 impl Model for AvpWriter {
-    ghost use Rattle.std.specs.Prelude.{List};
-    ghost use Rattle.dia_codec.specs.Fields.{AvpValue};
-    ghost use Rattle.dia_codec.specs.Spelling.{avp_views};
+    ghost use Rattle.std.specs.Prelude.{ℕ, List};
 
-    ghost Value = { List AvpValue };
+    ghost Value = { List ℕ };
 
-    ghost view = { λ w. avp_views w.avps.items };
+    ghost view = { λ w. w.message };
 }
 
 impl AvpWriter {
     /// No AVP yet.
-    pub fn start(alloc: Global) -> AvpWriter
-        ensures { result ≡ [] }
+    pub fn start(alloc: Global) -> Result<AvpWriter, AllocError>
+        ensures { IfOk result (λ writer. writer ≡ []) }
     {
-        AvpWriter {
-            alloc,
-            avps: Vec::new(alloc),
-        }
+        let message = MessageWriter::start(alloc)?;
+        Ok(AvpWriter { message })
     }
 
     /// Adds an AVP whose value is these bytes.
     pub fn text(&mut self, code: u32, bytes: &[u8]) -> Result<(), AllocError>
         ensures added { OnOk result
-            (self.new ≡ self.old ++ text_avp (base_key code) bytes.now ∷ []) }
+            (Adds self.old self.new (text_avp (base_key code) bytes.now ∷ [])) }
         ensures refused { OnErr result (self.new ≡ self.old) }
     {
-        let value = Vec::from_slice(self.alloc, bytes)?;
-        self.put(code, value)
+        self.message.value(base_key(code), true, bytes)
+    }
+
+    /// Adds an AVP without the M bit whose value is these bytes.
+    pub fn plain_text(&mut self, code: u32, bytes: &[u8]) -> Result<(), AllocError>
+        ensures added { OnOk result
+            (Adds self.old self.new (plain_avp (base_key code) bytes.now ∷ [])) }
+        ensures refused { OnErr result (self.new ≡ self.old) }
+    {
+        self.message.value(base_key(code), false, bytes)
     }
 
     /// Adds an AVP whose value is a number, big-endian (Unsigned32 or Enumerated).
-    #[tactic(auto, unfolding(dia_codec::specs::Written::word_bytes))]
     pub fn number(&mut self, code: u32, number: u32) -> Result<(), AllocError>
         ensures added { OnOk result
-            (self.new ≡ self.old ++ number_avp (base_key code) number ∷ []) }
+            (Adds self.old self.new (number_avp (base_key code) number ∷ [])) }
         ensures refused { OnErr result (self.new ≡ self.old) }
     {
-        self.text(code, &number.to_be_bytes())
+        self.message.number(base_key(code), true, number)
     }
 
-    /// Adds an AVP that owns its value.
-    pub fn put(&mut self, code: u32, value: Vec<u8>) -> Result<(), AllocError>
+    /// Adds an AVP of 3GPP whose value is these bytes, with the M bit or without it.
+    pub fn tgpp_text(&mut self, code: u32, mandatory: bool, bytes: &[u8]) -> Result<(), AllocError>
         ensures added { OnOk result
-            (self.new ≡ self.old ++ text_avp (base_key code) value.items ∷ []) }
+            (Adds self.old self.new (tgpp_avp (tgpp_key code) mandatory bytes.now ∷ [])) }
         ensures refused { OnErr result (self.new ≡ self.old) }
     {
-        self.avps.push(Avp {
-            code,
-            vendor: None,
-            mandatory: true,
-            protected: false,
-            value,
-        })?;
-        Ok(())
-    }
-
-    /// Adds an AVP of 3GPP that owns its value, with the M bit or without it.
-    pub fn put_tgpp(&mut self, code: u32, mandatory: bool, value: Vec<u8>) -> Result<(), AllocError>
-        ensures added { OnOk result
-            (self.new ≡ self.old ++ tgpp_avp (tgpp_key code) mandatory value.items ∷ []) }
-        ensures refused { OnErr result (self.new ≡ self.old) }
-    {
-        self.avps.push(Avp {
-            code,
-            vendor: Some(TGPP),
-            mandatory,
-            protected: false,
-            value,
-        })?;
-        Ok(())
+        self.message.value(tgpp_key(code), mandatory, bytes)
     }
 
     /// Adds an AVP of 3GPP whose value is a number, big-endian (Unsigned32 or Enumerated).
-    #[tactic(auto, unfolding(dia_codec::specs::Written::word_bytes))]
     pub fn tgpp_number(&mut self, code: u32, mandatory: bool, number: u32) -> Result<(), AllocError>
         ensures added { OnOk result
-            (self.new ≡ self.old ++ tgpp_avp (tgpp_key code) mandatory (word_bytes number) ∷ []) }
+            (Adds self.old self.new (tgpp_avp (tgpp_key code) mandatory (word_bytes number) ∷ [])) }
         ensures refused { OnErr result (self.new ≡ self.old) }
     {
-        let value = Vec::from_slice(self.alloc, &number.to_be_bytes())?;
-        self.put_tgpp(code, mandatory, value)
+        self.message.number(tgpp_key(code), mandatory, number)
     }
 
-    /// The value of a group of these AVPs (Grouped, RFC 6733, 4.4).
-    pub fn into_group(self) -> Result<Vec<u8>, AllocError>
-        requires { sum_by padded_len self ≤ longest_message }
-        ensures { IfOk result (λ value. value.items ≡ flat_map written_avp self) }
+    /// Begins a group (Grouped, RFC 6733, 4.4): the AVPs that are added next, to its `close`.
+    pub fn open(&mut self, code: u32) -> Result<Mark, AllocError>
+        ensures opened { IfOk result (λ mark.
+            Opens (base_key code) true self.old self.new mark.at) }
+        ensures refused { OnErr result (self.new ≡ self.old) }
     {
-        match write_group(self.alloc, &self.avps) {
-            Ok(value) => Ok(value),
-            Err(WriteFault::TooLong) => unreachable!(),
-            Err(WriteFault::NoMemory) => Err(AllocError),
-        }
+        self.message.open(base_key(code), true)
     }
 
-    /// The AVPs.
-    pub fn into_avps(self) -> Vec<Avp>
-        ensures { avp_views result.items ≡ self }
+    /// Begins a group of 3GPP, with the M bit or without it.
+    pub fn open_tgpp(&mut self, code: u32, mandatory: bool) -> Result<Mark, AllocError>
+        ensures opened { IfOk result (λ mark.
+            Opens (tgpp_key code) mandatory self.old self.new mark.at) }
+        ensures refused { OnErr result (self.new ≡ self.old) }
     {
-        let AvpWriter { alloc: _, avps } = self;
-        avps
+        self.message.open(tgpp_key(code), mandatory)
+    }
+
+    /// Ends the group that was begun there.
+    pub fn close(&mut self, mark: Mark)
+        requires { mark.at + avp_header_bytes ≤ length self.old }
+        ensures { Closes mark.at self.old self.new }
+    {
+        self.message.close(mark);
+    }
+
+    /// The bytes of the message with this header, None where they are more than a message may have.
+    pub fn into_bytes(self, header: &Header) -> Option<Vec<u8>>
+        ensures written { IfSome result (λ bytes. (avps : List AvpValue) → Adds [] self avps
+            → bytes.items ≡ written_spelling (record { header = header.now; avps = avps })) }
+        ensures fits { IfSome result (λ _. (avps : List AvpValue) → Adds [] self avps
+            → written_len (record { header = header.now; avps = avps }) ≤ longest_message) }
+        ensures too_long { IfNone result ((avps : List AvpValue) → Adds [] self avps
+            → longest_message < written_len (record { header = header.now; avps = avps })) }
+    {
+        let AvpWriter { message } = self;
+        message.into_bytes(header)
     }
 }

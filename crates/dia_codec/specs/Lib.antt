@@ -4,3 +4,4 @@ pub mod Spelling
 pub mod Reading
 pub mod Written
 pub mod Stream
+pub mod Drafts

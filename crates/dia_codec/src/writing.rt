@@ -20,7 +20,7 @@ use crate::message::{Avp, Flags, Header, Message};
 use std::alloc::{AllocError, Global};
 
 /// A flag's bit, where the flag is set.
-fn bit_if(is: bool, bit: u8) -> u8
+pub(crate) fn bit_if(is: bool, bit: u8) -> u8
     ensures { result ≡ bit_if is bit }
 {
     if is { bit } else { 0 }
@@ -111,6 +111,22 @@ fn put_header(out: &mut Vec<u8>, length: u32, header: &Header) -> Result<(), All
     put_word(out, header.hop_id)?;
     put_word(out, header.end_id)?;
     Ok(())
+}
+
+/// The bytes of a header, with the length of the whole message.
+#[tactic(auto, unfolding(crate::specs::Written::written_header, crate::specs::Written::word_bytes, crate::specs::Written::three_bytes))]
+pub(crate) fn header_bytes(length: u32, header: &Header) -> [u8; HEADER_BYTES]
+    ensures { result ≡ written_header length header.now }
+{
+    let [_, l1, l2, l3] = length.to_be_bytes();
+    let [_, c1, c2, c3] = header.command.to_be_bytes();
+    let [a0, a1, a2, a3] = header.application.to_be_bytes();
+    let [h0, h1, h2, h3] = header.hop_id.to_be_bytes();
+    let [e0, e1, e2, e3] = header.end_id.to_be_bytes();
+    let flags = flag_byte(header.flags);
+    [
+        VERSION, l1, l2, l3, flags, c1, c2, c3, a0, a1, a2, a3, h0, h1, h2, h3, e0, e1, e2, e3,
+    ]
 }
 
 /// Adds the Vendor-Id, if there is one.

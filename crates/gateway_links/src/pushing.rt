@@ -18,7 +18,6 @@ use crate::half::Half;
 use crate::observer::Observer;
 use crate::outgoing::Outgoing;
 use dia_base::Identity;
-use dia_codec::{WriteFault, write_message};
 use gx_profile::write_rar;
 use link_ends::{Demand, Event, Pushes, Reply, SharedSite, StepFault};
 use pcrf_values::DiameterIdentity;
@@ -48,7 +47,6 @@ enum Pushed {
 }
 
 /// The bytes of a push's re-authorisation request with these identifiers, in the form in which the site writes.
-#[tactic(auto, unfolding(gx_profile::specs::Pushes::rar))]
 pub(crate) fn request_bytes(
     alloc: Global,
     identity: &Identity,
@@ -61,15 +59,10 @@ pub(crate) fn request_bytes(
         (rar identity.now hop_id end_id (push_view push.now)))) }
 {
     let request = write_rar(alloc, identity, hop_id, end_id, push)?;
-    match write_message(alloc, &request) {
-        Ok(bytes) => stated(alloc, identity, bytes),
-        Err(WriteFault::TooLong) => unreachable!(),
-        Err(WriteFault::NoMemory) => Err(AllocError),
-    }
+    stated(alloc, identity, request)
 }
 
 /// The bytes of an abort session request with these identifiers, in the form in which the site writes.
-#[tactic(auto, unfolding(rx_profile::specs::Aborts::asr))]
 fn abort_bytes(
     alloc: Global,
     identity: &Identity,
@@ -82,11 +75,7 @@ fn abort_bytes(
         (asr identity.now hop_id end_id (abort_view abort.now)))) }
 {
     let request = write_asr(alloc, identity, hop_id, end_id, abort)?;
-    match write_message(alloc, &request) {
-        Ok(bytes) => stated(alloc, identity, bytes),
-        Err(WriteFault::TooLong) => unreachable!(),
-        Err(WriteFault::NoMemory) => Err(AllocError),
-    }
+    stated(alloc, identity, request)
 }
 
 /// The Hop-by-Hop Identifier of a request that stands at this place.

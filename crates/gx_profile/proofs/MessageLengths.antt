@@ -6,10 +6,9 @@ use Rattle.pcrf_values.specs.declared.default_quality.DefaultQuality.{DefaultQua
 use Rattle.pcrf_values.specs.declared.refusal.Refusal.{Refusal}
 use Rattle.pcrf_model.specs.Replies.{GxReplyValue, PushValue}
 use Rattle.pcrf_model.specs.Requests.{CcrValue}
-use Rattle.dia_codec.specs.declared.message.Header.{Header}
-use Rattle.dia_codec.specs.Fields.{AvpValue, MessageValue}
+use Rattle.dia_codec.specs.Fields.{AvpValue}
 use Rattle.dia_codec.specs.Limits.{longest_message}
-use Rattle.dia_codec.specs.Written.{word_bytes, written_avp, padded_len, written_len}
+use Rattle.dia_codec.specs.Written.{word_bytes, written_avp, padded_len}
 use Rattle.dia_codec.specs.Written as written
 use Rattle.dia_base.specs.Avps.{base_key, destination_realm, destination_host, cc_request_type, cc_request_number}
 use Rattle.dia_base.specs.Answers.{text_avp, number_avp, result_avp}
@@ -17,12 +16,12 @@ use Rattle.dia_base.specs.declared.form.MessageForm.{MessageForm}
 use Rattle.dia_base.specs.declared.identity.Identity.{Identity}
 use Rattle.dia_base.proofs.AnswerLengths.{text_within, number_within, result_within}
 use Rattle.pcrf_values.specs.Numbers.{request_kind_number}
-use Rattle.gx_profile.specs.Answers.{cca}
+use Rattle.gx_profile.specs.Answers.{cca_avps}
 use Rattle.reply_values.specs.Replies.{reply_refusal, reply_delta, reply_quality}
 use Rattle.gx_profile.specs.Avps.{re_auth_request_type}
 use Rattle.gx_profile.specs.Lengths.{delta_room, opening_room}
 use Rattle.gx_profile.specs.Openings.{opening_avps}
-use Rattle.gx_profile.specs.Pushes.{rar, authorize_only}
+use Rattle.gx_profile.specs.Pushes.{rar_avps, authorize_only}
 use Rattle.gx_profile.specs.Qualities.{quality_avps}
 use Rattle.gx_profile.specs.Rules.{delta_avps}
 
@@ -70,23 +69,23 @@ told_within form q reply delta =
     rw (one, two, three, both) (omega arith)
 
 -- an answer fits a message
-pub cca_fits : (i : Identity) (h : Header) (q : CcrValue) (reply : GxReplyValue) (m : MessageValue) → m ≡ cca i h q reply → sum_by padded_len (opening_avps q.session i) ≤ opening_room
-    → sum_by padded_len (delta_avps i.form (reply_delta reply)) ≤ delta_room → written_len m ≤ longest_message
-unfolding cca
-cca_fits i h q reply m is opening delta =
+pub cca_within : (i : Identity) (q : CcrValue) (reply : GxReplyValue) → sum_by padded_len (opening_avps q.session i) ≤ opening_room → sum_by padded_len (delta_avps i.form (reply_delta reply)) ≤ delta_room
+    → 20 + sum_by padded_len (cca_avps i q reply) ≤ longest_message
+unfolding cca_avps
+cca_within i q reply opening delta =
     let both = sum_by-append padded_len (opening_avps q.session i) (told i.form q reply) in
     let behind = told_within i.form q reply delta in
-    rw (is, both) (omega arith)
+    rw both (omega arith)
 
 -- what stands behind the Origin-Realm of a push
 abbrev pushed : MessageForm → PushValue → List AvpValue
 pushed form p = text_avp destination_realm p.realm ∷ text_avp destination_host p.host ∷ number_avp re_auth_request_type authorize_only ∷ delta_avps form p.delta
 
 -- a push fits a message
-pub rar_fits : (i : Identity) (hop_id end_id : ℕ) (p : PushValue) (m : MessageValue) → m ≡ rar i hop_id end_id p → length p.realm ≤ 255 → length p.host ≤ 255
-    → sum_by padded_len (opening_avps p.session i) ≤ opening_room → sum_by padded_len (delta_avps i.form p.delta) ≤ delta_room → written_len m ≤ longest_message
-unfolding rar
-rar_fits i hop_id end_id p m is realm host opening delta =
+pub rar_within : (i : Identity) (p : PushValue) → length p.realm ≤ 255 → length p.host ≤ 255
+    → sum_by padded_len (opening_avps p.session i) ≤ opening_room → sum_by padded_len (delta_avps i.form p.delta) ≤ delta_room → 20 + sum_by padded_len (rar_avps i p) ≤ longest_message
+unfolding rar_avps
+rar_within i p realm host opening delta =
     let kind = number_avp re_auth_request_type authorize_only in
     let one = sum_by-cons padded_len (text_avp destination_realm p.realm) (text_avp destination_host p.host ∷ kind ∷ delta_avps i.form p.delta) in
     let two = sum_by-cons padded_len (text_avp destination_host p.host) (kind ∷ delta_avps i.form p.delta) in
@@ -95,4 +94,4 @@ rar_fits i hop_id end_id p m is realm host opening delta =
     let realm_short = text_within 283 p.realm 64 (omega arith) in
     let host_short = text_within 293 p.host 64 (omega arith) in
     let kind_short = number_within 285 authorize_only in
-    rw (is, both, one, two, three) (omega arith)
+    rw (both, one, two, three) (omega arith)

@@ -6,8 +6,9 @@ use Rattle.std.proofs.lemmas.List.Concat.{flat_map-cons}
 use Rattle.std.proofs.lemmas.List.Sums.{sum_by-cons, sum_by-append, sum_by_push}
 use Rattle.pcrf_values.specs.RuleValues.{RuleValue, DeltaValue}
 use Rattle.pcrf_values.specs.Limits.{delta_limit}
+use Rattle.dia_codec.specs.Drafts.{Adds}
+use Rattle.dia_codec.proofs.Drafts.{adds}
 use Rattle.dia_codec.specs.Fields.{AvpValue, padding}
-use Rattle.dia_codec.specs.Limits.{longest_message}
 use Rattle.dia_codec.specs.Written.{word_bytes, written_avp, written_own, own_len, padded_len}
 use Rattle.dia_codec.specs.Written as written
 use Rattle.dia_base.specs.Avps.{tgpp_key}
@@ -58,10 +59,6 @@ unfolding word_bytes
 description_within Own filter within = omega arith
 description_within Standard filter within = let longer = grows_by_one filter in omega arith
 
--- it fits a group
-pub description_fits : (form : MessageForm) (filter : List ℕ) (avps : List AvpValue) → avps ≡ description_avps form filter → 12 + sum_by padded_len (description_avps form filter) ≤ filter_room → sum_by padded_len avps ≤ longest_message
-description_fits form filter avps is within = rw is (omega arith)
-
 -- a filter takes at most so many bytes
 pub filter_within : (form : MessageForm) (filter : List ℕ) → 12 + sum_by padded_len (description_avps form filter) ≤ filter_room → padded_len (filter_avp form filter) ≤ filter_room
 filter_within form filter within = tgpp_within 1058 false (flat_map written_avp (description_avps form filter)) 71 (rw group_length (omega arith))
@@ -69,10 +66,15 @@ filter_within form filter within = tgpp_within 1058 false (flat_map written_avp 
 -- ---- AVPs of a list, one after another
 
 -- one more, in the writer
-pub one_more : {X : Type 0} (f : X → AvpValue) (xs : List X) (i : ℕ) (x : X) (start before after : List AvpValue) → i < length xs → x ≡ get_or xs i x
-    → before ≡ start ++ map f (take i xs) → after ≡ before ++ f x ∷ [] → after ≡ start ++ map f (take (i + 1) xs)
-one_more f xs i x start before after lt is so_far more =
-    rw (more, so_far, append_assoc, map_more f xs i x lt) (ap (λ y. start ++ (map f (take i xs) ++ f y ∷ [])) is)
+pub one_more : {X : Type 0} (f : X → AvpValue) (xs : List X) (i : ℕ) (x : X) {start before after : List ℕ} → i < length xs → x ≡ get_or xs i x
+    → Adds start before (map f (take i xs)) → Adds before after (f x ∷ []) → Adds start after (map f (take (i + 1) xs))
+one_more f xs i x {start} {before} {after} lt is so_far more =
+    let next : map f (take (i + 1) xs) ≡ map f (take i xs) ++ f x ∷ [] = map_more f xs i x lt ∙ ap (λ y. map f (take i xs) ++ f y ∷ []) (sym is) in
+    rw next (adds so_far more)
+
+-- all of them, in the writer
+pub all_added : {X : Type 0} (f : X → AvpValue) (xs : List X) (i : ℕ) {start new : List ℕ} → length xs ≤ i → Adds start new (map f (take i xs)) → Adds start new (map f xs)
+all_added f xs i end so_far = let whole : take i xs ≡ xs = take_all i xs end in rw whole at so_far
 
 -- one more, in the number of bytes
 pub one_more_within : {X : Type 0} (f : X → AvpValue) (xs : List X) (i : ℕ) (x : X) (room : ℕ) → i < length xs → x ≡ get_or xs i x
@@ -99,10 +101,6 @@ quality_by false r is = rw is (omega arith)
 pub quality_within : (r : RuleValue) → sum_by padded_len (rule_quality_avps r) ≤ 140
 quality_within r = quality_by (has_guaranteed_rate r.qci) r refl
 
--- they fit a group
-pub quality_fits : (r : RuleValue) (avps : List AvpValue) → avps ≡ rule_quality_avps r → sum_by padded_len avps ≤ longest_message
-quality_fits r avps is = let within = quality_within r in rw is (omega arith)
-
 -- ---- a rule
 
 -- what stands behind a rule's filters
@@ -127,10 +125,6 @@ rule_within form r named filters =
     let first = sum_by-cons padded_len (name_avp r.name) (map (filter_avp form) r.filters ++ after_filters r) in
     let others = sum_by-append padded_len (map (filter_avp form) r.filters) (after_filters r) in
     rw (first, others) (omega arith)
-
--- it fits a group
-pub rule_fits : (form : MessageForm) (r : RuleValue) (avps : List AvpValue) → avps ≡ rule_avps form r → sum_by padded_len (rule_avps form r) ≤ rule_room → sum_by padded_len avps ≤ longest_message
-rule_fits form r avps is within = rw is (omega arith)
 
 -- a Charging-Rule-Definition takes at most so many bytes
 pub definition_within : (form : MessageForm) (r : RuleValue) → sum_by padded_len (rule_avps form r) ≤ rule_room → padded_len (rule_avp form r) ≤ definition_room

@@ -1,7 +1,8 @@
 //! What each message about a gateway's session begins with (TS 29.212, 5.6.3 and 5.6.4).
-ghost use Rattle.std.specs.Prelude.{◌≡◌, ◌≤◌, ◌++◌, length, OnOk};
+ghost use Rattle.std.specs.Prelude.{◌≤◌, length, OnOk};
 ghost use Rattle.std.specs.List.{sum_by};
 ghost use Rattle.pcrf_values.specs.Limits.{identity_limit};
+ghost use Rattle.dia_codec.specs.Drafts.{Adds};
 ghost use Rattle.dia_codec.specs.Written.{padded_len};
 ghost use Rattle.gx_profile.specs.Lengths.{opening_room};
 ghost use Rattle.gx_profile.specs.Openings.{opening_avps};
@@ -24,7 +25,8 @@ pub(crate) fn put_opening(
     session: &GxSid,
     identity: &Identity,
 ) -> Result<(), AllocError>
-    ensures added { OnOk result (out.new ≡ out.old ++ opening_avps session.now identity.now) }
+    ensures added { OnOk result
+        (Adds out.old out.new (opening_avps session.now identity.now)) }
     ensures within { OnOk result
         (sum_by padded_len (opening_avps session.now identity.now) ≤ opening_room) }
 {

@@ -1,14 +1,17 @@
 //! Rules and differences of rules in messages to a gateway (TS 29.212, 5.3.2 to 5.3.4).
-ghost use Rattle.std.specs.Prelude.{◌≡◌, ◌≤◌, ◌+◌, ◌*◌, ◌++◌, ◌∷◌, [], length, map, IfOk, OnOk};
-ghost use Rattle.std.specs.List.{flat_map, sum_by};
+ghost use Rattle.std.specs.Prelude.{◌≡◌, ◌≤◌, ◌+◌, ◌*◌, ◌∷◌, [], length, map, OnOk};
+ghost use Rattle.std.specs.List.{sum_by};
 ghost use Rattle.pcrf_values.specs.Limits.{delta_limit};
+ghost use Rattle.dia_codec.specs.Drafts.{Adds};
 ghost use Rattle.dia_codec.specs.Limits.{vendor_avp_header_bytes};
-ghost use Rattle.dia_codec.specs.Written.{padded_len, written_avp};
+ghost use Rattle.dia_codec.specs.Written.{padded_len};
+ghost use Rattle.gx_profile.specs.Avps.{charging_rule_install, charging_rule_remove, qos_information};
 ghost use Rattle.gx_profile.specs.Lengths.{filter_room, name_room, rule_room, definition_room, delta_room};
+ghost use Rattle.gx_profile.specs.Qualities.{needed, tgpp_group};
 ghost use Rattle.gx_profile.specs.Rules.{has_guaranteed_rate, guaranteed_avps, rule_quality_avps, name_avp, description_avps, filter_avp, rule_avps, rule_avp, remove_avps, install_avps, delta_avps};
 
 use crate::codes::avps;
-use crate::quality::{NEEDED, OPTIONAL, priority_value};
+use crate::quality::{NEEDED, OPTIONAL, put_priority};
 use dia_base::{AvpWriter, MessageForm};
 use flow_filters::{Direction, as_downlink};
 use pcrf_values::{FilterText, Filters, QosClass, Rule, RuleName};
@@ -26,67 +29,75 @@ fn has_guaranteed_rate(class: QosClass) -> bool
 }
 
 /// Writes the guaranteed bit rates of a rule, where its class has them.
-fn put_guaranteed(group: &mut AvpWriter, rule: &Rule) -> Result<(), AllocError>
-    ensures { OnOk result (group.new ≡ group.old ++ guaranteed_avps rule.now) }
+fn put_guaranteed(out: &mut AvpWriter, rule: &Rule) -> Result<(), AllocError>
+    ensures { OnOk result (Adds out.old out.new (guaranteed_avps rule.now)) }
 {
     let qos = rule.qos();
     if !has_guaranteed_rate(qos.class) {
         return Ok(());
     }
-    group.tgpp_number(avps::GUARANTEED_BITRATE_UL, NEEDED, qos.max_uplink)?;
-    group.tgpp_number(avps::GUARANTEED_BITRATE_DL, NEEDED, qos.max_downlink)
+    out.tgpp_number(avps::GUARANTEED_BITRATE_UL, NEEDED, qos.max_uplink)?;
+    out.tgpp_number(avps::GUARANTEED_BITRATE_DL, NEEDED, qos.max_downlink)?;
+    Ok(())
 }
 
-/// The value of the QoS-Information of a rule.
+/// Writes what the QoS-Information of a rule holds.
 #[tactic(auto, unfolding(crate::specs::Rules::rule_quality_avps))]
-fn quality_value(alloc: Global, rule: &Rule) -> Result<Vec<u8>, AllocError>
-    ensures { IfOk result (λ value.
-        value.items ≡ flat_map written_avp (rule_quality_avps rule.now)) }
+fn put_quality_avps(out: &mut AvpWriter, rule: &Rule) -> Result<(), AllocError>
+    ensures { OnOk result (Adds out.old out.new (rule_quality_avps rule.now)) }
 {
     let qos = rule.qos();
-    let priority = priority_value(alloc, qos.priority)?;
-    let mut group = AvpWriter::start(alloc);
-    group.tgpp_number(avps::QOS_CLASS_IDENTIFIER, NEEDED, qos.class.get())?;
-    group.tgpp_number(avps::MAX_REQUESTED_BANDWIDTH_UL, NEEDED, qos.max_uplink)?;
-    group.tgpp_number(avps::MAX_REQUESTED_BANDWIDTH_DL, NEEDED, qos.max_downlink)?;
-    put_guaranteed(&mut group, rule)?;
-    group.put_tgpp(avps::ALLOCATION_RETENTION_PRIORITY, OPTIONAL, priority)?;
-    group.into_group()
+    out.tgpp_number(avps::QOS_CLASS_IDENTIFIER, NEEDED, qos.class.get())?;
+    out.tgpp_number(avps::MAX_REQUESTED_BANDWIDTH_UL, NEEDED, qos.max_uplink)?;
+    out.tgpp_number(avps::MAX_REQUESTED_BANDWIDTH_DL, NEEDED, qos.max_downlink)?;
+    put_guaranteed(out, rule)?;
+    put_priority(out, qos.priority)?;
+    Ok(())
+}
+
+/// Writes the QoS-Information of a rule.
+fn put_rule_quality(out: &mut AvpWriter, rule: &Rule) -> Result<(), AllocError>
+    ensures { OnOk result (Adds out.old out.new
+        (tgpp_group qos_information needed (rule_quality_avps rule.now) ∷ [])) }
+{
+    let mark = out.open_tgpp(avps::QOS_INFORMATION, NEEDED)?;
+    put_quality_avps(out, rule)?;
+    out.close(mark);
+    Ok(())
 }
 
 /// Writes the name of a rule.
-fn put_name(alloc: Global, group: &mut AvpWriter, name: &RuleName) -> Result<(), AllocError>
-    ensures added { OnOk result (group.new ≡ group.old ++ name_avp name.now ∷ []) }
+fn put_name(out: &mut AvpWriter, name: &RuleName) -> Result<(), AllocError>
+    ensures added { OnOk result (Adds out.old out.new (name_avp name.now ∷ [])) }
     ensures within { OnOk result (padded_len (name_avp name.now) ≤ name_room) }
 {
-    let value = Vec::from_slice(alloc, name.as_slice())?;
-    group.put_tgpp(avps::CHARGING_RULE_NAME, NEEDED, value)
+    out.tgpp_text(avps::CHARGING_RULE_NAME, NEEDED, name.as_slice())?;
+    Ok(())
 }
 
-/// Writes what is in the Flow-Information of a filter.
+/// Writes what the Flow-Information of a filter holds.
 #[tactic(auto, using(crate::proofs::RuleLengths::description_within))]
 fn put_description(
     alloc: Global,
-    group: &mut AvpWriter,
+    out: &mut AvpWriter,
     form: MessageForm,
     filter: &FilterText,
 ) -> Result<(), AllocError>
-    ensures added { OnOk result (group.new ≡ group.old ++ description_avps form filter.now) }
+    ensures added { OnOk result (Adds out.old out.new (description_avps form filter.now)) }
     ensures within { OnOk result (vendor_avp_header_bytes
         + sum_by padded_len (description_avps form filter.now) ≤ filter_room) }
 {
     let text = filter.as_slice();
     match form {
         MessageForm::Own => {
-            let description = Vec::from_slice(alloc, text)?;
-            group.put_tgpp(avps::FLOW_DESCRIPTION, NEEDED, description)?;
+            out.tgpp_text(avps::FLOW_DESCRIPTION, NEEDED, text)?;
             Ok(())
         }
         MessageForm::Standard => {
             let description = as_downlink(alloc, text)?;
-            group.put_tgpp(avps::FLOW_DESCRIPTION, NEEDED, description)?;
+            out.tgpp_text(avps::FLOW_DESCRIPTION, NEEDED, &description)?;
             let direction = Direction::of(text).number();
-            group.tgpp_number(avps::FLOW_DIRECTION, OPTIONAL, direction)?;
+            out.tgpp_number(avps::FLOW_DIRECTION, OPTIONAL, direction)?;
             Ok(())
         }
     }
@@ -95,109 +106,142 @@ fn put_description(
 /// Writes a filter of a rule.
 fn put_filter(
     alloc: Global,
-    group: &mut AvpWriter,
+    out: &mut AvpWriter,
     form: MessageForm,
     filter: &FilterText,
 ) -> Result<(), AllocError>
-    ensures added { OnOk result (group.new ≡ group.old ++ filter_avp form filter.now ∷ []) }
+    ensures added { OnOk result (Adds out.old out.new (filter_avp form filter.now ∷ [])) }
     ensures within { OnOk result (padded_len (filter_avp form filter.now) ≤ filter_room) }
 {
-    let mut information = AvpWriter::start(alloc);
-    put_description(alloc, &mut information, form, filter)?;
-    let value = information.into_group()?;
-    group.put_tgpp(avps::FLOW_INFORMATION, OPTIONAL, value)
+    let mark = out.open_tgpp(avps::FLOW_INFORMATION, OPTIONAL)?;
+    put_description(alloc, out, form, filter)?;
+    out.close(mark);
+    Ok(())
 }
 
 /// Writes the filters of a rule, in their order.
 fn put_filters(
     alloc: Global,
-    group: &mut AvpWriter,
+    out: &mut AvpWriter,
     form: MessageForm,
     filters: &Filters,
 ) -> Result<(), AllocError>
-    ensures added { OnOk result (group.new ≡ group.old ++ map (filter_avp form) filters.now) }
+    ensures added { OnOk result (Adds out.old out.new (map (filter_avp form) filters.now)) }
     ensures within { OnOk result
         (sum_by padded_len (map (filter_avp form) filters.now) ≤ 2 * filter_room) }
 {
     for filter in filters.as_slice() {
-        put_filter(alloc, group, form, filter)?;
+        put_filter(alloc, out, form, filter)?;
     }
     Ok(())
 }
 
-/// The value of the Charging-Rule-Definition of a rule.
+/// Writes what the Charging-Rule-Definition of a rule holds.
 #[tactic(auto, unfolding(crate::specs::Rules::rule_avps))]
-fn rule_value(alloc: Global, form: MessageForm, rule: &Rule) -> Result<Vec<u8>, AllocError>
-    ensures value { IfOk result (λ value.
-        value.items ≡ flat_map written_avp (rule_avps form rule.now)) }
+fn put_rule_avps(
+    alloc: Global,
+    out: &mut AvpWriter,
+    form: MessageForm,
+    rule: &Rule,
+) -> Result<(), AllocError>
+    ensures added { OnOk result (Adds out.old out.new (rule_avps form rule.now)) }
     ensures within { OnOk result (sum_by padded_len (rule_avps form rule.now) ≤ rule_room) }
 {
-    let quality = quality_value(alloc, rule)?;
-    let mut group = AvpWriter::start(alloc);
-    put_name(alloc, &mut group, rule.name())?;
-    put_filters(alloc, &mut group, form, rule.filters())?;
-    group.tgpp_number(avps::FLOW_STATUS, NEEDED, rule.status().number())?;
-    group.put_tgpp(avps::QOS_INFORMATION, NEEDED, quality)?;
-    group.tgpp_number(avps::PRECEDENCE, NEEDED, rule.precedence())?;
-    group.into_group()
+    put_name(out, rule.name())?;
+    put_filters(alloc, out, form, rule.filters())?;
+    out.tgpp_number(avps::FLOW_STATUS, NEEDED, rule.status().number())?;
+    put_rule_quality(out, rule)?;
+    out.tgpp_number(avps::PRECEDENCE, NEEDED, rule.precedence())?;
+    Ok(())
 }
 
 /// Writes a rule that is installed.
 fn put_rule(
     alloc: Global,
-    group: &mut AvpWriter,
+    out: &mut AvpWriter,
     form: MessageForm,
     rule: &Rule,
 ) -> Result<(), AllocError>
-    ensures added { OnOk result (group.new ≡ group.old ++ rule_avp form rule.now ∷ []) }
+    ensures added { OnOk result (Adds out.old out.new (rule_avp form rule.now ∷ [])) }
     ensures within { OnOk result (padded_len (rule_avp form rule.now) ≤ definition_room) }
 {
-    let value = rule_value(alloc, form, rule)?;
-    group.put_tgpp(avps::CHARGING_RULE_DEFINITION, NEEDED, value)
+    let mark = out.open_tgpp(avps::CHARGING_RULE_DEFINITION, NEEDED)?;
+    put_rule_avps(alloc, out, form, rule)?;
+    out.close(mark);
+    Ok(())
 }
 
-/// The value of the Charging-Rule-Remove of these names.
-fn remove_value(alloc: Global, names: &[RuleName]) -> Result<Vec<u8>, AllocError>
-    requires { length names.now ≤ delta_limit }
-    ensures value { IfOk result (λ value.
-        value.items ≡ flat_map written_avp (map name_avp names.now)) }
+/// Writes these names.
+fn put_names(out: &mut AvpWriter, names: &[RuleName]) -> Result<(), AllocError>
+    ensures added { OnOk result (Adds out.old out.new (map name_avp names.now)) }
     ensures within { OnOk result
         (sum_by padded_len (map name_avp names.now) ≤ name_room * length names.now) }
 {
-    let mut group = AvpWriter::start(alloc);
     for name in names {
-        put_name(alloc, &mut group, name)?;
+        put_name(out, name)?;
     }
-    group.into_group()
+    Ok(())
 }
 
-/// The value of the Charging-Rule-Install of these rules.
-fn install_value(alloc: Global, form: MessageForm, rules: &[Rule]) -> Result<Vec<u8>, AllocError>
-    requires { length rules.now ≤ delta_limit }
-    ensures value { IfOk result (λ value.
-        value.items ≡ flat_map written_avp (map (rule_avp form) rules.now)) }
+/// Writes these rules.
+fn put_rules(
+    alloc: Global,
+    out: &mut AvpWriter,
+    form: MessageForm,
+    rules: &[Rule],
+) -> Result<(), AllocError>
+    ensures added { OnOk result (Adds out.old out.new (map (rule_avp form) rules.now)) }
     ensures within { OnOk result
         (sum_by padded_len (map (rule_avp form) rules.now) ≤ definition_room * length rules.now) }
 {
-    let mut group = AvpWriter::start(alloc);
     for rule in rules {
-        put_rule(alloc, &mut group, form, rule)?;
+        put_rule(alloc, out, form, rule)?;
     }
-    group.into_group()
+    Ok(())
+}
+
+/// Writes the Charging-Rule-Remove of these names.
+fn put_remove(out: &mut AvpWriter, names: &[RuleName]) -> Result<(), AllocError>
+    ensures added { OnOk result (Adds out.old out.new
+        (tgpp_group charging_rule_remove needed (map name_avp names.now) ∷ [])) }
+    ensures within { OnOk result
+        (sum_by padded_len (map name_avp names.now) ≤ name_room * length names.now) }
+{
+    let mark = out.open_tgpp(avps::CHARGING_RULE_REMOVE, NEEDED)?;
+    put_names(out, names)?;
+    out.close(mark);
+    Ok(())
+}
+
+/// Writes the Charging-Rule-Install of these rules.
+fn put_install(
+    alloc: Global,
+    out: &mut AvpWriter,
+    form: MessageForm,
+    rules: &[Rule],
+) -> Result<(), AllocError>
+    ensures added { OnOk result (Adds out.old out.new
+        (tgpp_group charging_rule_install needed (map (rule_avp form) rules.now) ∷ [])) }
+    ensures within { OnOk result
+        (sum_by padded_len (map (rule_avp form) rules.now) ≤ definition_room * length rules.now) }
+{
+    let mark = out.open_tgpp(avps::CHARGING_RULE_INSTALL, NEEDED)?;
+    put_rules(alloc, out, form, rules)?;
+    out.close(mark);
+    Ok(())
 }
 
 /// Writes the names of the rules that are removed, where there are any.
-fn put_removed(alloc: Global, out: &mut AvpWriter, names: &[RuleName]) -> Result<(), AllocError>
-    requires { length names.now ≤ delta_limit }
-    ensures added { OnOk result (out.new ≡ out.old ++ remove_avps names.now) }
+fn put_removed(out: &mut AvpWriter, names: &[RuleName]) -> Result<(), AllocError>
+    ensures added { OnOk result (Adds out.old out.new (remove_avps names.now)) }
     ensures within { OnOk result (sum_by padded_len (remove_avps names.now)
         ≤ vendor_avp_header_bytes + name_room * length names.now) }
 {
     if names.is_empty() {
         return Ok(());
     }
-    let value = remove_value(alloc, names)?;
-    out.put_tgpp(avps::CHARGING_RULE_REMOVE, NEEDED, value)
+    put_remove(out, names)?;
+    Ok(())
 }
 
 /// Writes the rules that are installed, where there are any.
@@ -207,16 +251,15 @@ fn put_installed(
     form: MessageForm,
     rules: &[Rule],
 ) -> Result<(), AllocError>
-    requires { length rules.now ≤ delta_limit }
-    ensures added { OnOk result (out.new ≡ out.old ++ install_avps form rules.now) }
+    ensures added { OnOk result (Adds out.old out.new (install_avps form rules.now)) }
     ensures within { OnOk result (sum_by padded_len (install_avps form rules.now)
         ≤ vendor_avp_header_bytes + definition_room * length rules.now) }
 {
     if rules.is_empty() {
         return Ok(());
     }
-    let value = install_value(alloc, form, rules)?;
-    out.put_tgpp(avps::CHARGING_RULE_INSTALL, NEEDED, value)
+    put_install(alloc, out, form, rules)?;
+    Ok(())
 }
 
 /// Writes what is removed and installed.
@@ -227,10 +270,10 @@ pub(crate) fn put_delta(
     form: MessageForm,
     delta: &FirstEntries,
 ) -> Result<(), AllocError>
-    ensures added { OnOk result (out.new ≡ out.old ++ delta_avps form delta.now) }
+    ensures added { OnOk result (Adds out.old out.new (delta_avps form delta.now)) }
     ensures within { OnOk result (sum_by padded_len (delta_avps form delta.now) ≤ delta_room) }
 {
-    put_removed(alloc, out, delta.removed())?;
+    put_removed(out, delta.removed())?;
     put_installed(alloc, out, form, delta.installed())?;
     Ok(())
 }

@@ -8,3 +8,4 @@ pub mod ServedAnswers
 pub mod Values
 pub mod AnswersLaws
 pub mod OwnRealms
+pub mod AnswerBytes

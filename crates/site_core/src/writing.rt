@@ -1,44 +1,27 @@
 //! From the reply to the bytes of the answer.
-ghost use Rattle.std.specs.Prelude.{◌≡◌, ◌≢◌, ◌<◌, ◌≤◌, ◌&&◌, [], is_some, true, false, IfOk};
+ghost use Rattle.std.specs.Prelude.{◌≡◌, ◌≢◌, ◌<◌, [], is_some, true, IfOk};
 ghost use Rattle.std.specs.Option.{option_copied};
-ghost use Rattle.dia_codec.specs.Limits.{command_bound, longest_message};
-ghost use Rattle.dia_codec.specs.Spelling.{message_view};
-ghost use Rattle.dia_codec.specs.Written.{written_len};
+ghost use Rattle.dia_codec.specs.Limits.{command_bound};
 ghost use Rattle.dia_base.specs.Answers.{IsShortId};
 ghost use Rattle.gx_profile.specs.Answers.{cca};
 ghost use Rattle.rx_profile.specs.Answers.{aaa, sta};
 ghost use Rattle.base_profile.specs.Answers.{base_answer};
 ghost use Rattle.base_profile.specs.Requests.{base_view};
 ghost use Rattle.gx_profile.specs.Requests.{ccr_view};
-ghost use Rattle.site_core.specs.Answering.{answer_bytes, answer_to, busy_answer, bytes_by, is_of_kind, refusal_bytes, to_function, to_gateway, to_peer};
+ghost use Rattle.site_core.specs.Answering.{answer_to, busy_answer, bytes_by, is_of_kind, refusal_bytes, to_function, to_gateway, to_peer};
 ghost use Rattle.site_machine.specs.Values.{reply_value, request_value};
 
-use base_profile::{BaseRequest, base_answer};
-use dia_base::{Identity, refusal_answer};
-use dia_codec::{Header, Message, WriteFault, write_message};
+use base_profile::{BaseRequest, write_base_answer};
+use dia_base::{Identity, write_refusal_answer};
+use dia_codec::{Header, WriteFault};
 use gx_profile::{Ccr, GxReply, write_cca};
 use pcrf_values::{AfSid, Refusal, SessionId};
 use rx_profile::{write_aaa, write_sta};
 use site_machine::{Reply, Request};
 use std::alloc::{AllocError, Global};
 
-/// The bytes of an answer; none where it is longer than any message.
-fn bytes_of(alloc: Global, answer: &Message) -> Result<Vec<u8>, AllocError>
-    requires command { answer.now.header.command < command_bound }
-    requires flags { (answer.now.header.flags.request && answer.now.header.flags.error) ≡ false }
-    ensures bytes { IfOk result (λ bytes. bytes.items ≡ answer_bytes (message_view answer.now)) }
-    ensures some { IfOk result (λ bytes.
-        written_len (message_view answer.now) ≤ longest_message → bytes.items ≢ []) }
-{
-    match write_message(alloc, answer) {
-        Ok(bytes) => Ok(bytes),
-        Err(WriteFault::TooLong) => Ok(Vec::new(alloc)),
-        Err(WriteFault::NoMemory) => Err(AllocError),
-    }
-}
-
 /// The bytes of the answer to a credit control request.
-#[tactic(auto, unfolding(gx_profile::specs::Answers::cca))]
+#[tactic(auto, using(crate::proofs::AnswerBytes::answered, crate::proofs::AnswerBytes::some_bytes))]
 fn write_gx(
     alloc: Global,
     identity: &Identity,
@@ -56,8 +39,8 @@ fn write_gx(
     let Reply::Gx(reply) = reply else {
         return Ok(Vec::new(alloc));
     };
-    let answer = write_cca(alloc, identity, header, ccr, reply)?;
-    bytes_of(alloc, &answer)
+    let bytes = write_cca(alloc, identity, header, ccr, reply)?;
+    Ok(bytes)
 }
 
 /// What an application function's request came to, if that is what is replied.
@@ -72,7 +55,7 @@ fn to_function(reply: &Reply) -> Option<Option<Refusal>>
 }
 
 /// The bytes of the answer to an AA request of a session.
-#[tactic(auto, unfolding(rx_profile::specs::Answers::aaa))]
+#[tactic(auto, using(crate::proofs::AnswerBytes::answered, crate::proofs::AnswerBytes::some_bytes))]
 fn write_aa(
     alloc: Global,
     identity: &Identity,
@@ -89,12 +72,12 @@ fn write_aa(
     let Some(refusal) = to_function(reply) else {
         return Ok(Vec::new(alloc));
     };
-    let answer = write_aaa(alloc, identity, header, session, refusal)?;
-    bytes_of(alloc, &answer)
+    let bytes = write_aaa(alloc, identity, header, session, refusal)?;
+    Ok(bytes)
 }
 
 /// The bytes of the answer to a session termination request of a session.
-#[tactic(auto, unfolding(rx_profile::specs::Answers::sta))]
+#[tactic(auto, using(crate::proofs::AnswerBytes::answered, crate::proofs::AnswerBytes::some_bytes))]
 fn write_termination(
     alloc: Global,
     identity: &Identity,
@@ -111,12 +94,12 @@ fn write_termination(
     let Some(refusal) = to_function(reply) else {
         return Ok(Vec::new(alloc));
     };
-    let answer = write_sta(alloc, identity, header, session, refusal)?;
-    bytes_of(alloc, &answer)
+    let bytes = write_sta(alloc, identity, header, session, refusal)?;
+    Ok(bytes)
 }
 
 /// The bytes of the answer to a request of the base protocol.
-#[tactic(auto, unfolding(base_profile::specs::Answers::base_answer))]
+#[tactic(auto, using(crate::proofs::AnswerBytes::answered, crate::proofs::AnswerBytes::some_bytes))]
 fn write_base(
     alloc: Global,
     identity: &Identity,
@@ -134,8 +117,8 @@ fn write_base(
     let Reply::Base(_) = reply else {
         return Ok(Vec::new(alloc));
     };
-    let answer = base_answer(alloc, identity, header, request)?;
-    bytes_of(alloc, &answer)
+    let bytes = write_base_answer(alloc, identity, header, request)?;
+    Ok(bytes)
 }
 
 /// The bytes of the answer to a request that was served: some where the reply is of the request's kind, and none where it
@@ -201,7 +184,7 @@ fn bytes_of_id(session: Option<&SessionId>) -> Option<&[u8]>
 }
 
 /// The bytes of the answer to a request that could not be read, which are some.
-#[tactic(auto, unfolding(dia_base::specs::Answers::refusal_answer))]
+#[tactic(auto, using(crate::proofs::AnswerBytes::answered, crate::proofs::AnswerBytes::unanswered, crate::proofs::AnswerBytes::some_bytes))]
 pub fn write_refusal(
     alloc: Global,
     identity: &Identity,
@@ -214,7 +197,11 @@ pub fn write_refusal(
         bytes.items ≡ refusal_bytes identity.now header.now (option_copied session.entry) refusal) }
     ensures some { IfOk result (λ bytes. bytes.items ≢ []) }
 {
+    identity.note_names();
     let id = bytes_of_id(session);
-    let answer = refusal_answer(alloc, identity, header, refusal, id)?;
-    bytes_of(alloc, &answer)
+    match write_refusal_answer(alloc, identity, header, refusal, id) {
+        Ok(bytes) => Ok(bytes),
+        Err(WriteFault::TooLong) => Ok(Vec::new(alloc)),
+        Err(WriteFault::NoMemory) => Err(AllocError),
+    }
 }

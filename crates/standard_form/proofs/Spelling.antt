@@ -3,6 +3,7 @@ use Rattle.std.proofs.Common.{◌≡◌, ◌≤◌, ◌<◌, ℕ, ◌+◌, true,
 use Rattle.std.specs.List.{sum_by, flat_map}
 use Rattle.std.proofs.lemmas.Bool.{le-leb, lt-leb, and_from, and_right}
 use Rattle.std.proofs.lemmas.Grind.{flat_map-append}
+use Rattle.std.proofs.lemmas.List.{drop-append-le, take-append-le}
 use Rattle.std.proofs.lemmas.List.Sums.{sum_by-append}
 use Rattle.dia_codec.specs.declared.message.Header.{Header}
 use Rattle.dia_codec.specs.Fields.{AvpValue, MessageValue}
@@ -47,6 +48,14 @@ spelled m avps =
     header_anew (written_len m) (length (written_spelling m) + length more) m.header own more
     ∙ ap (λ (n : ℕ). written_header n m.header ++ (own ++ more)) (both_length m avps)
     ∙ ap (λ (bytes : List ℕ). written_header (written_len (with_avps avps m)) m.header ++ bytes) (sym (flat_map-append written_avp m.avps avps))
+
+-- more is put behind, and then the length is set
+pub lengthened : (bytes more : List ℕ) → length_field_end ≤ length bytes → take 1 (bytes ++ more) ++ (three_bytes (length (bytes ++ more)) ++ drop length_field_end (bytes ++ more)) ≡ with_more bytes more
+lengthened bytes more long =
+    let head : take 1 (bytes ++ more) ≡ take 1 bytes = take-append-le 1 bytes more (omega (arith, long)) in
+    let size : length (bytes ++ more) ≡ length bytes + length more = length-append bytes more in
+    let rest : drop length_field_end (bytes ++ more) ≡ drop length_field_end bytes ++ more = drop-append-le length_field_end bytes more long in
+    rw (head, size, rest) refl
 
 pub spells_both : SpellsBoth
 unfolding behind

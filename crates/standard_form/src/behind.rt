@@ -1,7 +1,8 @@
 //! AVPs behind those of a message that is written.
-ghost use Rattle.std.specs.Prelude.{◌≡◌, ◌≤◌, ◌+◌, length, IfOk};
-ghost use Rattle.dia_codec.specs.Limits.{length_field_end, longest_message};
+ghost use Rattle.std.specs.Prelude.{◌≡◌, ◌≤◌, ◌++◌, length, take, drop, IfOk};
+ghost use Rattle.dia_codec.specs.Limits.{length_field_end};
 ghost use Rattle.dia_codec.specs.Spelling.{avp_views};
+ghost use Rattle.dia_codec.specs.Written.{three_bytes};
 ghost use Rattle.standard_form.specs.Behind.{behind, with_more};
 
 use dia_codec::{Avp, WriteFault, write_group};
@@ -13,20 +14,25 @@ const MOST_BYTES: usize = 65_532;
 /// The first bytes of a message, to the end of its length field (RFC 6733, 3).
 const LENGTH_FIELD_END: usize = 4;
 
-/// A message and more bytes behind it, whose length field counts both.
+/// Sets the length field to how many bytes there are.
 #[tactic(auto, unfolding(dia_codec::specs::Written::three_bytes))]
-fn with_more(alloc: Global, bytes: &[u8], more: &[u8]) -> Result<Vec<u8>, AllocError>
-    requires long { length_field_end ≤ length bytes.now }
-    requires short { length bytes.now + length more.now ≤ longest_message }
-    ensures { IfOk result (λ both. both.items ≡ with_more bytes.now more.now) }
+fn set_length(bytes: &mut Vec<u8>)
+    requires { length_field_end ≤ length bytes.old.items }
+    ensures { bytes.new.items ≡ take 1 bytes.old.items
+        ++ (three_bytes (length bytes.old.items) ++ drop length_field_end bytes.old.items) }
 {
-    let length = bytes.len() + more.len();
-    let [_, high, middle, low] = (length as u32).to_be_bytes();
-    let mut both = Vec::with_capacity(alloc, length)?;
-    both.extend_from_slice(&bytes[..1])?;
-    both.extend_from_slice(&[high, middle, low])?;
-    both.extend_from_slice(&bytes[LENGTH_FIELD_END..])?;
+    let [_, _, _, _, _, high, middle, low] = bytes.len().to_be_bytes();
+    bytes[1..LENGTH_FIELD_END].copy_from_slice(&[high, middle, low]);
+}
+
+/// A message and more bytes behind it, whose length field counts both.
+fn with_more(bytes: Vec<u8>, more: &[u8]) -> Result<Vec<u8>, AllocError>
+    requires { length_field_end ≤ length bytes.items }
+    ensures { IfOk result (λ both. both.items ≡ with_more bytes.items more.now) }
+{
+    let mut both = bytes;
     both.extend_from_slice(more)?;
+    set_length(&mut both);
     Ok(both)
 }
 
@@ -44,5 +50,5 @@ pub fn put_behind(alloc: Global, avps: &[Avp], bytes: Vec<u8>) -> Result<Vec<u8>
     if bytes.len() < LENGTH_FIELD_END || bytes.len() + more.len() > MOST_BYTES {
         return Ok(bytes);
     }
-    with_more(alloc, &bytes, &more)
+    with_more(bytes, &more)
 }

@@ -6,10 +6,11 @@ ghost use Rattle.standard_form.specs.Besides.{avps_in, besides, is_cer, kind_avp
 ghost use Rattle.standard_form.specs.Stated.{state_avps_of};
 
 use crate::answered::Answered;
+use crate::listed::{NEEDED, number_avp};
 use crate::node::{node_avps, whole_node_avps};
 use crate::stating::state_avps_of;
 use dia_base::codes::{GX, avps, commands};
-use dia_base::{AvpWriter, Identity, base_key, first_with};
+use dia_base::{Identity, base_key, first_with};
 use dia_codec::{Avp, AvpKey, HEADER_BYTES, Header, MsgFault, read_group};
 use std::alloc::{AllocError, Global};
 
@@ -83,10 +84,11 @@ fn mark_avps(alloc: Global, avps: &[Avp]) -> Result<Vec<Avp>, AllocError>
 {
     let number = request_number(avps);
     let given = readable(avps, base_key(avps::CC_REQUEST_TYPE));
-    let mut out = AvpWriter::start(alloc);
-    out.number(avps::CC_REQUEST_TYPE, request_type(given, number))?;
-    out.number(avps::CC_REQUEST_NUMBER, number)?;
-    Ok(out.into_avps())
+    let kind = request_type(given, number);
+    let mut marks = Vec::with_capacity(alloc, 2)?;
+    marks.push(number_avp(alloc, avps::CC_REQUEST_TYPE, NEEDED, kind)?)?;
+    marks.push(number_avp(alloc, avps::CC_REQUEST_NUMBER, NEEDED, number)?)?;
+    Ok(marks)
 }
 
 /// Whether a header is of a Capabilities-Exchange-Request.

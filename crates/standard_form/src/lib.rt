@@ -6,6 +6,7 @@ mod answered;
 mod behind;
 mod besides;
 mod laws;
+mod listed;
 mod node;
 mod stating;
 #[cfg(test)]

@@ -1,12 +1,13 @@
 //! What the PCRF says of itself in an exchange of capabilities (RFC 6733, 5.3.2).
 ghost use Rattle.std.specs.Prelude.{◌≡◌, IfOk};
-ghost use Rattle.base_profile.specs.Answers.{address_value, product};
-ghost use Rattle.dia_codec.specs.Spelling.{avp_view, avp_views};
-ghost use Rattle.standard_form.specs.Besides.{firmware_revision, node_avps, whole_node_avps};
+ghost use Rattle.base_profile.specs.Answers.{address_value};
+ghost use Rattle.dia_codec.specs.Spelling.{avp_views};
+ghost use Rattle.standard_form.specs.Besides.{node_avps, whole_node_avps};
 
+use crate::listed::{NEEDED, OPTIONAL, base_avp, number_avp, text_avp};
+use dia_base::Identity;
 use dia_base::codes::TGPP;
 use dia_base::codes::avps::VENDOR_ID;
-use dia_base::{AvpWriter, Identity};
 use dia_codec::Avp;
 use std::alloc::{AllocError, Global};
 
@@ -28,33 +29,6 @@ const PRODUCT: &[u8] = b"pcrf";
 /// The one revision that there is.
 const REVISION: u32 = 1;
 
-/// The name of the program, which nobody has to understand.
-fn product(alloc: Global) -> Result<Avp, AllocError>
-    ensures { IfOk result (λ avp. avp_view avp ≡ product) }
-{
-    Ok(Avp {
-        code: PRODUCT_NAME,
-        vendor: None,
-        mandatory: false,
-        protected: false,
-        value: Vec::from_slice(alloc, PRODUCT)?,
-    })
-}
-
-/// The revision of the PCRF, which nobody has to understand.
-#[tactic(auto, unfolding(dia_codec::specs::Written::word_bytes))]
-fn firmware_revision(alloc: Global) -> Result<Avp, AllocError>
-    ensures { IfOk result (λ avp. avp_view avp ≡ firmware_revision) }
-{
-    Ok(Avp {
-        code: FIRMWARE_REVISION,
-        vendor: None,
-        mandatory: false,
-        protected: false,
-        value: Vec::from_slice(alloc, &REVISION.to_be_bytes())?,
-    })
-}
-
 /// The value of the Host-IP-Address: the family of IPv4, and the address (RFC 6733, 4.3.1).
 fn address_value(alloc: Global, identity: &Identity) -> Result<Vec<u8>, AllocError>
     ensures { IfOk result (λ value. value.items ≡ address_value identity.now) }
@@ -68,10 +42,9 @@ fn address_value(alloc: Global, identity: &Identity) -> Result<Vec<u8>, AllocErr
 pub(crate) fn node_avps(alloc: Global) -> Result<Vec<Avp>, AllocError>
     ensures { IfOk result (λ node. avp_views node.items ≡ node_avps) }
 {
-    let mut out = AvpWriter::start(alloc);
-    out.number(SUPPORTED_VENDOR_ID, TGPP)?;
-    let mut node = out.into_avps();
-    node.push(firmware_revision(alloc)?)?;
+    let mut node = Vec::with_capacity(alloc, 2)?;
+    node.push(number_avp(alloc, SUPPORTED_VENDOR_ID, NEEDED, TGPP)?)?;
+    node.push(number_avp(alloc, FIRMWARE_REVISION, OPTIONAL, REVISION)?)?;
     Ok(node)
 }
 
@@ -80,11 +53,10 @@ pub(crate) fn whole_node_avps(alloc: Global, identity: &Identity) -> Result<Vec<
     ensures { IfOk result (λ node. avp_views node.items ≡ whole_node_avps identity.now) }
 {
     let address = address_value(alloc, identity)?;
-    let mut out = AvpWriter::start(alloc);
-    out.put(HOST_IP_ADDRESS, address)?;
-    out.number(VENDOR_ID, 0)?;
-    let mut whole = out.into_avps();
-    whole.push(product(alloc)?)?;
+    let mut whole = Vec::with_capacity(alloc, 5)?;
+    whole.push(base_avp(HOST_IP_ADDRESS, NEEDED, address))?;
+    whole.push(number_avp(alloc, VENDOR_ID, NEEDED, 0)?)?;
+    whole.push(text_avp(alloc, PRODUCT_NAME, OPTIONAL, PRODUCT)?)?;
     let mut node = node_avps(alloc)?;
     whole.append(&mut node)?;
     Ok(whole)

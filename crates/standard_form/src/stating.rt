@@ -4,7 +4,8 @@ ghost use Rattle.dia_codec.specs.Spelling.{avp_views};
 ghost use Rattle.standard_form.specs.Stated.{may_tell_state, started_at, state_at_start, state_avps, state_avps_of, stated};
 
 use crate::behind::put_behind;
-use dia_base::{AvpWriter, Identity, MessageForm};
+use crate::listed::{NEEDED, number_avp};
+use dia_base::{Identity, MessageForm};
 use dia_codec::{Avp, Header};
 use std::alloc::{AllocError, Global};
 
@@ -24,11 +25,11 @@ const STATES: u64 = 1 << 32;
 fn state_avps(alloc: Global, state: Option<u32>) -> Result<Vec<Avp>, AllocError>
     ensures { IfOk result (λ avps. avp_views avps.items ≡ state_avps state) }
 {
-    let mut out = AvpWriter::start(alloc);
+    let mut avps = Vec::new(alloc);
     if let Some(state) = state {
-        out.number(ORIGIN_STATE_ID, state)?;
+        avps.push(number_avp(alloc, ORIGIN_STATE_ID, NEEDED, state)?)?;
     }
-    Ok(out.into_avps())
+    Ok(avps)
 }
 
 /// Whether the answer to a request of this header may tell a state: each but a Disconnect-Peer-Answer (RFC 6733, 10.1).

@@ -1,14 +1,12 @@
-use Rattle.std.proofs.Common.{◌≤◌, rules}
-use Rattle.dia_codec.specs.Written.{padded_len}
-use Rattle.gx_profile.specs.Lengths.{filter_room}
-use Rattle.gx_profile.specs.Rules.{filter_avp}
-use Rattle.gx_profile.proofs.RuleLengths.{description_fits, filter_within}
+use Rattle.dia_codec.proofs.Drafts.{can_close, closes}
+use Rattle.gx_profile.proofs.RuleLengths.{filter_within}
 use Rattle.gx_profile.proofs.rules.put_filter.Goals as goal
 
-pub into_group-requires : goal.into_group-requires
-into_group-requires c = description_fits c.args.form c.args.filter.now c.put_description.new.group (search rules) c.in_ok-put_description.ensures.within
+pub close-requires : goal.close-requires
+close-requires c = can_close c.in_ok-mark.ensures.opened c.in_ok-put_description.ensures.added
+
+pub returns-clause-added : goal.returns-clause-added
+returns-clause-added c = closes c.in_ok-mark.ensures.opened c.in_ok-put_description.ensures.added c.close.ensures
 
 pub returns-clause-within : goal.returns-clause-within
-returns-clause-within c =
-    let within : padded_len (filter_avp c.args.form c.args.filter.now) ≤ filter_room = filter_within c.args.form c.args.filter.now c.in_ok-put_description.ensures.within in
-    search rules
+returns-clause-within c = filter_within c.args.form c.args.filter.now c.in_ok-put_description.ensures.within

@@ -8,5 +8,5 @@ use Rattle.gx_profile.proofs.rules.put_installed.Goals as goal
 
 pub returns-clause-within : goal.returns-clause-within
 returns-clause-within c =
-    let within : sum_by padded_len (install_avps c.args.form c.args.rules.now) ≤ 12 + definition_room * length c.args.rules.now = install_within c.args.form c.args.rules.now c.in_ok-value.ensures.within in
+    let within : sum_by padded_len (install_avps c.args.form c.args.rules.now) ≤ 12 + definition_room * length c.args.rules.now = install_within c.args.form c.args.rules.now c.in_ok-put_install.ensures.within in
     search rules

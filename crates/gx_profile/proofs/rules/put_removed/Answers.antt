@@ -8,5 +8,5 @@ use Rattle.gx_profile.proofs.rules.put_removed.Goals as goal
 
 pub returns-clause-within : goal.returns-clause-within
 returns-clause-within c =
-    let within : sum_by padded_len (remove_avps c.args.names.now) ≤ 12 + name_room * length c.args.names.now = remove_within c.args.names.now c.in_ok-value.ensures.within in
+    let within : sum_by padded_len (remove_avps c.args.names.now) ≤ 12 + name_room * length c.args.names.now = remove_within c.args.names.now c.in_ok-put_remove.ensures.within in
     search rules
