@@ -2,6 +2,7 @@
 //! and under which Origin-State-Id (RFC 6733, 8.16) the host of each session spoke last.
 #![tactic(auto)]
 
+pub mod laws;
 mod origin_states;
 mod refused;
 mod stage;

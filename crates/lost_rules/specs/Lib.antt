@@ -1,0 +1,5 @@
+pub mod Answers
+pub mod Limits
+pub mod Refusals
+pub mod Stages
+pub mod States
