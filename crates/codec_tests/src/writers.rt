@@ -53,7 +53,9 @@ fn refusal(alloc: Global) -> Result<Option<Vec<u8>>, AllocError> {
 
 #[test]
 fn an_answer_is_written_with_a_group_at_its_end(rt: HostRuntime) {
-    let bytes = refusal(rt.alloc()).expect(&rt, "memory").expect(&rt, "room");
+    let bytes = refusal(rt.alloc())
+        .expect(&rt, "memory")
+        .expect(&rt, "room");
     assert_eq!(rt; bytes.as_slice(), AA_REFUSAL.as_slice());
 }
 
@@ -75,7 +77,9 @@ fn install(alloc: Global) -> Result<Option<Vec<u8>>, AllocError> {
 /// The padding of a group's last AVP counts in the group's length, and in the message's.
 #[test]
 fn a_group_of_a_vendor_is_written_with_all_padding(rt: HostRuntime) {
-    let bytes = install(rt.alloc()).expect(&rt, "memory").expect(&rt, "room");
+    let bytes = install(rt.alloc())
+        .expect(&rt, "memory")
+        .expect(&rt, "room");
     assert_eq!(rt; bytes.as_slice(), RULE_INSTALL.as_slice());
 }
 

@@ -6,3 +6,5 @@ pub mod PlacedRecord
 pub mod BindingAlike
 pub mod Telling
 pub mod NothingNew
+pub mod Unmatched
+pub mod Opening

@@ -3,7 +3,7 @@ use Rattle.std.proofs.Common.{◌≡◌, ℕ, Bool, true, false, not, ◌&&◌, 
 use Rattle.ranked.specs.Sets.{In}
 use Rattle.ranked.proofs.Plain.{clash}
 use Rattle.pcrf_facts.specs.Facts.{Fact, End, Removed, Field, Aborted}
-use Rattle.pcrf_facts.specs.Held.{kept_list, is_ended, entry_shown}
+use Rattle.pcrf_facts.specs.Held.{kept_list, join_of, is_ended, entry_shown}
 use Rattle.pcrf_facts.specs.FlowWords.{value_at}
 use Rattle.pcrf_facts.specs.Live.{Shows, gx_has_what_it_needs}
 use Rattle.pcrf_facts.specs.Places.{Place, OfSession, OfComponent, OfFlow, OfRuleName, address, prefix, apn, subscribers}
@@ -19,6 +19,7 @@ use Rattle.pcrf_model.proofs.ToldFacts.{Tells, is_told, field_shows, ended_same}
 use Rattle.session_index.specs.Index.{IndexValue}
 use Rattle.kept_rules.specs.Kept.{RulesValue}
 use Rattle.waiting_sessions.specs.Waits.{WaitingValue, Keeps, WaitsIfDue}
+use Rattle.indexed_state.specs.Alike.{ShowAlike}
 use Rattle.indexed_state.specs.Indexed.{Agree, IsTold, tells}
 use Rattle.indexed_state.proofs.BindingAlike.{agree_alike}
 use Rattle.indexed_state.proofs.PlacedRecord.{held-append}
@@ -39,6 +40,42 @@ own_fields shows (OfSession f) = shows (OfSession f)
 own_fields shows (OfComponent c f) = None
 own_fields shows (OfFlow c n f) = None
 own_fields shows (OfRuleName n) = None
+
+-- a record shows alike with what its gateway is told and without
+module _ (own told : List Fact) (each : (f : Fact) → In f told → tells f ≡ true) where
+  -- with it
+  abbrev both : List Fact
+  both = join_of own (kept_list told)
+
+  all_tell : (f : Fact) → In f told → Tells f
+  all_tell f i = its_name f (each f i)
+
+  -- a place that is no rule's name shows what it showed
+  field_stays : (p : Place) → is_told p ≡ false → entry_shown own p ≡ entry_shown both p
+  field_stays p n = sym (ap (λ (fs : List Fact). entry_shown fs p) (held-append own told) ∙ shown-held (own ++ told) p ∙ field_shows own told all_tell p n)
+
+  -- and so do the fields of the session
+  fields_stay : own_fields (entry_shown own) ≡ own_fields (entry_shown both)
+  fields_stay = λ i p. each_place p i
+    where
+      each_place : (p : Place) → own_fields (entry_shown own) p ≡ own_fields (entry_shown both) p
+      each_place (OfSession f) = field_stays (OfSession f) refl
+      each_place (OfComponent c f) = refl
+      each_place (OfFlow c n f) = refl
+      each_place (OfRuleName n) = refl
+
+  -- and the end
+  end_stays : is_ended own ≡ is_ended both
+  end_stays = sym (ap is_ended (held-append own told) ∙ is_ended-held (own ++ told) ∙ ended_same own told all_tell)
+
+  pub told_alike : ShowAlike own (join_of own (kept_list told))
+  told_alike = record {
+    lives = λ i. not (end_stays i) && gx_has_what_it_needs (fields_stay i);
+    at_address = field_stays address refl;
+    at_prefix = field_stays prefix refl;
+    at_apn = λ i. value_at (fields_stay i) apn;
+    of_subscribers = λ i. value_at (fields_stay i) subscribers;
+  }
 
 module _ (h k : Holding) (id : List ℕ) (known : List Fact) (told : IsTold h (gx id) known) (there : known ≡ facts_on k.facts (gx id)) (differs : DifferInOne h.facts k.facts (gx id)) where
   -- the session's facts before

@@ -8,6 +8,7 @@ mod following;
 mod forgetting;
 mod held;
 mod indexed;
+mod opened;
 mod reached;
 mod recorded;
 mod refreshed;

@@ -1,6 +1,7 @@
 pub mod Aborts
 pub mod CallLaws
 pub mod Formed
+pub mod GrantedAlone
 pub mod Left
 pub mod NothingTold
 pub mod PlacedRecord

@@ -6,11 +6,12 @@ ghost use Rattle.pcrf_model.specs.Operations.{with_operation};
 ghost use Rattle.pcrf_model.specs.Sessions.{gx, af};
 ghost use Rattle.indexed_state.specs.Alike.{ShowAlike};
 ghost use Rattle.indexed_state.specs.Indexed.{IsTold};
+ghost use Rattle.indexed_state.specs.Opened.{OpensAlone};
 
 use crate::site::Site;
 use af_records::AfRec;
 use gx_records::GxRec;
-use pcrf_values::{AfSid, GxSid};
+use pcrf_values::{AfSid, GxSid, Rule};
 use site_join::Operation;
 use std::alloc::AllocError;
 
@@ -101,6 +102,30 @@ impl Site {
     {
         self.log.try_reserve(1)?;
         self.held.take_refreshed(&operation, id, known)?;
+        self.log.push(operation).unwrap();
+        Ok(())
+    }
+
+    /// Adds an operation of the site's own on a gateway's session as `add_to_gateway` does, where nothing was known of the session,
+    /// no call can be bound to it by the record that is known of it then, and its rules are these, which are kept.
+    pub(crate) fn add_opened(
+        &mut self,
+        operation: Operation,
+        id: &GxSid,
+        known: GxRec,
+        rules: Vec<Rule>,
+    ) -> Result<(), AllocError>
+        requires later { length self.old.state.log < operation.counter }
+        requires session { operation.session ≡ gx id.now }
+        requires joins { known ≡ join_of
+            (facts_on self.old.state.holding.facts (gx id.now)) (kept_list operation.facts) }
+        requires alone { OpensAlone
+            self.old.tables self.old.state.holding id.now known rules.items }
+        ensures ok { OnOk result (self.new ≡ with_made self.old (Some operation)) }
+        ensures err { OnErr result (self.new ≡ self.old) }
+    {
+        self.log.try_reserve(1)?;
+        self.held.take_opened(&operation, id, known, rules)?;
         self.log.push(operation).unwrap();
         Ok(())
     }

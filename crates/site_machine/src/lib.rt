@@ -7,6 +7,7 @@ mod adding;
 mod calls;
 mod event;
 mod fault;
+mod granting;
 mod lookup;
 mod operations;
 mod refreshing;

@@ -292,7 +292,8 @@ impl Site {
     }
 
     /// Sets the fields of an accepted request and tells the gateway what it lacks then, or changes nothing. Where the request
-    /// brings nothing new, no rules are derived and nothing is compared but the record.
+    /// brings nothing new, no rules are derived and nothing is compared but the record. Where it opens a session to which no
+    /// call can be bound, its rules are the operator's.
     fn provision<W: Witness>(
         &mut self,
         ccr: &Ccr,
@@ -317,6 +318,9 @@ impl Site {
         self.note_form();
         let facts = facts_made(self.alloc, ccr, self.tag(ccr.number, counter))?;
         let known = self.fields_joined(ccr, counter, facts.as_slice())?;
+        if let Some(rules) = self.rules_alone(ccr, &known)? {
+            return self.grant(ccr, counter, facts, known, rules, witness);
+        }
         if self.held.brings_nothing(&ccr.session, &known) {
             return self.refresh(ccr, counter, facts, known, witness);
         }
@@ -425,7 +429,11 @@ impl Site {
     }
 
     /// The facts that tell a gateway of the first entries of a difference.
-    fn facts_told(&self, counter: u64, delta: &FirstEntries) -> Result<Vec<GxFact>, AllocError>
+    pub(crate) fn facts_told(
+        &self,
+        counter: u64,
+        delta: &FirstEntries,
+    ) -> Result<Vec<GxFact>, AllocError>
         ensures { IfOk result (λ facts. map fact_of facts.items
             ≡ facts_told self.now.number counter delta.now) }
     {

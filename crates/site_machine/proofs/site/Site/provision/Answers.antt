@@ -9,7 +9,7 @@ use Rattle.pcrf_model.specs.Holdings.{facts_on, kept_of}
 use Rattle.pcrf_model.specs.Operations.{Operation, with_operation}
 use Rattle.pcrf_model.specs.Views.{View, view}
 use Rattle.pcrf_model.specs.Rules.{rules}
-use Rattle.pcrf_model.specs.Differences.{rule_name_of}
+use Rattle.pcrf_model.specs.Differences.{difference, first, rule_name_of}
 use Rattle.pcrf_model.specs.Forms.{are_up_to}
 use Rattle.pcrf_model.specs.Replies.{Outcome}
 use Rattle.pcrf_model.specs.Serving.{delta_of}
@@ -32,6 +32,8 @@ use Rattle.pcrf_values.specs.RuleValues.{RuleValue}
 use Rattle.pcrf_model.specs.Replies.{ReplyValue}
 use Rattle.site_machine.specs.Facts.{fields_of}
 use Rattle.site_machine.specs.Replies.{gx_reply_value}
+use Rattle.pcrf_facts.specs.ToldWords.{told_rules}
+use Rattle.site_machine.proofs.GrantedAlone.{granted_is, names_apart}
 use Rattle.site_machine.proofs.NothingTold.{refreshed_is, same_rules}
 use Rattle.site_machine.proofs.site.Site.provision.Goals as goal
 
@@ -40,6 +42,38 @@ fields_joined-requires-clause-fields g c =
     let s = c.args.self.now in
     let q = ccr_view c.args.ccr.now in
     ap (map fact_of) c.as_slice.ensures.value ∙ c.in_ok-facts.ensures ∙ ap (made_facts q q.kind) c.tag.ensures
+
+pub returns-in-Some-clause-reply : goal.returns-in-Some-clause-reply
+returns-in-Some-clause-reply g c =
+    let s = c.args.self.now in
+    let h = s.state.holding in
+    let q = ccr_view c.args.ccr.now in
+    let joins = c.in_ok-known.ensures ∙ ap (λ (n : ℕ). join_of (facts_on h.facts (gx q.session)) (kept_list (fields_of s.number n q q.kind))) c.requires.next in
+    let is = granted_is s q c.note_kept.ensures c.in_ok-known.known c.in-Some.rules.items joins c.in-Some.ensures c.requires.opens in
+    subst (λ (r : ReplyValue). IfOk c.grant.result (λ reply. gx_reply_value reply ≡ r)) (sym (ap (λ (o : Outcome). o.reply) is)) c.grant.ensures.reply
+
+pub returns-in-Some-clause-ok : goal.returns-in-Some-clause-ok
+returns-in-Some-clause-ok g c =
+    let s = c.args.self.now in
+    let h = s.state.holding in
+    let q = ccr_view c.args.ccr.now in
+    let rs = c.in-Some.rules.items in
+    let joins = c.in_ok-known.ensures ∙ ap (λ (n : ℕ). join_of (facts_on h.facts (gx q.session)) (kept_list (fields_of s.number n q q.kind))) c.requires.next in
+    let is = granted_is s q c.note_kept.ensures c.in_ok-known.known rs joins c.in-Some.ensures c.requires.opens in
+    let told = ap (λ (n : ℕ). Some (operation_told s.number n q q.kind (first delta_limit (difference (told_rules c.in_ok-known.known) rs)))) c.requires.next ∙ sym (ap (λ (o : Outcome). o.added) is) in
+    subst (λ (o : Option Operation). OnOk c.grant.result (c.grant.new.self ≡ with_made s o)) told c.grant.ensures.ok
+
+pub returns-in-Some-clause-left : goal.returns-in-Some-clause-left
+returns-in-Some-clause-left g c =
+    let s = c.args.self.now in
+    let h = s.state.holding in
+    let q = ccr_view c.args.ccr.now in
+    let joins = c.in_ok-known.ensures ∙ ap (λ (n : ℕ). join_of (facts_on h.facts (gx q.session)) (kept_list (fields_of s.number n q q.kind))) c.requires.next in
+    let apart = names_apart s q c.note_kept.ensures c.in_ok-known.known c.in-Some.rules.items joins c.in-Some.ensures in
+    let names = subst (λ (v : View). Distinct (map rule_name_of (rules s.tables v (gx q.session)))) (shown_fields s.number h q q.kind c.requires.opens) apart in
+    on_ok_weaker c.grant.result
+    (provisioned_leaves s c.note_told.ensures q c.requires.alive names c.grant.new.self)
+    (returns-in-Some-clause-ok g c)
 
 pub refresh-requires-clause-alike : goal.refresh-requires-clause-alike
 refresh-requires-clause-alike g c =
