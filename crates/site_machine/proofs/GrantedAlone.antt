@@ -1,5 +1,5 @@
 -- What the definitions give to an accepted request whose session comes alone: its gateway is told what it lacks of the operator's rules.
-use Rattle.std.proofs.Common.{◌≡◌, ℕ, ◌+◌, max, true, List, [], ◌++◌, map, Some, refl, sym, ap, ◌∙◌, subst}
+use Rattle.std.proofs.Common.{◌≡◌, ℕ, ◌+◌, max, true, List, [], ◌++◌, map, Option, Some, IfSome, refl, sym, ap, ◌∙◌, subst}
 use Rattle.std.proofs.lemmas.List.{append-nil}
 use Rattle.ranked.specs.Sets.{In, Distinct}
 use Rattle.pcrf_values.specs.Limits.{delta_limit}
@@ -43,6 +43,10 @@ pub joined_twice : (own fields told : List Fact) → join_of (join_of own (kept_
 joined_twice own fields told =
     joined_assoc own (kept_list fields) (kept_list told)
     ∙ ap (join_of own) (joined-held fields (kept_list told) ∙ held-append fields told)
+
+-- what holds of something, where it is there
+pub of_some : {A : Type 0} (o : Option A) (x : A) (P : A → Type 0) → o ≡ Some x → IfSome o P → P x
+of_some o x P is holds = subst (λ z. IfSome z P) is holds
 
 -- ---- the request
 

@@ -1,6 +1,6 @@
 #!/usr/bin/env python3
 """Wireshark's dissector reads what sites write by `--forms standard`: the answers that the scripts of `cases` bring, and all that .ci/strict-peers
-exchanges with a server, caught on the loopback device. It fails where tshark finds something malformed, or a command, an AVP, a value or a
+has a server write, caught on the loopback device. It fails where tshark finds something malformed, or a command, an AVP, a value or a
 length that it doesn't know. Answers that repeat a peer's own fault are counted apart, and what tshark says of them is shown: those with a
 Failed-AVP, which has the AVP at fault as it came (RFC 6733, 7.5), and those whose command isn't served, which may be one that nobody knows.
 
@@ -24,6 +24,7 @@ SCRIPTS = ["answers.script", "calls.script", *[f"random_calls_{number:02}.script
 USER_0 = 147  # the link type of a capture whose packets are whole messages
 AS_MESSAGES = ["-o", 'uat:user_dlts:"User 0 (DLT=147)","diameter","0","","0",""']
 ON_EACH_PORT = ["-d", "tcp.port==1-65535,diameter"]
+WRITTEN = 'diameter.Origin-Host contains "pcrf" && !diameter.Failed-AVP'  # what a site writes, but for what repeats a fault
 FAILED_AVP = 279
 SERVED = (257, 265, 272, 275, 280, 282)  # the commands that a site serves
 FIELDS = ("frame.number", "diameter.cmd.code", "diameter.flags.request", "_ws.expert.message", "_ws.malformed")
@@ -49,9 +50,9 @@ def write_capture(file, messages):
             out.write(struct.pack("<IIII", number, 0, len(message), len(message)) + message)
 
 
-def found_in(capture, how):
-    """How many messages tshark dissects, and what it says of them."""
-    words = ["tshark", "-r", capture, *how, "-Y", "diameter", "-T", "fields", "-E", "separator=;", "-E", "occurrence=a", "-E", "aggregator=|"]
+def found_in(capture, how, which="diameter"):
+    """How many messages tshark dissects of these, and what it says of them."""
+    words = ["tshark", "-r", capture, *how, "-Y", which, "-T", "fields", "-E", "separator=;", "-E", "occurrence=a", "-E", "aggregator=|"]
     ran = subprocess.run([*words, *[word for field in FIELDS for word in ("-e", field)]], capture_output=True, text=True, check=True)
     lines = [line.split(";") for line in ran.stdout.splitlines()]
     said = collections.Counter()
@@ -82,7 +83,7 @@ def main(program):
         write_capture(files[0], [answer for answer in answers if answer not in faulty])
         write_capture(files[1], faulty)
         caught(program, files[2])
-        own, repeated, live = (found_in(file, how) for file, how in zip(files, (AS_MESSAGES, AS_MESSAGES, ON_EACH_PORT)))
+        own, repeated, live = found_in(files[0], AS_MESSAGES), found_in(files[1], AS_MESSAGES), found_in(files[2], ON_EACH_PORT, WRITTEN)
     for where, (count, said) in (("answers", own), ("answers that repeat a fault", repeated), ("over sockets", live)):
         print(f"{where}: {count} messages; {dict(said) or 'nothing that tshark misses'}")
     if not (own[0] and live[0]) or own[1] or live[1]:

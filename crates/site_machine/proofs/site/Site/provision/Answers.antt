@@ -33,7 +33,8 @@ use Rattle.pcrf_model.specs.Replies.{ReplyValue}
 use Rattle.site_machine.specs.Facts.{fields_of}
 use Rattle.site_machine.specs.Replies.{gx_reply_value}
 use Rattle.pcrf_facts.specs.ToldWords.{told_rules}
-use Rattle.site_machine.proofs.GrantedAlone.{granted_is, names_apart}
+use Rattle.indexed_state.specs.Opened.{OpensAlone}
+use Rattle.site_machine.proofs.GrantedAlone.{granted_is, names_apart, of_some}
 use Rattle.site_machine.proofs.NothingTold.{refreshed_is, same_rules}
 use Rattle.site_machine.proofs.site.Site.provision.Goals as goal
 
@@ -49,7 +50,8 @@ returns-in-Some-clause-reply g c =
     let h = s.state.holding in
     let q = ccr_view c.args.ccr.now in
     let joins = c.in_ok-known.ensures ∙ ap (λ (n : ℕ). join_of (facts_on h.facts (gx q.session)) (kept_list (fields_of s.number n q q.kind))) c.requires.next in
-    let is = granted_is s q c.note_kept.ensures c.in_ok-known.known c.in-Some.rules.items joins c.in-Some.ensures c.requires.opens in
+    let comes = of_some _ c.in-Some.rules (λ made. OpensAlone s.tables s.state.holding q.session c.in_ok-known.known made.items) c.in-Some.is c.in_ok-rules.ensures in
+    let is = granted_is s q c.note_kept.ensures c.in_ok-known.known c.in-Some.rules.items joins comes c.requires.opens in
     subst (λ (r : ReplyValue). IfOk c.grant.result (λ reply. gx_reply_value reply ≡ r)) (sym (ap (λ (o : Outcome). o.reply) is)) c.grant.ensures.reply
 
 pub returns-in-Some-clause-ok : goal.returns-in-Some-clause-ok
@@ -59,7 +61,8 @@ returns-in-Some-clause-ok g c =
     let q = ccr_view c.args.ccr.now in
     let rs = c.in-Some.rules.items in
     let joins = c.in_ok-known.ensures ∙ ap (λ (n : ℕ). join_of (facts_on h.facts (gx q.session)) (kept_list (fields_of s.number n q q.kind))) c.requires.next in
-    let is = granted_is s q c.note_kept.ensures c.in_ok-known.known rs joins c.in-Some.ensures c.requires.opens in
+    let comes = of_some _ c.in-Some.rules (λ made. OpensAlone s.tables s.state.holding q.session c.in_ok-known.known made.items) c.in-Some.is c.in_ok-rules.ensures in
+    let is = granted_is s q c.note_kept.ensures c.in_ok-known.known rs joins comes c.requires.opens in
     let told = ap (λ (n : ℕ). Some (operation_told s.number n q q.kind (first delta_limit (difference (told_rules c.in_ok-known.known) rs)))) c.requires.next ∙ sym (ap (λ (o : Outcome). o.added) is) in
     subst (λ (o : Option Operation). OnOk c.grant.result (c.grant.new.self ≡ with_made s o)) told c.grant.ensures.ok
 
@@ -69,7 +72,8 @@ returns-in-Some-clause-left g c =
     let h = s.state.holding in
     let q = ccr_view c.args.ccr.now in
     let joins = c.in_ok-known.ensures ∙ ap (λ (n : ℕ). join_of (facts_on h.facts (gx q.session)) (kept_list (fields_of s.number n q q.kind))) c.requires.next in
-    let apart = names_apart s q c.note_kept.ensures c.in_ok-known.known c.in-Some.rules.items joins c.in-Some.ensures in
+    let comes = of_some _ c.in-Some.rules (λ made. OpensAlone s.tables s.state.holding q.session c.in_ok-known.known made.items) c.in-Some.is c.in_ok-rules.ensures in
+    let apart = names_apart s q c.note_kept.ensures c.in_ok-known.known c.in-Some.rules.items joins comes in
     let names = subst (λ (v : View). Distinct (map rule_name_of (rules s.tables v (gx q.session)))) (shown_fields s.number h q q.kind c.requires.opens) apart in
     on_ok_weaker c.grant.result
     (provisioned_leaves s c.note_told.ensures q c.requires.alive names c.grant.new.self)
