@@ -27,6 +27,7 @@ from stays import Relay, Staying, ask, end_avps, known, require
 
 GATEWAY, SERVING = "127.0.0.3", "127.0.0.2"
 DEVICE, POOL = f"pgw{os.getpid()}", "198.18.0.1/24"  # the gateway's own address, and how many bits those of its terminals share with it
+PASSED_OVER = "Not supported(278)"  # of an Origin-State-Id, which it doesn't know
 PEER, PEER_PORT, TERMINAL_PORT, OTHER_PORT = "203.0.113.7", 5004, 49152, 49153
 DOWNLINK, UPLINK, UDP = 1, 2, 17  # directions as a traffic flow template has them, and a protocol
 FIRST, CALLS = 5, 6  # the bearers' numbers (EPS Bearer ID), and the TEIDs by which their packets come
@@ -261,7 +262,7 @@ def run(program, words):
             if words:
                 with_bearer(function, serving, watched, terminal)
                 serving.ask(gtp.DELETE_SESSION, [(gtp.EBI, 0, bytes([FIRST]))])
-                complaints = [line for line in gateway.lines() if line.startswith("[") and "] INFO: " not in line]
+                complaints = [line for line in gateway.lines() if line.startswith("[") and "] INFO: " not in line and PASSED_OVER not in line]
                 require(not complaints, f"the gateway complains: {complaints}")
                 print("  the terminal leaves")
             else:
