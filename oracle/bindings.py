@@ -2,13 +2,19 @@
 """Writes the cases of `cases` in which calls are bound among as many sessions of gateways, both drawn from a seed: 300 by their
 addresses, and 200 by addresses and prefixes.
 
-`bindings.py` prints the lines, each question with what the plain model says. Sessions have few counters, sites, addresses,
+`bindings.py` prints the lines, with what the plain model says. Sessions have few counters, sites, addresses,
 prefixes and access points, so that many match a call and many have equal stamps. Of the calls by address one of five asks for one
 that no session has, and one of six for such an access point. It fails where too little is reached.
 """
 import sys
 
+from letters import EDITION
 from plain_facts import Fact, Session, Tag, View, binding, bits, covers, matches, reached_last
+from plain_letters import MOST_CARRIED, Range
+from plain_run import letter_octets
+from words import operation_of
+
+MAKER = 1  # the site that made all letters
 
 SESSIONS, EACH = 300, 60
 BY_PREFIX = 200
@@ -45,24 +51,35 @@ def word(field, value):
 
 
 class Case:
-    """The lines, and the facts that they say."""
+    """The lines by which a site takes letters that come from elsewhere and is asked for bindings, each with what it prints, behind so many
+    letters; and the facts that the letters say."""
 
-    def __init__(self, heading):
-        self.lines = [f"# {heading} (oracle/bindings.py)"]
-        self.facts, self.calls = [], []
+    def __init__(self, heading, site, letters=0):
+        self.lines = [(f"# {heading} (oracle/bindings.py)", [])]
+        self.site, self.letters = site, letters
+        self.untaken, self.facts, self.calls = [], [], []
 
     def ask(self, request, kind, name, stamp, fields, client):
         """A request, with what it gives; a prefix last."""
         words = [word(field, value) for field, value in sorted(fields.items(), key=lambda pair: pair[0] == "prefix")]
-        self.lines.append(" ".join([request, name, f"@0.{stamp[0]}.{stamp[1]}"] + words))
+        self.untaken.append(operation_of(" ".join([request, name, f"@0.{stamp[0]}.{stamp[1]}"] + words)))
         session, tag = Session(kind, name.encode()), Tag(0, *stamp)
         for field, value in {**fields, **client}.items():
             self.facts.append(Fact(session, (field,), tag, tuple(value) if isinstance(value, list) else value))
 
     def end(self, name):
         """The end of a gateway's session."""
-        self.lines.append(f"terminate {name} @1.9.0")
+        self.untaken.append(operation_of(f"terminate {name} @1.9.0"))
         self.facts.append(Fact(Session("gx", name.encode()), ()))
+
+    def take(self):
+        """Has the site take what it hasn't taken yet."""
+        while self.untaken:
+            carried, self.untaken = self.untaken[:MOST_CARRIED], self.untaken[MOST_CARRIED:]
+            letter = letter_octets({"edition": EDITION}, Range(MAKER, 1, 0, tuple(carried)))
+            self.lines.append((f"post {letter.hex()}", [f"letter {self.letters}"]))
+            self.lines.append((f"merge {self.site} {self.letters}", ["merged"]))
+            self.letters += 1
 
 
 def gateway(draws, case, name):
@@ -145,24 +162,27 @@ def drawn(case, count, each, gateway_of, call_of):
         call_of(draws, case, case.calls[-1])
         if number % each != each - 1:
             continue
-        view = View(case.facts)
+        view, prints = View(case.facts), []
         for name in case.calls:
             asking = Session("af", name.encode())
             found = binding(view, asking)
-            case.lines.append(f"bound {name} =" + ("" if found is None else " " + found.id.decode()))
+            prints.append(f"af {name} " + ("unbound" if found is None else f"bound {found.id.decode()}"))
             compared += 1
             bound += found is not None
             by_id += found is not None and is_by_id(view, asking, found)
+        case.take()
+        case.lines.append((f"bindings {case.site}", prints))
     return compared, bound, by_id
 
 
 def by_address():
     """The lines of calls that are bound by their addresses."""
-    case = Case("calls drawn from a seed are bound among gateways' sessions that are drawn too")
+    case = Case("calls drawn from a seed are bound among gateways' sessions that are drawn too", 0)
+    case.lines.append(("sites 2", ["sites 2"]))
     compared, bound, by_id = drawn(case, SESSIONS, EACH, gateway, call)
     if compared != 900 or not 200 <= bound <= 700 or by_id < 20:
         sys.exit(f"bindings: {compared} compared, {bound} bound, {by_id} by their Session-Id")
-    return case.lines
+    return case
 
 
 def covering(case, view):
@@ -170,12 +190,12 @@ def covering(case, view):
     asked = sorted({fact.value for fact in case.facts if fact.place == ("prefix",) and fact.session.kind == "af"})
     for found in asked:
         names = [gx.id.decode() for gx in view.all_live("gx") if view.shows(gx, "prefix") and covers(view.value(gx, "prefix"), found)]
-        yield " ".join([f"covering {found[1].hex()}/{found[0]} ="] + names)
+        yield f"covering {case.site} {found[1].hex()}/{found[0]}", [f"gx {name}" for name in names]
 
 
-def by_prefix():
-    """The lines of calls that are bound by addresses and prefixes."""
-    case = Case("so are calls by prefixes of 0 to 128 bits that cover one another, by addresses, and by both")
+def by_prefix(letters):
+    """The lines of calls that are bound by addresses and prefixes, behind so many letters."""
+    case = Case("so are calls by prefixes of 0 to 128 bits that cover one another, by addresses, and by both", 1, letters)
     compared, bound, by_id = drawn(case, BY_PREFIX, BY_PREFIX // 2, gateway_reached, call_reached)
     view = View(case.facts)
     calls = [Session("af", name.encode()) for name in case.calls]
@@ -192,8 +212,10 @@ def by_prefix():
 
 def lines():
     """The lines of both cases."""
-    return by_address() + by_prefix()
+    case = by_address()
+    return case.lines + by_prefix(case.letters)
 
 
 if __name__ == "__main__":
-    print("\n".join(lines()))
+    for asked, said in lines():
+        print(asked, *("> " + one for one in said), sep="\n")

@@ -1,7 +1,7 @@
 """The Failed-AVP of an answer that refuses a request (RFC 6733, 7.1.5 and 7.5): a plain model, apart from the product."""
 from messages import avp
-from plain_requests import (AAR, COMPONENT, FLOW, RX, SERVED, SUBSCRIBER_DATA, SUBSCRIBER_TYPE, AUTH_APPLICATION, TABLES, TGPP, Refused, number,
-                            read_header)
+from plain_requests import (AAR, COMPONENT, FLOW, RX, SERVED, STRICT_TABLES, SUBSCRIBER_DATA, SUBSCRIBER_TYPE, AUTH_APPLICATION, TGPP, Refused,
+                            number, read_header)
 
 FAILED_AVP, ADDRESS = 279, 8
 UNSUPPORTED, MISSING, TOO_OFTEN, BAD_LENGTH = 5001, 5005, 5009, 5014
@@ -105,7 +105,7 @@ def unsupported(rows, avps):
 def has_unsupported(request):
     """Whether a request that is served, and can be cut into AVPs, has an AVP with M that isn't recognized."""
     header = read_header(request)
-    return header.command in SERVED.get(header.application, ()) and unsupported(TABLES[header.command], cut(request[20:])[0]) is not None
+    return header.command in SERVED.get(header.application, ()) and unsupported(STRICT_TABLES[header.command], cut(request[20:])[0]) is not None
 
 
 def uncut(request, left):
@@ -114,7 +114,7 @@ def uncut(request, left):
     vendor = number(padded[8:12]) if padded[4] & 0x80 else None
     header = read_header(request)
     served = header.command in SERVED.get(header.application, ())
-    known = served and any((row.code, row.vendor) == (number(padded[:4]), vendor or 0) for row in TABLES[header.command])
+    known = served and any((row.code, row.vendor) == (number(padded[:4]), vendor or 0) for row in STRICT_TABLES[header.command])
     return avp(number(padded[:4]), bytes(LEAST.get(number(padded[:4]), 0) if known else 0), vendor, padded[4] & 0x60)
 
 
@@ -127,8 +127,8 @@ def at_fault(request, code):
     if header.command not in SERVED.get(header.application, ()):
         return None
     if code == UNSUPPORTED:
-        return unsupported(TABLES[header.command], avps)
-    found = by_rows(TABLES[header.command], avps)
+        return unsupported(STRICT_TABLES[header.command], avps)
+    found = by_rows(STRICT_TABLES[header.command], avps)
     if found is not None:
         return found[1] if found[0] == code else None
     return avp(ADDRESS, bytes(4)) if code == MISSING and (header.command, header.application) == (AAR, RX) else None

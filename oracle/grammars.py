@@ -104,6 +104,9 @@ TOLD_BY_AVP = (5001, 5004, 5005, 5008, 5009, 5014)
 
 LONGEST_SESSION = 512
 
+# The answers of the base protocol have no Session-Id.
+SESSIONLESS = ("CEA", "DWA", "DPA")
+
 ITEM = re.compile(r"(\d*\*\d*)?([<{\[]) ([\w-]+) [>}\]]")
 
 
@@ -155,6 +158,15 @@ def is_filter(text):
     return re.fullmatch(r"ip|\d{1,3}", words[2]) is not None and "to" in words[5:]
 
 
+def is_utf8(value):
+    """Whether bytes are UTF-8 (4.3.1)."""
+    try:
+        value.decode("utf-8")
+    except UnicodeDecodeError:
+        return False
+    return True
+
+
 def judge_value(name, kind, value):
     """Whether a value is of its type (4.2 to 4.4)."""
     if isinstance(kind, tuple):
@@ -166,6 +178,7 @@ def judge_value(name, kind, value):
         ipaddress.ip_address(value[2:])
     elif kind in ("UTF8String", "DiameterIdentity", "IPFilterRule"):
         require(len(value) > 0, f"{name} is empty")
+        require(kind != "UTF8String" or is_utf8(value), f"{name} is no UTF-8")
     elif kind == "Grouped" and name != "Failed-AVP":
         judge_all(name, GROUPS[name], cut(value))
 
@@ -261,16 +274,11 @@ def cut_loosely(data):
     return avps
 
 
-def departing(kind, result, grammar, session):
-    """The grammar of an answer, with where the product departs from it, as the limits in docs/MESSAGES.md say: a request that was refused unread
-    may have no Session-Id that could be repeated, or one that its command hasn't."""
-    if result not in UNREAD:
-        return grammar
-    if not session or len(session) > LONGEST_SESSION:
-        grammar = grammar.replace("0*1<", "<").replace("< Session-Id >", "0*1< Session-Id >")
-    elif kind in ("CEA", "DWA", "DPA"):
-        grammar += " < Session-Id >"
-    return grammar
+def lacks_session(message, session):
+    """Whether the answer of a command can't be composed for want of a Session-Id: only those of the base protocol have none (5.3.2, 5.4.2,
+    5.5.2), and it is what the request has, a text of so many bytes (8.8)."""
+    known = session is not None and 1 <= len(session) <= LONGEST_SESSION and is_utf8(session)
+    return not known and COMMANDS.get((message.command, message.application), (None,))[0] not in SESSIONLESS
 
 
 def judge_answer(request, data):
@@ -282,14 +290,15 @@ def judge_answer(request, data):
     require(data[5:20] == request[5:20], "the command, the application or an identifier isn't the request's")
     kind = kind_of(answer)
     result = result_of(answer.avps)
-    require((result // 1000 == 3) == bool(answer.flags & 0x20), f"the result {result} and E don't fit")
+    session = first(asked or [], 263)
+    lacks = lacks_session(answer, session)
+    require(bool(answer.flags & 0x20) == (result // 1000 == 3 or lacks), f"the result {result} and E don't fit")
+    require(result in UNREAD or result // 1000 == 3 or not lacks, f"{result} answers a request without a Session-Id")
     judge_failed(result, answer.avps)
     if kind is None:  # of no command of the product
         require(result in UNREAD, f"{result} answers command {answer.command} of {answer.application}")
         return "another"
-    session = first(asked or [], 263)
-    grammar = departing(kind, result, MESSAGES[kind], session)
-    judge_all(kind, grammar, answer.avps)
+    judge_all(kind, MESSAGES[kind], answer.avps)
     require((first(answer.avps, 268) is None) != (first(answer.avps, 297) is None), "it hasn't one result")
     if first(answer.avps, 263) is not None:
         require(first(answer.avps, 263) == session, "its Session-Id isn't the request's")

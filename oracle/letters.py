@@ -387,8 +387,8 @@ def called():
                   (flow(1, 1, 1, two), tag()), (flow(1, 2, 5, 5000), tag(8, 7))])
 
 
-def state(groups, **more):
-    return letter(snapshot(groups, **more))
+def state(groups, site=0, **more):
+    return letter(snapshot(groups, **more), site=site)
 
 
 def whole_states():
@@ -689,21 +689,6 @@ def tallied(frames):
     return "%d read, verdicts %d" % (read, mixed)
 
 
-def held():
-    """Ranges with what a state holds that took their operations: of each session the facts that no end overshadows."""
-    yield log_range([]), "clock 0"
-    yield log_range([attach()]), "clock 1 gx gw;1;1 8"
-    yield log_range([call(), attach()]), "clock 1 gx gw;1;1 8 af af;1 15"
-    yield log_range([attach(), call(), operation([END], counter=9)]), "clock 9 gx gw;1;1 8 af af;1 1"
-    yield log_range([operation([END], counter=9), call()]), "clock 9 af af;1 1"
-    yield (log_range([gx([last(1)], session=b"b"), gx([END], session=b"a", counter=4), operation([host()], session=b"b"),
-                      operation([host(), realm()], session=b"a", counter=3)]),
-           "clock 4 gx a 1 gx b 1 af a 2 af b 1")
-    yield (log_range([call(), operation([component_removed(1)], counter=2)]), "clock 2 af af;1 6")
-    yield (log_range([gx([last(1), told(b"b")]), gx([last(2), told(b"a"), told(b"b", rule())], counter=2, number=1)]),
-           "clock 2 gx gw;1;1 3")
-
-
 def taken():
     """Operations of each range, of which a state then takes all."""
     yield []
@@ -720,8 +705,8 @@ def taken():
            operation([host(), realm()], session=b"a", counter=3, site=2)]
 
 
-def whole_of(operations, log):
-    """The whole state of who took these operations, by sets of facts: each the kind and name of a session, a position, a
+def whole_of(operations, writer):
+    """The whole state of a site that took these operations, by sets of facts: each the kind and name of a session, a position, a
     tag and bytes."""
     clock, facts = 0, set()
     for made in operations:
@@ -738,7 +723,7 @@ def whole_of(operations, log):
     groups = {}
     for kind, session, _, own, spelled in sorted(kept, key=lambda fact: fact[:3]):
         groups.setdefault((kind, session), []).append((spelled, b"" if own is None else tag(own[1], own[2], own[0])))
-    return state([group(found, kind=kind, session=session) for (kind, session), found in groups.items()], clock=clock, log=log)
+    return state([group(found, kind=kind, session=session) for (kind, session), found in groups.items()], clock=clock, site=writer)
 
 
 def shades(other, fact):
@@ -752,37 +737,53 @@ def shades(other, fact):
             or (above[0] == 4 and below[0] == 6 and below[1:3] == above[1:3]))
 
 
+def posted(frames):
+    """The lines by which a world of 16 sites is given letters that come from elsewhere, each with what is said of it."""
+    yield "sites 16", ["sites 16"]
+    for name, frame in frames:
+        if not frame:
+            continue  # no word spells no bytes; each letter is cut before its first
+        assert verdict(frame) not in ("read", OLDER), name
+        yield "# " + name, []
+        yield "post " + frame.hex(), [verdict(frame)]
+
+
+def written_again():
+    """The lines by which each site but the last takes a letter, and writes all that it then holds as another: the operations of
+    ranges, an acknowledgement, and whole states."""
+    given = [(letter(log_range(body), site=15), whole_of(body, site)) for site, body in enumerate(taken())]
+    carried = [(acknowledgement(), [], 0), (snapshot([attached(), called()], log=7), [attached(), called()], 9),
+               (snapshot([], clock=3), [], 3)]
+    for site, (body, groups, clock) in enumerate(carried, len(given)):
+        given.append((letter(body, site=15), state(groups, clock=clock, site=site)))
+    for site, (frame, whole_state) in enumerate(given):
+        yield "post " + frame.hex(), ["letter %d" % (2 * site)]
+        yield "merge %d %d" % (site, 2 * site), ["merged"]
+        yield "letter %d 15" % site, ["letter %d" % (2 * site + 1)]
+        yield "bytes %d" % (2 * site + 1), [whole_state.hex()]
+
+
 def lines():
     """Each line with what is said of it."""
     for name, frame in whole():
         assert verdict(frame) == "read", name
-        yield "# " + name, "# " + name
-        yield "cut " + frame.hex(), "read, and cut at %d places" % len(frame)
+        yield "# " + name, []
+        yield "cut " + frame.hex(), ["read, and cut at %d places" % len(frame)]
     for name, frame in older():
         assert verdict(frame) == OLDER, name
-        yield "# " + name, "# " + name
-        yield "cut " + frame.hex(), "%s, and cut at %d places" % (OLDER, len(frame))
-    for name, frame in broken():
-        assert verdict(frame) not in ("read", OLDER), name
-        yield "# " + name, "# " + name
-        yield "letter " + frame.hex(), verdict(frame)
-    yield "# what is held", "# what is held"
-    for body, said in held():
-        yield "held " + letter(body).hex(), said
-    yield "held " + letter(acknowledgement()).hex(), "no operation"
-    yield "held " + state([attached(), called()], log=7).hex(), "clock 9 gx gw;1;1 8 af af;1 10 log 7"
-    yield "held " + state([], clock=3).hex(), "clock 3 log 0"
-    yield "# what is held, written as a whole state", "# what is held, written as a whole state"
-    for log, body in enumerate(taken()):
-        yield "whole %d %s" % (log, letter(log_range(body)).hex()), whole_of(body, log).hex()
-    yield "# random bytes", "# random bytes"
+        yield "# " + name, []
+        yield "cut " + frame.hex(), ["%s, and cut at %d places" % (OLDER, len(frame))]
+    yield from posted(broken())
+    yield "# what is held, written as a whole state", []
+    yield from written_again()
+    yield "# random bytes", []
     for seed in range(64):
-        yield "random %d 1000" % seed, tallied(strings(Draws(seed), 1000))
-    yield "# letters with one byte changed", "# letters with one byte changed"
+        yield "random %d 1000" % seed, [tallied(strings(Draws(seed), 1000))]
+    yield "# letters with one byte changed", []
     for seed, (_, frame) in enumerate(whole()):
-        yield "changes %d 1500 %s" % (seed, frame.hex()), tallied(changes(Draws(seed), 1500, frame))
+        yield "changes %d 1500 %s" % (seed, frame.hex()), [tallied(changes(Draws(seed), 1500, frame))]
 
 
 if __name__ == "__main__":
-    for asked, answer in lines():
-        print(asked if asked == answer else f"{asked}\n> {answer}")
+    for asked, said in lines():
+        print(asked, *("> " + one for one in said), sep="\n")

@@ -143,6 +143,16 @@ def text(most):
     return read
 
 
+def utf8(most):
+    """A text of 1 to so many bytes, which are UTF-8 (RFC 6733, 4.3.1)."""
+    def read(octets):
+        try:
+            return text(most)(octets).decode("utf-8").encode("utf-8")
+        except UnicodeDecodeError:
+            raise Refused(5004) from None
+    return read
+
+
 def address(octets):
     """An IPv4 address."""
     if len(octets) != 4:
@@ -199,6 +209,9 @@ TABLES = {
     STR: [SESSION_ID, HOST, REALM],
 }
 
+# The same in the standards' form, where a Session-Id is a text (8.8).
+STRICT_TABLES = {command: [row._replace(read=utf8(512)) if row is SESSION_ID else row for row in rows] for command, rows in TABLES.items()}
+
 
 # ---- requests
 
@@ -237,7 +250,7 @@ def judge_header(header):
         raise Refused(3008)
 
 
-def read_request(frame):
+def read_request(frame, tables=TABLES):
     """A request as its table has it, or the first cause to refuse it."""
     header = read_header(frame)
     judge_header(header)
@@ -246,7 +259,7 @@ def read_request(frame):
         raise Refused(3007)
     if header.command not in SERVED[header.application]:
         raise Refused(3001)
-    values = read_rows(TABLES[header.command], avps)
+    values = read_rows(tables[header.command], avps)
     if header.command == AAR:
         judge_components(values["components"])
     return Request(header.command, values)

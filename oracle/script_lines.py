@@ -1,9 +1,9 @@
 """The lines by which scripts are tested, with what each has to make, by docs/SCRIPTS.md alone: which line ends a script, and
-why. `lines TEXT` is a script, `comment N` one of a comment of N bytes, `restarts N` a site that begins anew N times.
+why. `lines TEXT` is a script, `comment N` one of a comment of N bytes, and `times N LINE` has a line obeyed N times.
 """
 import re
 
-from plain_site import World, unprinted
+from plain_site import World, printed, unprinted
 
 LAST_EPOCH, LONGEST_LINE, LONGEST_SESSION = 65535, 200000, 512
 FORMS = {"sites": "n", "msg": "nb", "push": "n", "abort": "n", "retell": "ns", "letter": "nn", "merge": "nn", "ack": "nn", "restart": "n", "show": "n"}
@@ -79,22 +79,22 @@ def said(tables, script):
 
 
 def spelled(octets):
-    """A script as a line has it."""
-    escapes = {10: "\\n", 13: "\\r", 92: "\\x5c"}
-    return "".join(escapes.get(octet, chr(octet) if octet < 0x7F else f"\\x{octet:02x}") for octet in octets)
+    """A script as a line has it: as a script prints bytes, but for spaces."""
+    return printed(octets).replace("\\x20", " ")
 
 
 def all_lines(tables):
-    """All lines, each with what it makes."""
+    """All lines, each with what it prints."""
     for heading, scripts in SCRIPTS.items():
-        yield f"# scripts: {heading}", f"# scripts: {heading}"
+        yield f"# scripts: {heading}", []
         for script in scripts:
             octets = script.encode("latin-1")
-            yield f"lines {spelled(octets)}", "; ".join(said(tables, octets))
-    heading = "# a line of the greatest length, and of one byte more"
-    yield heading, heading
+            yield f"lines {spelled(octets)}", said(tables, octets)
+    yield "# a line of the greatest length, and of one byte more", []
     for length in (LONGEST_LINE, LONGEST_LINE + 1):
-        yield f"comment {length}", "; ".join(said(tables, b"#" * length))
-    heading = "# a site begins anew, to its last epoch"
-    yield heading, heading
-    yield f"restarts {LAST_EPOCH - 1}", f"epoch {LAST_EPOCH}, refused, epoch 2"
+        yield f"comment {length}", said(tables, b"#" * length)
+    yield "# a site begins anew, to its last epoch", []
+    yield "sites 4", ["sites 4"]
+    yield f"times {LAST_EPOCH - 1} restart 3", [f"restart 3 epoch {LAST_EPOCH}"]
+    yield "restart 3", ["refused EpochFull"]
+    yield "restart 2", ["restart 2 epoch 2"]

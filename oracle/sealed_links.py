@@ -1,7 +1,7 @@
 """The layer of docs/LETTERS.md below letters, by that page alone: greetings, proofs and records, with hmac and hashlib of Python.
 
 usage: sealed_links.py          the worked example of the page
-       sealed_links.py --rows   what crates/sealed_links/src/tests/rows.rt has
+       sealed_links.py --rows   what crates/peer_lines/src/sealed/tests/rows.rt has
 """
 import hashlib
 import hmac

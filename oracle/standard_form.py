@@ -4,10 +4,13 @@ import re
 from failed_avps import UNSUPPORTED, failed_avp, has_unsupported
 from grammars import cut, try_cut
 from messages import GX, TGPP, avp, tgpp
-from plain_requests import BASE, CCR, CER, MOST_BYTES, SERVED, Refused, cut_avps, cut_stream, judge_header, read_header, read_request
+from plain_requests import (BASE, CCR, CER, MOST_BYTES, SERVED, STRICT_TABLES, Refused, cut_avps, cut_stream, judge_header, read_header,
+                            read_request)
 from plain_site import run_script
 
 PROXY_INFO, FIRMWARE_REVISION, SUPPORTED_VENDOR_ID, RESULT_CODE, DESTINATION_REALM = 284, 267, 265, 268, 283
+SESSION_ID, ERROR = 263, 0x20
+MESSAGE = (264, 296, 268)  # Origin-Host, Origin-Realm and Result-Code, which an answer-message has to have (RFC 6733, 7.2)
 SUPPORTED = avp(SUPPORTED_VENDOR_ID, TGPP) + avp(FIRMWARE_REVISION, 1, flags=0)
 NODE = avp(257, b"\0\1\x7f\0\0\1") + avp(266, 0) + avp(269, "pcrf", flags=0)  # as in every other answer to an exchange of capabilities
 REALM, REALM_NOT_SERVED = b"r", 3003
@@ -51,23 +54,27 @@ def number(avps, code):
     return int.from_bytes(values[0], "big") if values and len(values[0]) == 4 else None
 
 
+def is_for_next(header):
+    """Whether a request is for the next node: one of the base protocol, whose answers have no Session-Id."""
+    return header.application == BASE and header.command in SERVED[BASE]
+
+
 def is_for_another(header, avps):
-    """Whether a request is for another realm than that of the sites of scripts; one of the base protocol is for the next node."""
+    """Whether a request is for another realm than that of the sites of scripts."""
     realms = [one.value for one in avps if (one.code, one.vendor) == (DESTINATION_REALM, 0)]
-    is_next = header.application == BASE and header.command in SERVED[BASE]
-    return bool(realms) and not is_next and 1 <= len(realms[0]) <= 255 and realms[0].lower() != REALM
+    return bool(realms) and not is_for_next(header) and 1 <= len(realms[0]) <= 255 and realms[0].lower() != REALM
 
 
 def read_strictly(request):
     """A request as its table has it, or the first cause to refuse it: it is for the site's realm, and, if it is one that is served, has no
-    AVP with M that isn't recognized."""
+    AVP with M that isn't recognized; and its Session-Id is UTF-8."""
     header = read_header(request)
     judge_header(header)
     if is_for_another(header, cut_avps(request[20:])):
         raise Refused(REALM_NOT_SERVED)
     if has_unsupported(request):
         raise Refused(UNSUPPORTED)
-    return read_request(request)
+    return read_request(request, STRICT_TABLES)
 
 
 def unread(request):
@@ -79,14 +86,40 @@ def unread(request):
     return None
 
 
-def besides(request):
-    """What an answer has besides its own AVPs, by their names."""
+def repeated(header, avps):
+    """The AVPs of an answer that refuses a request unread, without a Session-Id that the answer can't have."""
+    def stays(one):
+        return one.code != SESSION_ID or not is_for_next(header) and is_utf8(one.value)
+    return [one for one in avps if stays(one)]
+
+
+def is_utf8(octets):
+    """Whether bytes are UTF-8."""
+    try:
+        octets.decode("utf-8")
+    except UnicodeDecodeError:
+        return False
+    return True
+
+
+def refused(request, answer):
+    """The E bit and the AVPs of an answer that refuses a request unread: an answer-message where a Session-Id lacks that its command's
+    answer has to have."""
+    header, avps = read_header(request), cut(answer[20:])
+    avps = repeated(header, avps)
+    if is_for_next(header) or any(one.code == SESSION_ID for one in avps):
+        return answer[4] & ERROR, avps
+    return ERROR, [one for one in avps if one.code in MESSAGE]
+
+
+def besides(request, is_message):
+    """What an answer has besides its own AVPs, by their names. One may be an answer-message."""
     header, asked = read_header(request), try_cut(request[20:]) or []
     parts, code = {}, unread(request)
     if code is None:
         if header.command == CER:
             parts["Supported-Vendor-Id and Firmware-Revision"] = SUPPORTED
-    elif not 3000 <= code < 4000:
+    elif not is_message:
         if (header.command, header.application) == (CCR, GX):
             count, kind = number(asked, 415) or 0, number(asked, 416)
             kind = kind if kind in (1, 2, 3, 4) else 1 if count == 0 else 2
@@ -106,8 +139,10 @@ def is_proxy_info(one):
 
 def in_standard_form(request, answer, seen):
     """An answer to a request, in the standards' form."""
-    parts = besides(request)
-    own = with_directions(cut(answer[20:]))
+    error, avps = refused(request, answer) if unread(request) is not None else (0, cut(answer[20:]))
+    seen["answer-message for want of a Session-Id"] += error > answer[4] & ERROR
+    parts = besides(request, error)
+    own = with_directions(avps)
     more = b"".join(parts.values())
     if 20 + len(own) + len(more) > MOST_BYTES:
         more, parts = b"", {"too long": True}
@@ -119,7 +154,7 @@ def in_standard_form(request, answer, seen):
     if failed and 20 + len(body) + len(failed) <= MOST_BYTES:
         seen["Failed-AVP"] += 1
         body += failed
-    return answer[:1] + (20 + len(body)).to_bytes(3, "big") + answer[4:20] + body
+    return answer[:1] + (20 + len(body)).to_bytes(3, "big") + bytes([answer[4] | error]) + answer[5:20] + body
 
 
 def run_in_standard_form(tables, text, seen):

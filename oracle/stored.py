@@ -10,7 +10,6 @@ prefixes or on drawn bindings are others or say something else, or where the ans
 import contextlib
 import io
 import os
-import re
 import sys
 import tempfile
 
@@ -20,19 +19,21 @@ import fixed_streams
 import fixed_worlds
 import letters
 import messages
-import plain_answers
-import prefixes
 import random_calls
 import random_streams
 import random_worlds
 import script_lines
-from plain_facts import read_tables
-from plain_requests import AAR, RX, STR, read_header
-from plain_run import run_lines
-from plain_site import Site, World, converse, run_script
+from messages import ip
+from plain_facts import covers, read_tables
+from plain_letters import Whole
+from plain_run import letter_octets, mixed, run_lines, whole_octets
+from plain_site import Site, World, converse, printed, run_script, show_af
+from words import held_of, letter_of, operation_of, prefix_of, request_of, subscribers_of
 
 TABLES = "telephony.toml"
-LINES_WITH = "single-access-point.toml"
+QUESTIONS = ("bytes", "same", "bindings", "at", "of", "covering")
+JUDGED = ("read", "text")  # lines on operator tables, whose answers are written by hand
+WORDS = (operation_of, held_of, request_of)
 
 
 # ---- what the lines on two files print
@@ -61,41 +62,85 @@ def streams_print(tables, text):
 KINDS = {"script": script_prints, "worlds": worlds_print, "streams": streams_print}
 
 
-# ---- requests of Rx by the words of their AVPs
+# ---- lines of cases, which are those of a script, and questions
 
-COMMANDS = {"aar": AAR, "str": STR}
-REFUSED = "the request is refused with "
+class Asked:
+    """What lines print that no program of this folder makes. Words in comments say which bytes stand in the line behind them."""
 
+    def __init__(self, tables):
+        self.tables, self.world, self.said = tables, None, []
 
-def value_of(sign, said):
-    """The value that a word says behind its sign."""
-    if sign == "=":
-        return said.replace("_", " ").encode()
-    if sign == "#":
-        return bytes.fromhex(said)
-    return b"permit in ".ljust(int(said), b"x") if sign == "*" else int(said or 0).to_bytes(4, "big")
+    def obey(self, line):
+        """A line with the bytes that words before it say, and what it prints; None of one that only the program judges."""
+        word, *words = line.split(" ")
+        if word == "#":
+            self.said += [found for found in (read(line[2:]) for read in WORDS) if found is not None]
+            return line, []
+        if word in JUDGED:
+            return line, None
+        if not line:
+            self.world = None
+            return line, []
+        if word == "sites":
+            self.world = World(self.tables, int(words[0]))
+            return line, [line]
+        if word in ("post", "msg", "turns"):
+            return self.given(word, words)
+        return line, getattr(self, word)(*words) if word in QUESTIONS else self.world.obey(line)
 
+    def given(self, word, words):
+        """A line that gives bytes."""
+        said, self.said = self.said, []
+        if word == "post":
+            octets, letter = letter_of(self.tables, said)
+            return f"post {octets.hex()}", self.world.post(letter)
+        if said:
+            words[-1] = said[0].hex()
+        if word == "msg":
+            return " ".join([word, *words]), self.world.msg(int(words[0]), words[1])
+        return " ".join([word, *words]), self.turns(*words)
 
-def session_of(words):
-    """The Session-Id that an answer repeats: the first that the words say, if it has 1 to 512 bytes."""
-    depth = 0
-    for word in words:
-        depth += word.endswith("(") - (word == ")")
-        said = re.fullmatch(r"(?:0/)?263([=*:#])(.*)", word)
-        if said and not depth:
-            value = value_of(*said.groups())
-            return value if 1 <= len(value) <= 512 else None
-    return None
+    def turns(self, site, at, digits):
+        """A request of which a byte is each byte in turn."""
+        octets, at = bytes.fromhex(digits), int(at)
+        turned = (octets[:at] + bytes([byte]) + octets[at + 1:] for byte in range(256))
+        prints = [printed for one in turned for printed in self.world.msg(int(site), one.hex())]
+        return [mixed("".join(f"{printed}\n" for printed in prints).encode())]
 
+    def bytes(self, number):
+        """A letter as bytes."""
+        return [letter_octets(self.tables, self.world.letters[int(number)]).hex()]
 
-def refusal_bytes(line, answers):
-    """What the answer to a request that is refused has to be; None of another line."""
-    kind, *words = line.split(" ")
-    if kind not in COMMANDS or not answers or not answers[0].startswith(REFUSED):
-        return None
-    header = read_header(messages.message(0xC0, COMMANDS[kind], RX, [], 5, 6))
-    code = int(answers[0].split(" ")[-1])
-    return plain_answers.refusal(0, header, code, session_of(words)).hex()
+    def same(self, *sites):
+        """Whether two sites hold the same."""
+        one, other = (whole_octets(Whole(0, 1, self.world.sites[int(site)].operations, 0)) for site in sites)
+        return ["same" if one == other else "other"]
+
+    def view(self, site):
+        """What is seen of a site."""
+        return self.world.sites[int(site)].view()
+
+    def bindings(self, site):
+        """The calls of a site."""
+        view = self.view(site)
+        return [show_af(view, af).removesuffix(" aborted") for af in view.all_live("af")]
+
+    def gateways(self, site, is_asked):
+        """The gateways' sessions of a site of which something is asked."""
+        view = self.view(site)
+        return [f"gx {printed(gx.id)}" for gx in view.all_live("gx") if is_asked(lambda field: view.value(gx, field))]
+
+    def at(self, site, word):
+        """Those that have an address."""
+        return self.gateways(site, lambda value: value("address") == ip(word))
+
+    def of(self, site, word):
+        """Those that have a subscriber."""
+        return self.gateways(site, lambda value: subscribers_of(word)[0] in value("subscribers"))
+
+    def covering(self, site, word):
+        """Those whose prefix covers one."""
+        return self.gateways(site, lambda value: value("prefix") is not None and covers(value("prefix"), prefix_of(word)))
 
 
 # ---- files
@@ -136,6 +181,7 @@ class Stored:
 
     def __init__(self, crate):
         self.crate, self.data, self.compared = crate, os.path.join(crate, "data"), 0
+        self.tables = read_tables(os.path.join(self.data, TABLES))
         self.lines = []  # each with its answers
         for line in read(crate, "stdin").split("\n")[:-1]:
             if line.startswith("> "):
@@ -146,8 +192,7 @@ class Stored:
     def compare(self, name, stored, wanted):
         """Fails where something stored is another thing than it has to be."""
         if stored != wanted:
-            at = next((at for at, pair in enumerate(zip(stored, wanted)) if pair[0] != pair[1]), "its end")
-            sys.exit(f"{name} differs at {at}")
+            sys.exit(f"{name} has to be otherwise")
         self.compared += 1
 
     def answers(self, line):
@@ -159,12 +204,11 @@ class Stored:
 
     def blocks(self):
         """The lines that a program of this folder makes, with what comes of each, block by block: a blank line ends each."""
-        on_scripts = list(script_lines.all_lines(read_tables(os.path.join(self.data, LINES_WITH))))
-        headings = [at for at, (line, _) in enumerate(on_scripts) if line.startswith("#")]
-        each = [on_scripts[first:behind] for first, behind in zip(headings, headings[1:] + [None])]
-        for lines in each + [list(letters.lines()), list(prefixes.lines())]:
-            yield [(line, [] if line.startswith("#") else [made]) for line, made in lines]
-        yield [(line, []) for line in bindings.lines()]
+        on_scripts = list(script_lines.all_lines(self.tables))
+        headings = [at for at, (line, _) in enumerate(on_scripts) if line.startswith("# ")]
+        yield from (on_scripts[first:behind] for first, behind in zip(headings, headings[1:] + [None]))
+        yield list(letters.lines())
+        yield bindings.lines()
 
     def ends_of(self, block):
         """Where the stored lines of a block begin, and where they end."""
@@ -172,36 +216,37 @@ class Stored:
         first = words.index(block[0][0])
         return first, words.index("", first) if "" in words[first:] else len(words)
 
+    def wanted(self):
+        """All lines, with what each has to print; those that only the program judges print what is stored."""
+        wanted, at, asked = [], 0, Asked(self.tables)
+        blocks = {first: (behind, block) for block in self.blocks() for first, behind in [self.ends_of(block)]}
+        while at < len(self.lines):
+            if at in blocks:
+                at, block = blocks[at]
+                wanted += block
+                continue
+            line, stored = self.lines[at]
+            known = self.answers(line)
+            line, said = (line, known) if known is not None else asked.obey(line)
+            wanted.append((line, stored if said is None else said))
+            at += 1
+        return wanted
+
     def compare_all(self):
         """Compares all."""
         for name, text in drawn(self.data).items():
             self.compare(name, read(self.data, name), text)
-        for line, answers in self.lines:
-            wanted = self.answers(line)
-            if wanted is not None:
-                self.compare(line, answers, wanted)
-            refusal = refusal_bytes(line, answers)
-            if refusal is not None:
-                self.compare(line, answers[1:], [refusal])
-        for block in self.blocks():
-            first, behind = self.ends_of(block)
-            self.compare(f"the lines behind {block[0][0]}", self.lines[first:behind], block)
+        wanted = self.wanted()
+        for stored, line in zip(self.lines, wanted):
+            self.compare(stored[0], stored, line)
+        self.compare("the last line", len(self.lines), len(wanted))
 
     def write(self):
         """Writes all."""
         for name, text in drawn(self.data).items():
             with open(os.path.join(self.data, name), "w", encoding="utf-8") as file:
                 file.write(text)
-        for block in self.blocks():
-            first, behind = self.ends_of(block)
-            self.lines[first:behind] = block
-        lines = []
-        for line, answers in self.lines:
-            known = self.answers(line)
-            refusal = refusal_bytes(line, answers)
-            if refusal is not None:
-                answers = [answers[0], refusal]
-            lines += [line] + [f"> {answer}" for answer in (answers if known is None else known)]
+        lines = [one for line, answers in self.wanted() for one in [line, *(f"> {answer}" for answer in answers)]]
         for name in ("stdin", "stdout"):
             with open(os.path.join(self.crate, name), "w", encoding="utf-8") as file:
                 file.write("\n".join(lines) + "\n")

@@ -1,5 +1,5 @@
 #!/usr/bin/env python3
-"""What memory_trials reads and has to print: scripts of worlds, messages and letters as bytes, and a line for each call that is tried.
+"""What the program site_cases reads and has to print: scripts of worlds, messages and letters as bytes, and a line for each call that is tried.
 
 `trials.py CRATE` fails where a file of the crate's folder is another one; with `--write` it writes them. What the scripts print, what is
 answered and what is held comes from the plain model. A comment in a script says what its next lines try.
@@ -154,6 +154,8 @@ def push(site):
 
 def lines(tables):
     """Each word with its bytes."""
+    yield "short", b"gw.example.net;1;20261130;0001"
+    yield "long", b"gw.example.net;1;20261130;00001"
     ours, theirs = (one for one in world_of(tables, RESTART).letters)
     yield "ours", letter_octets(tables, ours)
     yield "theirs", letter_octets(tables, theirs)
@@ -193,6 +195,7 @@ def prints(tables):
         yield from done("run_script", "a script") + run_script(tables, script) + steps(script)
         if any(line.startswith("restart ") for line in script):
             yield from done("World::run", "the events of a script")
+    yield from done("SessionId::read and try_copy", "short") + done("SessionId::read and try_copy", "long")
     yield from done("State::merge", "two states of one session")
     yield from done("read_letter and write_letter", "end") + done("read_letter and write_letter", "snapshot")
     for call in ("Site::sessions_of", "derive_many", "Site::renew"):

@@ -17,13 +17,13 @@ ROWS = [
     ("a frame is cut out, and read as AVPs", ["dia_codec"], "AVPs are written as bytes"),
     ("which command it is, and whether it is served", ["site_core"], "which AVPs answer it, and in which form"),
     ("each AVP is judged by its row of the command's table", ["gx_profile", "dia_base"], "the result, rules and default quality become AVPs"),
-    ("the site refuses, or grants", ["pcrf_world", "site_machine"], "the operation goes to the log, the reply to the gateway"),
-    ("what the request sets becomes facts", ["fact_making", "op_tables", "reply_values"], "what is told becomes facts; the access point's default quality"),
-    ("", ["kept_rules", "pcc_rules", "rule_delta"], "the session's rules, and which its gateway lacks"),
-    ("the session is put in place, and listed by its address", ["indexed_state", "session_index", "session_lists", "waiting_sessions"],
-     "who else may have to be told"),
-    ("facts are joined to the session's record", ["site_join", "gx_records", "fact_records", "lattice_core"], "the record that stood, if all has to be undone"),
-    ("values that all share", ["pcrf_values", "ranked"], ""),
+    ("the site refuses, or grants; what the request sets becomes facts", ["pcrf_world", "site_machine"],
+     "what is told becomes facts; the operation goes to the log, the reply to the gateway"),
+    ("", ["op_tables", "pcrf_model"], "the access point's default quality"),
+    ("", ["pcc_rules", "rule_delta"], "the session's rules, and which its gateway lacks"),
+    ("the session is put in place, and listed by its address", ["indexed_state", "bind_index"], "who else may have to be told"),
+    ("facts are joined to the session's record", ["site_join", "gx_records", "lattice_core"], "the record that stood, if all has to be undone"),
+    ("values that all share", ["pcrf_values"], ""),
 ]
 
 

@@ -4,21 +4,21 @@ use Rattle.std.specs.FinMap.Entries.{by_order}
 use Rattle.std.specs.List.{filter_map}
 use Rattle.std.specs.Option.{option_cmp}
 use Rattle.std.specs.Ordering.{is_eq, is_gt, is_lt, nat_cmp, ordering_then}
-use Rattle.ranked.specs.Ascending.{ascending, place, IsBelowAll, Rises}
-use Rattle.ranked.specs.Orders.{pair_cmp, text_cmp}
-use Rattle.ranked.specs.Sets.{In, Same}
-use Rattle.ranked.specs.declared.tag.Tag.{Tag}
-use Rattle.ranked.proofs.AscendingLaws.{ascending-Same, ascending-In}
-use Rattle.ranked.proofs.OrderLaws.{IsRanked, nat_ranked, pair_ranked, eq_is}
-use Rattle.ranked.proofs.Plain.{clash, none_some, some_same}
-use Rattle.ranked.proofs.SetLaws.{filter_map-In, In-map}
-use Rattle.pcrf_facts.specs.FlowWords.{flow_of, flows}
-use Rattle.pcrf_facts.specs.Places.{Position, position_cmp}
-use Rattle.pcrf_facts.specs.Values.{entry_cmp}
-use Rattle.pcrf_facts.specs.Facts.{Fact, position, entry, fact_cmp}
-use Rattle.pcrf_facts.specs.Held.{kept_list}
-use Rattle.fact_records.proofs.KeepLaws.{kept_rises}
-use Rattle.fact_records.specs.declared.session_value.SessionValue.TheVariants as session
+use Rattle.pcrf_values.specs.Ascending.{ascending, place, IsBelowAll, Rises}
+use Rattle.pcrf_values.specs.Orders.{pair_cmp, text_cmp}
+use Rattle.pcrf_values.specs.Sets.{In, Same}
+use Rattle.pcrf_values.specs.declared.tag.Tag.{Tag}
+use Rattle.pcrf_values.proofs.AscendingLaws.{ascending-Same, ascending-In}
+use Rattle.pcrf_values.proofs.OrderLaws.{IsRanked, nat_ranked, pair_ranked, eq_is}
+use Rattle.pcrf_values.proofs.Plain.{clash, none_some, some_same}
+use Rattle.pcrf_values.proofs.SetLaws.{filter_map-In, In-map}
+use Rattle.pcrf_values.specs.FlowWords.{flow_of, flows}
+use Rattle.pcrf_values.specs.Places.{Position, position_cmp}
+use Rattle.pcrf_values.specs.Values.{entry_cmp}
+use Rattle.pcrf_values.specs.Facts.{Fact, position, entry, fact_cmp}
+use Rattle.pcrf_values.specs.Held.{kept_list}
+use Rattle.lattice_core.proofs.KeepLaws.{kept_rises}
+use Rattle.lattice_core.specs.declared.session_value.SessionValue.TheVariants as session
 use Rattle.af_records.specs.declared.fact.ComponentValue.TheVariants as component
 use Rattle.af_records.specs.declared.fact.FlowValue.{FlowValue}
 use Rattle.af_records.specs.declared.fact.FlowValue.TheVariants as flow

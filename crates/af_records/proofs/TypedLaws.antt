@@ -1,12 +1,12 @@
 -- The facts of AF sessions by their positions and entries.
 use Rattle.std.proofs.Common.{◌≡◌, ℕ, [], Option, Some, None, is_some, refl, sym, ap, ◌∙◌, arith, option_map, option_and_then, Equal}
-use Rattle.ranked.specs.declared.tag.Tag.{Tag}
-use Rattle.pcrf_facts.specs.Values.{Value, Number}
-use Rattle.pcrf_facts.specs.Facts.{position, entry}
-use Rattle.fact_records.specs.SessionValues.{entry_by, session_value}
-use Rattle.fact_records.specs.SessionFacts.{session_fact}
-use Rattle.fact_records.specs.declared.session_value.SessionValue.{SessionValue}
-use Rattle.fact_records.specs.declared.session_value.SessionValue.TheVariants as session
+use Rattle.pcrf_values.specs.declared.tag.Tag.{Tag}
+use Rattle.pcrf_values.specs.Values.{Value, Number}
+use Rattle.pcrf_values.specs.Facts.{position, entry}
+use Rattle.lattice_core.specs.SessionValues.{entry_by, session_value}
+use Rattle.lattice_core.specs.SessionFacts.{session_fact}
+use Rattle.lattice_core.specs.declared.session_value.SessionValue.{SessionValue}
+use Rattle.lattice_core.specs.declared.session_value.SessionValue.TheVariants as session
 use Rattle.af_records.specs.declared.fact.ComponentValue.{ComponentValue}
 use Rattle.af_records.specs.declared.fact.ComponentValue.TheVariants as component
 use Rattle.af_records.specs.declared.fact.FlowValue.{FlowValue}

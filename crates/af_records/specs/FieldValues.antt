@@ -1,9 +1,9 @@
 -- The values of components' and flows' fields, and the numbers of the fields.
 use Rattle.std.specs.Prelude.{ℕ, Option, Some, None}
 use Rattle.std.proofs.Common.{option_map}
-use Rattle.ranked.specs.declared.tag.Tag.{Tag}
-use Rattle.pcrf_facts.specs.Values.{Value, Number, Text, Entry}
-use Rattle.pcrf_facts.specs.Values as values
+use Rattle.pcrf_values.specs.declared.tag.Tag.{Tag}
+use Rattle.pcrf_values.specs.Values.{Value, Number, Text, Entry}
+use Rattle.pcrf_values.specs.Values as values
 use Rattle.af_records.specs.declared.fact.ComponentValue.{ComponentValue}
 use Rattle.af_records.specs.declared.fact.ComponentValue.TheVariants as component
 use Rattle.af_records.specs.declared.fact.FlowValue.{FlowValue}

@@ -2,7 +2,7 @@
 use Rattle.std.specs.Prelude.{ℕ, Bool, false, if◌then◌else◌, List, [], ◌∷◌, Option, Some, None}
 use Rattle.std.specs.declared.cmp.Ordering.{Ordering}
 use Rattle.std.specs.Ordering.{is_eq, nat_cmp}
-use Rattle.ranked.specs.Orders.{pair_cmp}
+use Rattle.pcrf_values.specs.Orders.{pair_cmp}
 use Rattle.af_records.specs.declared.fact.AfFact.{AfFact}
 use Rattle.af_records.specs.declared.fact.AfFact.TheVariants.{Flow}
 

@@ -1,11 +1,11 @@
 -- The facts of an AF session.
 use Rattle.std.specs.Prelude.{List, [], ◌∷◌}
-use Rattle.pcrf_facts.specs.Places.{ComponentField, MediaType, ComponentStatus, ComponentRateUp, ComponentRateDown, FlowField, FlowDescriptions, FlowUsage, FlowStatus, FlowRateUp, FlowRateDown, OfComponent, OfFlow}
-use Rattle.pcrf_facts.specs.Places as places
-use Rattle.pcrf_facts.specs.Values.{Number, Filters}
-use Rattle.pcrf_facts.specs.Facts.{Fact, Removed, Field}
-use Rattle.pcrf_facts.specs.Facts as facts
-use Rattle.fact_records.specs.SessionFacts.{session_fact}
+use Rattle.pcrf_values.specs.Places.{ComponentField, MediaType, ComponentStatus, ComponentRateUp, ComponentRateDown, FlowField, FlowDescriptions, FlowUsage, FlowStatus, FlowRateUp, FlowRateDown, OfComponent, OfFlow}
+use Rattle.pcrf_values.specs.Places as places
+use Rattle.pcrf_values.specs.Values.{Number, Filters}
+use Rattle.pcrf_values.specs.Facts.{Fact, Removed, Field}
+use Rattle.pcrf_values.specs.Facts as facts
+use Rattle.lattice_core.specs.SessionFacts.{session_fact}
 use Rattle.af_records.specs.declared.fact.ComponentValue.TheVariants as component_value
 use Rattle.af_records.specs.declared.fact.FlowValue.TheVariants as flow_value
 use Rattle.af_records.specs.declared.fact.AfFact.{AfFact}

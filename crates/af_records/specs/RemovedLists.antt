@@ -1,6 +1,6 @@
 -- What facts remove.
 use Rattle.std.specs.Prelude.{Option, Some, None}
-use Rattle.pcrf_facts.specs.Places as places
+use Rattle.pcrf_values.specs.Places as places
 use Rattle.af_records.specs.declared.removed.RemovedPart.{RemovedPart}
 use Rattle.af_records.specs.declared.removed.RemovedPart.TheVariants as part
 use Rattle.af_records.specs.declared.fact.AfFact.{AfFact}

@@ -2,8 +2,7 @@
 ghost use Rattle.std.specs.Prelude.{◌≡◌, IfOk};
 
 use crate::af_request_type::AfRequestType;
-use fact_records::SessionValue;
-use lattice_core::{Ranked, Tag};
+use lattice_core::{Ranked, SessionValue, Tag};
 use pcrf_values::{Enumerated, Filters, FlowStatus, FlowUsage};
 use std::alloc::AllocError;
 

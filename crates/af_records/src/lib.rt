@@ -11,8 +11,8 @@ mod typed;
 
 pub use af_request_type::AfRequestType;
 pub use fact::{AfFact, ComponentValue, FlowValue};
-pub use fact_records::SessionValue;
 pub use flows::Flows;
+pub use lattice_core::SessionValue;
 pub use rates::GivenRates;
 pub use record::AfRec;
 pub use removed::{RemovedPart, RemovedParts};

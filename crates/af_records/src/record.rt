@@ -2,18 +2,18 @@
 ghost use Rattle.std.specs.Prelude.{◌≡◌, IfOk, IfSome, None, if◌then◌else◌, map, option_map, true};
 ghost use Rattle.std.proofs.Common.{unwrap_or};
 ghost use Rattle.pcrf_values.specs.Numbers.{flow_status_number};
-ghost use Rattle.pcrf_facts.specs.FlowWords as words;
-ghost use Rattle.pcrf_facts.specs.Held.{kept_list, is_ended, is_aborted, entry_shown};
-ghost use Rattle.pcrf_facts.specs.Held as held_words;
-ghost use Rattle.pcrf_facts.specs.Live.{af_is_live};
-ghost use Rattle.pcrf_facts.specs.Places as places;
-ghost use Rattle.pcrf_facts.specs.Places.{SessionField, ComponentField, FlowField, OfSession, OfComponent, OfFlow, session_field_number, component_field_number, flow_field_number};
-ghost use Rattle.pcrf_facts.specs.Values as values;
-ghost use Rattle.pcrf_facts.specs.Values.{Number, Text};
+ghost use Rattle.pcrf_values.specs.FlowWords as words;
+ghost use Rattle.pcrf_values.specs.Held.{kept_list, is_ended, is_aborted, entry_shown};
+ghost use Rattle.pcrf_values.specs.Held as held_words;
+ghost use Rattle.pcrf_values.specs.Live.{af_is_live};
+ghost use Rattle.pcrf_values.specs.Places as places;
+ghost use Rattle.pcrf_values.specs.Places.{SessionField, ComponentField, FlowField, OfSession, OfComponent, OfFlow, session_field_number, component_field_number, flow_field_number};
+ghost use Rattle.pcrf_values.specs.Values as values;
+ghost use Rattle.pcrf_values.specs.Values.{Number, Text};
 ghost use Rattle.pcrf_model.specs.Forms.{is_record};
 ghost use Rattle.pcrf_model.specs.Sessions.{Af};
-ghost use Rattle.fact_records.specs.SessionValues.{entry_by, session_entry, session_number};
-ghost use Rattle.fact_records.specs.SessionFacts.{address_value};
+ghost use Rattle.lattice_core.specs.SessionValues.{entry_by, session_entry, session_number};
+ghost use Rattle.lattice_core.specs.SessionFacts.{address_value};
 ghost use Rattle.af_records.specs.RemovedLists.{removable_of};
 ghost use Rattle.af_records.specs.FieldValues.{component_entry, component_number, flow_entry, flow_number, held_number};
 ghost use Rattle.af_records.specs.RecordFacts.{fact_of};
@@ -24,8 +24,7 @@ use crate::flows::Flows;
 use crate::rates::GivenRates;
 use crate::removed::RemovedParts;
 use crate::typed::{component_position, flow_position};
-use fact_records::{Record, SessionValue, copy_facts, position_of_field};
-use lattice_core::{FactSet, Join, Tag};
+use lattice_core::{FactSet, Join, Record, SessionValue, Tag, copy_facts, position_of_field};
 use pcrf_values::{
     Apn, DiameterIdentity, Enumerated, Filters, FlowStatus, FlowUsage, Ipv6Prefix, Subscribers,
 };
@@ -42,7 +41,7 @@ pub struct AfRec {
 
 impl Model for AfRec {
     ghost use Rattle.std.specs.Prelude.{◌≡◌, true, List};
-    ghost use Rattle.pcrf_facts.specs.Facts.{Fact};
+    ghost use Rattle.pcrf_values.specs.Facts.{Fact};
     ghost use Rattle.pcrf_model.specs.Forms.{is_record};
     ghost use Rattle.pcrf_model.specs.Sessions.{Af};
 
@@ -55,8 +54,8 @@ impl Model for AfRec {
 
 impl Join for AfRec {
     ghost use Rattle.std.specs.Prelude.{◌++◌};
-    ghost use Rattle.pcrf_facts.specs.Held.{kept_list, join_of};
-    ghost use Rattle.pcrf_facts.proofs.JoinedLaws.{joined_comm, joined_assoc, joined_idem, held_twice};
+    ghost use Rattle.pcrf_values.specs.Held.{kept_list, join_of};
+    ghost use Rattle.pcrf_values.proofs.JoinedLaws.{joined_comm, joined_assoc, joined_idem, held_twice};
 
     ghost joined = { join_of };
 
@@ -93,7 +92,7 @@ impl Join for AfRec {
 }
 
 impl FactSet for AfRec {
-    ghost use Rattle.fact_records.specs.Sets.{facts_subset, facts_empty};
+    ghost use Rattle.lattice_core.specs.Sets.{facts_subset, facts_empty};
 
     ghost subset = { facts_subset };
 

@@ -1,11 +1,11 @@
 //! The facts of AF sessions, as records of facts ask for them.
 ghost use Rattle.std.specs.Prelude.{◌≡◌, []};
-ghost use Rattle.pcrf_facts.specs.Facts.{position};
-ghost use Rattle.pcrf_facts.specs.Values.{value_cmp};
+ghost use Rattle.pcrf_values.specs.Facts.{position};
+ghost use Rattle.pcrf_values.specs.Values.{value_cmp};
 ghost use Rattle.af_records.specs.FieldValues.{component_number, component_value, flow_number, flow_value};
 
 use crate::fact::{AfFact, ComponentValue, FlowValue};
-use fact_records::{
+use lattice_core::{
     Beneath, COMPONENT_FIELD, FLOW_FIELD, Position, TypedFact, compare_values, session_position,
 };
 use std::alloc::AllocError;

@@ -1,13 +1,13 @@
 -- A binding reads what the Gx sessions and the AF session itself show, and no more.
 use Rattle.std.proofs.Common.{◌≡◌, ℕ, true, List, [], Option, Some, None, refl, sym, ap, ◌∙◌, subst, option_map}
 use Rattle.std.specs.List.{filter_map}
-use Rattle.ranked.specs.Sets.{In}
-use Rattle.ranked.proofs.Plain.{clash, came_from}
-use Rattle.ranked.proofs.SetLaws.{Same-back, In-filter_map, filter_map-In, greatest-Same}
-use Rattle.pcrf_facts.specs.Facts.{Fact}
-use Rattle.pcrf_facts.specs.Held.{kept_list, entry_shown, removed_parts, is_ended, is_aborted}
-use Rattle.pcrf_facts.specs.Laws.{ShowTheSame}
-use Rattle.pcrf_facts.proofs.ShownLaws.{members_show_the_same, held_shows_the_same}
+use Rattle.pcrf_values.specs.Sets.{In}
+use Rattle.pcrf_values.proofs.Plain.{clash, came_from}
+use Rattle.pcrf_values.proofs.SetLaws.{Same-back, In-filter_map, filter_map-In, greatest-Same}
+use Rattle.pcrf_values.specs.Facts.{Fact}
+use Rattle.pcrf_values.specs.Held.{kept_list, entry_shown, removed_parts, is_ended, is_aborted}
+use Rattle.pcrf_values.specs.FactLaws.{ShowTheSame}
+use Rattle.pcrf_values.proofs.ShownLaws.{members_show_the_same, held_shows_the_same}
 use Rattle.pcrf_model.specs.Bindings.{Candidate, candidate_cmp, candidate, matches, standing, bind}
 use Rattle.pcrf_model.specs.Holdings.{SessionFact, Holding, facts_on}
 use Rattle.pcrf_model.specs.Live.{is_live}

@@ -1,4 +1,15 @@
-pub mod Entries
 pub mod Alike
 pub mod Bound
+pub mod BySubscriber
+pub mod Covered
+pub mod CoveredNetworks
+pub mod Covering
+pub mod Entries
+pub mod Forgotten
+pub mod IdLists
+pub mod Indexed
+pub mod KeyedLists
 pub mod Listed
+pub mod Neighbours
+pub mod Records
+pub mod Spelt

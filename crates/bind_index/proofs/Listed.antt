@@ -1,18 +1,18 @@
 -- The sessions that are listed are those of the records that show what is asked.
 use Rattle.std.proofs.Common.{◌≡◌, ℕ, true, ◌&&◌, List, [], ◌∷◌, map, Option, Some, refl, sym, ap, ◌∙◌}
 use Rattle.std.specs.Cmp.{first_so, second_so}
-use Rattle.ranked.specs.Ascending.{Rises}
-use Rattle.ranked.specs.Orders.{text_cmp}
-use Rattle.ranked.specs.Sets.{In}
-use Rattle.ranked.proofs.Plain.{came_from, some_same}
-use Rattle.ranked.proofs.OrderLaws.{text_ranked}
-use Rattle.ranked.proofs.SetLaws.{In-filter_map, filter_map-In}
-use Rattle.ranked.proofs.AscendingLaws.{ascending-ascending, same_ascending, filter_map-ascending}
+use Rattle.pcrf_values.specs.Ascending.{Rises}
+use Rattle.pcrf_values.specs.Orders.{text_cmp}
+use Rattle.pcrf_values.specs.Sets.{In}
+use Rattle.pcrf_values.proofs.Plain.{came_from, some_same}
+use Rattle.pcrf_values.proofs.OrderLaws.{text_ranked}
+use Rattle.pcrf_values.proofs.SetLaws.{In-filter_map, filter_map-In}
+use Rattle.pcrf_values.proofs.AscendingLaws.{ascending-ascending, same_ascending, filter_map-ascending}
 use Rattle.lattice_core.specs.Entries.{IsAscending}
 use Rattle.lattice_core.proofs.MapParts.{below_member}
-use Rattle.pcrf_facts.specs.Facts.{Fact}
-use Rattle.pcrf_facts.specs.Places.{Place}
-use Rattle.pcrf_facts.specs.Values.{Entry}
+use Rattle.pcrf_values.specs.Facts.{Fact}
+use Rattle.pcrf_values.specs.Places.{Place}
+use Rattle.pcrf_values.specs.Values.{Entry}
 use Rattle.pcrf_model.specs.Holdings.{SessionFact, facts_on}
 use Rattle.pcrf_model.specs.Live.{is_live}
 use Rattle.pcrf_model.specs.Sessions.{Session, session_cmp, gx, is_gx}

@@ -1,6 +1,6 @@
 -- What is held, were this the record of a session that asks for a binding.
 use Rattle.std.specs.Prelude.{List}
-use Rattle.pcrf_facts.specs.Facts.{Fact}
+use Rattle.pcrf_values.specs.Facts.{Fact}
 use Rattle.pcrf_model.specs.Holdings.{Holding, with_facts_of}
 use Rattle.pcrf_model.specs.Sessions.{Session}
 

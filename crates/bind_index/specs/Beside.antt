@@ -1,8 +1,8 @@
 -- What is read of one Gx session and one AF session by their facts alone. Whether they match depends on nothing else, nor do the rules of the
 -- AF session's flows, once it is bound.
 use Rattle.std.specs.Prelude.{List, []}
-use Rattle.pcrf_facts.specs.Facts.{Fact}
-use Rattle.pcrf_facts.specs.Held.{entry_shown, removed_parts, is_ended, is_aborted}
+use Rattle.pcrf_values.specs.Facts.{Fact}
+use Rattle.pcrf_values.specs.Held.{entry_shown, removed_parts, is_ended, is_aborted}
 use Rattle.pcrf_model.specs.Sessions.{Kind, Gx, Af}
 use Rattle.pcrf_model.specs.Views.{View}
 

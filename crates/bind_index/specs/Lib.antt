@@ -1,4 +1,10 @@
 pub mod Asking
 pub mod Beside
-pub mod Matches
+pub mod Forgetting
+pub mod Index
 pub mod Listings
+pub mod Lists
+pub mod Matches
+pub mod Neighbours
+pub mod Networks
+pub mod Numbers

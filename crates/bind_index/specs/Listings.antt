@@ -3,11 +3,11 @@ use Rattle.std.specs.Prelude.{ℕ, Bool, ◌&&◌, if◌then◌else◌, List, []
 use Rattle.std.specs.List.{filter_map}
 use Rattle.std.specs.Net.Addr.{ipv4_octets}
 use Rattle.pcrf_values.specs.Prefixes.{Ipv6Prefix}
-use Rattle.pcrf_facts.specs.Facts.{Fact}
-use Rattle.pcrf_facts.specs.FlowWords.{value_at}
-use Rattle.pcrf_facts.specs.Live.{Shows}
-use Rattle.pcrf_facts.specs.Places.{address, prefix, subscribers}
-use Rattle.pcrf_facts.specs.Values.{Address, Subscriber, Subscribers, Prefix}
+use Rattle.pcrf_values.specs.Facts.{Fact}
+use Rattle.pcrf_values.specs.FlowWords.{value_at}
+use Rattle.pcrf_values.specs.Live.{Shows}
+use Rattle.pcrf_values.specs.Places.{address, prefix, subscribers}
+use Rattle.pcrf_values.specs.Values.{Address, Subscriber, Subscribers, Prefix}
 use Rattle.pcrf_model.specs.Bindings.{agrees, is_covered, meets}
 use Rattle.pcrf_model.specs.Live.{is_live}
 use Rattle.pcrf_model.specs.Sessions.{Session, gx, is_gx}

@@ -3,11 +3,11 @@ use Rattle.std.specs.Prelude.{ℕ, Bool, true, false, List, [], ◌∷◌, Optio
 use Rattle.std.proofs.Common.{Ordering}
 use Rattle.std.specs.Ordering.{is_eq, is_lt}
 use Rattle.std.specs.List.{filter_map}
-use Rattle.ranked.specs.Sets.{best, greatest}
-use Rattle.ranked.specs.declared.tag.Tag.{Tag}
-use Rattle.pcrf_facts.specs.Facts.{Fact}
+use Rattle.pcrf_values.specs.Sets.{best, greatest}
+use Rattle.pcrf_values.specs.declared.tag.Tag.{Tag}
+use Rattle.pcrf_values.specs.Facts.{Fact}
 use Rattle.pcrf_values.specs.Prefixes.{Ipv6Prefix, covers}
-use Rattle.pcrf_facts.specs.Values.{Subscriber}
+use Rattle.pcrf_values.specs.Values.{Subscriber}
 use Rattle.pcrf_model.specs.Sessions.{gx, af}
 use Rattle.pcrf_model.specs.Bindings.{Stamp, Candidate, candidate_cmp, candidate, matches, shares_one}
 use Rattle.bind_index.specs.Beside.{beside}

@@ -4,7 +4,7 @@ ghost use Rattle.std.specs.Option.{option_copied};
 ghost use Rattle.pcrf_model.specs.Sessions.{gx, af};
 ghost use Rattle.pcrf_model.specs.Views.{view};
 ghost use Rattle.pcrf_model.specs.Bindings.{bind, candidate_cmp};
-ghost use Rattle.ranked.specs.Sets.{greatest};
+ghost use Rattle.pcrf_values.specs.Sets.{greatest};
 ghost use Rattle.bind_index.specs.Asking.{with_record};
 ghost use Rattle.bind_index.specs.Matches.{best_from, match_value, matches_among, one};
 
@@ -12,9 +12,8 @@ use crate::matching::{Match, match_of};
 use af_records::AfRec;
 use gx_records::GxRec;
 use pcrf_values::{AfSid, GxSid};
-use site_join::State;
+use site_join::{Entries, State};
 use std::cmp::Ordering;
-use std::collections::btree_map::Iter;
 
 /// The gateway's session to which an application function's session is bound, `None` where it is bound to none: of the live
 /// ones with its address and with a prefix that covers its prefix, and with one of its subscribers and its access point, each as
@@ -44,7 +43,7 @@ pub fn bind_by<'s>(state: &'s State, asking: &AfRec) -> Option<&'s GxSid>
 }
 
 /// The greatest of the sessions that match.
-fn greatest_match<'s>(asking: &AfRec, sessions: Iter<'s, GxSid, GxRec>) -> Option<Match<'s>>
+fn greatest_match<'s>(asking: &AfRec, sessions: Entries<'s, GxSid, GxRec>) -> Option<Match<'s>>
     ensures { option_map match_value result
         ≡ greatest candidate_cmp (matches_among asking.now sessions.entry) }
 {

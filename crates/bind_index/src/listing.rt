@@ -2,17 +2,15 @@
 ghost use Rattle.std.specs.Prelude.{◌≡◌, IfOk};
 ghost use Rattle.std.specs.Net.Addr.{ipv4_octets};
 ghost use Rattle.pcrf_model.specs.Views.{view};
-ghost use Rattle.pcrf_facts.specs.Held.{entry_shown};
+ghost use Rattle.pcrf_values.specs.Held.{entry_shown};
 ghost use Rattle.bind_index.specs.Listings.{asked_value, listed_among, sessions_at, sessions_covering, sessions_of, shows_asked};
 
 use crate::matching::is_among;
 use gx_records::GxRec;
-use pcrf_values::{GxSid, Ipv6Prefix, Subscriber};
-use ranked::Ranked;
-use site_join::State;
+use pcrf_values::{GxSid, Ipv6Prefix, Ranked, Subscriber};
+use site_join::{Entries, State};
 use std::alloc::{AllocError, Global};
 use std::cmp::Ordering;
-use std::collections::btree_map::Iter;
 use std::net::Ipv4Addr;
 
 /// What a session is asked to have.
@@ -65,7 +63,7 @@ pub fn sessions_of(
 /// The live ones among these sessions that have what is asked.
 fn list(
     alloc: Global,
-    sessions: Iter<'_, GxSid, GxRec>,
+    sessions: Entries<'_, GxSid, GxRec>,
     asked: &Asked<'_>,
 ) -> Result<Vec<GxSid>, AllocError>
     ensures { IfOk result (λ ids. ids.items ≡ listed_among (asked_value asked.now) sessions.entry) }

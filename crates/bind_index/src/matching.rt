@@ -2,16 +2,15 @@
 ghost use Rattle.std.specs.Prelude.{◌≡◌, [], ◌∷◌, map, option_map};
 ghost use Rattle.std.specs.List.{list_any};
 ghost use Rattle.std.specs.Ordering.{is_eq, is_lt};
-ghost use Rattle.ranked.specs.Sets.{best};
-ghost use Rattle.pcrf_facts.specs.Held.{entry_shown};
+ghost use Rattle.pcrf_values.specs.Sets.{best};
+ghost use Rattle.pcrf_values.specs.Held.{entry_shown};
 ghost use Rattle.pcrf_values.specs.Subscribers.{subscriber_cmp};
 ghost use Rattle.pcrf_model.specs.Bindings.{last_reached, shares_one, stamp_cmp};
 ghost use Rattle.bind_index.specs.Matches.{agrees_by, is_covered_by, match_of, match_value, matches_beside, meets_by, stamp_in};
 
 use af_records::AfRec;
 use gx_records::GxRec;
-use pcrf_values::{GxSid, Ipv6Prefix, Subscriber, Subscribers};
-use ranked::{Ranked, Tag};
+use pcrf_values::{GxSid, Ipv6Prefix, Ranked, Subscriber, Subscribers, Tag};
 use std::cmp::Ordering;
 
 /// A gateway's session that matches, with the tag by which it was last reached.

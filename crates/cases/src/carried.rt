@@ -1,24 +1,23 @@
 //! What no script prints of a world: how far its sites took each other, what its pushes, aborts and letters are as bytes, and
 //! what all its letters tell together.
-use crate::outcomes::{Outcomes, put_state};
-use crate::text::mixed;
-use dia_base::Identity;
-use gx_profile::{PushOut, write_rar};
+use crate::fault::Fault;
+use crate::questions::mixed;
+use crate::replays::{Answer, put_anew};
+use gx_profile::write_rar;
+use op_tables::Tables;
 use pcrf_values::limits::SITE_LIMIT;
 use pcrf_world::{World, WorldEvent, WorldOutcome};
-use peer_cursors::{Cursor, Cursors};
-use peer_exchange::{Body, Letter, LetterFault, read_letter, write_letter};
-use rx_profile::{AbortOut, write_asr};
-use site_join::{Operation, State};
+use peer_exchange::{Cursor, Cursors, Letter, LetterFault, read_letter, write_letter};
+use rx_profile::write_asr;
 use std::alloc::{AllocError, Global};
 use std::fmt::Write as _;
 
-/// Puts how far a site took operations, or was said to be taken.
+/// Adds how far a site took operations, or was said to be taken.
 fn put_cursor(out: &mut String, other: u8, cursor: Cursor) -> Result<(), AllocError> {
     write!(out, " {other}:{}/{}", cursor.epoch(), cursor.taken())
 }
 
-/// Puts what a site took of each maker of which it took anything, and what each peer said that it took.
+/// Adds what a site took of each maker of which it took anything, and what each peer said that it took.
 fn put_cursors(out: &mut String, site: usize, cursors: &Cursors) -> Result<(), AllocError> {
     write!(out, "site {site} epoch {} took", cursors.epoch())?;
     for other in 0..SITE_LIMIT {
@@ -36,134 +35,44 @@ fn put_cursors(out: &mut String, site: usize, cursors: &Cursors) -> Result<(), A
     out.push_str("\n")
 }
 
-/// Puts the re-authorisation request of a push.
-fn put_rar(
+/// Adds the re-authorisation requests of all pushes.
+fn put_pushes(
     alloc: Global,
-    identity: &Identity,
-    push: &PushOut,
+    world: &World,
+    events: &[WorldEvent],
+    answers: &[Answer],
     out: &mut String,
 ) -> Result<(), AllocError> {
-    let bytes = write_rar(alloc, identity, 1, 2, push)?;
-    write!(out, " {:08x}", mixed(bytes.as_slice()))
-}
-
-/// Puts the re-authorisation requests of all pushes.
-fn put_pushes(outcomes: &Outcomes<'_>, out: &mut String) -> Result<(), AllocError> {
     out.push_str("pushes")?;
-    for (event, answer) in outcomes.events.iter().zip(outcomes.answers) {
+    for (event, answer) in events.iter().zip(answers) {
         if let (WorldEvent::Push(i, _), Ok(WorldOutcome::Pushed(Some(push)))) = (event, answer)
-            && let Some(site) = outcomes.world.site(*i)
+            && let Some(site) = world.site(*i)
         {
-            put_rar(outcomes.alloc, site.identity(), push, out)?;
+            let bytes = write_rar(alloc, site.identity(), 1, 2, push)?;
+            write!(out, " {:08x}", mixed(bytes.as_slice()))?;
         }
     }
     out.push_str("\n")
 }
 
-/// Puts the abort session request of an abort.
-fn put_asr(
+/// Adds the abort session requests of all aborts.
+fn put_aborts(
     alloc: Global,
-    identity: &Identity,
-    abort: &AbortOut,
+    world: &World,
+    events: &[WorldEvent],
+    answers: &[Answer],
     out: &mut String,
 ) -> Result<(), AllocError> {
-    let bytes = write_asr(alloc, identity, 7, 8, abort)?;
-    write!(out, " {:08x}", mixed(bytes.as_slice()))
-}
-
-/// Puts the abort session requests of all aborts.
-fn put_aborts(outcomes: &Outcomes<'_>, out: &mut String) -> Result<(), AllocError> {
     out.push_str("aborts")?;
-    for (event, answer) in outcomes.events.iter().zip(outcomes.answers) {
+    for (event, answer) in events.iter().zip(answers) {
         if let (WorldEvent::Abort(i, _), Ok(WorldOutcome::Aborted(Some(abort)))) = (event, answer)
-            && let Some(site) = outcomes.world.site(*i)
+            && let Some(site) = world.site(*i)
         {
-            put_asr(outcomes.alloc, site.identity(), abort, out)?;
+            let bytes = write_asr(alloc, site.identity(), 7, 8, abort)?;
+            write!(out, " {:08x}", mixed(bytes.as_slice()))?;
         }
     }
     out.push_str("\n")
-}
-
-/// Puts the bytes of a letter that was read, and whether the letter was written as others.
-fn put_again(
-    alloc: Global,
-    read: &Letter,
-    bytes: &[u8],
-    out: &mut String,
-) -> Result<(), LetterFault> {
-    let written = write_letter(alloc, read)?;
-    write!(out, " {:08x}", mixed(written.as_slice()))?;
-    if written.as_slice() != bytes {
-        out.push_str("!")?;
-    }
-    Ok(())
-}
-
-/// Puts a letter as its bytes are read.
-fn put_letter(alloc: Global, letter: &Letter, out: &mut String) -> Result<(), LetterFault> {
-    let bytes = write_letter(alloc, letter)?;
-    let read = read_letter(alloc, bytes.as_slice(), letter.edition())?;
-    let put = put_again(alloc, &read, bytes.as_slice(), out);
-    drop(read);
-    put
-}
-
-/// Puts all letters.
-fn put_letters(alloc: Global, world: &World, out: &mut String) -> Result<(), AllocError> {
-    out.push_str("letters")?;
-    for k in 0..usize::MAX {
-        let Some(letter) = world.letter(k) else {
-            break;
-        };
-        match put_letter(alloc, letter, out) {
-            Ok(()) => {}
-            Err(LetterFault::NoMemory) => return Err(AllocError),
-            Err(_) => out.push_str(" no-letter")?,
-        }
-    }
-    out.push_str("\n")
-}
-
-/// Has a state take operations.
-fn take_each(state: &mut State, operations: &[Operation]) -> Result<(), AllocError> {
-    for operation in operations {
-        state.take(operation)?;
-    }
-    Ok(())
-}
-
-/// Has a state merge with another.
-fn merge_in(state: &mut State, other: &State) -> Result<(), AllocError> {
-    *state = state.merged_copy(other)?;
-    Ok(())
-}
-
-/// Has a state take what a letter says.
-fn take_letter(state: &mut State, letter: &Letter) -> Result<(), AllocError> {
-    match letter.body() {
-        Body::Range(range) => take_each(state, range.operations.as_slice()),
-        Body::Snapshot(snapshot) => merge_in(state, &snapshot.state),
-        Body::Acknowledgement(_) => Ok(()),
-    }
-}
-
-/// A letter as its bytes are read.
-fn read_again(alloc: Global, letter: &Letter) -> Result<Letter, AllocError> {
-    let Ok(bytes) = write_letter(alloc, letter) else {
-        return Err(AllocError);
-    };
-    match read_letter(alloc, bytes.as_slice(), letter.edition()) {
-        Ok(read) => Ok(read),
-        Err(_) => Err(AllocError),
-    }
-}
-
-/// Has a state take what a letter says, as its bytes are read.
-fn take_read(alloc: Global, state: &mut State, letter: &Letter) -> Result<(), AllocError> {
-    let read = read_again(alloc, letter)?;
-    let taken = take_letter(state, &read);
-    drop(read);
-    taken
 }
 
 /// How many letters there are.
@@ -176,87 +85,100 @@ fn letter_count(world: &World) -> usize {
     usize::MAX
 }
 
-/// Has a state take all letters, each as its bytes are read, the first one first.
-fn take_forwards(alloc: Global, world: &World, state: &mut State) -> Result<(), AllocError> {
+/// A letter as bytes, and as these are read.
+fn read_again(alloc: Global, letter: &Letter) -> Result<(Vec<u8>, Letter), LetterFault> {
+    let bytes = write_letter(alloc, letter)?;
+    let read = read_letter(alloc, bytes.as_slice(), letter.edition())?;
+    Ok((bytes, read))
+}
+
+/// Adds a letter as it is written once it was read, and whether its own bytes are others.
+fn put_letter(alloc: Global, letter: &Letter, out: &mut String) -> Result<(), LetterFault> {
+    let (bytes, read) = read_again(alloc, letter)?;
+    let written = write_letter(alloc, &read)?;
+    write!(out, " {:08x}", mixed(written.as_slice()))?;
+    if written.as_slice() != bytes.as_slice() {
+        out.push_str("!")?;
+    }
+    Ok(())
+}
+
+/// Adds all letters.
+fn put_letters(alloc: Global, world: &World, out: &mut String) -> Result<(), Fault> {
+    out.push_str("letters")?;
     for k in 0..letter_count(world) {
-        if let Some(letter) = world.letter(k) {
-            take_read(alloc, state, letter)?;
+        if let Some(letter) = world.letter(k)
+            && put_letter(alloc, letter, out).is_err()
+        {
+            return Err(Fault::NoEnd);
         }
     }
-    Ok(())
+    Ok(out.push_str("\n")?)
 }
 
-/// Has a state take all letters, the last one first.
-fn take_backwards(world: &World, state: &mut State) -> Result<(), AllocError> {
-    for k in (0..letter_count(world)).rev() {
-        if let Some(letter) = world.letter(k) {
-            take_letter(state, letter)?;
-        }
+/// Has the only site of a world take a letter of another as its bytes are read, if there is one of this number.
+fn take(alloc: Global, world: &mut World, from: &World, k: usize) -> Result<(), Fault> {
+    let Some(letter) = from.letter(k) else {
+        return Ok(());
+    };
+    let Ok((_, read)) = read_again(alloc, letter) else {
+        return Err(Fault::NoEnd);
+    };
+    let number = world.post(read)?;
+    match world.step(&WorldEvent::Merge(0, number)) {
+        Ok(_) => Ok(()),
+        Err(_) => Err(Fault::NoMemory),
     }
-    Ok(())
 }
 
-/// Puts what a state shows, as one number.
-fn put_shown(
-    alloc: Global,
-    world: &World,
-    state: &State,
-    out: &mut String,
-) -> Result<(), AllocError> {
+/// A world of one site that took all letters of another world, the first or the last one first.
+fn taken(alloc: Global, tables: Tables, from: &World, is_first: bool) -> Result<World, Fault> {
+    let mut world = World::start(alloc, tables, 1)?;
+    let count = letter_count(from);
+    for k in 0..count {
+        let number = if is_first { k } else { count - 1 - k };
+        take(alloc, &mut world, from, number)?;
+    }
+    Ok(world)
+}
+
+/// Adds what all letters tell together, as one number, and whether they tell otherwise where the last one is taken first.
+fn put_together(alloc: Global, from: &World, out: &mut String) -> Result<(), Fault> {
+    let forwards = taken(alloc, from.tables().try_copy(alloc)?, from, true)?;
+    let backwards = taken(alloc, from.tables().try_copy(alloc)?, from, false)?;
+    let (Some(site), Some(other)) = (forwards.site(0), backwards.site(0)) else {
+        return Ok(());
+    };
     let mut text = String::new(alloc);
-    put_state(alloc, world.tables(), state, &mut text)?;
-    write!(out, "together {:08x}", mixed(text.as_bytes()))
+    put_anew(alloc, site, &mut text)?;
+    write!(out, "together {:08x}", mixed(text.as_bytes()))?;
+    if !site.sessions().equal(other.sessions()) {
+        out.push_str(", otherwise backwards")?;
+    }
+    Ok(out.push_str("\n")?)
 }
 
-/// Puts whether the state that took all letters the other way round is the same.
-fn put_backwards(
-    alloc: Global,
-    world: &World,
-    state: &State,
-    out: &mut String,
-) -> Result<(), AllocError> {
-    let mut other = State::start(alloc);
-    let taken = take_backwards(world, &mut other);
-    let is_same = state.equal(&other);
-    drop(other);
-    taken?;
-    out.push_str(if is_same {
-        "\n"
-    } else {
-        ", otherwise backwards\n"
-    })
-}
-
-/// Puts what a state tells that takes all letters.
-fn put_taken(
-    alloc: Global,
-    world: &World,
-    state: &mut State,
-    out: &mut String,
-) -> Result<(), AllocError> {
-    take_forwards(alloc, world, state)?;
-    put_shown(alloc, world, state, out)?;
-    put_backwards(alloc, world, state, out)
-}
-
-/// Puts what all letters tell together.
-fn put_together(alloc: Global, world: &World, out: &mut String) -> Result<(), AllocError> {
-    let mut state = State::start(alloc);
-    let put = put_taken(alloc, world, &mut state, out);
-    drop(state);
-    put
-}
-
-/// Puts all that.
-pub fn put_carried(outcomes: &Outcomes<'_>, out: &mut String) -> Result<(), AllocError> {
-    let world = outcomes.world;
-    for site in 0..usize::from(outcomes.sites) {
+/// Adds how far each site of a world took operations, or was said to be taken.
+fn put_all_cursors(world: &World, out: &mut String) -> Result<(), AllocError> {
+    for site in 0..usize::from(SITE_LIMIT) {
         if let Some(cursors) = world.cursors(site) {
             put_cursors(out, site, cursors)?;
         }
     }
-    put_pushes(outcomes, out)?;
-    put_aborts(outcomes, out)?;
-    put_letters(outcomes.alloc, world, out)?;
-    put_together(outcomes.alloc, world, out)
+    Ok(())
+}
+
+/// Adds all that of a world in which these events gave these answers.
+pub fn put_carried(
+    alloc: Global,
+    world: &World,
+    events: &[WorldEvent],
+    answers: &[Answer],
+    out: &mut String,
+) -> Result<(), Fault> {
+    put_all_cursors(world, out)?;
+    put_pushes(alloc, world, events, answers, out)?;
+    put_aborts(alloc, world, events, answers, out)?;
+    put_letters(alloc, world, out)?;
+    put_together(alloc, world, out)
 }

@@ -55,7 +55,7 @@ fn comes_of_bytes(alloc: Global, frame: &[u8]) -> bool {
 
 /// Puts what is said of a frame, and of its cuts.
 pub fn put_cuts(alloc: Global, frame: &[u8], out: &mut String) -> Result<(), AllocError> {
-    out.push_str(judged(alloc, frame).text())?;
+    judged(alloc, frame).put(out)?;
     if !comes_of_bytes(alloc, frame) {
         out.push_str(", but not of its bytes")?;
     }

@@ -55,70 +55,37 @@ impl Draws {
     }
 }
 
-/// How many frames are read, and all verdicts in their order, mixed into one number.
-#[derive(Drop)]
-struct Tally {
-    read: u32,
-    mixed: u32,
+/// The verdict by its number.
+fn number_of(verdict: Verdict) -> u32 {
+    match verdict {
+        Verdict::Read => 0,
+        Verdict::Refused(LetterFault::BadVersion) => 1,
+        Verdict::Refused(LetterFault::BadEdition) => 2,
+        Verdict::Refused(LetterFault::BadShape) => 3,
+        Verdict::Older => 4,
+        _ => 5,
+    }
 }
 
-impl Tally {
-    /// Nothing is judged.
-    fn start() -> Tally {
-        Tally { read: 0, mixed: 0 }
-    }
-
-    /// Judges one more.
-    fn judge(&mut self, alloc: Global, frame: &[u8]) {
-        let number = match judged(alloc, frame) {
-            Verdict::Read => 0,
-            Verdict::Refused(LetterFault::BadVersion) => 1,
-            Verdict::Refused(LetterFault::BadEdition) => 2,
-            Verdict::Refused(LetterFault::BadShape) => 3,
-            Verdict::Older => 4,
-            _ => 5,
+/// Adds how many of so many frames are read, and all verdicts in their order, mixed into one number: of random frames, or of those that
+/// are this one with a byte changed.
+pub fn put_drawn(
+    alloc: Global,
+    seed: u64,
+    count: u32,
+    frame: Option<&[u8]>,
+    out: &mut String,
+) -> Result<(), AllocError> {
+    let mut draws = Draws { state: seed };
+    let (mut read, mut mixed) = (0u32, 0u32);
+    for _ in 0..count {
+        let drawn = match frame {
+            Some(frame) => draws.changed(alloc, frame)?,
+            None => draws.frame(alloc)?,
         };
-        if number == 0 || number == 4 {
-            self.read = self.read.wrapping_add(1);
-        }
-        self.mixed = self.mixed.wrapping_mul(31).wrapping_add(number);
+        let number = number_of(judged(alloc, drawn.as_slice()));
+        read = read.wrapping_add(u32::from(number == 0 || number == 4));
+        mixed = mixed.wrapping_mul(31).wrapping_add(number);
     }
-
-    /// Puts what was found.
-    fn put(&self, out: &mut String) -> Result<(), AllocError> {
-        write!(out, "{} read, verdicts {}", self.read, self.mixed)
-    }
-}
-
-/// Puts what is said of so many random frames.
-pub fn put_random(
-    alloc: Global,
-    seed: u64,
-    count: u32,
-    out: &mut String,
-) -> Result<(), AllocError> {
-    let mut draws = Draws { state: seed };
-    let mut tally = Tally::start();
-    for _ in 0..count {
-        let frame = draws.frame(alloc)?;
-        tally.judge(alloc, frame.as_slice());
-    }
-    tally.put(out)
-}
-
-/// Puts what is said of so many frames that are this one with a byte changed.
-pub fn put_changes(
-    alloc: Global,
-    seed: u64,
-    count: u32,
-    frame: &[u8],
-    out: &mut String,
-) -> Result<(), AllocError> {
-    let mut draws = Draws { state: seed };
-    let mut tally = Tally::start();
-    for _ in 0..count {
-        let other = draws.changed(alloc, frame)?;
-        tally.judge(alloc, other.as_slice());
-    }
-    tally.put(out)
+    write!(out, "{read} read, verdicts {mixed}")
 }

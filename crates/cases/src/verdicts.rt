@@ -1,9 +1,10 @@
 //! What is said of a frame.
 use peer_exchange::{Letter, LetterFault, read_letter, write_letter};
-use std::alloc::Global;
+use std::alloc::{AllocError, Global};
+use std::fmt::Write as _;
 
 /// The edition of the operator tables of who reads.
-pub const EDITION: u32 = 7;
+const EDITION: u32 = 7;
 
 /// Where the version stands, behind the length.
 const VERSION: usize = 4;
@@ -22,27 +23,15 @@ pub enum Verdict {
 }
 
 impl Verdict {
-    /// The verdict as a text.
-    pub fn text(self) -> &'static str {
+    /// Adds the verdict.
+    pub fn put(self, out: &mut String) -> Result<(), AllocError> {
         match self {
-            Verdict::Read => "read",
-            Verdict::Older => "read, and written in version 3",
-            Verdict::Otherwise => "written otherwise",
-            Verdict::Refused(LetterFault::BadVersion) => "the letter's version is not 1, 2 or 3",
-            Verdict::Refused(LetterFault::BadEdition) => {
-                "the letter is of another edition of the operator tables"
-            }
-            Verdict::Refused(LetterFault::BadShape) => "the bytes are no letter",
-            Verdict::Refused(LetterFault::TooLong) => "too long",
-            Verdict::Refused(LetterFault::NoMemory) => "no memory",
+            Verdict::Read => out.push_str("read"),
+            Verdict::Older => out.push_str("read, and written in version 3"),
+            Verdict::Otherwise => out.push_str("written otherwise"),
+            Verdict::Refused(fault) => write!(out, "{fault}"),
         }
     }
-}
-
-/// What bytes have before the version and behind it.
-fn but_the_version(frame: &[u8]) -> (&[u8], &[u8]) {
-    let (length, behind) = frame.split_at_checked(VERSION).unwrap_or((frame, &[]));
-    (length, behind.get(1..).unwrap_or(&[]))
 }
 
 /// What is said of a letter that was read of a frame, by the bytes as which it is written.
@@ -50,13 +39,11 @@ fn compared(written: &[u8], frame: &[u8]) -> Verdict {
     if written == frame {
         return Verdict::Read;
     }
-    let (length, behind) = but_the_version(written);
-    let (own_length, own_behind) = but_the_version(frame);
-    if length == own_length && behind == own_behind {
-        Verdict::Older
-    } else {
-        Verdict::Otherwise
+    let is_behind_same = written.get(VERSION + 1..) == frame.get(VERSION + 1..);
+    if is_behind_same && written.get(..VERSION) == frame.get(..VERSION) {
+        return Verdict::Older;
     }
+    Verdict::Otherwise
 }
 
 /// What is said of a letter that was read of a frame.
@@ -70,11 +57,7 @@ fn written(alloc: Global, letter: &Letter, frame: &[u8]) -> Verdict {
 /// What is said of a frame.
 pub fn judged(alloc: Global, frame: &[u8]) -> Verdict {
     match read_letter(alloc, frame, EDITION) {
-        Ok(letter) => {
-            let verdict = written(alloc, &letter, frame);
-            drop(letter);
-            verdict
-        }
+        Ok(letter) => written(alloc, &letter, frame),
         Err(fault) => Verdict::Refused(fault),
     }
 }

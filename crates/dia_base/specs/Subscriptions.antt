@@ -1,7 +1,7 @@
 -- The subscribers that a request names (Subscription-Id, RFC 8506, 8.46 to 8.48).
 use Rattle.std.specs.Prelude.{ℕ, List, [], ◌∷◌, Option, Some, None, unwrap_or, map}
-use Rattle.ranked.specs.Ascending.{ascending}
-use Rattle.ranked.specs.Sets.{if_any}
+use Rattle.pcrf_values.specs.Ascending.{ascending}
+use Rattle.pcrf_values.specs.Sets.{if_any}
 use Rattle.pcrf_values.specs.Limits.{subscribers_limit, subscription_data_limit}
 use Rattle.pcrf_values.specs.Numbers.{subscription_number}
 use Rattle.pcrf_values.specs.Subscribers.{subscriber_cmp}

@@ -1,16 +1,19 @@
-//! What every Diameter application of the PCRF shares: who it is, how it refuses, and how the AVPs of a request are
-//! judged row by row (RFC 6733).
+//! What every Diameter application of the PCRF shares: who it is, how it refuses, how the AVPs of a request are judged row by row
+//! (RFC 6733), and the messages of the base protocol between neighbours: the capabilities exchange, the watchdog and the end of a
+//! connection (5.3 to 5.5); and what an answer in the standards' form has besides its own AVPs (`standard`).
 #![tactic(auto)]
 
 mod answer;
 pub mod codes;
 mod form;
 mod identity;
+pub mod neighbours;
 mod origin;
 mod read_fault;
 mod repeated;
 mod rows;
 mod session_answer;
+pub mod standard;
 mod subscriptions;
 mod writer;
 
@@ -18,6 +21,10 @@ pub use answer::{answer_header, put_origin, put_result, request_header, write_re
 pub use dia_codec::Mark;
 pub use form::MessageForm;
 pub use identity::Identity;
+pub use neighbours::{
+    ApplicationId, BaseKind, BaseRequest, base_refusal, is_base_command, read_base,
+    write_base_answer, write_dwr,
+};
 pub use origin::{Origin, read_origin};
 pub use pcrf_values::Refusal;
 pub use read_fault::ReadFault;
@@ -28,5 +35,8 @@ pub use rows::{
     required_text, tgpp_key,
 };
 pub use session_answer::{SessionAnswer, read_session_answer};
+pub use standard::{
+    Answered, avps_behind_are_spelled, avps_besides, put_behind, state_at_start, stated,
+};
 pub use subscriptions::read_subscribers;
 pub use writer::AvpWriter;

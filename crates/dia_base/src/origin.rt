@@ -9,9 +9,7 @@ use crate::codes::avps::{ORIGIN_HOST, ORIGIN_REALM};
 use crate::read_fault::ReadFault;
 use crate::rows::{base_key, required_text};
 use dia_codec::Avp;
-use exact_values::{Exact, same};
-use pcrf_values::DiameterIdentity;
-use ranked::Ranked;
+use pcrf_values::{DiameterIdentity, Exact, Ranked, same};
 use std::alloc::{AllocError, Global};
 
 /// The node that sent a request (RFC 6733, 6.3 and 6.4).

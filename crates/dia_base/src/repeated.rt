@@ -8,8 +8,7 @@ use crate::codes::results::{AVP_OCCURS_TOO_MANY_TIMES, INVALID_AVP_LENGTH};
 use crate::read_fault::ReadFault;
 use crate::rows::count_of;
 use dia_codec::{Avp, AvpKey, MsgFault, read_group};
-use pcrf_values::Refusal;
-use ranked::{Listed, Text};
+use pcrf_values::{Refusal, Text};
 use std::alloc::Global;
 
 /// Reads the AVPs of a group (Grouped, RFC 6733, 4.4).
@@ -81,6 +80,6 @@ impl FromValue for Text {
     ghost of_value = { λ value. value };
 
     fn from_value(alloc: Global, value: &[u8]) -> Result<Text, ReadFault> {
-        Ok(Listed::of(Vec::from_slice(alloc, value)?))
+        Ok(Text::read(alloc, value)?)
     }
 }

@@ -1,7 +1,9 @@
-pub mod Limits
-pub mod Fields
-pub mod Spelling
-pub mod Reading
-pub mod Written
-pub mod Stream
+pub mod Counted
 pub mod Drafts
+pub mod Fields
+pub mod Limits
+pub mod Reading
+pub mod ScriptLimits
+pub mod Spelling
+pub mod Stream
+pub mod Written

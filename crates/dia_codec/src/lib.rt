@@ -1,16 +1,22 @@
-//! Diameter messages as bytes (RFC 6733, sections 3 and 4).
+//! Diameter messages as bytes (RFC 6733, sections 3 and 4), readers and writers that are watched, and scripts that are read line by
+//! line over them.
 //!
 //! `read_message` and `read_group` read exactly what `specs/Spelling.antt` calls a spelling, and tell the first fault
 //! of anything else. `write_message` writes one spelling of each message, with all padding and with zeros where the
 //! bits are free, so that `read_message` gives the message back (`round_trip`). A `MessageWriter` writes the same
 //! spelling from front to back into one buffer, without a list of AVPs. An `Assembler` cuts a stream into messages by
-//! their length fields, however its bytes come, and `frames_of` does so for a whole stream. `Counted`, which remembers
-//! whether a call of a reader or a writer has failed, is that of `watched_io`, handed on.
+//! their length fields, however its bytes come, and `frames_of` does so for a whole stream.
+//!
+//! `Counted` wraps a reader or a writer, and remembers whether a call of it has failed, and whether the reader is at its end.
+//! `run_lines` reads a script line by line, has each obeyed by whoever obeys lines, and writes what each prints.
 #![tactic(auto)]
 
 mod assembling;
+mod counted;
 mod fault;
 mod fields;
+mod line_fault;
+mod lines;
 mod message;
 mod reading;
 mod stream;
@@ -18,11 +24,13 @@ mod writer;
 mod writing;
 
 pub use assembling::Assembler;
+pub use counted::Counted;
 pub use fault::{FrameFault, MsgFault, WriteFault};
 pub use fields::{HEADER_BYTES, read_header};
+pub use line_fault::LineFault;
+pub use lines::{Obey, ScriptEnd, run_lines};
 pub use message::{Avp, AvpKey, Flags, Header, Message};
 pub use reading::{read_group, read_message, read_message_with};
 pub use stream::{FramedStream, StreamEnd, frames_of, one_cut};
-pub use watched_io::Counted;
 pub use writer::{Mark, MessageWriter};
 pub use writing::{round_trip, write_group, write_message};

@@ -2,8 +2,8 @@
 use Rattle.std.proofs.Common.{◌≤◌, List, [], ◌∷◌, length, length-append, map, arith}
 use Rattle.std.proofs.lemmas.List.{length-map}
 use Rattle.std.specs.List.{flat_map}
-use Rattle.pcrf_facts.specs.Places.{Place, OfSession, OfComponent, OfFlow, OfRuleName, Component, Flow}
-use Rattle.pcrf_facts.specs.Facts.{Fact, End, Removed, Field, Aborted}
+use Rattle.pcrf_values.specs.Places.{Place, OfSession, OfComponent, OfFlow, OfRuleName, Component, Flow}
+use Rattle.pcrf_values.specs.Facts.{Fact, End, Removed, Field, Aborted}
 use Rattle.fact_codec.specs.Spelling.{word_bytes, value_bytes, place_bytes, fact_bytes, facts_bytes, tag_bytes, held_fact_bytes, held_facts_bytes}
 
 -- a place has a byte

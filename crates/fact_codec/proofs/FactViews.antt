@@ -1,11 +1,11 @@
 -- Typed facts as facts of the definitions: what a field of each kind says.
 use Rattle.std.proofs.Common.{◌≡◌, ℕ, refl}
-use Rattle.ranked.specs.declared.tag.Tag.{Tag}
-use Rattle.pcrf_facts.specs.Places.{OfSession, OfComponent, OfFlow}
-use Rattle.pcrf_facts.specs.Facts.{Field}
-use Rattle.fact_records.specs.SessionFacts.{session_fact}
-use Rattle.fact_records.specs.declared.session_value.SessionValue.{SessionValue}
-use Rattle.fact_records.specs.declared.session_value.SessionValue.TheVariants.{Address, Apn, Subscribers, Host, Realm, Last, Prefix}
+use Rattle.pcrf_values.specs.declared.tag.Tag.{Tag}
+use Rattle.pcrf_values.specs.Places.{OfSession, OfComponent, OfFlow}
+use Rattle.pcrf_values.specs.Facts.{Field}
+use Rattle.lattice_core.specs.SessionFacts.{session_fact}
+use Rattle.lattice_core.specs.declared.session_value.SessionValue.{SessionValue}
+use Rattle.lattice_core.specs.declared.session_value.SessionValue.TheVariants.{Address, Apn, Subscribers, Host, Realm, Last, Prefix}
 use Rattle.af_records.specs.RecordFacts.{fact_of}
 use Rattle.af_records.specs.declared.fact.AfFact.TheVariants.{Component, Flow}
 use Rattle.af_records.specs.declared.fact.ComponentValue.{ComponentValue}

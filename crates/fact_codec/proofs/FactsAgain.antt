@@ -3,16 +3,16 @@ use Rattle.std.proofs.Common.{◌≡◌, ℕ, ◌^◌, ◌<◌, Bool, true, ◌&
 use Rattle.std.specs.Cmp.{first_so, second_so}
 use Rattle.std.specs.Ordering.{is_eq}
 use Rattle.std.specs.List.{flat_map, list_all}
-use Rattle.ranked.specs.Orders.{text_cmp}
-use Rattle.ranked.specs.Tags.{tag_cmp}
-use Rattle.ranked.specs.declared.tag.Tag.{Tag}
-use Rattle.ranked.proofs.OrderLaws.{eq_is, text_ranked}
-use Rattle.ranked.proofs.Plain.{both}
+use Rattle.pcrf_values.specs.Orders.{text_cmp}
+use Rattle.pcrf_values.specs.Tags.{tag_cmp}
+use Rattle.pcrf_values.specs.declared.tag.Tag.{Tag}
+use Rattle.pcrf_values.proofs.OrderLaws.{eq_is, text_ranked}
+use Rattle.pcrf_values.proofs.Plain.{both}
 use Rattle.pcrf_values.specs.Limits.{identity_limit, rule_name_limit}
-use Rattle.pcrf_facts.specs.Places.{SessionField, FramedIpAddress, CalledStationId, SubscriptionIds, OriginHost, OriginRealm, RequestType, FramedIpv6Prefix, ComponentField, MediaType, ComponentStatus, ComponentRateUp, ComponentRateDown, FlowField, FlowDescriptions, FlowUsage, FlowStatus, FlowRateUp, FlowRateDown, session_field_number, component_field_number, flow_field_number, Place, OfSession, OfComponent, OfFlow, OfRuleName, Component, Flow}
-use Rattle.pcrf_facts.specs.Values.{Value, Number, Text, Address, Subscribers, Filters, Untold, Told, Prefix}
-use Rattle.pcrf_facts.specs.Facts.{Fact, End, Removed, Field, Aborted}
-use Rattle.pcrf_facts.proofs.FactLaws.{tag_ranked}
+use Rattle.pcrf_values.specs.Places.{SessionField, FramedIpAddress, CalledStationId, SubscriptionIds, OriginHost, OriginRealm, RequestType, FramedIpv6Prefix, ComponentField, MediaType, ComponentStatus, ComponentRateUp, ComponentRateDown, FlowField, FlowDescriptions, FlowUsage, FlowStatus, FlowRateUp, FlowRateDown, session_field_number, component_field_number, flow_field_number, Place, OfSession, OfComponent, OfFlow, OfRuleName, Component, Flow}
+use Rattle.pcrf_values.specs.Values.{Value, Number, Text, Address, Subscribers, Filters, Untold, Told, Prefix}
+use Rattle.pcrf_values.specs.Facts.{Fact, End, Removed, Field, Aborted}
+use Rattle.pcrf_values.proofs.FactLaws.{tag_ranked}
 use Rattle.pcrf_model.specs.Sessions.{Kind, Gx, Af}
 use Rattle.pcrf_model.specs.Forms.{is_text, is_rule, is_unsigned, fits, is_tagged, fits_session_field, fits_component_field, fits_flow_field, fits_rule_name}
 use Rattle.fact_codec.specs.Spelling.{word_bytes, text_bytes, value_bytes, rule_bytes, fact_bytes, facts_bytes}

@@ -1,11 +1,11 @@
 -- What is read of a letter is what its version has.
 use Rattle.std.proofs.Common.{◌≡◌, ℕ, zero, suc, Bool, true, false, cond, ◌==◌, List, [], ◌∷◌, ◌⊎◌, inl, inr, Option, Some, None, refl, ap, ◌∙◌, subst}
 use Rattle.std.specs.List.{list_all}
-use Rattle.ranked.proofs.Plain.{both, some_same}
-use Rattle.ranked.specs.declared.tag.Tag.{Tag}
-use Rattle.pcrf_facts.specs.Places.{SessionField, session_fields, session_field_number, Place, OfSession, OfComponent, OfFlow, OfRuleName, Component, Flow}
-use Rattle.pcrf_facts.specs.Values.{Value}
-use Rattle.pcrf_facts.specs.Facts.{Fact, End, Removed, Field, Aborted}
+use Rattle.pcrf_values.proofs.Plain.{both, some_same}
+use Rattle.pcrf_values.specs.declared.tag.Tag.{Tag}
+use Rattle.pcrf_values.specs.Places.{SessionField, session_fields, session_field_number, Place, OfSession, OfComponent, OfFlow, OfRuleName, Component, Flow}
+use Rattle.pcrf_values.specs.Values.{Value}
+use Rattle.pcrf_values.specs.Facts.{Fact, End, Removed, Field, Aborted}
 use Rattle.fact_codec.specs.Reading.{Reader, go_on, give, given, many, row_with, byte, word}
 use Rattle.fact_codec.specs.Said.{has_field, has_fact, passed, session_value, session_said, session_field, component_said, component_fact, flow_said, flow_fact, component_removed, flow_removed, told_said, told_field, gx_fact, af_fact, facts, tag, untagged, with_tag, held_gx_fact, held_af_fact}
 use Rattle.fact_codec.proofs.HeldAgain.{same_had}

@@ -2,10 +2,10 @@
 use Rattle.std.proofs.Common.{◌≡◌, ℕ, length, nat_le, Bool, true, false, ◌&&◌, List, [], ◌∷◌, Some, refl, sym, ap, ◌∙◌, Ordering}
 use Rattle.std.specs.Ordering.{is_lt}
 use Rattle.std.specs.List.{slice_get}
-use Rattle.ranked.specs.Ascending.{ascending}
-use Rattle.ranked.proofs.AscendingLaws.{ascending-itself}
-use Rattle.ranked.proofs.OrderLaws.{IsRanked}
-use Rattle.ranked.proofs.Plain.{came_from, lt_less, none_some, some_same}
+use Rattle.pcrf_values.specs.Ascending.{ascending}
+use Rattle.pcrf_values.proofs.AscendingLaws.{ascending-itself}
+use Rattle.pcrf_values.proofs.OrderLaws.{IsRanked}
+use Rattle.pcrf_values.proofs.Plain.{came_from, lt_less, none_some, some_same}
 use Rattle.pcrf_values.specs.Texts.{one_to}
 use Rattle.pcrf_model.specs.Forms.{is_rising}
 use Rattle.pcrf_model.proofs.FormLaws.{all_pass, rises_by_test}

@@ -5,14 +5,14 @@ use Rattle.std.proofs.lemmas.List.{take_all, length-take}
 use Rattle.std.specs.Cmp.{first_so, second_so}
 use Rattle.std.specs.List.{flat_map, list_all}
 use Rattle.std.specs.Ordering.{is_eq}
-use Rattle.ranked.specs.Orders.{text_cmp}
-use Rattle.ranked.proofs.OrderLaws.{eq_is, eq_itself, text_ranked}
+use Rattle.pcrf_values.specs.Orders.{text_cmp}
+use Rattle.pcrf_values.proofs.OrderLaws.{eq_is, eq_itself, text_ranked}
 use Rattle.pcrf_values.specs.Limits.{apn_limit, subscription_data_limit, subscribers_limit, filters_limit, filter_limit}
 use Rattle.pcrf_values.specs.Prefixes.{Ipv6Prefix, address_bits, address_octets, first_of_byte, first_bits, octets_for, padded, prefix_from}
 use Rattle.pcrf_values.specs.RuleValues.{RuleValue}
 use Rattle.pcrf_values.specs.Subscribers.{subscriber_cmp}
 use Rattle.pcrf_values.specs.Texts.{one_to, small_letters}
-use Rattle.pcrf_facts.specs.Values.{Subscriber}
+use Rattle.pcrf_values.specs.Values.{Subscriber}
 use Rattle.pcrf_model.specs.Forms.{is_within, is_unsigned, is_text, is_rising, is_address, is_apn, is_byte, is_prefix, is_subscriber, are_subscribers, are_filters, is_rule}
 use Rattle.pcrf_model.proofs.FormLaws.{within_most}
 use Rattle.fact_codec.specs.Spelling.{prefix_bytes, short_bytes, word_bytes, text_bytes, subscriber_bytes, filters_bytes, class_bytes, rule_bytes}

@@ -1,17 +1,17 @@
 -- Readers of what facts say, and of facts: the rows of fields with the kind of value of each.
 use Rattle.std.specs.Prelude.{ℕ, Bool, true, ◌&&◌, ◌==◌, nat_le, List, take, if◌then◌else◌}
 use Rattle.std.specs.Ordering.{is_eq}
-use Rattle.ranked.specs.Orders.{text_cmp}
-use Rattle.ranked.specs.declared.tag.Tag.{Tag}
+use Rattle.pcrf_values.specs.Orders.{text_cmp}
+use Rattle.pcrf_values.specs.declared.tag.Tag.{Tag}
 use Rattle.pcrf_values.specs.Limits.{identity_limit, apn_limit, subscription_data_limit, subscribers_limit, filters_limit, filter_limit, rule_name_limit}
 use Rattle.pcrf_values.specs.Numbers.{number_within}
 use Rattle.pcrf_values.specs.Prefixes.{Ipv6Prefix, octets_for, prefix_from}
 use Rattle.pcrf_values.specs.RuleValues.{RuleValue}
 use Rattle.pcrf_values.specs.Subscribers.{subscriber_cmp}
 use Rattle.pcrf_values.specs.Texts.{one_to, small_letters}
-use Rattle.pcrf_facts.specs.Places.{SessionField, FramedIpAddress, CalledStationId, SubscriptionIds, OriginHost, OriginRealm, RequestType, FramedIpv6Prefix, session_fields, ComponentField, MediaType, ComponentStatus, ComponentRateUp, ComponentRateDown, FlowField, FlowDescriptions, FlowUsage, FlowStatus, FlowRateUp, FlowRateDown, session_field_number, component_field_number, flow_field_number, OfSession, OfComponent, OfFlow, OfRuleName, Component, Flow}
-use Rattle.pcrf_facts.specs.Values.{Subscriber, Value, Number, Text, Address, Subscribers, Filters, Untold, Told, Prefix}
-use Rattle.pcrf_facts.specs.Facts.{Fact, End, Removed, Field, Aborted}
+use Rattle.pcrf_values.specs.Places.{SessionField, FramedIpAddress, CalledStationId, SubscriptionIds, OriginHost, OriginRealm, RequestType, FramedIpv6Prefix, session_fields, ComponentField, MediaType, ComponentStatus, ComponentRateUp, ComponentRateDown, FlowField, FlowDescriptions, FlowUsage, FlowStatus, FlowRateUp, FlowRateDown, session_field_number, component_field_number, flow_field_number, OfSession, OfComponent, OfFlow, OfRuleName, Component, Flow}
+use Rattle.pcrf_values.specs.Values.{Subscriber, Value, Number, Text, Address, Subscribers, Filters, Untold, Told, Prefix}
+use Rattle.pcrf_values.specs.Facts.{Fact, End, Removed, Field, Aborted}
 use Rattle.pcrf_model.specs.Forms.{is_rising}
 use Rattle.af_records.specs.RecordFacts.{component_fields, flow_fields}
 use Rattle.fact_codec.specs.Reading.{Reader, ◌>>=◌, give, refuse, given, many, row_with, byte, short, word, long, exactly}

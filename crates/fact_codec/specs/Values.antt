@@ -1,12 +1,12 @@
 -- What typed values say, as the definitions of facts have it: a field and its value.
 use Rattle.std.specs.Prelude.{ℕ, List, Option}
-use Rattle.pcrf_facts.specs.Places.{SessionField, FramedIpAddress, CalledStationId, SubscriptionIds, OriginHost, OriginRealm, RequestType, FramedIpv6Prefix, ComponentField, MediaType, ComponentStatus, ComponentRateUp, ComponentRateDown, FlowField, FlowDescriptions, FlowUsage, FlowStatus, FlowRateUp, FlowRateDown}
-use Rattle.pcrf_facts.specs.Values.{Value, Number, Text, Filters}
-use Rattle.pcrf_facts.specs.Values as values
+use Rattle.pcrf_values.specs.Places.{SessionField, FramedIpAddress, CalledStationId, SubscriptionIds, OriginHost, OriginRealm, RequestType, FramedIpv6Prefix, ComponentField, MediaType, ComponentStatus, ComponentRateUp, ComponentRateDown, FlowField, FlowDescriptions, FlowUsage, FlowStatus, FlowRateUp, FlowRateDown}
+use Rattle.pcrf_values.specs.Values.{Value, Number, Text, Filters}
+use Rattle.pcrf_values.specs.Values as values
 use Rattle.pcrf_values.specs.RuleValues.{RuleValue}
-use Rattle.fact_records.specs.SessionFacts.{address_value}
-use Rattle.fact_records.specs.declared.session_value.SessionValue.{SessionValue}
-use Rattle.fact_records.specs.declared.session_value.SessionValue.TheVariants.{Address, Apn, Subscribers, Host, Realm, Last, Prefix}
+use Rattle.lattice_core.specs.SessionFacts.{address_value}
+use Rattle.lattice_core.specs.declared.session_value.SessionValue.{SessionValue}
+use Rattle.lattice_core.specs.declared.session_value.SessionValue.TheVariants.{Address, Apn, Subscribers, Host, Realm, Last, Prefix}
 use Rattle.gx_records.specs.GxFacts.{told_value}
 use Rattle.af_records.specs.declared.fact.ComponentValue.{ComponentValue}
 use Rattle.af_records.specs.declared.fact.ComponentValue.TheVariants as component_value

@@ -3,7 +3,7 @@
 //! The functions do nothing: what they say are their contracts.
 ghost use Rattle.std.specs.Prelude.{◌≡◌, ◌++◌, ◌&&◌, ◌<◌, ◌^◌, ℕ, List, length, true, Some};
 ghost use Rattle.std.specs.List.{list_all};
-ghost use Rattle.pcrf_facts.specs.Facts.{Fact};
+ghost use Rattle.pcrf_values.specs.Facts.{Fact};
 ghost use Rattle.pcrf_model.specs.Sessions.{Gx, Af};
 ghost use Rattle.pcrf_model.specs.Forms.{fits, is_counted, is_tagged};
 ghost use Rattle.fact_codec.specs.Spelling.{facts_bytes, held_facts_bytes};

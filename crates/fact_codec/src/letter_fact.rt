@@ -8,9 +8,8 @@ use crate::fault::Unwritten;
 use crate::put_values::{put_long, put_text, put_told, put_word};
 use crate::said::{put_component_value, put_flow_value, put_session_value};
 use af_records::AfFact;
-use fact_records::TypedFact;
 use gx_records::GxFact;
-use lattice_core::Tag;
+use lattice_core::{Tag, TypedFact};
 use std::alloc::AllocError;
 
 /// A fact of sessions of one kind, as letters carry it.

@@ -3,7 +3,7 @@ ghost use Rattle.std.specs.Prelude.{◌≡◌, ◌++◌, ◌∷◌, ◌<◌, ◌
 ghost use Rattle.std.specs.List.{flat_map};
 ghost use Rattle.fact_codec.specs.Spelling.{short_bytes, word_bytes, long_bytes, text_bytes, subscriber_bytes, filters_bytes, class_bytes, prefix_bytes, rule_bytes, value_bytes};
 ghost use Rattle.gx_records.specs.GxFacts as gx_facts;
-ghost use Rattle.fact_records.specs.SessionFacts.{address_value};
+ghost use Rattle.lattice_core.specs.SessionFacts.{address_value};
 
 use pcrf_values::{Filters, Ipv6Prefix, Rule, RuleQos, Subscriber, Subscribers};
 use std::alloc::AllocError;

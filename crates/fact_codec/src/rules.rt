@@ -11,8 +11,7 @@ use crate::fault::Unread;
 use crate::numbers::{byte_at, word_at};
 use crate::texts::{preemption_at, status_at, text_at};
 use crate::values::filters_at;
-use pcrf_values::{PriorityLevel, QosClass, RetentionPriority, Rule, RuleName, RuleQos};
-use ranked::Ranked;
+use pcrf_values::{PriorityLevel, QosClass, Ranked, RetentionPriority, Rule, RuleName, RuleQos};
 use std::alloc::Global;
 
 /// The rule of that name, which is not spelled again.
@@ -48,7 +47,8 @@ fn rule_at<'a>(alloc: Global, name: &RuleName, bytes: &'a [u8]) -> Result<(Rule,
         max_downlink,
     };
     let name = name.try_copy()?;
-    Ok((Rule::of(name, status, filters, qos, precedence), rest))
+    let rule = Rule::of(alloc, name, status, filters, qos, precedence)?;
+    Ok((rule, rest))
 }
 
 /// What was told under that name: nothing, or a rule.

@@ -1,6 +1,6 @@
 //! What facts say of fields: a field by its number, and a value of its kind, read and written.
 ghost use Rattle.std.specs.Prelude.{◌≡◌, ◌++◌, ◌∷◌, [], IfOk, OnOk, Some, None};
-ghost use Rattle.pcrf_facts.specs.Places.{session_field_number, component_field_number, flow_field_number};
+ghost use Rattle.pcrf_values.specs.Places.{session_field_number, component_field_number, flow_field_number};
 ghost use Rattle.fact_codec.specs.Spelling.{filters_bytes, value_bytes, word_bytes};
 ghost use Rattle.fact_codec.specs.Reading.{Gives};
 ghost use Rattle.fact_codec.specs.Said.{session_said, component_said, flow_said};
@@ -15,7 +15,7 @@ use crate::texts::{apn_at, text_at};
 use crate::values::{address_at, filters_at, prefix_at, subscribers_at};
 use crate::version::{LetterVersion, has_prefixes};
 use af_records::{ComponentValue, FlowValue};
-use fact_records::SessionValue;
+use lattice_core::SessionValue;
 use pcrf_values::{Enumerated, Enumeration, Filters};
 use std::alloc::{AllocError, Global};
 

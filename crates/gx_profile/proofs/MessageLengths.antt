@@ -17,7 +17,7 @@ use Rattle.dia_base.specs.declared.identity.Identity.{Identity}
 use Rattle.dia_base.proofs.AnswerLengths.{text_within, number_within, result_within}
 use Rattle.pcrf_values.specs.Numbers.{request_kind_number}
 use Rattle.gx_profile.specs.Answers.{cca_avps}
-use Rattle.reply_values.specs.Replies.{reply_refusal, reply_delta, reply_quality}
+use Rattle.pcrf_model.specs.ReplyViews.{reply_refusal, reply_delta, reply_quality}
 use Rattle.gx_profile.specs.Avps.{re_auth_request_type}
 use Rattle.gx_profile.specs.Lengths.{delta_room, opening_room}
 use Rattle.gx_profile.specs.Openings.{opening_avps}

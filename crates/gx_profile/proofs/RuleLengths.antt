@@ -15,7 +15,7 @@ use Rattle.dia_base.specs.Avps.{tgpp_key}
 use Rattle.dia_base.specs.Answers.{tgpp_avp}
 use Rattle.dia_base.specs.declared.form.MessageForm.{MessageForm}
 use Rattle.dia_base.specs.declared.form.MessageForm.TheVariants.{Own, Standard}
-use Rattle.flow_filters.proofs.Exchanging.{grows_by_one}
+use Rattle.gx_profile.proofs.Exchanging.{grows_by_one}
 use Rattle.gx_profile.specs.Avps.{flow_status, qos_information, precedence}
 use Rattle.gx_profile.specs.Lengths.{filter_room, name_room, rule_room, definition_room, delta_room}
 use Rattle.gx_profile.specs.Qualities.{needed, tgpp_number, tgpp_group}

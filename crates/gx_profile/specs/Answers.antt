@@ -11,7 +11,7 @@ use Rattle.dia_base.specs.Answers.{number_avp, answer_header, result_avp}
 use Rattle.gx_profile.specs.Openings.{opening_avps}
 use Rattle.gx_profile.specs.Qualities.{quality_avps}
 use Rattle.gx_profile.specs.Rules.{delta_avps}
-use Rattle.reply_values.specs.Replies.{reply_refusal, reply_delta, reply_quality}
+use Rattle.pcrf_model.specs.ReplyViews.{reply_refusal, reply_delta, reply_quality}
 
 -- Session-Id, Auth-Application-Id for Gx, Origin-Host, Origin-Realm, the result, CC-Request-Type, CC-Request-Number, the rules that are removed
 -- and installed, and the default quality of service

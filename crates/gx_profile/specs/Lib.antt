@@ -1,5 +1,8 @@
 pub mod Answers
 pub mod Avps
+pub mod Downlinks
+pub mod Filters
+pub mod Laws
 pub mod Lengths
 pub mod Openings
 pub mod PushAnswers
@@ -7,3 +10,6 @@ pub mod Pushes
 pub mod Qualities
 pub mod Requests
 pub mod Rules
+pub mod Texts
+pub mod Views
+pub mod Words

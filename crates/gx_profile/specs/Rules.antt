@@ -5,7 +5,7 @@ use Rattle.dia_codec.specs.Fields.{AvpValue}
 use Rattle.dia_base.specs.Answers.{tgpp_avp}
 use Rattle.dia_base.specs.declared.form.MessageForm.{MessageForm}
 use Rattle.dia_base.specs.declared.form.MessageForm.TheVariants.{Own, Standard}
-use Rattle.flow_filters.specs.Downlinks.{as_downlink, direction_number, direction_of}
+use Rattle.gx_profile.specs.Downlinks.{as_downlink, direction_number, direction_of}
 use Rattle.gx_profile.specs.Avps.{charging_rule_install, charging_rule_remove, charging_rule_definition, charging_rule_name, precedence, qos_information, guaranteed_bitrate_dl, guaranteed_bitrate_ul, qos_class_identifier, allocation_retention_priority, flow_information, flow_description, flow_direction, flow_status, max_requested_bandwidth_dl, max_requested_bandwidth_ul}
 use Rattle.gx_profile.specs.Qualities.{needed, optional, tgpp_number, tgpp_group, retention_avps}
 

@@ -8,7 +8,7 @@ ghost use Rattle.gx_profile.specs.Answers.{cca, cca_avps};
 ghost use Rattle.gx_profile.specs.Lengths.{delta_room};
 ghost use Rattle.gx_profile.specs.Requests.{ccr_view};
 ghost use Rattle.gx_profile.specs.Rules.{delta_avps};
-ghost use Rattle.reply_values.specs.Replies.{gx_reply_view, reply_delta};
+ghost use Rattle.pcrf_model.specs.ReplyViews.{gx_reply_view, reply_delta};
 
 use crate::ccr::Ccr;
 use crate::opening::put_opening;
@@ -17,7 +17,7 @@ use crate::rules::put_delta;
 use dia_base::codes::avps;
 use dia_base::{AvpWriter, Identity, MessageForm, answer_header, put_result};
 use dia_codec::Header;
-use reply_values::GxReply;
+use pcrf_model::GxReply;
 use std::alloc::{AllocError, Global};
 
 /// Writes what a reply removes and installs.

@@ -17,9 +17,9 @@ use dia_base::{
     read_origin, read_subscribers, required_number, required_number_within, required_text,
 };
 use dia_codec::{Avp, Message};
-use exact_values::{Exact, same, same_address};
-use pcrf_values::{Apn, GxSid, Ipv6Prefix, RequestKind, Subscribers};
-use ranked::Ranked;
+use pcrf_values::{
+    Apn, Exact, GxSid, Ipv6Prefix, Ranked, RequestKind, Subscribers, same, same_address,
+};
 use std::alloc::{AllocError, Global};
 use std::net::Ipv4Addr;
 

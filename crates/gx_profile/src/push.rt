@@ -5,14 +5,14 @@ ghost use Rattle.dia_codec.specs.Drafts.{Adds};
 ghost use Rattle.dia_codec.specs.Limits.{longest_message};
 ghost use Rattle.dia_codec.specs.Written.{padded_len, written_len, written_spelling};
 ghost use Rattle.gx_profile.specs.Pushes.{rar, rar_avps};
-ghost use Rattle.reply_values.specs.Replies.{push_view};
+ghost use Rattle.pcrf_model.specs.ReplyViews.{push_view};
 
 use crate::codes::base;
 use crate::opening::put_opening;
 use crate::rules::put_delta;
 use dia_base::codes::{GX, avps};
 use dia_base::{AvpWriter, Identity, request_header};
-use reply_values::PushOut;
+use pcrf_model::PushOut;
 use std::alloc::{AllocError, Global};
 
 /// The AVPs of a request. Every request fits a message.

@@ -11,11 +11,11 @@ ghost use Rattle.gx_profile.specs.Qualities.{needed, tgpp_group};
 ghost use Rattle.gx_profile.specs.Rules.{has_guaranteed_rate, guaranteed_avps, rule_quality_avps, name_avp, description_avps, filter_avp, rule_avps, rule_avp, remove_avps, install_avps, delta_avps};
 
 use crate::codes::avps;
+use crate::filters::{Direction, as_downlink};
 use crate::quality::{NEEDED, OPTIONAL, put_priority};
 use dia_base::{AvpWriter, MessageForm};
-use flow_filters::{Direction, as_downlink};
+use pcrf_model::FirstEntries;
 use pcrf_values::{FilterText, Filters, QosClass, Rule, RuleName};
-use reply_values::FirstEntries;
 use std::alloc::{AllocError, Global};
 
 /// The last of the classes with a guaranteed bit rate, which are 1 to 4 (TS 23.203, table 6.1.7).

@@ -2,25 +2,25 @@
 use Rattle.std.proofs.Common.{◌≡◌, ℕ, Bool, true, false, cond, List, [], ◌∷◌, ◌++◌, map, Option, Some, None, is_some, refl, sym, ap, ◌∙◌}
 use Rattle.std.specs.List.{filter_map, flat_map, cons_option}
 use Rattle.std.specs.Option.{option_cmp}
-use Rattle.ranked.specs.declared.tag.Tag.{Tag}
+use Rattle.pcrf_values.specs.declared.tag.Tag.{Tag}
 use Rattle.pcrf_values.specs.RuleValues.{RuleValue, rule_cmp}
-use Rattle.pcrf_facts.specs.Places.{ComponentField, FlowField, Place, OfComponent, OfFlow}
-use Rattle.pcrf_facts.specs.Values.{Value, Entry, value_cmp, entry_cmp}
-use Rattle.pcrf_facts.specs.Facts.{Fact, entry}
-use Rattle.pcrf_facts.specs.Held.{kept_list, is_gone, entry_at, entry_shown}
-use Rattle.pcrf_facts.proofs.JoinedLaws.{held-Same}
-use Rattle.pcrf_facts.specs.ToldWords.{told_entry, told_rule, ToldRule}
+use Rattle.pcrf_values.specs.Places.{ComponentField, FlowField, Place, OfComponent, OfFlow}
+use Rattle.pcrf_values.specs.Values.{Value, Entry, value_cmp, entry_cmp}
+use Rattle.pcrf_values.specs.Facts.{Fact, entry}
+use Rattle.pcrf_values.specs.Held.{kept_list, is_gone, entry_at, entry_shown}
+use Rattle.pcrf_values.proofs.JoinedLaws.{held-Same}
+use Rattle.pcrf_values.specs.ToldWords.{told_entry, told_rule, ToldRule}
 use Rattle.pcrf_model.specs.Forms.{is_record}
 use Rattle.pcrf_model.specs.Sessions.{Gx}
 use Rattle.pcrf_model.proofs.RecordForms.{joined_record}
-use Rattle.ranked.specs.Sets.{greatest}
-use Rattle.ranked.proofs.SetLaws.{Same-twice}
-use Rattle.fact_records.specs.SessionValues.{entry_by, session_value}
+use Rattle.pcrf_values.specs.Sets.{greatest}
+use Rattle.pcrf_values.proofs.SetLaws.{Same-twice}
+use Rattle.lattice_core.specs.SessionValues.{entry_by, session_value}
 use Rattle.gx_records.specs.declared.fact.GxFact.{GxFact}
 use Rattle.gx_records.specs.declared.fact.GxFact.TheVariants.{End, Field, Told}
-use Rattle.fact_records.specs.SessionFacts.{session_fact}
-use Rattle.fact_records.specs.declared.session_value.SessionValue.{SessionValue}
-use Rattle.fact_records.specs.declared.session_value.SessionValue.TheVariants.{Address, Apn, Subscribers, Host, Realm, Last, Prefix}
+use Rattle.lattice_core.specs.SessionFacts.{session_fact}
+use Rattle.lattice_core.specs.declared.session_value.SessionValue.{SessionValue}
+use Rattle.lattice_core.specs.declared.session_value.SessionValue.TheVariants.{Address, Apn, Subscribers, Host, Realm, Last, Prefix}
 use Rattle.gx_records.specs.GxFacts.{told_value, fact_of, rules_told}
 
 -- what was told compares as its values do

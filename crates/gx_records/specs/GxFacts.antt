@@ -1,11 +1,11 @@
 -- The facts of a Gx session.
 use Rattle.std.specs.Prelude.{ℕ, List, [], ◌∷◌, Option, Some, None}
 use Rattle.pcrf_values.specs.RuleValues.{RuleValue}
-use Rattle.pcrf_facts.specs.Places.{OfRuleName}
-use Rattle.pcrf_facts.specs.Values.{Value, Untold}
-use Rattle.pcrf_facts.specs.Values as values
-use Rattle.pcrf_facts.specs.Facts as facts
-use Rattle.fact_records.specs.SessionFacts.{session_fact}
+use Rattle.pcrf_values.specs.Places.{OfRuleName}
+use Rattle.pcrf_values.specs.Values.{Value, Untold}
+use Rattle.pcrf_values.specs.Values as values
+use Rattle.pcrf_values.specs.Facts as facts
+use Rattle.lattice_core.specs.SessionFacts.{session_fact}
 use Rattle.gx_records.specs.declared.fact.GxFact.{GxFact}
 use Rattle.gx_records.specs.declared.fact.GxFact.TheVariants.{End, Field, Told}
 

@@ -2,8 +2,7 @@
 ghost use Rattle.std.specs.Prelude.{◌≡◌, IfOk};
 
 use crate::open_request_type::OpenRequestType;
-use fact_records::SessionValue;
-use lattice_core::{Ranked, Tag};
+use lattice_core::{Ranked, SessionValue, Tag};
 use pcrf_values::{Enumerated, Rule, RuleName};
 use std::alloc::AllocError;
 

@@ -8,7 +8,7 @@ mod told;
 mod typed;
 
 pub use fact::GxFact;
-pub use fact_records::SessionValue;
+pub use lattice_core::SessionValue;
 pub use open_request_type::OpenRequestType;
 pub use record::GxRec;
 pub use told::Told;

@@ -1,26 +1,26 @@
 //! Records of Gx sessions.
 ghost use Rattle.std.specs.Prelude.{◌≡◌, ℕ, ◌++◌, IfOk, IfSome, OnOk, None, map, option_map, true};
 ghost use Rattle.std.specs.List.{filter_map, flat_map};
-ghost use Rattle.pcrf_facts.specs.Held.{kept_list, is_ended, entry_shown};
-ghost use Rattle.pcrf_facts.specs.Live.{gx_is_live, home};
-ghost use Rattle.pcrf_facts.specs.Places as places;
-ghost use Rattle.pcrf_facts.specs.Places.{SessionField, ComponentField, FlowField, OfSession, OfComponent, OfFlow, session_field_number};
+ghost use Rattle.pcrf_values.specs.Held.{kept_list, is_ended, entry_shown};
+ghost use Rattle.pcrf_values.specs.Live.{gx_is_live, home};
+ghost use Rattle.pcrf_values.specs.Places as places;
+ghost use Rattle.pcrf_values.specs.Places.{SessionField, ComponentField, FlowField, OfSession, OfComponent, OfFlow, session_field_number};
 ghost use Rattle.pcrf_model.specs.Forms.{is_record};
 ghost use Rattle.pcrf_model.specs.Sessions.{Gx};
-ghost use Rattle.pcrf_facts.specs.ToldWords.{told_entry, told_entries, told_rules};
-ghost use Rattle.pcrf_facts.specs.Values as values;
-ghost use Rattle.pcrf_facts.specs.Values.{Number, Text};
-ghost use Rattle.fact_records.specs.SessionValues.{entry_by, session_entry, session_number};
-ghost use Rattle.fact_records.specs.SessionFacts.{address_value};
+ghost use Rattle.pcrf_values.specs.ToldWords.{told_entry, told_entries, told_rules};
+ghost use Rattle.pcrf_values.specs.Values as values;
+ghost use Rattle.pcrf_values.specs.Values.{Number, Text};
+ghost use Rattle.lattice_core.specs.SessionValues.{entry_by, session_entry, session_number};
+ghost use Rattle.lattice_core.specs.SessionFacts.{address_value};
 ghost use Rattle.gx_records.specs.GxFacts.{fact_of, rule_under, rules_told};
 
 use crate::fact::GxFact;
 use crate::open_request_type::OpenRequestType;
 use crate::told::Told;
-use fact_records::{Record, SessionValue, copy_facts, position_of_field};
-use lattice_core::{FactSet, Join, Tag};
-use pcrf_values::{Apn, DiameterIdentity, Enumerated, Ipv6Prefix, Rule, RuleName, Subscribers};
-use ranked::Ranked;
+use lattice_core::{FactSet, Join, Record, SessionValue, Tag, copy_facts, position_of_field};
+use pcrf_values::{
+    Apn, DiameterIdentity, Enumerated, Ipv6Prefix, Ranked, Rule, RuleName, Subscribers,
+};
 use std::alloc::{AllocError, Global};
 use std::marker::Model;
 use std::net::Ipv4Addr;
@@ -34,7 +34,7 @@ pub struct GxRec {
 
 impl Model for GxRec {
     ghost use Rattle.std.specs.Prelude.{◌≡◌, true, List};
-    ghost use Rattle.pcrf_facts.specs.Facts.{Fact};
+    ghost use Rattle.pcrf_values.specs.Facts.{Fact};
     ghost use Rattle.pcrf_model.specs.Forms.{is_record};
     ghost use Rattle.pcrf_model.specs.Sessions.{Gx};
 
@@ -47,8 +47,8 @@ impl Model for GxRec {
 
 impl Join for GxRec {
     ghost use Rattle.std.specs.Prelude.{◌++◌};
-    ghost use Rattle.pcrf_facts.specs.Held.{kept_list, join_of};
-    ghost use Rattle.pcrf_facts.proofs.JoinedLaws.{joined_comm, joined_assoc, joined_idem, held_twice};
+    ghost use Rattle.pcrf_values.specs.Held.{kept_list, join_of};
+    ghost use Rattle.pcrf_values.proofs.JoinedLaws.{joined_comm, joined_assoc, joined_idem, held_twice};
 
     ghost joined = { join_of };
 
@@ -85,7 +85,7 @@ impl Join for GxRec {
 }
 
 impl FactSet for GxRec {
-    ghost use Rattle.fact_records.specs.Sets.{facts_subset, facts_empty};
+    ghost use Rattle.lattice_core.specs.Sets.{facts_subset, facts_empty};
 
     ghost subset = { facts_subset };
 

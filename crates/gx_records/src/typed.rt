@@ -1,10 +1,10 @@
 //! The facts of Gx sessions, as records of facts ask for them.
 ghost use Rattle.std.specs.Prelude.{◌≡◌};
-ghost use Rattle.pcrf_facts.specs.Values.{value_cmp};
+ghost use Rattle.pcrf_values.specs.Values.{value_cmp};
 ghost use Rattle.gx_records.specs.GxFacts.{told_value};
 
 use crate::fact::GxFact;
-use fact_records::{Beneath, Position, RULE_NAME, TypedFact, compare_values, session_position};
+use lattice_core::{Beneath, Position, RULE_NAME, TypedFact, compare_values, session_position};
 use pcrf_values::Rule;
 use std::alloc::AllocError;
 use std::cmp::Ordering;

@@ -2,16 +2,16 @@
 use Rattle.std.proofs.Common.{◌≡◌, ℕ, Bool, true, false, ◌||◌, ◌⊎◌, List, [], Option, Some, None, inl, inr, refl, sym, ap, ◌∙◌, subst, option_map}
 use Rattle.std.specs.Ordering.{is_eq}
 use Rattle.std.specs.declared.net.ipv4_addr.Ipv4Addr.{Ipv4Addr}
-use Rattle.ranked.specs.Sets.{In}
-use Rattle.ranked.proofs.OrderLaws.{eq_is, eq_itself}
-use Rattle.ranked.proofs.Plain.{clash, is_false, split, or_left, or_right, none_some}
-use Rattle.ranked.proofs.SetLaws.{Same-back}
+use Rattle.pcrf_values.specs.Sets.{In}
+use Rattle.pcrf_values.proofs.OrderLaws.{eq_is, eq_itself}
+use Rattle.pcrf_values.proofs.Plain.{clash, is_false, split, or_left, or_right, none_some}
+use Rattle.pcrf_values.proofs.SetLaws.{Same-back}
 use Rattle.pcrf_values.specs.RuleValues.{RuleValue}
-use Rattle.pcrf_facts.specs.Facts.{Fact}
-use Rattle.pcrf_facts.specs.Places.{Place, address, prefix, subscribers}
+use Rattle.pcrf_values.specs.Facts.{Fact}
+use Rattle.pcrf_values.specs.Places.{Place, address, prefix, subscribers}
 use Rattle.pcrf_values.specs.Prefixes.{Ipv6Prefix}
-use Rattle.pcrf_facts.specs.Values.{Value, Entry, Subscriber, Subscribers, Prefix}
-use Rattle.pcrf_facts.proofs.ShownLaws.{members_show_the_same}
+use Rattle.pcrf_values.specs.Values.{Value, Entry, Subscriber, Subscribers, Prefix}
+use Rattle.pcrf_values.proofs.ShownLaws.{members_show_the_same}
 use Rattle.pcrf_model.specs.Holdings.{Holding, SessionFact, facts_on, kept_of, with_facts_of}
 use Rattle.pcrf_model.specs.Laws.{DifferInOne, HasAddress, NeverMeet}
 use Rattle.pcrf_model.specs.Operations.{Operation, with_operation}
@@ -23,18 +23,18 @@ use Rattle.pcrf_model.specs.Waiting.{MayWait}
 use Rattle.pcrf_model.proofs.HoldingLaws.{session_ranked, replaces_one}
 use Rattle.pcrf_model.proofs.NeighbourLaws.{which}
 use Rattle.pcrf_model.proofs.TakingLaws.{taking_changes_one}
-use Rattle.session_index.specs.Index.{IndexValue, listed_at, listed_in, listed_of, Covers, Grows, ListsFacts, ListsAddress, ListsPrefix, ListsSubscribers, ListsGateway, ListedUnder}
-use Rattle.session_index.specs.Neighbours.{HasPrefix, NeverCover}
-use Rattle.session_index.specs.Networks.{all_networks, network_of}
-use Rattle.session_index.proofs.Covered.{covers_grow, covers_taken}
-use Rattle.session_index.proofs.CoveredNetworks.{covers_in_its_network, one_network}
-use Rattle.session_index.proofs.Neighbours.{neighbours_alone}
-use Rattle.kept_rules.specs.Kept.{RulesValue, kept_at, AreKept}
-use Rattle.kept_rules.proofs.Keeping.{none_kept}
-use Rattle.waiting_sessions.specs.Waits.{WaitingValue, waiting_of, DueWait, Keeps, WaitsIfDue}
-use Rattle.waiting_sessions.proofs.Waited.{may_wait}
-use Rattle.waiting_aborts.specs.Abandoned.{AbandonedWait, ListedCallsWait, NetworkCallsWait}
-use Rattle.waiting_aborts.proofs.Followed.{call_followed, gateway_followed}
+use Rattle.bind_index.specs.Index.{IndexValue, listed_at, listed_in, listed_of, Covers, Grows, ListsFacts, ListsAddress, ListsPrefix, ListsSubscribers, ListsGateway, ListedUnder}
+use Rattle.bind_index.specs.Neighbours.{HasPrefix, NeverCover}
+use Rattle.bind_index.specs.Networks.{all_networks, network_of}
+use Rattle.bind_index.proofs.Covered.{covers_grow, covers_taken}
+use Rattle.bind_index.proofs.CoveredNetworks.{covers_in_its_network, one_network}
+use Rattle.bind_index.proofs.Neighbours.{neighbours_alone}
+use Rattle.pcc_rules.specs.Cached.{RulesValue, cached_at, AreCached}
+use Rattle.pcc_rules.proofs.Keeping.{none_kept}
+use Rattle.rule_delta.specs.Waits.{WaitingValue, waiting_of, DueWait, Keeps, WaitsIfDue}
+use Rattle.rule_delta.proofs.Waited.{may_wait}
+use Rattle.rule_delta.specs.Abandoned.{AbandonedWait, ListedCallsWait, NetworkCallsWait}
+use Rattle.rule_delta.proofs.Followed.{call_followed, gateway_followed}
 use Rattle.indexed_state.specs.Indexed.{Agree, address_value, IsNear, IsReached, Unsettled, spans}
 use Rattle.indexed_state.specs.declared.reached.Reached.{Reached}
 use Rattle.indexed_state.proofs.Near.{near_or_not, shown_prefix}
@@ -102,14 +102,14 @@ module _ (t : Tables) (i : ℕ) (h k : Holding) (d : Session) (old new : IndexVa
     pub differs : DifferInOne h.facts k.facts d
     pub covers : Covers (view h.facts) old
     pub covered : Covers (view k.facts) new
-    pub kept : AreKept t (view h.facts) first
+    pub kept : AreCached t (view h.facts) first
     pub due : DueWait t i (view h.facts) u
     pub grows : Grows old new
     pub was_at : IsReached (view h.facts) d before
     pub is_at : IsReached (view k.facts) d after
-    pub gone_before : (id : List ℕ) → IsNear new before id → kept_at third id ≡ None
-    pub gone_after : (id : List ℕ) → IsNear new after id → kept_at third id ≡ None
-    pub same : (id : List ℕ) (rs : List RuleValue) → kept_at third id ≡ Some rs → kept_at first id ≡ Some rs
+    pub gone_before : (id : List ℕ) → IsNear new before id → cached_at third id ≡ None
+    pub gone_after : (id : List ℕ) → IsNear new after id → cached_at third id ≡ None
+    pub same : (id : List ℕ) (rs : List RuleValue) → cached_at third id ≡ Some rs → cached_at first id ≡ Some rs
     pub keeps : Keeps u w
     pub own : after.address ≡ None → is_gx d.kind ≡ true → WaitsIfDue (view k.facts) w d
     pub near_before : (id : List ℕ) → IsNear new before id → WaitsIfDue (view k.facts) w (gx id)
@@ -201,7 +201,7 @@ module _ (t : Tables) (i : ℕ) (h k : Holding) (d : Session) (old new : IndexVa
     ]
 
     -- so each list is still its session's own, or none is kept
-    pub lists_kept : AreKept t (view k.facts) third
+    pub lists_kept : AreCached t (view k.facts) third
     lists_kept = elim far [
       | inl all ↦ none_kept t (view k.facts) third all.stale
       | inr none ↦ record {

@@ -1,10 +1,10 @@
 -- Where one gateway's session binds as before, no binding changes and no list of rules, and no session has to be listed.
 use Rattle.std.proofs.Common.{◌≡◌, ℕ, Bool, List, Option, None, inl, inr, sym, ap, ◌∙◌, refl, subst, option_map}
-use Rattle.pcrf_facts.specs.Facts.{Fact}
-use Rattle.pcrf_facts.specs.FlowWords.{value_at}
-use Rattle.pcrf_facts.specs.Live.{Shows}
-use Rattle.pcrf_facts.specs.Places.{Place, OfSession, OfComponent, OfFlow, OfRuleName, SessionField, FramedIpAddress, FramedIpv6Prefix, address, prefix, apn, subscribers}
-use Rattle.pcrf_facts.specs.Values.{Entry}
+use Rattle.pcrf_values.specs.Facts.{Fact}
+use Rattle.pcrf_values.specs.FlowWords.{value_at}
+use Rattle.pcrf_values.specs.Live.{Shows}
+use Rattle.pcrf_values.specs.Places.{Place, OfSession, OfComponent, OfFlow, OfRuleName, SessionField, FramedIpAddress, FramedIpv6Prefix, address, prefix, apn, subscribers}
+use Rattle.pcrf_values.specs.Values.{Entry}
 use Rattle.pcrf_model.specs.Bindings.{Party, Stamp, last_reached}
 use Rattle.pcrf_model.specs.Holdings.{Holding, facts_on}
 use Rattle.pcrf_model.specs.Laws.{DifferInOne, BindsAlike}
@@ -13,11 +13,11 @@ use Rattle.pcrf_model.specs.Tables.{Tables}
 use Rattle.pcrf_model.specs.Views.{view, value}
 use Rattle.pcrf_model.proofs.NeighbourLaws.{which, said, all_keep}
 use Rattle.pcrf_model.proofs.WaitingLaws.{one_enough}
-use Rattle.session_index.specs.Index.{IndexValue}
-use Rattle.kept_rules.specs.Kept.{RulesValue}
-use Rattle.waiting_sessions.specs.Waits.{WaitingValue, waiting_of, Keeps, WaitsIfDue}
-use Rattle.waiting_sessions.proofs.Waited.{keeps_itself, may_wait}
-use Rattle.waiting_aborts.proofs.Followed.{told_followed}
+use Rattle.bind_index.specs.Index.{IndexValue}
+use Rattle.pcc_rules.specs.Cached.{RulesValue}
+use Rattle.rule_delta.specs.Waits.{WaitingValue, waiting_of, DueWait, Keeps, WaitsIfDue}
+use Rattle.rule_delta.proofs.Waited.{keeps_itself, may_wait}
+use Rattle.rule_delta.proofs.Followed.{told_followed}
 use Rattle.indexed_state.specs.Alike.{ShowAlike}
 use Rattle.indexed_state.specs.Indexed.{Agree}
 
@@ -53,10 +53,10 @@ module _ (h k : Holding) (id : List ℕ) (differs : DifferInOne h.facts k.facts 
     | inr n ↦ ap (option_map (λ (e : Entry). e.1)) ((said h.facts k.facts (gx id) s differs n).shows p)
   ]
 
-  -- so the parts agree, where the session waits
-  pub agree_alike : (t : Tables) (i : ℕ) (b : Bool) (index : IndexValue) (r : RulesValue) (u w x : WaitingValue) → Keeps u w → WaitsIfDue (view k.facts) w (gx id)
+  -- so the parts agree, where all that are due wait
+  pub agree_due : (t : Tables) (i : ℕ) (b : Bool) (index : IndexValue) (r : RulesValue) (u w x : WaitingValue) → DueWait t i (view k.facts) w
       → Agree t i h b index r u x → Agree t i k b index r w x
-  agree_alike t i b index r u w x keeps waits a = record {
+  agree_due t i b index r u w x due a = record {
     covers = λ e. record {
       addresses = λ s x f. (a.covers e).addresses s x (same_value s address (ap (λ (p : Party). p.address) alike.reads) ∙ f);
       prefixes = λ s p f. (a.covers e).prefixes s p (same_value s prefix (ap (λ (q : Party). q.prefix) alike.reads) ∙ f);
@@ -66,9 +66,14 @@ module _ (h k : Holding) (id : List ℕ) (differs : DifferInOne h.facts k.facts 
       each = λ other rs f. a.kept.each other rs f ∙ all_keep t h.facts k.facts (gx id) (gx other) differs alike;
       apart = a.kept.apart;
     };
-    due = record {
-      listed = λ all. one_enough t i h.facts k.facts (gx id) (waiting_of u) (waiting_of w) differs
-          (a.due.listed (keeps.some all)) (keeps.stay all) (may_wait i (view k.facts) w (gx id) all (λ _. waits)) alike;
-    };
+    due = due;
     abandoned = told_followed i h.facts k.facts (gx id) x x differs (keeps_itself x) a.abandoned alike;
   }
+
+  -- as they do where the session waits
+  pub agree_alike : (t : Tables) (i : ℕ) (b : Bool) (index : IndexValue) (r : RulesValue) (u w x : WaitingValue) → Keeps u w → WaitsIfDue (view k.facts) w (gx id)
+      → Agree t i h b index r u x → Agree t i k b index r w x
+  agree_alike t i b index r u w x keeps waits a = agree_due t i b index r u w x (record {
+    listed = λ all. one_enough t i h.facts k.facts (gx id) (waiting_of u) (waiting_of w) differs
+        (a.due.listed (keeps.some all)) (keeps.stay all) (may_wait i (view k.facts) w (gx id) all (λ _. waits)) alike;
+  }) a

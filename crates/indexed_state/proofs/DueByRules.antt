@@ -1,10 +1,11 @@
 -- Who is due after one session changed, where it is known whose rules can have changed.
-use Rattle.std.proofs.Common.{◌≡◌, ℕ, true, not, ◌&&◌, List, ◌⊎◌, Option, Some, None, inl, inr, refl, sym, ◌∙◌, subst}
-use Rattle.std.specs.Cmp.{first_so}
-use Rattle.ranked.specs.Ascending.{Rises}
-use Rattle.ranked.proofs.AscendingLaws.{ascending-ascending, same_ascending}
-use Rattle.pcrf_facts.specs.Places.{OfRuleName}
-use Rattle.pcrf_facts.specs.ToldWords.{ToldRule}
+use Rattle.std.proofs.Common.{◌≡◌, ℕ, Bool, true, not, ◌&&◌, List, ◌⊎◌, Option, Some, None, inl, inr, refl, sym, ap, ◌∙◌, subst}
+use Rattle.std.specs.Cmp.{first_so, second_so}
+use Rattle.pcrf_values.specs.Ascending.{Rises}
+use Rattle.pcrf_values.proofs.AscendingLaws.{ascending-ascending, same_ascending}
+use Rattle.pcrf_values.proofs.Plain.{clash, not_true}
+use Rattle.pcrf_values.specs.Places.{OfRuleName}
+use Rattle.pcrf_values.specs.ToldWords.{ToldRule}
 use Rattle.pcrf_model.specs.Sessions.{Session, is_gx}
 use Rattle.pcrf_model.specs.Holdings.{SessionFact}
 use Rattle.pcrf_model.specs.Views.{View, view}
@@ -16,7 +17,7 @@ use Rattle.pcrf_model.specs.Laws.{DifferInOne}
 use Rattle.pcrf_model.specs.Waiting.{Waiting, AllDueWait, may_be_due, Stay, MayWait}
 use Rattle.pcrf_model.proofs.DifferenceLaws.{told_ranked}
 use Rattle.pcrf_model.proofs.ToldLaws.{told_is_told, told-shows, In-told}
-use Rattle.pcrf_model.proofs.NeighbourLaws.{SaysTheSame, only, said, same_life, shown_there}
+use Rattle.pcrf_model.proofs.NeighbourLaws.{SaysTheSame, only, said, same_life, shown_there, which}
 
 -- where both say the same of a session, what its gateway was told is the same
 same_told : (xs ys : List SessionFact) (s : Session) → SaysTheSame (view xs) (view ys) s → told_rules_of (view xs) s ≡ told_rules_of (view ys) s
@@ -51,3 +52,16 @@ by_rules t i xs ys d before after h all stay each = record {
     | inr k ↦ stay.each name s.id (all.each name s (stays_due t i xs ys (Some name) s (said xs ys d s h k.0) k.1 ∙ u))
   ];
 }
+
+-- and where the session that changed isn't due, nor did the rules of another change, who waited is enough
+pub none_more : (t : Tables) (i : ℕ) (xs ys : List SessionFact) (d : Session) (waiting : Waiting) → DifferInOne xs ys d → AllDueWait t i (view xs) waiting
+    → ((s : Session) → rules t (view xs) s ≡ rules t (view ys) s) → is_empty (difference (told_rules_of (view ys) d) (rules t (view ys) d)) ≡ true → AllDueWait t i (view ys) waiting
+none_more t i xs ys d waiting h all keep told = record {
+  each = λ name s u. elim (which d s) [
+    | inl e ↦ clash (told_all s) (ap told_all e ∙ told) (not_true (told_all s) (second_so (may_be_due i (view ys) name s) _ u))
+    | inr n ↦ all.each name s (stays_due t i xs ys (Some name) s (said xs ys d s h n) (keep s) ∙ u)
+  ];
+}
+  where
+    told_all : Session → Bool
+    told_all s = is_empty (difference (told_rules_of (view ys) s) (rules t (view ys) s))

@@ -3,23 +3,23 @@ use Rattle.std.proofs.Common.{◌≡◌, ℕ, Bool, true, false, ◌||◌, List,
 use Rattle.std.specs.List.{list_any}
 use Rattle.std.specs.Ordering.{is_eq}
 use Rattle.std.specs.declared.net.ipv4_addr.Ipv4Addr.{Ipv4Addr}
-use Rattle.ranked.specs.Orders.{text_cmp}
-use Rattle.ranked.specs.Sets.{In}
-use Rattle.ranked.proofs.OrderLaws.{text_ranked, eq_is, eq_itself}
-use Rattle.ranked.proofs.Plain.{clash, none_some, some_same}
-use Rattle.ranked.proofs.SetLaws.{In-any, any-In}
+use Rattle.pcrf_values.specs.Orders.{text_cmp}
+use Rattle.pcrf_values.specs.Sets.{In}
+use Rattle.pcrf_values.proofs.OrderLaws.{text_ranked, eq_is, eq_itself}
+use Rattle.pcrf_values.proofs.Plain.{clash, none_some, some_same}
+use Rattle.pcrf_values.proofs.SetLaws.{In-any, any-In}
 use Rattle.pcrf_values.specs.Prefixes.{Ipv6Prefix}
 use Rattle.pcrf_values.specs.RuleValues.{RuleValue}
-use Rattle.pcrf_facts.specs.Values.{Value, Prefix}
+use Rattle.pcrf_values.specs.Values.{Value, Prefix}
 use Rattle.pcrf_model.specs.Sessions.{Gx, Session, gx}
 use Rattle.pcrf_model.specs.Views.{View}
-use Rattle.session_index.specs.Forgetting.{ShowsNetwork}
-use Rattle.session_index.specs.Index.{IndexValue, listed_at, listed_in}
-use Rattle.session_index.specs.Networks.{all_networks, network_of}
-use Rattle.kept_rules.specs.Kept.{RulesValue, kept_at, AreStale}
-use Rattle.waiting_aborts.specs.Abandoned.{ListedCallsWait}
-use Rattle.waiting_sessions.specs.Waits.{WaitingValue, Keeps, ListedWait, NetworkWaits, WaitsIfDue}
-use Rattle.waiting_sessions.proofs.Waited.{keeps_through, waits_on}
+use Rattle.bind_index.specs.Forgetting.{ShowsNetwork}
+use Rattle.bind_index.specs.Index.{IndexValue, listed_at, listed_in}
+use Rattle.bind_index.specs.Networks.{all_networks, network_of}
+use Rattle.pcc_rules.specs.Cached.{RulesValue, cached_at, AreStale}
+use Rattle.rule_delta.specs.Abandoned.{ListedCallsWait}
+use Rattle.rule_delta.specs.Waits.{WaitingValue, Keeps, ListedWait, NetworkWaits, WaitsIfDue}
+use Rattle.rule_delta.proofs.Waited.{keeps_through, waits_on}
 use Rattle.indexed_state.specs.Indexed.{IsNear, IsPrefixOf, IsUnsettled, TouchesAt, TouchesBy, Unsettled, WaitsBy}
 use Rattle.indexed_state.specs.declared.reached.Reached.{Reached}
 use Rattle.indexed_state.proofs.Reading.{mapped}
@@ -89,10 +89,10 @@ module _ (index : IndexValue) (r : Reached) (id : List ℕ) where
 -- ---- one after another
 
 -- a list that is stale stays so where no list is another
-stays_stale : (y z : RulesValue) (id : List ℕ) → ((i : List ℕ) (rs : List RuleValue) → kept_at z i ≡ Some rs → kept_at y i ≡ Some rs) → kept_at y id ≡ None → kept_at z id ≡ None
-stays_stale y z id same g = of (kept_at z id) refl
+stays_stale : (y z : RulesValue) (id : List ℕ) → ((i : List ℕ) (rs : List RuleValue) → cached_at z i ≡ Some rs → cached_at y i ≡ Some rs) → cached_at y id ≡ None → cached_at z id ≡ None
+stays_stale y z id same g = of (cached_at z id) refl
   where
-    of : (o : Option (List RuleValue)) → kept_at z id ≡ o → kept_at z id ≡ None
+    of : (o : Option (List RuleValue)) → cached_at z id ≡ o → cached_at z id ≡ None
     of None e = e
     of (Some rs) e = none_some rs (sym g ∙ same id rs e)
 
@@ -147,7 +147,7 @@ pub none_touched : (kept : RulesValue) (index : IndexValue) → TouchesBy kept k
 none_touched kept index = record { gone = λ p e. none_some p e; same = λ id rs e. e }
 
 -- the lists that aren't stale are as they were
-pub others_same : (x y : RulesValue) (ids : List (List ℕ)) → AreStale x y ids → (id : List ℕ) (rs : List RuleValue) → kept_at y id ≡ Some rs → kept_at x id ≡ Some rs
+pub others_same : (x y : RulesValue) (ids : List (List ℕ)) → AreStale x y ids → (id : List ℕ) (rs : List RuleValue) → cached_at y id ≡ Some rs → cached_at x id ≡ Some rs
 others_same x y ids h id rs e = sym (h.others id (λ m. none_some rs (sym (h.gone id m) ∙ e))) ∙ e
 
 -- those of all networks where the prefix spans networks
@@ -160,7 +160,7 @@ all_touched x y index p n is one h = record {
   same = others_same x y (listed_in index Gx n) h;
 }
   where
-    gone : (id : List ℕ) → In id (listed_in index Gx all_networks) → kept_at y id ≡ None
+    gone : (id : List ℕ) → In id (listed_in index Gx all_networks) → cached_at y id ≡ None
     gone id k = h.gone id (subst (λ (o : Ipv6Prefix). In id (listed_in index Gx o)) (sym is) k)
 
 -- and then those of its own

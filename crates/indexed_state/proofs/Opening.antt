@@ -2,19 +2,19 @@
 use Rattle.std.proofs.Common.{◌≡◌, ℕ, Bool, true, false, cond, is_some, is_err, Result, Ok, Err, OnOk, List, [], ◌++◌, map, Option, Some, None, option_map, option_and_then, unwrap_or, inl, inr, refl, sym, ap, ◌∙◌, subst}
 use Rattle.std.proofs.lemmas.List.{append-nil}
 use Rattle.std.specs.Ordering.{is_eq}
-use Rattle.ranked.specs.Ascending.{ascending}
-use Rattle.ranked.specs.Orders.{text_cmp}
-use Rattle.ranked.specs.Sets.{In, Distinct}
-use Rattle.ranked.proofs.OrderLaws.{text_ranked, eq_is, eq_itself}
-use Rattle.ranked.proofs.Plain.{clash, is_false, none_some, some_same, split}
+use Rattle.pcrf_values.specs.Ascending.{ascending}
+use Rattle.pcrf_values.specs.Orders.{text_cmp}
+use Rattle.pcrf_values.specs.Sets.{In, Distinct}
+use Rattle.pcrf_values.proofs.OrderLaws.{text_ranked, eq_is, eq_itself}
+use Rattle.pcrf_values.proofs.Plain.{clash, is_false, none_some, some_same, split}
 use Rattle.pcrf_values.specs.Prefixes.{Ipv6Prefix, covers}
 use Rattle.pcrf_values.specs.RuleValues.{RuleValue}
-use Rattle.pcrf_facts.specs.Facts.{Fact}
-use Rattle.pcrf_facts.specs.FlowWords.{value_at}
-use Rattle.pcrf_facts.specs.Held.{entry_shown}
-use Rattle.pcrf_facts.specs.Live.{gx_is_live}
-use Rattle.pcrf_facts.specs.Places.{Place, address, prefix, apn}
-use Rattle.pcrf_facts.specs.Values.{Value, Entry, Prefix}
+use Rattle.pcrf_values.specs.Facts.{Fact}
+use Rattle.pcrf_values.specs.FlowWords.{value_at}
+use Rattle.pcrf_values.specs.Held.{entry_shown}
+use Rattle.pcrf_values.specs.Live.{gx_is_live}
+use Rattle.pcrf_values.specs.Places.{Place, address, prefix, apn}
+use Rattle.pcrf_values.specs.Values.{Value, Entry, Prefix}
 use Rattle.pcrf_model.specs.Bindings.{matches, is_bound_to}
 use Rattle.pcrf_model.specs.Differences.{rule_name_of}
 use Rattle.pcrf_model.specs.Holdings.{Holding, SessionFact, facts_on}
@@ -28,18 +28,18 @@ use Rattle.pcrf_model.proofs.BindLaws.{bind-greatest, gx_is, matched}
 use Rattle.pcrf_model.proofs.NeighbourLaws.{how_they_meet, said, which}
 use Rattle.bind_index.specs.Beside.{beside}
 use Rattle.site_join.specs.States.{record_facts}
-use Rattle.session_index.specs.Index.{IndexValue, Covers, Grows, ListsGateway, listed_at, listed_in}
-use Rattle.session_index.specs.Networks.{network_of, spans_networks}
-use Rattle.session_index.proofs.Covered.{covers_grow}
-use Rattle.session_index.proofs.CoveredNetworks.{one_network}
-use Rattle.session_index.proofs.Indexed.{prefixes_met}
+use Rattle.bind_index.specs.Index.{IndexValue, Covers, Grows, ListsGateway, listed_at, listed_in}
+use Rattle.bind_index.specs.Networks.{network_of, spans_networks}
+use Rattle.bind_index.proofs.Covered.{covers_grow}
+use Rattle.bind_index.proofs.CoveredNetworks.{one_network}
+use Rattle.bind_index.proofs.Indexed.{prefixes_met}
 use Rattle.pcc_rules.specs.Listed.{HasBound}
 use Rattle.pcc_rules.specs.Listing.{RowNamesApart, keyed, keyed_cmp, unkeyed}
 use Rattle.pcc_rules.proofs.Derived.{derived_is, derived_apart}
-use Rattle.kept_rules.specs.Kept.{RulesValue, kept_at, AreKept}
-use Rattle.waiting_sessions.specs.Waits.{WaitingValue, waiting_of, Keeps, WaitsIfDue}
-use Rattle.waiting_sessions.proofs.Waited.{keeps_itself, may_wait}
-use Rattle.waiting_aborts.proofs.Followed.{gateway_followed}
+use Rattle.pcc_rules.specs.Cached.{RulesValue, cached_at, AreCached}
+use Rattle.rule_delta.specs.Waits.{WaitingValue, waiting_of, Keeps, WaitsIfDue}
+use Rattle.rule_delta.proofs.Waited.{keeps_itself, may_wait}
+use Rattle.rule_delta.proofs.Followed.{gateway_followed}
 use Rattle.indexed_state.specs.Alike.{ShowAlike}
 use Rattle.indexed_state.specs.Indexed.{Agree, address_value}
 use Rattle.indexed_state.specs.Opened.{IsAlone, KeepsOne, NoCallAt, NoCallIn, OpensAlone}
@@ -61,10 +61,10 @@ not_refused (Err x) P h e = clash true refl e
 
 -- where rules are kept of a session, just those are
 pub kept_one : (before after : RulesValue) (id : List ℕ) (rs : List RuleValue)
-    → ((q : List ℕ) → kept_at after q ≡ cond (is_eq (text_cmp id q)) (Some rs) (kept_at before q)) → KeepsOne before after id rs
+    → ((q : List ℕ) → cached_at after q ≡ cond (is_eq (text_cmp id q)) (Some rs) (cached_at before q)) → KeepsOne before after id rs
 kept_one before after id rs keeps = record {
-  own = λ xs e. some_same xs rs (sym e ∙ keeps id ∙ ap (λ (b : Bool). cond b (Some rs) (kept_at before id)) (eq_itself text_ranked id));
-  others = λ q n. keeps q ∙ ap (λ (b : Bool). cond b (Some rs) (kept_at before q)) (is_false (is_eq (text_cmp id q)) (λ same. n (sym (eq_is text_ranked id q same))));
+  own = λ xs e. some_same xs rs (sym e ∙ keeps id ∙ ap (λ (b : Bool). cond b (Some rs) (cached_at before id)) (eq_itself text_ranked id));
+  others = λ q n. keeps q ∙ ap (λ (b : Bool). cond b (Some rs) (cached_at before q)) (is_false (is_eq (text_cmp id q)) (λ same. n (sym (eq_is text_ranked id q same))));
 }
 
 -- ---- records that show alike
@@ -221,22 +221,22 @@ module _ (t : Tables) (i : ℕ) (h k : Holding) (id : List ℕ) (rs : List RuleV
   others_stay s other = others_keep t h.facts k.facts (gx id) s differs refl none_before now.unmatched other
 
   -- and each list that is kept is that of its session
-  lists_kept : (before after : RulesValue) → KeepsOne before after id rs → AreKept t (view h.facts) before → AreKept t (view k.facts) after
+  lists_kept : (before after : RulesValue) → KeepsOne before after id rs → AreCached t (view h.facts) before → AreCached t (view k.facts) after
   lists_kept before after keeps kept = record {
     each = λ q xs e. (there q xs e (is_eq (text_cmp q id)) refl).0;
     apart = λ q xs e. (there q xs e (is_eq (text_cmp q id)) refl).1;
   }
     where
-      there : (q : List ℕ) (xs : List RuleValue) → kept_at after q ≡ Some xs → (b : Bool) → is_eq (text_cmp q id) ≡ b → (xs ≡ rules t (view k.facts) (gx q)) × Distinct (map rule_name_of xs)
+      there : (q : List ℕ) (xs : List RuleValue) → cached_at after q ≡ Some xs → (b : Bool) → is_eq (text_cmp q id) ≡ b → (xs ≡ rules t (view k.facts) (gx q)) × Distinct (map rule_name_of xs)
       there q xs e true same =
           let its : q ≡ id = eq_is text_ranked q id same in
-          let is : xs ≡ rs = keeps.own xs (ap (kept_at after) (sym its) ∙ e) in (
+          let is : xs ≡ rs = keeps.own xs (ap (cached_at after) (sym its) ∙ e) in (
             is ∙ sym now.has ∙ ap (λ (n : List ℕ). rules t (view k.facts) (gx n)) (sym its),
             subst (λ (ys : List RuleValue). Distinct (map rule_name_of ys)) (sym is) now.apart,
           )
       there q xs e false n =
           let other : q ≡ id → ⊥ = λ its. clash (is_eq (text_cmp q id)) (ap (λ (m : List ℕ). is_eq (text_cmp q m)) (sym its) ∙ eq_itself text_ranked q) n in
-          let was : kept_at before q ≡ Some xs = sym (keeps.others q other) ∙ e in (
+          let was : cached_at before q ≡ Some xs = sym (keeps.others q other) ∙ e in (
             kept.each q xs was ∙ others_stay (gx q) (λ its. other (ap (λ (s : Session). s.id) its)),
             kept.apart q xs was,
           )

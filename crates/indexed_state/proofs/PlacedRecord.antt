@@ -3,17 +3,17 @@ use Rattle.std.proofs.Common.{◌≡◌, ℕ, max, Bool, true, false, not, List,
 use Rattle.std.proofs.lemmas.List.Elements.{filter_map-append}
 use Rattle.std.specs.Cmp.{tied_itself}
 use Rattle.std.specs.Ordering.{is_eq, ordering_then}
-use Rattle.ranked.specs.Ascending.{Rises}
-use Rattle.ranked.specs.Sets.{In, Same}
-use Rattle.ranked.proofs.Plain.{clash}
-use Rattle.ranked.proofs.AscendingLaws.{ascending-ascending, same_ascending, filter_map-ascending}
-use Rattle.ranked.proofs.OrderLaws.{eq_is, eq_itself}
-use Rattle.ranked.proofs.SetLaws.{Same-back, Same-through}
-use Rattle.pcrf_facts.specs.Facts.{Fact, fact_cmp}
-use Rattle.pcrf_facts.specs.Held.{kept_list, join_of, kept_set}
-use Rattle.pcrf_facts.proofs.FactLaws.{fact_ranked}
-use Rattle.pcrf_facts.proofs.JoinedLaws.{kept-Same, joined_comm, joined-held}
-use Rattle.pcrf_facts.proofs.JoinedLaws as facts
+use Rattle.pcrf_values.specs.Ascending.{Rises}
+use Rattle.pcrf_values.specs.Sets.{In, Same}
+use Rattle.pcrf_values.proofs.Plain.{clash}
+use Rattle.pcrf_values.proofs.AscendingLaws.{ascending-ascending, same_ascending, filter_map-ascending}
+use Rattle.pcrf_values.proofs.OrderLaws.{eq_is, eq_itself}
+use Rattle.pcrf_values.proofs.SetLaws.{Same-back, Same-through}
+use Rattle.pcrf_values.specs.Facts.{Fact, fact_cmp}
+use Rattle.pcrf_values.specs.Held.{kept_list, join_of, kept_set}
+use Rattle.pcrf_values.proofs.FactLaws.{fact_ranked}
+use Rattle.pcrf_values.proofs.JoinedLaws.{kept-Same, joined_comm, joined-held}
+use Rattle.pcrf_values.proofs.JoinedLaws as facts
 use Rattle.pcrf_model.specs.Sessions.{Session, session_cmp}
 use Rattle.pcrf_model.specs.Holdings.{Holding, SessionFact, session_fact_cmp, on_session, under, facts_on, kept_facts, kept_of, with_facts_of}
 use Rattle.pcrf_model.specs.Operations.{Operation, with_operation}

@@ -2,19 +2,19 @@
 use Rattle.std.proofs.Common.{◌≡◌, ℕ, List, [], Option, Some, None, refl, sym, ap, ◌∙◌, subst, option_map}
 use Rattle.std.specs.Net.Addr.{ipv4_octets}
 use Rattle.std.specs.declared.net.ipv4_addr.Ipv4Addr.{Ipv4Addr}
-use Rattle.ranked.specs.Sets.{In}
-use Rattle.ranked.proofs.Plain.{none_some, some_same}
-use Rattle.pcrf_facts.specs.Facts.{Fact}
-use Rattle.pcrf_facts.specs.Held.{entry_shown}
-use Rattle.pcrf_facts.specs.Places.{address, prefix}
-use Rattle.pcrf_facts.specs.Values.{Value, Address, Entry}
+use Rattle.pcrf_values.specs.Sets.{In}
+use Rattle.pcrf_values.proofs.Plain.{none_some, some_same}
+use Rattle.pcrf_values.specs.Facts.{Fact}
+use Rattle.pcrf_values.specs.Held.{entry_shown}
+use Rattle.pcrf_values.specs.Places.{address, prefix}
+use Rattle.pcrf_values.specs.Values.{Value, Address, Entry}
 use Rattle.pcrf_model.specs.Holdings.{SessionFact, facts_on}
 use Rattle.pcrf_model.specs.Sessions.{Session, Gx}
 use Rattle.pcrf_model.specs.Views.{View, view, value}
-use Rattle.session_index.specs.Forgetting.{ShowsAddress}
-use Rattle.session_index.specs.Index.{IndexValue, listed_at}
-use Rattle.kept_rules.specs.Kept.{RulesValue, AreStale}
-use Rattle.waiting_sessions.proofs.Reading.{value_shown}
+use Rattle.bind_index.specs.Forgetting.{ShowsAddress}
+use Rattle.bind_index.specs.Index.{IndexValue, listed_at}
+use Rattle.pcc_rules.specs.Cached.{RulesValue, AreStale}
+use Rattle.rule_delta.proofs.Reading.{value_shown}
 use Rattle.indexed_state.specs.Indexed.{address_value, IsAddressOf, TouchesAt}
 
 -- what a record shows as its address is what the view has

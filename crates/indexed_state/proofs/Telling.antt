@@ -1,14 +1,14 @@
 -- Where a gateway is told something, nothing else changes: no binding, no list of rules, and no session has to be listed.
 use Rattle.std.proofs.Common.{◌≡◌, ℕ, Bool, true, false, not, ◌&&◌, List, ◌++◌, None, inl, inr, refl, sym, ap, ◌∙◌, subst, option_map}
-use Rattle.ranked.specs.Sets.{In}
-use Rattle.ranked.proofs.Plain.{clash}
-use Rattle.pcrf_facts.specs.Facts.{Fact, End, Removed, Field, Aborted}
-use Rattle.pcrf_facts.specs.Held.{kept_list, join_of, is_ended, entry_shown}
-use Rattle.pcrf_facts.specs.FlowWords.{value_at}
-use Rattle.pcrf_facts.specs.Live.{Shows, gx_has_what_it_needs}
-use Rattle.pcrf_facts.specs.Places.{Place, OfSession, OfComponent, OfFlow, OfRuleName, address, prefix, apn, subscribers}
-use Rattle.pcrf_facts.specs.Values.{Entry}
-use Rattle.pcrf_facts.proofs.ShownLaws.{shown-held, is_ended-held}
+use Rattle.pcrf_values.specs.Sets.{In}
+use Rattle.pcrf_values.proofs.Plain.{clash}
+use Rattle.pcrf_values.specs.Facts.{Fact, End, Removed, Field, Aborted}
+use Rattle.pcrf_values.specs.Held.{kept_list, join_of, is_ended, entry_shown}
+use Rattle.pcrf_values.specs.FlowWords.{value_at}
+use Rattle.pcrf_values.specs.Live.{Shows, gx_has_what_it_needs}
+use Rattle.pcrf_values.specs.Places.{Place, OfSession, OfComponent, OfFlow, OfRuleName, address, prefix, apn, subscribers}
+use Rattle.pcrf_values.specs.Values.{Entry}
+use Rattle.pcrf_values.proofs.ShownLaws.{shown-held, is_ended-held}
 use Rattle.pcrf_model.specs.Bindings.{Party, Stamp, last_reached}
 use Rattle.pcrf_model.specs.Holdings.{Holding, facts_on}
 use Rattle.pcrf_model.specs.Laws.{DifferInOne, BindsAlike}
@@ -16,9 +16,9 @@ use Rattle.pcrf_model.specs.Sessions.{gx}
 use Rattle.pcrf_model.specs.Tables.{Tables}
 use Rattle.pcrf_model.specs.Views.{view}
 use Rattle.pcrf_model.proofs.ToldFacts.{Tells, is_told, field_shows, ended_same}
-use Rattle.session_index.specs.Index.{IndexValue}
-use Rattle.kept_rules.specs.Kept.{RulesValue}
-use Rattle.waiting_sessions.specs.Waits.{WaitingValue, Keeps, WaitsIfDue}
+use Rattle.bind_index.specs.Index.{IndexValue}
+use Rattle.pcc_rules.specs.Cached.{RulesValue}
+use Rattle.rule_delta.specs.Waits.{WaitingValue, Keeps, WaitsIfDue}
 use Rattle.indexed_state.specs.Alike.{ShowAlike}
 use Rattle.indexed_state.specs.Indexed.{Agree, IsTold, tells}
 use Rattle.indexed_state.proofs.BindingAlike.{agree_alike}

@@ -1,14 +1,14 @@
 -- Where one gateway's session changes to which no call can be bound, before or after, every other session keeps its rules.
 use Rattle.std.proofs.Common.{◌≡◌, true, false, cond, not, ◌&&◌, List, [], ◌++◌, Option, Some, None, sym, ap, ◌∙◌, subst, option_map, option_and_then, unwrap_or}
 use Rattle.std.specs.Ordering.{is_eq}
-use Rattle.ranked.proofs.Plain.{clash, came_from}
-use Rattle.ranked.specs.Ascending.{ascending}
-use Rattle.ranked.specs.Sets.{In, Same}
-use Rattle.ranked.proofs.OrderLaws.{eq_is, eq_itself}
-use Rattle.ranked.proofs.SetLaws.{Same-back, Same-itself, Same-append, In-filter_map, filter_map-In}
-use Rattle.ranked.proofs.AscendingLaws.{ascending-Same}
+use Rattle.pcrf_values.proofs.Plain.{clash, came_from}
+use Rattle.pcrf_values.specs.Ascending.{ascending}
+use Rattle.pcrf_values.specs.Sets.{In, Same}
+use Rattle.pcrf_values.proofs.OrderLaws.{eq_is, eq_itself}
+use Rattle.pcrf_values.proofs.SetLaws.{Same-back, Same-itself, Same-append, In-filter_map, filter_map-In}
+use Rattle.pcrf_values.proofs.AscendingLaws.{ascending-Same}
 use Rattle.pcrf_values.specs.RuleValues.{RuleValue}
-use Rattle.pcrf_facts.specs.Places.{FlowDescriptions, Place, OfFlow}
+use Rattle.pcrf_values.specs.Places.{FlowDescriptions, Place, OfFlow}
 use Rattle.pcrf_model.specs.Sessions.{Session, session_cmp, is_gx}
 use Rattle.pcrf_model.specs.Holdings.{SessionFact, facts_on}
 use Rattle.pcrf_model.specs.Views.{View, Shown, view}

@@ -1,13 +1,14 @@
 -- When two records of a gateway's session show alike, so that rules and bindings by the one are those by the other; and when a new one brings nothing.
-use Rattle.std.specs.Prelude.{◌≡◌, true, List, map}
-use Rattle.ranked.specs.Sets.{Distinct}
-use Rattle.ranked.specs.declared.tag.Tag.{Tag}
-use Rattle.pcrf_facts.specs.Facts.{Fact}
-use Rattle.pcrf_facts.specs.FlowWords.{value_at}
-use Rattle.pcrf_facts.specs.Held.{entry_shown}
-use Rattle.pcrf_facts.specs.Live.{gx_is_live}
-use Rattle.pcrf_facts.specs.Places.{address, prefix, apn, subscribers}
-use Rattle.pcrf_facts.specs.ToldWords.{told_rules}
+use Rattle.std.specs.Prelude.{◌≡◌, true, List, map, Some}
+use Rattle.pcrf_values.specs.Sets.{Distinct}
+use Rattle.pcrf_values.specs.declared.tag.Tag.{Tag}
+use Rattle.pcrf_values.specs.Facts.{Fact, Field}
+use Rattle.pcrf_values.specs.FlowWords.{value_at}
+use Rattle.pcrf_values.specs.Held.{entry_shown}
+use Rattle.pcrf_values.specs.Live.{Shows, gx_is_live}
+use Rattle.pcrf_values.specs.Places.{SessionField, FramedIpAddress, CalledStationId, SubscriptionIds, OriginHost, OriginRealm, RequestType, FramedIpv6Prefix, OfSession, address, prefix, apn, subscribers}
+use Rattle.pcrf_values.specs.ToldWords.{told_rules}
+use Rattle.pcrf_values.specs.Values.{Value}
 use Rattle.pcrf_model.specs.Differences.{difference, is_empty, rule_name_of}
 use Rattle.pcrf_model.specs.Holdings.{Holding, facts_on}
 use Rattle.pcrf_model.specs.Rules.{rules}
@@ -33,3 +34,19 @@ pub record BringsNothing (t : Tables) (h : Holding) (s : Session) (known : List 
   pub alike : ShowAlike (facts_on h.facts s) known
   pub apart : Distinct (map rule_name_of (rules t (view h.facts) s))
   pub told : is_empty (difference (told_rules known) (rules t (view h.facts) s)) ≡ true
+
+-- the value of a session's field changes nothing of what rules and bindings read where this shows: of where the user is reached nothing is said, and of the
+-- access point and of the subscribers what shows
+abbrev pub stays : Shows → SessionField → Value → Type 0
+stays shows FramedIpAddress x = ⊥
+stays shows CalledStationId x = value_at shows apn ≡ Some x
+stays shows SubscriptionIds x = value_at shows subscribers ≡ Some x
+stays shows OriginHost x = Unit {0}
+stays shows OriginRealm x = Unit {0}
+stays shows RequestType x = Unit {0}
+stays shows FramedIpv6Prefix x = ⊥
+
+-- the fact is a field of which this holds beside what these facts show
+abbrev pub Refreshes : List Fact → Fact → Type 0
+Refreshes own (Field (OfSession f) t x) = stays (entry_shown own) f x
+Refreshes own f = ⊥

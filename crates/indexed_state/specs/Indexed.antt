@@ -3,22 +3,22 @@ use Rattle.std.specs.Prelude.{◌≡◌, ◌⊎◌, ℕ, Bool, true, false, List
 use Rattle.std.proofs.Common.{option_map}
 use Rattle.std.specs.Net.Addr.{ipv4_octets}
 use Rattle.std.specs.declared.net.ipv4_addr.Ipv4Addr.{Ipv4Addr}
-use Rattle.ranked.specs.Sets.{In}
+use Rattle.pcrf_values.specs.Sets.{In}
 use Rattle.pcrf_values.specs.Prefixes.{Ipv6Prefix}
 use Rattle.pcrf_values.specs.RuleValues.{RuleValue}
-use Rattle.pcrf_facts.specs.Facts.{Fact, Field}
-use Rattle.pcrf_facts.specs.Held.{kept_list, join_of}
-use Rattle.pcrf_facts.specs.Places.{OfRuleName, address, prefix}
-use Rattle.pcrf_facts.specs.Values.{Value, Address, Prefix}
+use Rattle.pcrf_values.specs.Facts.{Fact, Field}
+use Rattle.pcrf_values.specs.Held.{kept_list, join_of}
+use Rattle.pcrf_values.specs.Places.{OfRuleName, address, prefix}
+use Rattle.pcrf_values.specs.Values.{Value, Address, Prefix}
 use Rattle.pcrf_model.specs.Holdings.{Holding, facts_on}
 use Rattle.pcrf_model.specs.Sessions.{Session, Gx, gx}
 use Rattle.pcrf_model.specs.Tables.{Tables}
 use Rattle.pcrf_model.specs.Views.{View, view, value}
-use Rattle.session_index.specs.Index.{IndexValue, Covers, listed_at, listed_in}
-use Rattle.session_index.specs.Networks.{all_networks, network_of, spans_networks}
-use Rattle.kept_rules.specs.Kept.{RulesValue, kept_at, AreKept}
-use Rattle.waiting_sessions.specs.Waits.{WaitingValue, DueWait, Keeps, WaitsIfDue}
-use Rattle.waiting_aborts.specs.Abandoned.{AbandonedWait}
+use Rattle.bind_index.specs.Index.{IndexValue, Covers, listed_at, listed_in}
+use Rattle.bind_index.specs.Networks.{all_networks, network_of, spans_networks}
+use Rattle.pcc_rules.specs.Cached.{RulesValue, cached_at, AreCached}
+use Rattle.rule_delta.specs.Waits.{WaitingValue, DueWait, Keeps, WaitsIfDue}
+use Rattle.rule_delta.specs.Abandoned.{AbandonedWait}
 use Rattle.indexed_state.specs.declared.reached.Reached.{Reached}
 
 -- operator tables, and what is held
@@ -34,7 +34,7 @@ with_holding x h = record x { holding = h }
 -- push, and each that is abandoned there for an abort
 pub record Agree (t : Tables) (i : ℕ) (h : Holding) (is_whole : Bool) (index : IndexValue) (lists : RulesValue) (w x : WaitingValue) : Type 0 where
   pub covers : is_whole ≡ true → Covers (view h.facts) index
-  pub kept : AreKept t (view h.facts) lists
+  pub kept : AreCached t (view h.facts) lists
   pub due : DueWait t i (view h.facts) w
   pub abandoned : AbandonedWait i (view h.facts) x
 
@@ -57,7 +57,7 @@ pub record IsReached (v : View) (s : Session) (r : Reached) : Type 0 where
 
 -- no list of rules is kept, and all sessions wait
 pub record Unsettled (lists : RulesValue) (w : WaitingValue) : Type 0 where
-  pub stale : (id : List ℕ) → kept_at lists id ≡ None
+  pub stale : (id : List ℕ) → cached_at lists id ≡ None
   pub waits : w.all ≡ true
 
 -- there is a prefix, and it spans networks
@@ -73,13 +73,13 @@ IsNear index r id =
 
 -- no list of rules is another, and those of the gateways' sessions that are listed under the address are stale
 pub record TouchesAt (before after : RulesValue) (index : IndexValue) (at : Option Ipv4Addr) : Type 0 where
-  pub gone : (a : Ipv4Addr) → at ≡ Some a → (id : List ℕ) → In id (listed_at index Gx a) → kept_at after id ≡ None
-  pub same : (id : List ℕ) (rs : List RuleValue) → kept_at after id ≡ Some rs → kept_at before id ≡ Some rs
+  pub gone : (a : Ipv4Addr) → at ≡ Some a → (id : List ℕ) → In id (listed_at index Gx a) → cached_at after id ≡ None
+  pub same : (id : List ℕ) (rs : List RuleValue) → cached_at after id ≡ Some rs → cached_at before id ≡ Some rs
 
 -- so are those of the sessions of the prefix's network, and of those that span networks
 pub record TouchesBy (before after : RulesValue) (index : IndexValue) (by : Option Ipv6Prefix) : Type 0 where
-  pub gone : (p : Ipv6Prefix) → by ≡ Some p → (id : List ℕ) → In id (listed_in index Gx (network_of p)) ⊎ In id (listed_in index Gx all_networks) → kept_at after id ≡ None
-  pub same : (id : List ℕ) (rs : List RuleValue) → kept_at after id ≡ Some rs → kept_at before id ≡ Some rs
+  pub gone : (p : Ipv6Prefix) → by ≡ Some p → (id : List ℕ) → In id (listed_in index Gx (network_of p)) ⊎ In id (listed_in index Gx all_networks) → cached_at after id ≡ None
+  pub same : (id : List ℕ) (rs : List RuleValue) → cached_at after id ≡ Some rs → cached_at before id ≡ Some rs
 
 -- these wait too
 pub record WaitsBy (v : View) (index : IndexValue) (w : WaitingValue) (by : Option Ipv6Prefix) : Type 0 where
@@ -87,8 +87,8 @@ pub record WaitsBy (v : View) (index : IndexValue) (w : WaitingValue) (by : Opti
 
 -- the lists of rules of those that are near are stale, and they wait; no list is another, and who waited waits
 pub record IsUnsettled (v : View) (index : IndexValue) (r : Reached) (before after : RulesValue) (u w : WaitingValue) : Type 0 where
-  pub gone : (id : List ℕ) → IsNear index r id → kept_at after id ≡ None
-  pub same : (id : List ℕ) (rs : List RuleValue) → kept_at after id ≡ Some rs → kept_at before id ≡ Some rs
+  pub gone : (id : List ℕ) → IsNear index r id → cached_at after id ≡ None
+  pub same : (id : List ℕ) (rs : List RuleValue) → cached_at after id ≡ Some rs → cached_at before id ≡ Some rs
   pub keeps : Keeps u w
   pub waits : (id : List ℕ) → IsNear index r id → WaitsIfDue v w (gx id)
 

@@ -1,6 +1,11 @@
+pub use Rattle.bind_index.specs.Asking
+pub use Rattle.bind_index.specs.Index
+pub use Rattle.bind_index.specs.Listings
+pub use Rattle.pcc_rules.specs.Cached
+pub use Rattle.pcc_rules.specs.Many
 pub mod Alike
+pub mod ByRecord
+pub mod Fields
 pub mod Indexed
 pub mod Opened
-pub use Rattle.kept_rules.specs.Kept
-pub use Rattle.many_rules.specs.Many
-pub use Rattle.session_index.specs.Index
+pub mod Shown

@@ -1,14 +1,14 @@
 -- When a gateway's session of which nothing was known comes alone: no call can be bound to it, so its rules are the operator's.
 use Rattle.std.specs.Prelude.{◌≡◌, ℕ, false, true, List, [], map, Some}
 use Rattle.std.specs.declared.net.ipv4_addr.Ipv4Addr.{Ipv4Addr}
-use Rattle.ranked.specs.Sets.{Distinct}
+use Rattle.pcrf_values.specs.Sets.{Distinct}
 use Rattle.pcrf_values.specs.Prefixes.{Ipv6Prefix}
 use Rattle.pcrf_values.specs.RuleValues.{RuleValue}
-use Rattle.pcrf_facts.specs.Facts.{Fact}
-use Rattle.pcrf_facts.specs.FlowWords.{value_at}
-use Rattle.pcrf_facts.specs.Held.{entry_shown}
-use Rattle.pcrf_facts.specs.Places.{address, prefix}
-use Rattle.pcrf_facts.specs.Values.{Value, Prefix}
+use Rattle.pcrf_values.specs.Facts.{Fact}
+use Rattle.pcrf_values.specs.FlowWords.{value_at}
+use Rattle.pcrf_values.specs.Held.{entry_shown}
+use Rattle.pcrf_values.specs.Places.{address, prefix}
+use Rattle.pcrf_values.specs.Values.{Value, Prefix}
 use Rattle.pcrf_model.specs.Bindings.{matches}
 use Rattle.pcrf_model.specs.Differences.{rule_name_of}
 use Rattle.pcrf_model.specs.Holdings.{Holding, facts_on}
@@ -17,9 +17,9 @@ use Rattle.pcrf_model.specs.Rules.{rules}
 use Rattle.pcrf_model.specs.Sessions.{Af, Session, gx}
 use Rattle.pcrf_model.specs.Tables.{Tables}
 use Rattle.pcrf_model.specs.Views.{view}
-use Rattle.session_index.specs.Index.{IndexValue, listed_at, listed_in}
-use Rattle.session_index.specs.Networks.{network_of, spans_networks}
-use Rattle.kept_rules.specs.Kept.{RulesValue, kept_at}
+use Rattle.bind_index.specs.Index.{IndexValue, listed_at, listed_in}
+use Rattle.bind_index.specs.Networks.{network_of, spans_networks}
+use Rattle.pcc_rules.specs.Cached.{RulesValue, cached_at}
 use Rattle.indexed_state.specs.Alike.{ShowAlike}
 use Rattle.indexed_state.specs.Indexed.{address_value}
 
@@ -44,5 +44,5 @@ pub record OpensAlone (t : Tables) (h : Holding) (id : List ℕ) (known : List F
 
 -- of that session these rules are kept, or none, and of each other what was kept
 pub record KeepsOne (before after : RulesValue) (id : List ℕ) (rs : List RuleValue) : Type 0 where
-  pub own : (xs : List RuleValue) → kept_at after id ≡ Some xs → xs ≡ rs
-  pub others : (q : List ℕ) → ¬ (q ≡ id) → kept_at after q ≡ kept_at before q
+  pub own : (xs : List RuleValue) → cached_at after id ≡ Some xs → xs ≡ rs
+  pub others : (q : List ℕ) → ¬ (q ≡ id) → cached_at after q ≡ cached_at before q

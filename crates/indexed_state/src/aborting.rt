@@ -5,23 +5,24 @@ ghost use Rattle.pcrf_model.specs.Aborting.{abandoned_session, abort_of};
 ghost use Rattle.pcrf_model.specs.Sessions.{is_gx};
 ghost use Rattle.pcrf_model.specs.Views.{view};
 ghost use Rattle.pcrf_values.specs.Prefixes.{Ipv6Prefix};
-ghost use Rattle.session_index.specs.Networks.{network_of};
+ghost use Rattle.bind_index.specs.Networks.{network_of};
 ghost use Rattle.indexed_state.specs.Indexed.{spans};
 ghost use Rattle.rx_profile.specs.Aborts.{abort_view};
 ghost use Rattle.site_join.specs.States.{session_of};
-ghost use Rattle.waiting_sessions.specs.Waits.{Keeps, WaitsIfDue};
-ghost use Rattle.waiting_aborts.specs.Abandoned.{ListedCallsWait, NetworkCallsWait};
+ghost use Rattle.rule_delta.specs.Waits.{Keeps, WaitsIfDue};
+ghost use Rattle.rule_delta.specs.Abandoned.{ListedCallsWait, NetworkCallsWait};
 
 use crate::indexed::{IndexedState, name_of, wait_for};
 use crate::reached::Reached;
 use crate::unsettling::spans;
 use crate::whole::make_whole;
+use bind_index::{Index, network_of};
 use pcrf_values::DiameterIdentity;
+use rule_delta::aborts::{gather, wait_at, wait_in, wait_one};
+use rule_delta::{WaitingCalls, first_abort, next_abort};
 use rx_profile::AbortOut;
-use session_index::{Index, network_of};
 use site_join::{SessionFacts, State};
 use std::alloc::{AllocError, Global};
-use waiting_aborts::{WaitingCalls, first_abort, gather, next_abort, wait_at, wait_in, wait_one};
 
 impl IndexedState {
     /// The abort that a site has to ask for: of the live sessions of application functions that say who their client is, are
@@ -47,7 +48,7 @@ impl IndexedState {
 
     /// Whether an abort may be due at a site for a host: a session waits under it, or all wait. Where none does none is
     /// abandoned. It is a look-up alone.
-    #[tactic(auto, using(waiting_aborts::proofs::FirstLeft::nobody_left))]
+    #[tactic(auto, using(rule_delta::proofs::FirstLeft::nobody_left))]
     pub fn is_aborting(&self, site: u8, host: &DiameterIdentity) -> bool
         ensures { result ≡ false → abandoned_session site
             (view self.now.holding.facts) (Some host.now) ≡ None }

@@ -1,12 +1,14 @@
 //! Records of a gateway's session by which rules and bindings are the same.
-ghost use Rattle.std.specs.Prelude.{◌≡◌, true, option_map};
+ghost use Rattle.std.specs.Prelude.{◌≡◌, Some, true, map, option_map};
 ghost use Rattle.std.specs.Option.{option_copied};
+ghost use Rattle.gx_records.specs.GxFacts.{fact_of};
+ghost use Rattle.pcrf_values.specs.Facts.{Fact};
+ghost use Rattle.pcrf_values.specs.Sets.{In};
 ghost use Rattle.site_join.specs.States.{record_facts};
-ghost use Rattle.indexed_state.specs.Alike.{ShowAlike, tagged};
+ghost use Rattle.indexed_state.specs.Alike.{Refreshes, ShowAlike, tagged};
 
-use exact_values::same;
-use gx_records::GxRec;
-use ranked::{Ranked, Tag};
+use gx_records::{GxFact, GxRec, SessionValue};
+use pcrf_values::{Ranked, Tag, same};
 
 /// Both records show the same address and the same prefix under the same tags, by which bindings choose, the same access point
 /// and the same subscribers, and both sessions are live or neither is: so rules and bindings by the one are those by the other.
@@ -52,5 +54,43 @@ fn same_value<T: Ranked>(before: Option<(Tag, &T)>, after: Option<(Tag, &T)>) ->
         (Some((_, ours)), Some((_, theirs))) => same(ours, theirs),
         (None, None) => true,
         _ => false,
+    }
+}
+
+/// Each of these facts is a field of which rules and bindings read nothing, or read what the record shows already.
+pub(crate) fn refresh(known: &GxRec, facts: &[GxFact]) -> bool
+    ensures { result ≡ true → (f : Fact) → In f (map fact_of facts.now) → Refreshes known.now f }
+{
+    let mut left = facts;
+    'each: while let Some((first, rest)) = left.split_first() {
+        if !refreshes(known, first) {
+            return false;
+        }
+        left = rest;
+    }
+    true
+}
+
+/// So is one.
+fn refreshes(known: &GxRec, fact: &GxFact) -> bool
+    ensures { result ≡ true → Refreshes known.now (fact_of fact.now) }
+{
+    match fact {
+        GxFact::Field(_, SessionValue::Apn(apn)) => shows_value(known.apn(), apn),
+        GxFact::Field(_, SessionValue::Subscribers(ids)) => shows_value(known.subscribers(), ids),
+        GxFact::Field(_, SessionValue::Host(_)) => true,
+        GxFact::Field(_, SessionValue::Realm(_)) => true,
+        GxFact::Field(_, SessionValue::Last(_)) => true,
+        _ => false,
+    }
+}
+
+/// This value shows, under whatever tag.
+fn shows_value<T: Ranked>(shown: Option<(Tag, &T)>, value: &T) -> bool
+    ensures { result ≡ true → option_map (λ e. e.1.now) shown.entry ≡ Some value.now }
+{
+    match shown {
+        Some((_, standing)) => same(standing, value),
+        None => false,
     }
 }

@@ -6,7 +6,7 @@ ghost use Rattle.pcrf_model.specs.Laws.{DifferInOne};
 ghost use Rattle.pcrf_model.specs.Sessions.{gx};
 ghost use Rattle.pcrf_model.specs.Tables.{Tables};
 ghost use Rattle.pcrf_model.specs.Views.{view};
-ghost use Rattle.session_index.specs.Index.{Covers, Grows};
+ghost use Rattle.bind_index.specs.Index.{Covers, Grows};
 ghost use Rattle.site_join.specs.States.{record_facts};
 ghost use Rattle.indexed_state.specs.Indexed.{Agree, Unsettled};
 
@@ -15,14 +15,13 @@ use crate::alike::show_alike;
 use crate::forgetting::{forget_gateway, forget_stood};
 use crate::reached::gateway_reached_in;
 use crate::unsettling::{unsettle_all, unsettle_gateway, wait_gateway};
+use bind_index::Index;
 use gx_records::GxRec;
-use kept_rules::Rules;
+use pcc_rules::Rules;
 use pcrf_values::GxSid;
-use session_index::Index;
+use rule_delta::{Waiting, WaitingCalls, wait_one};
 use site_join::State;
 use std::alloc::Global;
-use waiting_aborts::WaitingCalls;
-use waiting_sessions::{Waiting, wait_one};
 
 /// Has an index, lists of rules and those that wait agree with a state in which one gateway's session, of which this record
 /// stood, has another than before. Where memory is refused the index isn't whole, no list is kept and all wait.

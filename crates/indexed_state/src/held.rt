@@ -7,14 +7,14 @@ ghost use Rattle.pcrf_values.specs.Limits.{last_counter};
 ghost use Rattle.pcrf_model.specs.Sessions.{gx, af};
 ghost use Rattle.pcrf_model.specs.ToldTags.{ToldUpTo};
 ghost use Rattle.pcrf_model.specs.Views.{view};
-ghost use Rattle.session_index.specs.Index.{Covers};
+ghost use Rattle.bind_index.specs.Index.{Covers};
 ghost use Rattle.site_join.specs.States.{record_facts};
 
 use crate::indexed::IndexedState;
 use af_records::AfRec;
+use bind_index::Index;
 use gx_records::GxRec;
 use pcrf_values::{AfSid, GxSid};
-use session_index::Index;
 
 impl IndexedState {
     /// The greatest counter of the operations that were taken, 0 at first.

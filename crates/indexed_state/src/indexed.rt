@@ -3,49 +3,44 @@ ghost use Rattle.std.specs.Prelude.{◌≡◌, ℕ, ◌==◌, List, [], ◌<◌,
 ghost use Rattle.std.specs.Option.{option_copied};
 ghost use Rattle.bind_index.specs.Asking.{with_record};
 ghost use Rattle.bind_index.specs.Listings.{sessions_of};
-ghost use Rattle.reply_values.specs.Replies.{push_view};
+ghost use Rattle.pcrf_model.specs.ReplyViews.{push_view};
 ghost use Rattle.pcrf_model.specs.Bindings.{bind};
 ghost use Rattle.pcrf_model.specs.Differences.{rule_name_of};
 ghost use Rattle.pcrf_model.specs.Forms.{are_up_to};
 ghost use Rattle.pcrf_model.specs.Holdings.{facts_on, kept_of, nothing_held, with_facts_of, union};
 ghost use Rattle.pcrf_values.specs.Limits.{last_counter};
-ghost use Rattle.pcrf_model.specs.OperatorValues.{bindings_of};
+ghost use Rattle.pcrf_model.specs.SiteOverviews.{bindings_of};
 ghost use Rattle.pcrf_model.specs.Operations.{with_operation};
 ghost use Rattle.pcrf_model.specs.Pushing.{due_session};
 ghost use Rattle.pcrf_model.specs.Rules.{rules};
 ghost use Rattle.pcrf_model.specs.Sessions.{gx, af};
 ghost use Rattle.pcrf_model.specs.Tables.{Tables as TablesValue};
 ghost use Rattle.pcrf_model.specs.Views.{View, view};
-ghost use Rattle.ranked.specs.Sets.{Distinct};
+ghost use Rattle.pcrf_values.specs.Sets.{Distinct};
 ghost use Rattle.rule_delta.specs.Pushed.{push_of, untold_difference};
-ghost use Rattle.session_index.specs.Index.{Covers};
+ghost use Rattle.bind_index.specs.Index.{Covers};
 ghost use Rattle.site_join.specs.States.{record_facts};
-ghost use Rattle.waiting_sessions.specs.Waits.{DueWait, is_waiting};
-ghost use Rattle.waiting_aborts.specs.Abandoned.{AbandonedWait};
+ghost use Rattle.rule_delta.specs.Waits.{DueWait, is_waiting};
+ghost use Rattle.rule_delta.specs.Abandoned.{AbandonedWait};
 
 use crate::aborting::wait_calls;
+use crate::binding::{bindings, bindings_by};
 use crate::following::follow;
 use crate::forgetting::{forget_given, forget_moved, subscribers_before};
 use crate::reached::reached_by;
 use crate::unsettling::{unsettle, wait_unlisted};
 use crate::whole::make_whole;
 use af_records::AfRec;
-use bind_index::{bind, bind_by, sessions_of};
+use bind_index::{Index, bind, bind_by, sessions_of};
 use gx_records::GxRec;
-use kept_rules::{Rules, derive_by};
 use op_tables::Tables;
-use operator_view::{bindings, bindings_by};
-use pcc_rules::derive;
-use pcrf_values::{AfSid, Delta, DiameterIdentity, GxSid, Rule, Subscriber};
-use reply_values::PushOut;
-use rule_delta::next_push;
-use session_index::Index;
+use pcc_rules::{Rules, derive, derive_by};
+use pcrf_model::PushOut;
+use pcrf_values::{AfSid, Delta, DiameterIdentity, GxSid, HashSeed, Rule, Subscriber};
+use rule_delta::{Waiting, WaitingCalls, gather, next_push, next_waiting, untold_difference_by};
 use site_join::{Operation, State};
 use std::alloc::{AllocError, Global};
 use std::marker::Model;
-use waiting_aborts::WaitingCalls;
-use waiting_pushes::{next_waiting, untold_difference_by};
-use waiting_sessions::{Waiting, gather};
 
 /// What a site holds, with the operator tables, by which it is told what rules are. Beside it, unseen, an index of the sessions
 /// that are held, lists of rules that are kept until they may have changed, and the sessions that wait to be looked at for a
@@ -83,22 +78,35 @@ impl Model for IndexedState {
 impl IndexedState {
     ghost use Rattle.indexed_state.specs.Indexed.{with_holding};
 
-    /// Nothing is held.
+    /// Nothing is held. Hashes of Session-Ids begin with a seed that anybody knows.
     pub fn start(alloc: Global, tables: Tables) -> IndexedState
+        ensures tables { result.tables ≡ tables }
+        ensures holding { result.holding ≡ nothing_held }
+    {
+        IndexedState::seeded(alloc, tables, HashSeed::of(0))
+    }
+
+    /// Nothing is held. Hashes of Session-Ids begin with this seed.
+    pub fn seeded(alloc: Global, tables: Tables, seed: HashSeed) -> IndexedState
         ensures tables { result.tables ≡ tables }
         ensures holding { result.holding ≡ nothing_held }
     {
         IndexedState {
             alloc,
             tables,
-            state: State::start(alloc),
+            state: State::seeded(alloc, seed),
             index: Index::start(alloc),
             is_whole: true,
-            rules: Rules::start(alloc),
+            rules: Rules::seeded(alloc, seed),
             waiting: Waiting::start(alloc),
             aborts: WaitingCalls::start(alloc),
             site: 0,
         }
+    }
+
+    /// What hashes of Session-Ids begin with here.
+    pub fn seed(&self) -> HashSeed {
+        self.rules.seed()
     }
 
     /// The operator tables.
@@ -119,7 +127,7 @@ impl IndexedState {
     pub fn clear(&mut self)
         ensures { self.new ≡ with_holding self.old nothing_held }
     {
-        self.state = State::start(self.alloc);
+        self.state = State::seeded(self.alloc, self.rules.seed());
         self.index = Index::start(self.alloc);
         self.is_whole = true;
         self.rules.touch_all();
@@ -178,7 +186,7 @@ impl IndexedState {
         self.index = index_of(self.alloc, &merged)?;
         self.state = merged;
         self.is_whole = true;
-        self.rules = Rules::start(self.alloc);
+        self.rules.touch_all();
         self.waiting = Waiting::start(self.alloc);
         self.aborts = WaitingCalls::start(self.alloc);
         Ok(())
@@ -320,7 +328,7 @@ impl IndexedState {
 
     /// Whether a push may be due at a site for a host: a session waits under it, or all wait. Where none does nothing is due. It
     /// is a look-up alone, and derives no rules.
-    #[tactic(auto, using(waiting_sessions::proofs::FirstDue::nobody_due))]
+    #[tactic(auto, using(rule_delta::proofs::FirstDue::nobody_due))]
     pub fn is_waiting(&self, site: u8, host: &DiameterIdentity) -> bool
         ensures { result ≡ false → due_session self.now.tables site
             (view self.now.holding.facts) (Some host.now) ≡ None }
@@ -411,5 +419,5 @@ pub(crate) fn name_of(
     let Some(bytes) = host else {
         return Ok(None);
     };
-    Ok(DiameterIdentity::of(Vec::from_slice(alloc, bytes)?))
+    DiameterIdentity::read(alloc, bytes)
 }

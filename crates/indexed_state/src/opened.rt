@@ -1,7 +1,7 @@
 //! Gateways' sessions of which nothing was known, and to which no call can be bound: they have the operator's rules at once.
 ghost use Rattle.std.specs.Prelude.{◌≡◌, [], map, true, IfOk, IfSome, OnOk, OnErr};
-ghost use Rattle.ranked.specs.Ascending.{ascending};
-ghost use Rattle.pcrf_facts.specs.Held.{kept_list, join_of};
+ghost use Rattle.pcrf_values.specs.Ascending.{ascending};
+ghost use Rattle.pcrf_values.specs.Held.{kept_list, join_of};
 ghost use Rattle.pcrf_model.specs.Holdings.{facts_on, kept_of};
 ghost use Rattle.pcrf_model.specs.Operations.{with_operation};
 ghost use Rattle.pcrf_model.specs.Rules.{operator_rules};
@@ -12,15 +12,14 @@ ghost use Rattle.indexed_state.specs.Opened.{KeepsOne, NoCallAt, NoCallIn, Opens
 
 use crate::indexed::IndexedState;
 use crate::whole::make_whole;
+use bind_index::{Index, network_of, spans_networks};
 use gx_records::GxRec;
-use kept_rules::Rules;
 use op_tables::Tables;
-use pcc_rules::{in_order, operator_rules};
+use pcc_rules::{Rules, in_order, operator_rules};
 use pcrf_values::{GxSid, Rule};
-use session_index::{Index, network_of, spans_networks};
+use rule_delta::wait_one;
 use site_join::Operation;
 use std::alloc::{AllocError, Global};
-use waiting_sessions::wait_one;
 
 impl IndexedState {
     ghost use Rattle.indexed_state.specs.Indexed.{with_holding};

@@ -1,10 +1,12 @@
 //! Operations that are taken by the record that is then known of their session.
-ghost use Rattle.std.specs.Prelude.{◌≡◌, OnOk, OnErr};
-ghost use Rattle.pcrf_facts.specs.Held.{kept_list, join_of};
+ghost use Rattle.std.specs.Prelude.{◌≡◌, true, OnOk, OnErr};
+ghost use Rattle.pcrf_values.specs.Facts.{Fact};
+ghost use Rattle.pcrf_values.specs.Held.{kept_list, join_of};
+ghost use Rattle.pcrf_values.specs.Sets.{In};
 ghost use Rattle.pcrf_model.specs.Holdings.{facts_on, kept_of};
 ghost use Rattle.pcrf_model.specs.Operations.{with_operation};
 ghost use Rattle.pcrf_model.specs.Sessions.{gx, af};
-ghost use Rattle.indexed_state.specs.Indexed.{IsTold};
+ghost use Rattle.indexed_state.specs.Indexed.{IsTold, tells};
 
 use crate::aborting::wait_lost;
 use crate::forgetting::{forget_call, forget_gateway, forget_stood};
@@ -15,10 +17,10 @@ use crate::whole::make_whole;
 use af_records::AfRec;
 use gx_records::GxRec;
 use pcrf_values::{AfSid, GxSid};
+use rule_delta::aborts::wait_one as wait_call;
+use rule_delta::wait_one;
 use site_join::Operation;
 use std::alloc::AllocError;
-use waiting_aborts::wait_one as wait_call;
-use waiting_sessions::wait_one;
 
 impl IndexedState {
     ghost use Rattle.indexed_state.specs.Indexed.{with_holding};
@@ -90,6 +92,21 @@ impl IndexedState {
         operation.note_form();
         let clock = self.state.clock().max(operation.counter());
         self.state.put_gx(id, Some(known), clock)?;
+        wait_one(&self.state, &mut self.waiting, id);
+        Ok(())
+    }
+
+    /// Takes an operation on a gateway's session as `take` does, where it says nothing but what the gateway is told: its facts are
+    /// joined in place. No list of rules is stale then, and no other session has to wait.
+    pub fn take_pushed(&mut self, operation: &Operation, id: &GxSid) -> Result<(), AllocError>
+        requires session { operation.now.session ≡ gx id.now }
+        requires told { (f : Fact) → In f operation.now.facts → tells f ≡ true }
+        ensures ok { OnOk result (self.new ≡ with_holding self.old
+            (kept_of (with_operation self.old.holding operation.now))) }
+        ensures err { OnErr result (self.new ≡ self.old) }
+    {
+        self.state.note_kept();
+        self.state.take(operation)?;
         wait_one(&self.state, &mut self.waiting, id);
         Ok(())
     }

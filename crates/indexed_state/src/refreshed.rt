@@ -1,70 +1,75 @@
-//! Records of a gateway's session that bring nothing new.
-ghost use Rattle.std.specs.Prelude.{◌≡◌, List, Some, true, OnOk, OnErr};
-ghost use Rattle.pcrf_facts.specs.Held.{kept_list, join_of};
-ghost use Rattle.pcrf_facts.specs.ToldWords.{told_rules};
+//! Facts that bring nothing new to a gateway's session.
+ghost use Rattle.std.specs.Prelude.{◌≡◌, List, Some, true, map, IfSome, OnOk, OnErr};
+ghost use Rattle.pcrf_values.specs.Held.{kept_list, join_of};
+ghost use Rattle.pcrf_values.specs.ToldWords.{told_rules};
 ghost use Rattle.pcrf_values.specs.RuleValues.{RuleValue};
 ghost use Rattle.pcrf_model.specs.Differences.{difference, is_empty};
 ghost use Rattle.pcrf_model.specs.Holdings.{facts_on, kept_of};
 ghost use Rattle.pcrf_model.specs.Operations.{with_operation};
 ghost use Rattle.pcrf_model.specs.Sessions.{gx};
-ghost use Rattle.kept_rules.specs.Kept.{kept_at};
-ghost use Rattle.indexed_state.specs.Alike.{BringsNothing, ShowAlike};
+ghost use Rattle.gx_records.specs.GxFacts.{fact_of};
+ghost use Rattle.pcc_rules.specs.Cached.{cached_at};
+ghost use Rattle.indexed_state.specs.Alike.{BringsNothing};
 
-use crate::alike::show_alike;
+use crate::alike::refresh;
 use crate::indexed::IndexedState;
-use gx_records::GxRec;
-use kept_rules::Rules;
+use gx_records::{GxFact, GxRec};
+use pcc_rules::Rules;
 use pcrf_values::GxSid;
 use rule_delta::is_told_all;
 use site_join::Operation;
 use std::alloc::AllocError;
-use waiting_sessions::wait_one;
 
 impl IndexedState {
     ghost use Rattle.indexed_state.specs.Indexed.{with_holding};
 
-    /// Whether a record of a gateway's session brings nothing new, were it to take the place of what is known of the session:
-    /// rules and bindings by both are the same, the list of the session's rules is kept, and the gateway was told just these.
-    /// It takes no memory and derives no rules: of a session of which no list is kept it answers false.
-    pub fn brings_nothing(&self, id: &GxSid, known: &GxRec) -> bool
-        ensures { result ≡ true → BringsNothing self.now.tables self.now.holding
-            (gx id.now) known.now }
+    /// The record of a gateway's session, where these facts bring nothing new to it, were they joined with it: rules and bindings
+    /// stay the same, the list of the session's rules is kept, and the gateway was told just these. It takes no memory, makes
+    /// no record and derives no rules: of a session of which no list is kept it answers `None`, and so where the facts say
+    /// where the user is reached.
+    pub fn unchanged(&self, id: &GxSid, facts: &[GxFact]) -> Option<&GxRec>
+        ensures stands { IfSome result (λ known. known.now
+            ≡ facts_on self.now.holding.facts (gx id.now)) }
+        ensures nothing { IfSome result (λ _. BringsNothing self.now.tables self.now.holding
+            (gx id.now) (join_of (facts_on self.now.holding.facts (gx id.now))
+            (kept_list (map fact_of facts.now)))) }
     {
-        if !show_alike(self.state.gx(id), Some(known)) {
-            return false;
+        let Some(known) = self.state.gx(id) else {
+            return None;
+        };
+        if !refresh(known, facts) {
+            return None;
         }
-        was_told_kept(&self.rules, id, known)
+        if !known.live() {
+            return None;
+        }
+        if !was_told_kept(&self.rules, id, known) {
+            return None;
+        }
+        Some(known)
     }
 
-    /// Takes an operation on a gateway's session as `take_gateway` does, where rules and bindings by the record that is known of
-    /// the session then are those by what was known. No list of rules is stale then, and no other session has to wait.
-    pub fn take_refreshed(
-        &mut self,
-        operation: &Operation,
-        id: &GxSid,
-        known: GxRec,
-    ) -> Result<(), AllocError>
+    /// Takes an operation on a gateway's session as `take` does, where the record that is known of the session then brings
+    /// nothing new: its facts are joined in place. No list of rules is stale then, and no session has to wait, since the
+    /// gateway was told just what its rules are.
+    pub fn take_refreshed(&mut self, operation: &Operation, id: &GxSid) -> Result<(), AllocError>
         requires session { operation.now.session ≡ gx id.now }
-        requires joins { known ≡ join_of
-            (facts_on self.old.holding.facts (gx id.now)) (kept_list operation.now.facts) }
-        requires alike { ShowAlike (facts_on self.old.holding.facts (gx id.now)) known }
+        requires nothing { BringsNothing self.old.tables self.old.holding (gx id.now)
+            (join_of (facts_on self.old.holding.facts (gx id.now))
+            (kept_list operation.now.facts)) }
         ensures ok { OnOk result (self.new ≡ with_holding self.old
             (kept_of (with_operation self.old.holding operation.now))) }
         ensures err { OnErr result (self.new ≡ self.old) }
     {
         self.state.note_kept();
-        self.state.note_form();
-        operation.note_form();
-        let clock = self.state.clock().max(operation.counter());
-        self.state.put_gx(id, Some(known), clock)?;
-        wait_one(&self.state, &mut self.waiting, id);
+        self.state.take(operation)?;
         Ok(())
     }
 }
 
 /// The list of the session's rules is kept, and by this record its gateway was told just these.
 fn was_told_kept(lists: &Rules, id: &GxSid, known: &GxRec) -> bool
-    ensures { result ≡ true → (rs : List RuleValue) × (kept_at lists.now id.now ≡ Some rs)
+    ensures { result ≡ true → (rs : List RuleValue) × (cached_at lists.now id.now ≡ Some rs)
         × (is_empty (difference (told_rules known.now) rs) ≡ true) }
 {
     match lists.get(id) {

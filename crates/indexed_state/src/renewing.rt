@@ -1,16 +1,15 @@
 //! Lists of rules that are kept, and made anew all at once.
 ghost use Rattle.std.specs.Prelude.{◌≡◌, true, IfOk, OnOk};
-ghost use Rattle.many_rules.specs.Many.{AreFresh};
+ghost use Rattle.pcc_rules.specs.Many.{AreFresh};
 ghost use Rattle.pcrf_model.specs.Views.{view};
-ghost use Rattle.kept_rules.specs.Kept.{AreKept};
-ghost use Rattle.session_index.specs.Index.{Covers};
+ghost use Rattle.pcc_rules.specs.Cached.{AreCached};
+ghost use Rattle.bind_index.specs.Index.{Covers};
 
 use crate::indexed::IndexedState;
 use crate::whole::make_whole;
-use kept_rules::Rules;
-use many_rules::renew;
+use bind_index::Index;
 use op_tables::Tables;
-use session_index::Index;
+use pcc_rules::{Rules, renew};
 use site_join::State;
 use std::alloc::{AllocError, Global};
 use std::thread::Threads;
@@ -22,8 +21,8 @@ impl IndexedState {
 
     /// The lists of PCC rules that are kept, each that of its gateway's session. Of a session of which none is kept they may
     /// have changed, or nobody asked for them yet.
-    pub fn kept_rules(&self) -> &Rules
-        ensures { AreKept self.now.tables (view self.now.holding.facts) result.now }
+    pub fn cached_rules(&self) -> &Rules
+        ensures { AreCached self.now.tables (view self.now.holding.facts) result.now }
     {
         &self.rules
     }
@@ -36,7 +35,7 @@ impl IndexedState {
         ensures fresh { IfOk result (λ lists.
             AreFresh self.old.tables (view self.old.holding.facts) lists.now) }
         ensures kept { IfOk result (λ lists.
-            AreKept self.old.tables (view self.old.holding.facts) lists.now) }
+            AreCached self.old.tables (view self.old.holding.facts) lists.now) }
     {
         renew_lists(
             rt,
@@ -63,10 +62,10 @@ fn renew_lists(
     lists: &mut Rules,
 ) -> Result<(), AllocError>
     requires covers { is_whole.old ≡ true → Covers (view state.now.facts) index.old }
-    requires kept { AreKept tables.now (view state.now.facts) lists.old }
+    requires kept { AreCached tables.now (view state.now.facts) lists.old }
     ensures fresh { OnOk result (AreFresh tables.now (view state.now.facts) lists.new) }
     ensures covers { is_whole.new ≡ true → Covers (view state.now.facts) index.new }
-    ensures kept { AreKept tables.now (view state.now.facts) lists.new }
+    ensures kept { AreCached tables.now (view state.now.facts) lists.new }
 {
     make_whole(state, index, is_whole)?;
     renew(rt, alloc, tables, state, index, lists)

@@ -4,17 +4,16 @@ ghost use Rattle.pcrf_model.specs.Sessions.{gx, is_gx};
 ghost use Rattle.pcrf_model.specs.Views.{view};
 ghost use Rattle.site_join.specs.States.{session_of};
 ghost use Rattle.indexed_state.specs.Indexed.{IsUnsettled, TouchesAt, TouchesBy, Unsettled, WaitsBy, spans};
-ghost use Rattle.waiting_sessions.specs.Waits.{Keeps, WaitsIfDue};
+ghost use Rattle.rule_delta.specs.Waits.{Keeps, WaitsIfDue};
 
 use crate::reached::Reached;
-use exact_values::{same, same_address};
-use kept_rules::Rules;
-use pcrf_values::{GxSid, Ipv6Prefix};
-use session_index::{Index, all_networks, network_of, spans_networks};
+use bind_index::{Index, all_networks, network_of, spans_networks};
+use pcc_rules::Rules;
+use pcrf_values::{GxSid, Ipv6Prefix, same, same_address};
+use rule_delta::{Waiting, wait_at, wait_in, wait_one};
 use site_join::{SessionFacts, State};
 use std::alloc::Global;
 use std::net::Ipv4Addr;
-use waiting_sessions::{Waiting, wait_at, wait_in, wait_one};
 
 /// Has the lists of rules be stale, and the sessions wait, to which it may count that the session of these facts changed.
 pub(crate) fn unsettle(

@@ -1,9 +1,9 @@
 //! An index that is made whole.
 ghost use Rattle.std.specs.Prelude.{◌≡◌, true, OnOk};
 ghost use Rattle.pcrf_model.specs.Views.{view};
-ghost use Rattle.session_index.specs.Index.{Covers, Grows};
+ghost use Rattle.bind_index.specs.Index.{Covers, Grows};
 
-use session_index::Index;
+use bind_index::Index;
 use site_join::State;
 use std::alloc::AllocError;
 

@@ -5,11 +5,11 @@ use Rattle.std.specs.declared.cmp.Ordering.TheVariants.{Less, Equal, Greater}
 use Rattle.std.specs.Ordering.{is_eq, ordering_reverse}
 use Rattle.std.specs.Cmp.{tied_itself}
 use Rattle.std.specs.List.{flat_map}
-use Rattle.ranked.specs.Sets.{In, Same, maximal}
-use Rattle.ranked.proofs.Plain.{some_same, none_some}
-use Rattle.ranked.proofs.OrderLaws.{IsRanked}
-use Rattle.ranked.proofs.SetLaws.{In-left, In-cases, Same-itself, Same-through, maximal-Same}
-use Rattle.ranked.proofs.PartLaws.{IsStrict, Keeps, In-flat_map, flat_map-In, IsMadeOf, IsRising, parts_kept, made_of_both}
+use Rattle.pcrf_values.specs.Sets.{In, Same, maximal}
+use Rattle.pcrf_values.proofs.Plain.{some_same, none_some}
+use Rattle.pcrf_values.proofs.OrderLaws.{IsRanked}
+use Rattle.pcrf_values.proofs.SetLaws.{In-left, In-cases, Same-itself, Same-through, maximal-Same}
+use Rattle.pcrf_values.proofs.PartLaws.{IsStrict, Keeps, In-flat_map, flat_map-In, IsMadeOf, IsRising, parts_kept, made_of_both}
 use Rattle.lattice_core.specs.Entries.{IsBelow, IsAscending, AllValues, put, put_all, map_joined, value_at}
 use Rattle.lattice_core.specs.Lookups.{option_joined}
 use Rattle.lattice_core.specs.laws.Maps.{rises}

@@ -6,7 +6,7 @@ use Rattle.std.specs.Ordering.{ordering_reverse}
 use Rattle.std.specs.Option.{unwrap_or}
 use Rattle.std.specs.Cmp.{IsTotalOrder}
 use Rattle.std.proofs.lemmas.Cmp.{tied_itself}
-use Rattle.ranked.specs.Exact.{IsExact}
+use Rattle.pcrf_values.specs.Exact.{IsExact}
 use Rattle.lattice_core.specs.laws.Maps.{below_all}
 use Rattle.lattice_core.specs.Entries.{value_at, IsAscending}
 use Rattle.lattice_core.proofs.Lookups.{none_below, below_alike}

@@ -4,10 +4,10 @@ use Rattle.std.specs.Prelude.{Decides}
 use Rattle.std.specs.declared.cmp.Ordering.{Ordering}
 use Rattle.std.specs.List.{list_all}
 use Rattle.std.proofs.lemmas.Bool.Decides.{Decides-like}
-use Rattle.ranked.specs.Sets.{In}
-use Rattle.ranked.proofs.OrderLaws.{IsRanked}
-use Rattle.ranked.proofs.PartLaws.{IsMadeOf, part_at}
-use Rattle.ranked.proofs.Plain.{clash}
+use Rattle.pcrf_values.specs.Sets.{In}
+use Rattle.pcrf_values.proofs.OrderLaws.{IsRanked}
+use Rattle.pcrf_values.proofs.PartLaws.{IsMadeOf, part_at}
+use Rattle.pcrf_values.proofs.Plain.{clash}
 use Rattle.lattice_core.specs.Entries.{IsAscending, AllValues, value_at}
 use Rattle.lattice_core.specs.Subsets.{IsSubset, subset_at, map_subset, map_empty}
 use Rattle.lattice_core.proofs.MapParts.{option_facts, option_valid, entry_found, found_entry, valid_at}

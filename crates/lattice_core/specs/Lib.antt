@@ -1,7 +1,14 @@
+pub mod Beneath
 pub mod Entries
+pub mod Found
+pub mod Hashed
 pub mod Lookups
+pub mod Orders
 pub mod Placed
 pub mod Registers
+pub mod SessionFacts
+pub mod SessionValues
+pub mod Sets
 pub mod Subsets
 pub mod Tombs
 pub mod laws

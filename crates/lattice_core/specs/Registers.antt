@@ -2,10 +2,10 @@
 use Rattle.std.specs.Prelude.{Option}
 use Rattle.std.specs.declared.cmp.Ordering.{Ordering}
 use Rattle.std.specs.Option.{option_cmp}
-use Rattle.ranked.specs.Greater.{greater}
-use Rattle.ranked.specs.Orders.{pair_cmp}
-use Rattle.ranked.specs.Tags.{tag_cmp}
-use Rattle.ranked.specs.declared.tag.Tag.{Tag}
+use Rattle.pcrf_values.specs.Greater.{greater}
+use Rattle.pcrf_values.specs.Orders.{pair_cmp}
+use Rattle.pcrf_values.specs.Tags.{tag_cmp}
+use Rattle.pcrf_values.specs.declared.tag.Tag.{Tag}
 
 -- nothing is below everything; then by tag, then by value
 abbrev pub reg_cmp : {T : Type 0} → (T → T → Ordering) → Option (Tag × T) → Option (Tag × T) → Ordering

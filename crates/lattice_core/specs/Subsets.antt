@@ -2,7 +2,7 @@
 use Rattle.std.specs.Prelude.{Bool, List, Option, None, Some}
 use Rattle.std.specs.declared.cmp.Ordering.{Ordering}
 use Rattle.std.specs.List.{list_all}
-use Rattle.ranked.specs.Sets.{In}
+use Rattle.pcrf_values.specs.Sets.{In}
 use Rattle.lattice_core.specs.Entries.{value_at}
 
 -- each member of the first is one of the second

@@ -10,7 +10,8 @@ ghost use Rattle.lattice_core.specs.Placed.{map_with};
 use crate::join::Join;
 use crate::map::JoinMap;
 use crate::tree::JoinTree;
-use ranked::Ranked;
+use pcrf_values::Ranked;
+use std::hash::Hash;
 
 /// A value joined in at a key stands there joined onto what stood there, and every other key keeps its value.
 pub fn value_after_join_at<K: Ranked, V: Join>(map: &JoinMap<K, V>, key: &K, value: &V, asked: &K)
@@ -42,7 +43,7 @@ pub fn same_by_values<K: Ranked, V: Join>(ours: &JoinMap<K, V>, theirs: &JoinMap
 }
 
 /// What was put in the place of what stood at a key stands there, and every other key keeps its value.
-pub fn value_after_place_at<K: Ranked, V: Join>(
+pub fn value_after_place_at<K: Ranked + Hash, V: Join>(
     map: &JoinTree<K, V>,
     key: &K,
     value: &Option<V>,
@@ -55,7 +56,7 @@ pub fn value_after_place_at<K: Ranked, V: Join>(
 }
 
 /// What stood at a key, put back there, makes the map what it was.
-pub fn place_back<K: Ranked, V: Join>(map: &JoinTree<K, V>, key: &K, value: &Option<V>)
+pub fn place_back<K: Ranked + Hash, V: Join>(map: &JoinTree<K, V>, key: &K, value: &Option<V>)
     ensures { map_with K.cmp (map_with K.cmp map.now key.now value.now) key.now
         (value_at K.cmp map.now key.now)
         ≡ map.now }

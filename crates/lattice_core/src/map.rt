@@ -5,7 +5,7 @@ ghost use Rattle.std.specs.Slice.Iter.{iter_rest};
 ghost use Rattle.lattice_core.specs.Entries.{value_at, IsAscending, IsAt, IsGap, AllValues, put, put_all, map_joined};
 
 use crate::join::Join;
-use ranked::Ranked;
+use pcrf_values::Ranked;
 use std::alloc::{AllocError, Global};
 use std::cmp::Ordering;
 use std::marker::Model;

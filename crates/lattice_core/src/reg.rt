@@ -5,7 +5,7 @@ ghost use Rattle.lattice_core.specs.Registers.{reg_joined};
 ghost use Rattle.lattice_core.specs.laws.Registers.{reg_comm, reg_assoc, reg_idem};
 
 use crate::join::Join;
-use ranked::{Ranked, Tag};
+use pcrf_values::{Ranked, Tag};
 use std::alloc::AllocError;
 use std::cmp::Ordering;
 use std::marker::Model;
@@ -18,7 +18,7 @@ pub struct Reg<T> {
 
 impl<T> Model for Reg<T> {
     ghost use Rattle.std.specs.Prelude.{Option};
-    ghost use Rattle.ranked.specs.declared.tag.Tag.{Tag};
+    ghost use Rattle.pcrf_values.specs.declared.tag.Tag.{Tag};
 
     ghost Value = { Option (Tag × T) };
 

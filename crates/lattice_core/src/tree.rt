@@ -1,69 +1,86 @@
 //! Maps that are joined entry by entry, for many entries.
-ghost use Rattle.std.specs.Prelude.{◌≡◌, [], length, IfOk, IfErr, OnErr, None, IsSome};
+ghost use Rattle.std.specs.Prelude.{◌≡◌, [], length, IfOk, IfErr, OnOk, OnErr, None, IsSome};
+ghost use Rattle.std.specs.BTreeMap.{insert_entry};
 ghost use Rattle.std.specs.Option.{option_copied};
 ghost use Rattle.lattice_core.specs.Entries.{value_at, IsAscending, AllValues, put, map_joined};
 ghost use Rattle.lattice_core.specs.Placed.{map_with};
 
+use crate::entries::Entries;
 use crate::fact_set::{FactSet, is_subset_at};
 use crate::join::Join;
-use ranked::Ranked;
+use pcrf_values::{HashSeed, Ranked};
 use std::alloc::{AllocError, Global};
-use std::collections::BTreeMap;
-use std::collections::btree_map::Iter;
+use std::collections::{BTreeSet, HashMap};
+use std::hash::Hash;
 use std::marker::Model;
 use std::mem::replace;
 
-/// A map over a B-tree, in which an insert takes a few microseconds at a million entries. Contracts see it as they see a
-/// `JoinMap`: as the list of its entries in the order of their keys.
+/// A map whose values are found by a hash of their keys, beside a tree of the keys for their order alone. A look-up hashes a
+/// key once and compares one or two, however many entries there are; a new key is put into the tree too. Contracts see it as
+/// they see a `JoinMap`: as the list of its entries in the order of their keys.
 #[derive(Drop)]
-pub struct JoinTree<K: Ranked, V: Join> {
+pub struct JoinTree<K: Ranked + Hash, V: Join> {
     alloc: Global,
-    tree: BTreeMap<K, V>,
+    order: BTreeSet<K>,
+    values: HashMap<K, V, HashSeed>,
 }
 
-impl<K: Ranked, V: Join> Model for JoinTree<K, V> {
+impl<K: Ranked + Hash, V: Join> Model for JoinTree<K, V> {
     ghost use Rattle.std.specs.Prelude.{List};
-    ghost use Rattle.lattice_core.specs.Entries.{IsAscending, AllValues};
+    ghost use Rattle.lattice_core.specs.Entries.{AllValues};
+    ghost use Rattle.lattice_core.specs.Hashed.{entries_of, IsHashed};
 
     ghost Value = { List (K × V) };
 
-    ghost view = { λ m. m.tree.entries };
+    ghost view = { λ m. entries_of K.eq m.order.keys m.values.entries };
 
-    ghost invariant = { λ m. IsAscending K.cmp m.tree.entries × AllValues V.valid m.tree.entries };
+    ghost invariant = { λ m. IsHashed K.cmp K.eq m.order.keys m.values.entries
+        × AllValues V.valid (entries_of K.eq m.order.keys m.values.entries) };
 }
 
-impl<K: Ranked, V: Join> JoinTree<K, V> {
-    /// The empty map.
+impl<K: Ranked + Hash, V: Join> JoinTree<K, V> {
+    /// The empty map, whose hashes begin with a seed that everyone knows.
     pub fn start(alloc: Global) -> JoinTree<K, V>
+        ensures { result ≡ [] }
+    {
+        JoinTree::seeded(alloc, HashSeed::of(0))
+    }
+
+    /// The empty map, whose hashes begin with that seed.
+    pub fn seeded(alloc: Global, seed: HashSeed) -> JoinTree<K, V>
         ensures { result ≡ [] }
     {
         JoinTree {
             alloc,
-            tree: BTreeMap::new(alloc),
+            order: BTreeSet::new(alloc),
+            values: HashMap::with_hasher(alloc, seed),
         }
     }
 
     /// The entries, in the order of their keys.
-    pub fn iter(&self) -> Iter<'_, K, V>
+    pub fn iter(&self) -> Entries<'_, K, V>
         ensures all { result ≡ self.now }
         ensures ascending { IsAscending K.cmp self.now }
         ensures valid { AllValues V.valid self.now }
     {
-        self.tree.iter()
+        Entries {
+            order: self.order.iter(),
+            values: &self.values,
+        }
     }
 
     /// How many entries there are.
     pub fn len(&self) -> usize
         ensures { result ≡ length self.now }
     {
-        self.tree.len()
+        self.order.len()
     }
 
     /// The value at a key.
     pub fn get(&self, key: &K) -> Option<&V>
         ensures { option_copied result ≡ value_at K.cmp self.now key.now }
     {
-        self.tree.get(key)
+        self.values.get(key)
     }
 
     /// Joins a value into the one at a key; a refusal changes nothing and gives the value back.
@@ -73,14 +90,25 @@ impl<K: Ranked, V: Join> JoinTree<K, V> {
         ensures given_back { IfErr result (λ e. e.1 ≡ value) }
     {
         value.note_valid();
-        if let Some(slot) = self.tree.get_mut(&key) {
+        if let Some(slot) = self.values.get_mut(&key) {
             return slot.join_in(value);
         }
-        if let Err(refused) = self.tree.insert(key, value) {
-            let (_, value) = refused.value;
-            return Err((AllocError, value));
+        self.insert(key, value)
+    }
+
+    /// Joins a value as `join_at` does, where the key is copied only if nothing stands at it; a refusal changes nothing.
+    pub fn join_under(&mut self, key: &K, value: V) -> Result<(), AllocError>
+        ensures joins { OnOk result (self.new ≡ put K.cmp V.joined self.old key.now value) }
+        ensures unchanged { OnErr result (self.new ≡ self.old) }
+    {
+        value.note_valid();
+        if let Some(slot) = self.values.get_mut(key) {
+            if let Err((refused, _)) = slot.join_in(value) {
+                return Err(refused);
+            }
+            return Ok(());
         }
-        Ok(())
+        self.insert_copied(key, value)
     }
 
     /// Puts a value in the place of what stands at a key, or takes that out, and gives it back; only a value at a new key is refused.
@@ -92,27 +120,67 @@ impl<K: Ranked, V: Join> JoinTree<K, V> {
         ensures refused_new { OnErr result (value_at K.cmp self.old key.now ≡ None) }
     {
         let Some(value) = value else {
-            return Ok(self.tree.remove(key));
+            self.order.remove(key);
+            return Ok(self.values.remove(key));
         };
         value.note_valid();
-        if let Some(slot) = self.tree.get_mut(key) {
+        if let Some(slot) = self.values.get_mut(key) {
             return Ok(Some(replace(slot, value)));
         }
-        let Ok(key) = key.try_copy() else {
-            return Err(AllocError);
-        };
-        if let Err(_) = self.tree.insert(key, value) {
-            return Err(AllocError);
+        if let Err(refused) = self.insert_copied(key, value) {
+            return Err(refused);
         }
         Ok(None)
     }
+
+    /// Puts a value at a copy of a key at which nothing stands; a refusal changes nothing.
+    fn insert_copied(&mut self, key: &K, value: V) -> Result<(), AllocError>
+        requires absent { value_at K.cmp self.old key.now ≡ None }
+        ensures inserted { OnOk result (self.new ≡ insert_entry K.cmp self.old key.now value) }
+        ensures unchanged { OnErr result (self.new ≡ self.old) }
+    {
+        let Ok(key) = key.try_copy() else {
+            return Err(AllocError);
+        };
+        if let Err((refused, _)) = self.insert(key, value) {
+            return Err(refused);
+        }
+        Ok(())
+    }
+
+    /// Puts a value at a key at which nothing stands; a refusal changes nothing and gives the value back.
+    fn insert(&mut self, key: K, value: V) -> Result<(), (AllocError, V)>
+        requires absent { value_at K.cmp self.old key ≡ None }
+        ensures inserted { IfOk result (λ _. self.new ≡ insert_entry K.cmp self.old key value) }
+        ensures unchanged { OnErr result (self.new ≡ self.old) }
+        ensures given_back { IfErr result (λ e. e.1 ≡ value) }
+    {
+        value.note_valid();
+        let Ok(ordered) = key.try_copy() else {
+            return Err((AllocError, value));
+        };
+        if let Err(_) = self.order.insert(ordered) {
+            return Err((AllocError, value));
+        }
+        match self.values.insert(key, value) {
+            Ok(none) => {
+                drop(none);
+                Ok(())
+            }
+            Err(refused) => {
+                let (key, value) = refused.value;
+                self.order.remove(&key);
+                Err((AllocError, value))
+            }
+        }
+    }
 }
 
-/// An equal map.
-fn copy_tree<K: Ranked, V: Join>(map: &JoinTree<K, V>) -> Result<JoinTree<K, V>, AllocError>
+/// An equal map, with the same seed.
+fn copy_tree<K: Ranked + Hash, V: Join>(map: &JoinTree<K, V>) -> Result<JoinTree<K, V>, AllocError>
     ensures { IfOk result (λ m. m ≡ map.now) }
 {
-    let mut copy = JoinTree::start(map.alloc);
+    let mut copy = JoinTree::seeded(map.alloc, *map.values.hasher());
     for (key, value) in map.iter() {
         let key = key.try_copy()?;
         let value = value.try_copy()?;
@@ -123,7 +191,7 @@ fn copy_tree<K: Ranked, V: Join>(map: &JoinTree<K, V>) -> Result<JoinTree<K, V>,
     Ok(copy)
 }
 
-impl<K: Ranked, V: Join> Join for JoinTree<K, V> {
+impl<K: Ranked + Hash, V: Join> Join for JoinTree<K, V> {
     ghost use Rattle.lattice_core.specs.laws.Maps.{map_comm, map_assoc, map_idem, map_closed};
 
     ghost joined = { map_joined K.cmp V.joined };
@@ -160,7 +228,7 @@ impl<K: Ranked, V: Join> Join for JoinTree<K, V> {
     }
 }
 
-impl<K: Ranked, V: FactSet> FactSet for JoinTree<K, V> {
+impl<K: Ranked + Hash, V: FactSet> FactSet for JoinTree<K, V> {
     ghost use Rattle.lattice_core.specs.Subsets.{map_subset, map_empty};
 
     ghost subset = { map_subset K.cmp V.subset V.empty };

@@ -1,4 +1,4 @@
-//! Tests of `peer_links`, of calls that wait for a site to grow, and of letters' frames: peers whose letters
+//! Tests of exchanges of letters (`pcrf_serve`), of calls that wait for a site to grow, and of letters' frames: peers whose letters
 //! and answers are written down, or are not as they should be. Two sites exchange letters over loopback in `examples/serve`.
 
 mod books;

@@ -1,15 +1,14 @@
 //! A connection that a seat serves in memory, from its first message to its end.
 use crate::given::Given;
 use crate::seats::{Keeper, Room};
-use gateway_links::Half;
-use pcrf_serve::{Gate, Gateways, LinkEnd, Server, Unrepeated, serve_connection};
+use pcrf_serve::{Gate, Gateways, Half, LinkEnd, Server, Unrepeated, serve_connection};
+use samples::follows;
 use site_book::{Receipt, Seat};
 use site_core::Reply;
 use std::io::{self, Print, Write};
 use std::sync::ledger::Ledger;
 use std::sync::{Arc, Mutex, Wait};
 use std::thread::Threads;
-use world_checks::follows;
 
 /// The first message.
 const FIRST: &str = "an exchange, and a push between its operation and its request's bytes";

@@ -7,12 +7,11 @@
 //! missed where what is printed is compared.
 use op_tables::Tables;
 use peer_exchange::{Body, read_letter};
-use samples::names;
+use samples::{names, request_of, session_of};
 use site_core::{Event, Site};
 use site_join::State;
 use std::alloc::Global;
 use std::io::Print;
-use world_checks::{request_of, session_of};
 
 /// The edition of the operator tables, and of who writes letters.
 pub const EDITION: u32 = 7;

@@ -22,6 +22,8 @@ use std::thread::Threads;
 /// Tries all calls.
 fn try_all<R: Threads + Wait + Sync + Print>(given: &Given<'_, R>) {
     given.judge(given.try_scripts());
+    given.judge(given.try_text("short"));
+    given.judge(given.try_text("long"));
     given.judge(given.try_merge());
     given.judge(given.try_letter("end"));
     given.judge(given.try_letter("snapshot"));

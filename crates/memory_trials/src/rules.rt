@@ -1,14 +1,12 @@
 //! Three sessions of one subscriber: they are found by it, their rules made at once, and those that a site keeps renewed. So few are
 //! made in one thread: each allocation has the same place in every run.
 use crate::given::Given;
-use many_rules::derive_many;
-use pcrf_values::{GxSid, Rule, Subscriber, SubscriptionType};
-use ranked::Ranked;
-use samples::text;
+use pcc_rules::derive_many;
+use pcrf_values::{GxSid, Ranked, Rule, Subscriber, SubscriptionType};
+use samples::{same_sites, text};
 use site_core::Site;
 use std::io::Print;
 use std::thread::Threads;
-use world_checks::same_sites;
 
 /// The ids of the sessions.
 const IDS: [&[u8]; 3] = [b"gw;1;1", b"gw;1;2", b"gw;1;3"];
@@ -64,7 +62,7 @@ impl<R: Threads + Sync + Print> Given<'_, R> {
         self.end(!is_done);
         for (place, id) in ids.iter().enumerate() {
             if is_done {
-                self.judge(is_right(place, id, site.kept_rules().get(id)));
+                self.judge(is_right(place, id, site.cached_rules().get(id)));
             }
         }
         let other = self.loaded()?;

@@ -2,6 +2,7 @@
 ghost use Rattle.std.specs.Prelude.{◌≡◌, IfErr};
 
 use crate::given::Given;
+use samples::{follows, is_short, same_sites};
 use site_book::{Receipt, Seat, Settled, SiteBook};
 use site_core::{Event, Reply, Site, StepFault};
 use site_lock::LockedSite;
@@ -10,7 +11,6 @@ use std::io::Print;
 use std::sync::ledger::{Blank, Ledger};
 use std::sync::{Mutex, Wait};
 use std::thread::Threads;
-use world_checks::{follows, is_short, same_sites};
 
 /// How many entries the history has room for.
 const LIMIT: usize = 80;

@@ -1,9 +1,19 @@
-//! Values that no script hands out: two states that are merged, and letters as bytes.
+//! Values that no script hands out: texts that are shared, two states that are merged, and letters as bytes.
 use crate::given::{EDITION, Given};
+use pcrf_values::{Ranked, SessionId};
 use peer_exchange::{LetterFault, read_letter, write_letter};
 use site_join::State;
-use std::alloc::Global;
+use std::alloc::{AllocError, Global};
 use std::io::Print;
+
+/// The Session-Id of these bytes, and a copy of it.
+fn doubled(alloc: Global, bytes: &[u8]) -> Result<Option<(SessionId, SessionId)>, AllocError> {
+    let Some(id) = SessionId::read(alloc, bytes)? else {
+        return Ok(None);
+    };
+    let copy = id.try_copy()?;
+    Ok(Some((id, copy)))
+}
 
 /// The bytes of a letter, read and written.
 fn carried(alloc: Global, bytes: &[u8]) -> Result<Vec<u8>, LetterFault> {
@@ -12,6 +22,32 @@ fn carried(alloc: Global, bytes: &[u8]) -> Result<Vec<u8>, LetterFault> {
 }
 
 impl<R: Print> Given<'_, R> {
+    /// Reads and copies a text; whether that was done.
+    fn double(&self, bytes: &[u8], word: &str) -> bool {
+        self.begin("SessionId::read and try_copy", word);
+        let both = doubled(self.alloc, bytes);
+        self.end(both.is_err());
+        match both {
+            Ok(Some((id, copy))) => {
+                self.judge(Some(id.as_slice() == bytes));
+                drop(id);
+                self.judge(Some(copy.as_slice() == bytes));
+                true
+            }
+            Ok(None) => {
+                self.judge(None);
+                true
+            }
+            Err(_) => false,
+        }
+    }
+
+    /// Tries to read and to copy a text.
+    pub fn try_text(&self, word: &str) -> Option<bool> {
+        let bytes = self.bytes(word)?;
+        Some(self.double(bytes.as_slice(), word) || self.double(bytes.as_slice(), word))
+    }
+
     /// A state is that of a line.
     fn is_state(&self, word: &str, state: &State) -> Option<bool> {
         let wanted = self.state(word)?;

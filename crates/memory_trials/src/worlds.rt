@@ -2,11 +2,10 @@
 use crate::given::Given;
 use dia_codec::Counted;
 use op_tables::Tables;
-use pcrf_script::{ScriptEnd, run_script};
-use pcrf_world::{World, WorldEvent};
+use pcrf_world::{ScriptEnd, World, WorldEvent, run_script};
+use samples::{Answer, event_of, events_of, gives, gives_all, same_but, same_worlds, taken};
 use std::alloc::Global;
 use std::io::Print;
-use world_checks::{Answer, event_of, events_of, gives, gives_all, same_but, same_worlds, taken};
 
 /// The most bytes that a script may print.
 const ROOM: usize = 1 << 16;

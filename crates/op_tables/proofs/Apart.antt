@@ -4,8 +4,8 @@ use Rattle.std.specs.Prelude.{find, option_map}
 use Rattle.std.specs.List.{list_any}
 use Rattle.std.specs.Cmp.{nat_cmp_total, tied_itself}
 use Rattle.std.proofs.lemmas.Cmp.{nat_list_cmp_total}
-use Rattle.ranked.specs.Orders.{text_cmp}
-use Rattle.ranked.specs.Sets.{In, Distinct}
+use Rattle.pcrf_values.specs.Orders.{text_cmp}
+use Rattle.pcrf_values.specs.Sets.{In, Distinct}
 use Rattle.pcrf_model.specs.Tables.{Class, OperatorRule, ApnRow}
 use Rattle.toml.specs.Data.{Data, Members}
 use Rattle.op_tables.specs.Places.{top_keys, apn_keys}

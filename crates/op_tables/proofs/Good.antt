@@ -3,7 +3,7 @@ use Rattle.std.proofs.Common.{◌≡◌, ℕ, Bool, true, false, cond, nat_lt, �
 use Rattle.std.specs.Prelude.{find}
 use Rattle.toml.specs.Data.{Data, Members, no_members, boolean, get_member, as_table}
 use Rattle.std.specs.Ordering.{nat_cmp}
-use Rattle.ranked.specs.Orders.{text_cmp}
+use Rattle.pcrf_values.specs.Orders.{text_cmp}
 use Rattle.op_tables.specs.Places.{Shape, Key, Keys, no_more, ◌▸◌, optional, Rows, rule_name_shape, rule_keys, apn_name_shape, apn_keys, edition_key, rtcp_key, signalling_key, media_key, apns_key, default_key, rules_key, top_keys, number_32, class_keys, media_limit, apns_limit, rules_limit}
 use Rattle.op_tables.specs.Values.{as_list, list_in, table_in, rows_at}
 use Rattle.op_tables.specs.Judgement.{or_else, fault_if_present, fault_of_array, fault_of_rows, fault_of_table, fault_of_row, shape_fault, key_fault, keys_fault, row_fault, row_judged, media_fault, rule_fault, apn_fault}

@@ -7,7 +7,7 @@ use Rattle.std.specs.Map.{lookup}
 use Rattle.std.specs.BTreeMap.{insert_entry, is_at}
 use Rattle.std.proofs.lemmas.List.Sums.{fold-append}
 use Rattle.std.proofs.lemmas.Cmp.{nat_list_cmp_total}
-use Rattle.ranked.specs.Orders.{text_cmp}
+use Rattle.pcrf_values.specs.Orders.{text_cmp}
 use Rattle.toml.specs.Data.{Data}
 use Rattle.pcrf_model.specs.Tables.{Class, OperatorRule, ApnRow}
 use Rattle.op_tables.specs.Judgement.{row_fault, media_judged, media_fault, rule_judged, rule_fault, apn_judged, apn_fault}

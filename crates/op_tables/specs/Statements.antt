@@ -1,8 +1,8 @@
 -- The laws of the definitions.
 use Rattle.std.specs.Prelude.{◌≡◌, ℕ, List, Some, None, ◌==◌, map, codes, find, option_map}
 use Rattle.std.specs.Ordering.{is_eq}
-use Rattle.ranked.specs.Orders.{text_cmp}
-use Rattle.ranked.specs.Sets.{Distinct}
+use Rattle.pcrf_values.specs.Orders.{text_cmp}
+use Rattle.pcrf_values.specs.Sets.{Distinct}
 use Rattle.pcrf_model.specs.Tables.{OperatorRule, ApnRow, Tables, media_class, apn_row}
 use Rattle.toml.specs.Data.{Members}
 use Rattle.op_tables.specs.Places.{top_keys}

@@ -1,7 +1,7 @@
 //! Access points by name.
 ghost use Rattle.std.specs.Prelude.{◌≡◌, [], codes, IfOk, IfErr, OnOk, None, map};
 ghost use Rattle.std.specs.BTreeMap.{insert_entry};
-ghost use Rattle.ranked.specs.Orders.{text_cmp};
+ghost use Rattle.pcrf_values.specs.Orders.{text_cmp};
 ghost use Rattle.toml.specs.View.{view, table_view};
 ghost use Rattle.op_tables.specs.Places.{apn_keys, apns_key};
 ghost use Rattle.op_tables.specs.Values.{rows_at as rows_of};

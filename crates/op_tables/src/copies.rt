@@ -1,7 +1,7 @@
 //! Equal maps.
 ghost use Rattle.std.specs.Prelude.{◌≡◌, IfOk};
 
-use ranked::Ranked;
+use pcrf_values::Ranked;
 use std::alloc::{AllocError, Global};
 use std::collections::BTreeMap;
 

@@ -1,7 +1,7 @@
 //! The operator's rules of an access point.
 ghost use Rattle.std.specs.Prelude.{◌≡◌, ◌++◌, ◌∷◌, [], codes, IfOk, IfErr, OnOk, None, map};
 ghost use Rattle.std.specs.Ordering.{is_eq};
-ghost use Rattle.ranked.specs.Orders.{text_cmp};
+ghost use Rattle.pcrf_values.specs.Orders.{text_cmp};
 ghost use Rattle.pcrf_values.specs.Numbers.{flow_status_number};
 ghost use Rattle.toml.specs.View.{view, table_view};
 ghost use Rattle.op_tables.specs.Places.{flow_keys, rule_keys, rules_key};
@@ -17,8 +17,7 @@ use crate::reading::{rows_at, status_at, table};
 use crate::texts::{filters_at, word_at};
 use crate::word::Word;
 use pcrf_values::limits::OPERATOR_RULE_NAME_LIMIT;
-use pcrf_values::{FlowStatus, PermitFilters};
-use ranked::Ranked;
+use pcrf_values::{FlowStatus, PermitFilters, Ranked};
 use std::alloc::{AllocError, Global};
 use std::marker::Model;
 use toml::{Table, Value};

@@ -4,8 +4,7 @@ ghost use Rattle.std.specs.List.{list_all};
 ghost use Rattle.pcrf_values.specs.Texts.{one_to};
 ghost use Rattle.op_tables.specs.Values.{is_visible, visible};
 
-use pcrf_values::BoundedText;
-use ranked::Ranked;
+use pcrf_values::{BoundedText, Ranked};
 use std::alloc::{AllocError, Global};
 use std::marker::Model;
 

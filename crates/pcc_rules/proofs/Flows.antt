@@ -1,21 +1,21 @@
 -- The rules of the flows of bound sessions, record by record, are those that the view has.
 use Rattle.std.proofs.Common.{◌≡◌, ℕ, Bool, true, cond, List, [], ◌∷◌, Some, None, inl, inr, refl, sym, ap, ◌∙◌, subst, option_and_then}
 use Rattle.std.specs.List.{filter_map}
-use Rattle.ranked.specs.Sets.{In, Same}
-use Rattle.ranked.proofs.Plain.{came_from, split}
-use Rattle.ranked.proofs.OrderLaws.{nat_ranked, pair_ranked}
+use Rattle.pcrf_values.specs.Sets.{In, Same}
+use Rattle.pcrf_values.proofs.Plain.{came_from, split}
+use Rattle.pcrf_values.proofs.OrderLaws.{nat_ranked, pair_ranked}
 use Rattle.std.specs.Ordering.{nat_cmp}
-use Rattle.ranked.specs.Orders.{pair_cmp}
-use Rattle.ranked.proofs.PartLaws.{In-flat_map, flat_map-In}
-use Rattle.ranked.proofs.SetLaws.{In-filter_map, filter_map-In}
-use Rattle.ranked.proofs.AscendingLaws.{ascending-In}
+use Rattle.pcrf_values.specs.Orders.{pair_cmp}
+use Rattle.pcrf_values.proofs.PartLaws.{In-flat_map, flat_map-In}
+use Rattle.pcrf_values.proofs.SetLaws.{In-filter_map, filter_map-In}
+use Rattle.pcrf_values.proofs.AscendingLaws.{ascending-In}
 use Rattle.pcrf_values.specs.RuleValues.{RuleValue}
-use Rattle.pcrf_facts.specs.Facts.{Fact, Field}
-use Rattle.pcrf_facts.specs.FlowWords as words
-use Rattle.pcrf_facts.specs.Held.{entry_shown, kept_list}
-use Rattle.pcrf_facts.specs.Places.{Place, FlowField, FlowDescriptions, OfFlow}
-use Rattle.pcrf_facts.specs.Values.{Entry}
-use Rattle.pcrf_facts.proofs.ShownLaws.{held_shows_the_same, fact_there}
+use Rattle.pcrf_values.specs.Facts.{Fact, Field}
+use Rattle.pcrf_values.specs.FlowWords as words
+use Rattle.pcrf_values.specs.Held.{entry_shown, kept_list}
+use Rattle.pcrf_values.specs.Places.{Place, FlowField, FlowDescriptions, OfFlow}
+use Rattle.pcrf_values.specs.Values.{Entry}
+use Rattle.pcrf_values.proofs.ShownLaws.{held_shows_the_same, fact_there}
 use Rattle.pcrf_model.specs.Holdings.{SessionFact, facts_on}
 use Rattle.pcrf_model.specs.Sessions.{Session, Af, af}
 use Rattle.pcrf_model.specs.Views.{View, Shown, view, value, shown_of, as_filters}

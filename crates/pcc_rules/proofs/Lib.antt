@@ -1,5 +1,11 @@
+pub mod ByIndex
+pub mod Collected
+pub mod Derived
+pub mod Flows
+pub mod Fresh
+pub mod Hashed
+pub mod Keeping
 pub mod Names
 pub mod Ordered
-pub mod Flows
-pub mod Derived
 pub mod SoFar
+pub mod Stale

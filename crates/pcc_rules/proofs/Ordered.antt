@@ -1,12 +1,12 @@
 -- Rules in the order of what stands in front of them are the rules in order.
 use Rattle.std.proofs.Common.{◌≡◌, ℕ, List, [], ◌∷◌, map, refl, ap, ◌∙◌, Ordering, Less, Equal, Greater}
 use Rattle.std.specs.FinMap.Entries.{by_order}
-use Rattle.ranked.specs.Ascending.{place, ascending}
-use Rattle.ranked.specs.Sets.{Same}
-use Rattle.ranked.proofs.AscendingLaws.{ascending-Same}
-use Rattle.ranked.proofs.OrderLaws.{IsRanked, nat_ranked, pair_ranked}
+use Rattle.pcrf_values.specs.Ascending.{place, ascending}
+use Rattle.pcrf_values.specs.Sets.{Same}
+use Rattle.pcrf_values.proofs.AscendingLaws.{ascending-Same}
+use Rattle.pcrf_values.proofs.OrderLaws.{IsRanked, nat_ranked, pair_ranked}
 use Rattle.pcrf_values.specs.RuleValues.{RuleValue}
-use Rattle.pcrf_facts.proofs.FactLaws.{rule_ranked}
+use Rattle.pcrf_values.proofs.FactLaws.{rule_ranked}
 use Rattle.pcrf_model.specs.Rules.{listed_cmp}
 use Rattle.pcc_rules.specs.Listing.{keyed, unkeyed, keyed_cmp}
 

@@ -2,8 +2,8 @@
 use Rattle.std.specs.Prelude.{◌≡◌, ℕ, ◌<◌, ◌^◌, true, if◌then◌else◌, List, [], ◌∷◌}
 use Rattle.std.specs.List.{filter_map, flat_map}
 use Rattle.pcrf_values.specs.RuleValues.{RuleValue}
-use Rattle.pcrf_facts.specs.Facts.{Fact}
-use Rattle.pcrf_facts.specs.FlowWords.{flows}
+use Rattle.pcrf_values.specs.Facts.{Fact}
+use Rattle.pcrf_values.specs.FlowWords.{flows}
 use Rattle.pcrf_model.specs.Sessions.{Session, af}
 use Rattle.pcrf_model.specs.Views.{View}
 use Rattle.pcrf_model.specs.Bindings.{is_bound_to}

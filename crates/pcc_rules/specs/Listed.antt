@@ -1,10 +1,10 @@
 -- The rules of the AF sessions that are listed, session by session.
 use Rattle.std.specs.Prelude.{◌≡◌, ℕ, true, List, ◌++◌, map, Some}
 use Rattle.pcrf_values.specs.RuleValues.{RuleValue}
-use Rattle.ranked.specs.Sets.{In}
-use Rattle.pcrf_facts.specs.Facts.{Fact}
-use Rattle.pcrf_facts.specs.Places.{Place}
-use Rattle.pcrf_facts.specs.Values.{Entry}
+use Rattle.pcrf_values.specs.Sets.{In}
+use Rattle.pcrf_values.specs.Facts.{Fact}
+use Rattle.pcrf_values.specs.Places.{Place}
+use Rattle.pcrf_values.specs.Values.{Entry}
 use Rattle.pcrf_model.specs.Holdings.{SessionFact, facts_on}
 use Rattle.pcrf_model.specs.Sessions.{Session, af}
 use Rattle.pcrf_model.specs.Tables.{Tables}

@@ -2,8 +2,8 @@
 use Rattle.std.specs.Prelude.{◌≡◌, ℕ, map, Some}
 use Rattle.std.proofs.Common.{Ordering}
 use Rattle.std.specs.Ordering.{nat_cmp}
-use Rattle.ranked.specs.Orders.{pair_cmp}
-use Rattle.ranked.specs.Sets.{Distinct}
+use Rattle.pcrf_values.specs.Orders.{pair_cmp}
+use Rattle.pcrf_values.specs.Sets.{Distinct}
 use Rattle.pcrf_values.specs.RuleValues.{RuleValue, rule_cmp}
 use Rattle.pcrf_model.specs.Sessions.{Session}
 use Rattle.pcrf_model.specs.Views.{View}

@@ -1,8 +1,8 @@
 //! All rules of a session.
 ghost use Rattle.std.specs.Prelude.{◌≡◌, ◌++◌, map, IfOk, OnOk};
-ghost use Rattle.ranked.specs.Ascending.{ascending};
-ghost use Rattle.ranked.specs.Sets.{Distinct};
-ghost use Rattle.pcrf_facts.specs.FlowWords.{flows};
+ghost use Rattle.pcrf_values.specs.Ascending.{ascending};
+ghost use Rattle.pcrf_values.specs.Sets.{Distinct};
+ghost use Rattle.pcrf_values.specs.FlowWords.{flows};
 ghost use Rattle.pcrf_model.specs.Sessions.{gx, af};
 ghost use Rattle.pcrf_model.specs.Views.{view};
 ghost use Rattle.pcrf_model.specs.Bindings.{is_bound_to};
@@ -16,11 +16,9 @@ use crate::operator::operator_rules;
 use af_records::AfRec;
 use bind_index::bind;
 use op_tables::Tables;
-use pcrf_values::{AfSid, GxSid, Rule};
-use ranked::ascending_of;
-use site_join::State;
+use pcrf_values::{AfSid, GxSid, Rule, ascending_of};
+use site_join::{Entries, State};
 use std::alloc::{AllocError, Global};
-use std::collections::btree_map::Iter;
 
 /// The PCC rules of a gateway's session, by precedence and then by name, and no two of one name: the operator's rules of its
 /// access point, and the rule of each flow with filters and a class of each application function's session that is bound to
@@ -54,7 +52,7 @@ fn add_bound(
     tables: &Tables,
     state: &State,
     session: &GxSid,
-    sessions: Iter<'_, AfSid, AfRec>,
+    sessions: Entries<'_, AfSid, AfRec>,
 ) -> Result<(), AllocError>
     ensures added { OnOk result (found.new.items
         ≡ found.old.items ++ map keyed (rules_of_sessions tables.now

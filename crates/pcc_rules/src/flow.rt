@@ -2,8 +2,8 @@
 ghost use Rattle.std.specs.Prelude.{◌≡◌, IfOk, if◌then◌else◌, min};
 ghost use Rattle.std.proofs.Common.{unwrap_or};
 ghost use Rattle.pcrf_values.specs.Numbers.{flow_usage_number, preemption_number};
-ghost use Rattle.pcrf_facts.specs.Held.{entry_shown};
-ghost use Rattle.pcrf_facts.specs.FlowWords.{has_usage};
+ghost use Rattle.pcrf_values.specs.Held.{entry_shown};
+ghost use Rattle.pcrf_values.specs.FlowWords.{has_usage};
 ghost use Rattle.pcrf_model.specs.Flows.{class_of, flow_rate, Uplink, Downlink};
 ghost use Rattle.pcrf_model.specs.Rules.{rule_of};
 ghost use Rattle.pcc_rules.specs.FlowsAlone.{alone, flow_id, flow_facts};
@@ -11,8 +11,7 @@ ghost use Rattle.pcc_rules.specs.FlowsAlone.{alone, flow_id, flow_facts};
 use crate::naming::flow_name;
 use af_records::AfRec;
 use op_tables::{Class, Tables};
-use pcrf_values::{AfSid, FlowUsage, Rule, RuleQos};
-use ranked::Ranked;
+use pcrf_values::{AfSid, FlowUsage, Ranked, Rule, RuleQos};
 use std::alloc::{AllocError, Global};
 
 /// The Media-Type of a component that shows none.
@@ -46,7 +45,9 @@ impl Flow<'_> {
         let filters = filters.try_copy()?;
         let status = self.known.flow_status(self.component, self.number);
         let qos = self.qos(tables, class);
-        Ok(Some(Rule::of(name, status, filters, qos, class.precedence())))
+        let precedence = class.precedence();
+        let rule = Rule::of(alloc, name, status, filters, qos, precedence)?;
+        Ok(Some(rule))
     }
 
     /// The class of its service: that of signalling, or that of its media, if they have one.

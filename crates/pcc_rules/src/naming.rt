@@ -14,7 +14,7 @@ pub(crate) fn operator_name(alloc: Global, name: &OperatorRuleName) -> Result<Ru
 {
     let mut text = Vec::from_slice(alloc, b"op/")?;
     text.extend_from_slice(name.text().as_slice())?;
-    Ok(name_of(text))
+    name_of(text)
 }
 
 /// The name of the rule of a flow: `af/`, the Session-Id, and the numbers of component and flow, parted by `/`.
@@ -31,17 +31,17 @@ pub(crate) fn flow_name(
     let mut text = Vec::from_slice(alloc, b"af/")?;
     text.extend_from_slice(session.as_slice())?;
     text.extend_from_slice(numbers.as_bytes())?;
-    Ok(name_of(text))
+    name_of(text)
 }
 
 /// The name with these bytes.
-fn name_of(bytes: Vec<u8>) -> RuleName
+fn name_of(bytes: Vec<u8>) -> Result<RuleName, AllocError>
     requires not_empty { 0 < length bytes.items }
     requires within { length bytes.items ≤ rule_name_limit }
-    ensures { result ≡ bytes.items }
+    ensures { IfOk result (λ name. name ≡ bytes.items) }
 {
-    let Some(name) = RuleName::of(bytes) else {
+    let Some(name) = RuleName::of(bytes)? else {
         unreachable!()
     };
-    name
+    Ok(name)
 }

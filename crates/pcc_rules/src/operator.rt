@@ -41,11 +41,12 @@ fn of_operator(alloc: Global, rule: &OperatorRule) -> Result<Rule, AllocError>
     let name = operator_name(alloc, rule.name())?;
     let filters = texts_of(alloc, rule.filters())?;
     let class = rule.class();
-    Ok(Rule::of(
+    Rule::of(
+        alloc,
         name,
         rule.status(),
         filters,
         class.qos(),
         class.precedence(),
-    ))
+    )
 }

@@ -1,7 +1,7 @@
 //! How many listings a site's index has of gateways' sessions that share addresses and subscribers, a few for many sessions
 //! that come and go: as many as the sessions that are there, whoever was there before.
+use bind_index::Index;
 use pcrf_values::{BoundedText, Subscriber, SubscriptionType};
-use session_index::Index;
 use site_core::Site;
 use std::alloc::Global;
 use std::io;

@@ -1,11 +1,12 @@
 //! A site that lives (`LivingSite`), which one thread calls: its history stands in the proofs alone.
 ghost use Rattle.std.specs.Prelude.{◌≡◌};
-ghost use Rattle.living_site.specs.Sound.{AreNames};
+ghost use Rattle.site_lock.specs.Sound.{AreNames};
 
 use crate::book::times_of;
 use crate::figures::Figures;
-use living_site::{LivingSite, Roll, Roster, Seat};
 use site_core::{Event, Site};
+use site_lock::living::Seat;
+use site_lock::{LivingSite, Roll, Roster};
 use std::alloc::AllocGlobal;
 use std::io;
 use std::marker::Brand;

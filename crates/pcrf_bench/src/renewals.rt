@@ -2,9 +2,9 @@
 //! processors: of all, as after a whole state was taken, and of none, since all are kept; beside them the same lists, made and
 //! kept one by one.
 use crate::figures::Figures;
-use kept_rules::{Rules, derive_by};
+use bind_index::Index;
 use op_tables::Tables;
-use session_index::Index;
+use pcc_rules::{Rules, derive_by};
 use site_core::Site;
 use site_join::State;
 use std::alloc::{AllocError, AllocGlobal, Global};
@@ -32,10 +32,10 @@ fn keep_each(
 }
 
 /// How many lists a site keeps of its live sessions.
-fn count_kept(site: &Site) -> usize {
+fn count_cached(site: &Site) -> usize {
     let mut count = 0_usize;
     for (session, known) in site.sessions().all_gx() {
-        if known.live() && site.kept_rules().get(session).is_some() {
+        if known.live() && site.cached_rules().get(session).is_some() {
             count = count.saturating_add(1);
         }
     }
@@ -109,7 +109,7 @@ pub fn measure(
     figures.add_part(name, "one by one", count, each)?;
     make_stale(rt.alloc(), site)?;
     let all = time_renewing(rt, site)?;
-    figures.add_part(name, "all at once", count_kept(site), all)?;
+    figures.add_part(name, "all at once", count_cached(site), all)?;
     let none = time_renewing(rt, site)?;
-    figures.add_part(name, "where all are kept", count_kept(site), none)
+    figures.add_part(name, "where all are kept", count_cached(site), none)
 }

@@ -4,18 +4,18 @@ use Rattle.std.specs.Cmp.{first_so, second_so}
 use Rattle.std.specs.List.{list_any, filter_map, cons_option}
 use Rattle.std.specs.Ordering.{is_eq}
 use Rattle.std.proofs.lemmas.List.Elements.{filter_map-append}
-use Rattle.ranked.specs.Ascending.{ascending}
-use Rattle.ranked.specs.Sets.{In, Same, greatest}
-use Rattle.ranked.proofs.Plain.{clash, is_false, not_true, some_same, split}
-use Rattle.ranked.proofs.SetLaws.{In-left, In-right, In-any, In-cases, In-map, map-In}
-use Rattle.ranked.proofs.AscendingLaws.{ascending-In, ascending-Same}
-use Rattle.pcrf_facts.specs.Places.{Place}
-use Rattle.pcrf_facts.specs.Values.{Entry, entry_cmp}
+use Rattle.pcrf_values.specs.Ascending.{ascending}
+use Rattle.pcrf_values.specs.Sets.{In, Same, greatest}
+use Rattle.pcrf_values.proofs.Plain.{clash, is_false, not_true, some_same, split}
+use Rattle.pcrf_values.proofs.SetLaws.{In-left, In-right, In-any, In-cases, In-map, map-In}
+use Rattle.pcrf_values.proofs.AscendingLaws.{ascending-In, ascending-Same}
+use Rattle.pcrf_values.specs.Places.{Place}
+use Rattle.pcrf_values.specs.Values.{Entry, entry_cmp}
 use Rattle.pcrf_values.specs.Limits.{site_limit}
-use Rattle.pcrf_facts.specs.Facts.{Fact, Field, Aborted}
-use Rattle.pcrf_facts.specs.Held.{ends, is_ended, blocks, entry_at, entry_shown, aborts, is_aborted}
-use Rattle.pcrf_facts.proofs.AbortLaws.{aborted_until_the_end}
-use Rattle.pcrf_facts.proofs.ShownLaws.{fact_there}
+use Rattle.pcrf_values.specs.Facts.{Fact, Field, Aborted}
+use Rattle.pcrf_values.specs.Held.{ends, is_ended, blocks, entry_at, entry_shown, aborts, is_aborted}
+use Rattle.pcrf_values.proofs.AbortLaws.{aborted_until_the_end}
+use Rattle.pcrf_values.proofs.ShownLaws.{fact_there}
 use Rattle.pcrf_model.specs.Sessions.{Kind, Gx, Af, Session, session_cmp, is_gx}
 use Rattle.pcrf_model.specs.Holdings.{SessionFact, on_session, facts_on, under, Holding, union}
 use Rattle.pcrf_model.specs.Operations.{Operation, with_operation}

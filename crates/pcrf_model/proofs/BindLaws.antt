@@ -3,20 +3,20 @@ use Rattle.std.proofs.Common.{◌≡◌, Bool, true, false, cond, not, ◌&&◌,
 use Rattle.std.specs.Ordering.{is_lt}
 use Rattle.std.specs.Cmp.{first_so, second_so}
 use Rattle.std.specs.List.{filter_map}
-use Rattle.ranked.proofs.Plain.{clash, is_false, not_true, some_same, some_is, came_from, lt_less}
-use Rattle.ranked.specs.Sets.{In, greatest}
+use Rattle.pcrf_values.proofs.Plain.{clash, is_false, not_true, some_same, some_is, came_from, lt_less}
+use Rattle.pcrf_values.specs.Sets.{In, greatest}
 use Rattle.pcrf_model.specs.Sessions.{Kind, Gx, Af, Session, gx, is_gx}
-use Rattle.pcrf_facts.specs.Live.{shows_at, user_places, is_reached}
-use Rattle.pcrf_facts.specs.Places.{Place, address, prefix, apn, subscribers}
-use Rattle.pcrf_facts.specs.Values.{Entry}
+use Rattle.pcrf_values.specs.Live.{shows_at, user_places, is_reached}
+use Rattle.pcrf_values.specs.Places.{Place, address, prefix, apn, subscribers}
+use Rattle.pcrf_values.specs.Values.{Entry}
 use Rattle.pcrf_model.specs.Holdings.{SessionFact}
 use Rattle.pcrf_model.specs.Views.{View, view, value}
 use Rattle.pcrf_model.specs.Live.{is_live, has_what_it_needs}
 use Rattle.pcrf_model.specs.Bindings.{agrees, is_covered, meets, party, suits, Stamp, stamp_cmp, stamp_of, last_reached, Candidate, candidate_cmp, standing, candidate, matches, bind}
 use Rattle.pcrf_model.specs.Laws.{IsBinding}
-use Rattle.ranked.proofs.SetLaws.{both_top, any-In, In-map, In-filter_map, filter_map-In}
-use Rattle.ranked.proofs.OrderLaws.{IsRanked, nat_ranked, text_ranked, pair_ranked}
-use Rattle.ranked.proofs.Greatest.{greatest_is, greatest_some}
+use Rattle.pcrf_values.proofs.SetLaws.{both_top, any-In, In-map, In-filter_map, filter_map-In}
+use Rattle.pcrf_values.proofs.OrderLaws.{IsRanked, nat_ranked, text_ranked, pair_ranked}
+use Rattle.pcrf_values.proofs.Greatest.{greatest_is, greatest_some}
 use Rattle.pcrf_model.proofs.ViewLaws.{shows-known}
 
 -- candidates are ranked

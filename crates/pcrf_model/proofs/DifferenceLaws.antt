@@ -3,19 +3,18 @@ use Rattle.std.proofs.Common.{◌≡◌, ℕ, Bool, true, false, cond, not, ◌&
 use Rattle.std.specs.Ordering.{is_eq}
 use Rattle.std.specs.Cmp.{first_so, second_so}
 use Rattle.std.specs.List.{list_any}
-use Rattle.ranked.specs.Orders.{text_cmp}
-use Rattle.ranked.specs.Ascending.{ascending}
+use Rattle.pcrf_values.specs.Orders.{text_cmp}
+use Rattle.pcrf_values.specs.Ascending.{ascending}
 use Rattle.pcrf_values.specs.RuleValues.{RuleValue, DeltaValue, rule_cmp}
-use Rattle.ranked.proofs.Plain.{clash, is_false, split, not_true, both}
-use Rattle.ranked.specs.Sets.{In, Same, Distinct}
-use Rattle.pcrf_facts.specs.ToldWords.{ToldRule}
+use Rattle.pcrf_values.proofs.Plain.{clash, is_false, split, not_true, both}
+use Rattle.pcrf_values.specs.Sets.{In, Same, Distinct}
+use Rattle.pcrf_values.specs.ToldWords.{ToldRule}
 use Rattle.pcrf_model.specs.Differences.{told_cmp, told_name_of, rule_name_of, has_name, holds, difference, as_told, stays, last_of_names, apply}
-use Rattle.ranked.proofs.SetLaws.{In-left, In-right, In-cases, In-filter, filter-In, In-any, any-In, any-none, In-map, map-In}
-use Rattle.ranked.proofs.DistinctLaws.{one_of_key}
-use Rattle.ranked.proofs.OrderLaws.{IsRanked, text_ranked, pair_ranked}
-use Rattle.ranked.proofs.OrderLaws.{eq_is, eq_itself}
-use Rattle.pcrf_facts.proofs.FactLaws.{rule_ranked}
-use Rattle.ranked.proofs.AscendingLaws.{ascending-In, ascending-ascending, same_ascending}
+use Rattle.pcrf_values.proofs.SetLaws.{In-left, In-right, In-cases, In-filter, filter-In, In-any, any-In, any-none, In-map, map-In}
+use Rattle.pcrf_values.proofs.DistinctLaws.{one_of_key}
+use Rattle.pcrf_values.proofs.OrderLaws.{IsRanked, text_ranked, pair_ranked, eq_is, eq_itself}
+use Rattle.pcrf_values.proofs.FactLaws.{rule_ranked}
+use Rattle.pcrf_values.proofs.AscendingLaws.{ascending-In, ascending-ascending, same_ascending}
 
 -- told entries are ranked
 pub told_ranked : IsRanked told_cmp

@@ -2,11 +2,11 @@
 use Rattle.std.proofs.Common.{◌≡◌, ℕ, zero, suc, ◌+◌, ◌-◌, ◌≤◌, map, Bool, true, false, cond, List, [], ◌∷◌, length, find, take, Option, Some, None, inl, inr, refl, sym, ap, ◌∙◌, subst, Ordering, Less, arith}
 use Rattle.std.specs.Ordering.{is_lt}
 use Rattle.std.specs.Cmp.{tied_itself, first_so, second_so}
-use Rattle.ranked.specs.Ascending.{Rises}
-use Rattle.ranked.specs.Sets.{In}
-use Rattle.ranked.proofs.Plain.{clash, is_false, some_same, none_some}
-use Rattle.ranked.proofs.OrderLaws.{IsRanked}
-use Rattle.ranked.proofs.AscendingLaws.{ascending-ascending}
+use Rattle.pcrf_values.specs.Ascending.{Rises}
+use Rattle.pcrf_values.specs.Sets.{In}
+use Rattle.pcrf_values.proofs.Plain.{clash, is_false, some_same, none_some}
+use Rattle.pcrf_values.proofs.OrderLaws.{IsRanked}
+use Rattle.pcrf_values.proofs.AscendingLaws.{ascending-ascending}
 use Rattle.pcrf_values.specs.RuleValues.{DeltaValue}
 use Rattle.pcrf_model.specs.Sessions.{Session, session_cmp, is_gx}
 use Rattle.pcrf_model.specs.Holdings.{SessionFact}

@@ -5,17 +5,17 @@ use Rattle.std.specs.Ordering.{is_lt, ordering_then}
 use Rattle.std.specs.Cmp.{first_so, second_so, tied_itself}
 use Rattle.std.specs.List.{list_all}
 use Rattle.std.specs.Option.{option_cmp}
-use Rattle.ranked.specs.Ascending.{Rises}
-use Rattle.ranked.specs.Sets.{In}
-use Rattle.ranked.specs.declared.tag.Tag.{Tag}
-use Rattle.ranked.proofs.Plain.{both, lt_less}
-use Rattle.ranked.proofs.OrderLaws.{eq_is}
-use Rattle.ranked.proofs.SetLaws.{In-cases, In-map}
-use Rattle.ranked.proofs.AscendingLaws.{map-ascending, ascending-ascending}
-use Rattle.pcrf_facts.specs.Places.{Place, OfSession, OfComponent, OfFlow, OfRuleName, position_cmp}
-use Rattle.pcrf_facts.specs.Values.{entry_cmp}
-use Rattle.pcrf_facts.specs.Facts.{Fact, Field, position, entry, fact_cmp}
-use Rattle.pcrf_facts.proofs.FactLaws.{tag_ranked}
+use Rattle.pcrf_values.specs.Ascending.{Rises}
+use Rattle.pcrf_values.specs.Sets.{In}
+use Rattle.pcrf_values.specs.declared.tag.Tag.{Tag}
+use Rattle.pcrf_values.proofs.Plain.{both, lt_less}
+use Rattle.pcrf_values.proofs.OrderLaws.{eq_is}
+use Rattle.pcrf_values.proofs.SetLaws.{In-cases, In-map}
+use Rattle.pcrf_values.proofs.AscendingLaws.{map-ascending, ascending-ascending}
+use Rattle.pcrf_values.specs.Places.{Place, OfSession, OfComponent, OfFlow, OfRuleName, position_cmp}
+use Rattle.pcrf_values.specs.Values.{entry_cmp}
+use Rattle.pcrf_values.specs.Facts.{Fact, Field, position, entry, fact_cmp}
+use Rattle.pcrf_values.proofs.FactLaws.{tag_ranked}
 use Rattle.pcrf_values.specs.Limits.{last_counter}
 use Rattle.pcrf_model.specs.Sessions.{Kind, Gx, Af, Session}
 use Rattle.pcrf_model.specs.Holdings.{SessionFact, session_fact_cmp, kept_facts, under, Holding, union, kept_of}

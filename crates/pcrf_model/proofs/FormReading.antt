@@ -4,15 +4,15 @@ use Rattle.std.proofs.Common.{◌≡◌, ℕ, ◌<◌, ◌≤◌, ◌^◌, ◌==
 use Rattle.std.specs.Ordering.{is_eq}
 use Rattle.std.specs.Cmp.{first_so, second_so}
 use Rattle.std.specs.List.{list_any, list_all}
-use Rattle.ranked.specs.Orders.{text_cmp}
-use Rattle.ranked.specs.Sets.{In, Distinct}
-use Rattle.ranked.specs.declared.tag.Tag.{Tag}
-use Rattle.ranked.proofs.Plain.{clash, some_same, not_true}
-use Rattle.ranked.proofs.OrderLaws.{text_ranked, eq_itself}
-use Rattle.ranked.proofs.SetLaws.{In-any}
-use Rattle.pcrf_facts.specs.Places.{FlowField, OfFlow, OfRuleName}
-use Rattle.pcrf_facts.specs.Values.{Value}
-use Rattle.pcrf_facts.specs.Facts.{Field}
+use Rattle.pcrf_values.specs.Orders.{text_cmp}
+use Rattle.pcrf_values.specs.Sets.{In, Distinct}
+use Rattle.pcrf_values.specs.declared.tag.Tag.{Tag}
+use Rattle.pcrf_values.proofs.Plain.{clash, some_same, not_true}
+use Rattle.pcrf_values.proofs.OrderLaws.{text_ranked, eq_itself}
+use Rattle.pcrf_values.proofs.SetLaws.{In-any}
+use Rattle.pcrf_values.specs.Places.{FlowField, OfFlow, OfRuleName}
+use Rattle.pcrf_values.specs.Values.{Value}
+use Rattle.pcrf_values.specs.Facts.{Field}
 use Rattle.pcrf_model.specs.Sessions.{Kind, Gx, Af, Session}
 use Rattle.pcrf_model.specs.Holdings.{SessionFact, session_fact_cmp, Holding}
 use Rattle.pcrf_model.specs.Tables.{OperatorRule, ApnRow, Apns, Tables, row_among, apn_row}

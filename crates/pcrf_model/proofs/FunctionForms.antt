@@ -3,20 +3,20 @@ use Rattle.std.proofs.lemmas.Bool.Decides.{nat_tests}
 use Rattle.std.proofs.Common.{◌≡◌, ℕ, Bool, true, false, ◌&&◌, ◌==◌, List, [], ◌∷◌, map, Option, Some, None, refl, sym, ap, ◌∙◌, subst, option_map, flat_map, arith}
 use Rattle.std.specs.Cmp.{first_so, second_so}
 use Rattle.std.specs.List.{list_any}
-use Rattle.ranked.specs.Ascending.{ascending}
-use Rattle.ranked.specs.Sets.{In, Distinct}
-use Rattle.ranked.specs.declared.tag.Tag.{Tag}
-use Rattle.ranked.proofs.Plain.{clash, is_false, both, some_same, not_true}
-use Rattle.ranked.proofs.OrderLaws.{eq_itself}
-use Rattle.ranked.proofs.SetLaws.{In-any}
-use Rattle.ranked.proofs.DistinctLaws.{one_of_key}
-use Rattle.pcrf_facts.specs.Places.{SessionField, ComponentField, MediaType, ComponentStatus, ComponentRateUp, ComponentRateDown, FlowField, FlowDescriptions, FlowUsage, FlowStatus, FlowRateUp, FlowRateDown, OfSession, OfComponent, OfFlow, Component, Flow, Position}
-use Rattle.pcrf_facts.specs.Values.{Value, Number, Filters}
-use Rattle.pcrf_facts.specs.Facts.{Fact, Removed, Field, position, fact_cmp, is_shaded_by}
-use Rattle.pcrf_facts.specs.Held.{kept_set, kept_list}
-use Rattle.pcrf_facts.proofs.FactLaws.{tag_ranked}
-use Rattle.pcrf_facts.proofs.JoinedLaws.{kept-In, In-kept, sorted-Same}
-use Rattle.pcrf_facts.proofs.KeyLaws.{number_is}
+use Rattle.pcrf_values.specs.Ascending.{ascending}
+use Rattle.pcrf_values.specs.Sets.{In, Distinct}
+use Rattle.pcrf_values.specs.declared.tag.Tag.{Tag}
+use Rattle.pcrf_values.proofs.Plain.{clash, is_false, both, some_same, not_true}
+use Rattle.pcrf_values.proofs.OrderLaws.{eq_itself}
+use Rattle.pcrf_values.proofs.SetLaws.{In-any}
+use Rattle.pcrf_values.proofs.DistinctLaws.{one_of_key}
+use Rattle.pcrf_values.specs.Places.{SessionField, ComponentField, MediaType, ComponentStatus, ComponentRateUp, ComponentRateDown, FlowField, FlowDescriptions, FlowUsage, FlowStatus, FlowRateUp, FlowRateDown, OfSession, OfComponent, OfFlow, Component, Flow, Position}
+use Rattle.pcrf_values.specs.Values.{Value, Number, Filters}
+use Rattle.pcrf_values.specs.Facts.{Fact, Removed, Field, position, fact_cmp, is_shaded_by}
+use Rattle.pcrf_values.specs.Held.{kept_set, kept_list}
+use Rattle.pcrf_values.proofs.FactLaws.{tag_ranked}
+use Rattle.pcrf_values.proofs.JoinedLaws.{kept-In, In-kept, sorted-Same}
+use Rattle.pcrf_values.proofs.KeyLaws.{number_is}
 use Rattle.pcrf_model.specs.Sessions.{Af}
 use Rattle.pcrf_model.specs.Requests.{FlowValue, ComponentValue, AarValue}
 use Rattle.pcrf_model.specs.Making.{request_says, is_removed, flow_facts, component_facts, aar_facts}

@@ -1,16 +1,16 @@
 -- What a gateway's requests and pushes make is in form: the fields of a session, and what is told of its rules.
 use Rattle.std.proofs.Common.{◌≡◌, ℕ, true, ◌&&◌, List, map, Option, Some, refl, sym, ap, ◌∙◌, subst, arith}
-use Rattle.ranked.specs.Sets.{In}
-use Rattle.ranked.specs.declared.tag.Tag.{Tag}
-use Rattle.ranked.proofs.Plain.{both, some_same}
-use Rattle.ranked.proofs.OrderLaws.{text_ranked, eq_itself}
-use Rattle.ranked.proofs.SetLaws.{In-map}
+use Rattle.pcrf_values.specs.Sets.{In}
+use Rattle.pcrf_values.specs.declared.tag.Tag.{Tag}
+use Rattle.pcrf_values.proofs.Plain.{both, some_same}
+use Rattle.pcrf_values.proofs.OrderLaws.{text_ranked, eq_itself}
+use Rattle.pcrf_values.proofs.SetLaws.{In-map}
 use Rattle.pcrf_values.specs.Limits.{rule_name_limit}
 use Rattle.pcrf_values.specs.RuleValues.{RuleValue, DeltaValue}
-use Rattle.pcrf_facts.specs.Places.{SessionField, Place, OfSession, OfRuleName, Position, place_position}
-use Rattle.pcrf_facts.specs.Values.{Value, Untold, Told}
-use Rattle.pcrf_facts.specs.Facts.{Fact, Field, position}
-use Rattle.pcrf_facts.proofs.FactLaws.{tag_ranked}
+use Rattle.pcrf_values.specs.Places.{SessionField, Place, OfSession, OfRuleName, Position, place_position}
+use Rattle.pcrf_values.specs.Values.{Value, Untold, Told}
+use Rattle.pcrf_values.specs.Facts.{Fact, Field, position}
+use Rattle.pcrf_values.proofs.FactLaws.{tag_ranked}
 use Rattle.pcrf_model.specs.Sessions.{Gx}
 use Rattle.pcrf_model.specs.Differences.{rule_name_of}
 use Rattle.pcrf_model.specs.Making.{told_facts}

@@ -3,17 +3,17 @@ use Rattle.std.proofs.Common.{◌≡◌, ℕ, zero, suc, Bool, true, false, cond
 use Rattle.std.specs.Ordering.{is_eq}
 use Rattle.std.specs.Cmp.{first_so, second_so}
 use Rattle.std.specs.List.{filter}
-use Rattle.ranked.specs.Ascending.{ascending}
-use Rattle.ranked.specs.Sets.{In, Same}
-use Rattle.ranked.proofs.Plain.{clash, is_false, not_true, both}
-use Rattle.ranked.proofs.OrderLaws.{IsRanked, nat_ranked, text_ranked, pair_ranked, on_ranked, eq_is, eq_itself}
-use Rattle.ranked.proofs.SetLaws.{In-left, In-right, In-cases, In-map, map-In, In-filter_map, filter_map-In, filter_map-Same, In-filter, filter-In, maximal-In, In-maximal, maximal-append, maximal-Same}
-use Rattle.ranked.proofs.AscendingLaws.{ascending-In, ascending-Same}
-use Rattle.ranked.proofs.PartLaws.{IsStrict}
-use Rattle.pcrf_facts.specs.Facts.{Fact, is_shaded_by}
-use Rattle.pcrf_facts.specs.Held.{kept_set}
-use Rattle.pcrf_facts.proofs.FactLaws.{fact_ranked, shaded_irr, shaded_trans}
-use Rattle.pcrf_facts.proofs.JoinedLaws.{kept-In, In-kept}
+use Rattle.pcrf_values.specs.Ascending.{ascending}
+use Rattle.pcrf_values.specs.Sets.{In, Same}
+use Rattle.pcrf_values.proofs.Plain.{clash, is_false, not_true, both}
+use Rattle.pcrf_values.proofs.OrderLaws.{IsRanked, nat_ranked, text_ranked, pair_ranked, on_ranked, eq_is, eq_itself}
+use Rattle.pcrf_values.proofs.SetLaws.{In-left, In-right, In-cases, In-map, map-In, In-filter_map, filter_map-In, filter_map-Same, In-filter, filter-In, maximal-In, In-maximal, maximal-append, maximal-Same}
+use Rattle.pcrf_values.proofs.AscendingLaws.{ascending-In, ascending-Same}
+use Rattle.pcrf_values.proofs.PartLaws.{IsStrict}
+use Rattle.pcrf_values.specs.Facts.{Fact, is_shaded_by}
+use Rattle.pcrf_values.specs.Held.{kept_set}
+use Rattle.pcrf_values.proofs.FactLaws.{fact_ranked, shaded_irr, shaded_trans}
+use Rattle.pcrf_values.proofs.JoinedLaws.{kept-In, In-kept}
 use Rattle.pcrf_model.specs.Sessions.{Kind, Gx, Af, Session, kind_number, session_cmp}
 use Rattle.pcrf_model.specs.Holdings.{SessionFact, session_fact_cmp, is_shaded_there_by, kept_facts, under, on_session, facts_on, Holding, with_facts_of}
 use Rattle.pcrf_model.specs.Laws.{ReplacesOne}

@@ -8,7 +8,8 @@ pub mod CursorSnapshots
 pub mod CursorSteps
 pub mod DifferenceLaws
 pub mod DueLaws
-pub mod FirstEntries
+pub mod RestOfEntries
+pub mod Firsts
 pub mod FormLaws
 pub mod FormReading
 pub mod FunctionForms

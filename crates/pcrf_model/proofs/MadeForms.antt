@@ -5,18 +5,18 @@ use Rattle.std.specs.Ordering.{is_lt, ordering_then}
 use Rattle.std.specs.Cmp.{tied_itself}
 use Rattle.std.specs.List.{list_any}
 use Rattle.std.specs.Option.{option_cmp}
-use Rattle.ranked.specs.Ascending.{ascending}
-use Rattle.ranked.specs.Sets.{In}
-use Rattle.ranked.specs.declared.tag.Tag.{Tag}
-use Rattle.ranked.proofs.Plain.{clash, is_false, both, none_some, some_same}
-use Rattle.ranked.proofs.SetLaws.{In-left, In-cases, any-none}
-use Rattle.ranked.proofs.PartLaws.{In-flat_map}
-use Rattle.ranked.proofs.AscendingLaws.{map-ascending, ascending-ascending}
-use Rattle.pcrf_facts.specs.Places.{SessionField, OriginHost, OriginRealm, RequestType, session_fields, Place, OfSession, place_position, position_cmp, host}
-use Rattle.pcrf_facts.specs.Values.{Value, Number, Text, entry_cmp}
-use Rattle.pcrf_facts.specs.Facts.{Fact, End, Field, position, entry, fact_cmp, is_shaded_by}
-use Rattle.pcrf_facts.proofs.FactLaws.{every_session_field, place_ranked, position_ranked, fact_ranked, shaded_irr, same_place}
-use Rattle.pcrf_facts.proofs.JoinedLaws.{sorted-In}
+use Rattle.pcrf_values.specs.Ascending.{ascending}
+use Rattle.pcrf_values.specs.Sets.{In}
+use Rattle.pcrf_values.specs.declared.tag.Tag.{Tag}
+use Rattle.pcrf_values.proofs.Plain.{clash, is_false, both, none_some, some_same}
+use Rattle.pcrf_values.proofs.SetLaws.{In-left, In-cases, any-none}
+use Rattle.pcrf_values.proofs.PartLaws.{In-flat_map}
+use Rattle.pcrf_values.proofs.AscendingLaws.{map-ascending, ascending-ascending}
+use Rattle.pcrf_values.specs.Places.{SessionField, OriginHost, OriginRealm, RequestType, session_fields, Place, OfSession, place_position, position_cmp, host}
+use Rattle.pcrf_values.specs.Values.{Value, Number, Text, entry_cmp}
+use Rattle.pcrf_values.specs.Facts.{Fact, End, Field, position, entry, fact_cmp, is_shaded_by}
+use Rattle.pcrf_values.proofs.FactLaws.{every_session_field, place_ranked, position_ranked, fact_ranked, shaded_irr, same_place}
+use Rattle.pcrf_values.proofs.JoinedLaws.{sorted-In}
 use Rattle.pcrf_values.specs.Limits.{last_counter, site_limit}
 use Rattle.pcrf_model.specs.Sessions.{Kind, Session}
 use Rattle.pcrf_model.specs.Holdings.{Holding}

@@ -1,17 +1,17 @@
 -- Which rules can change where the facts of one session alone change.
 use Rattle.std.proofs.Common.{◌≡◌, Bool, true, false, cond, not, ◌&&◌, List, [], ◌++◌, ◌⊎◌, map, Option, Some, None, inl, inr, refl, sym, ap, ◌∙◌, subst, option_map, option_and_then, unwrap_or}
 use Rattle.std.specs.Ordering.{is_eq}
-use Rattle.ranked.proofs.Plain.{clash, is_false, none_some, came_from, split}
-use Rattle.ranked.specs.Ascending.{ascending}
-use Rattle.ranked.specs.Sets.{In, Same}
-use Rattle.ranked.proofs.OrderLaws.{eq_is, eq_itself}
-use Rattle.ranked.proofs.SetLaws.{Same-back, Same-itself, Same-append, In-filter_map, filter_map-In}
-use Rattle.ranked.proofs.AscendingLaws.{ascending-Same}
+use Rattle.pcrf_values.proofs.Plain.{clash, is_false, none_some, came_from, split}
+use Rattle.pcrf_values.specs.Ascending.{ascending}
+use Rattle.pcrf_values.specs.Sets.{In, Same}
+use Rattle.pcrf_values.proofs.OrderLaws.{eq_is, eq_itself}
+use Rattle.pcrf_values.proofs.SetLaws.{Same-back, Same-itself, Same-append, In-filter_map, filter_map-In}
+use Rattle.pcrf_values.proofs.AscendingLaws.{ascending-Same}
 use Rattle.pcrf_values.specs.RuleValues.{RuleValue}
-use Rattle.pcrf_facts.specs.Places.{FlowDescriptions, Place, OfFlow, address, prefix, apn}
-use Rattle.pcrf_facts.specs.Values.{Value, Prefix, Entry}
-use Rattle.pcrf_facts.proofs.FactLaws.{value_ranked}
-use Rattle.pcrf_facts.proofs.ShownLaws.{members_show_the_same}
+use Rattle.pcrf_values.specs.Places.{FlowDescriptions, Place, OfFlow, address, prefix, apn}
+use Rattle.pcrf_values.specs.Values.{Value, Prefix, Entry}
+use Rattle.pcrf_values.proofs.FactLaws.{value_ranked}
+use Rattle.pcrf_values.proofs.ShownLaws.{members_show_the_same}
 use Rattle.pcrf_model.specs.Sessions.{Session, session_cmp, is_gx}
 use Rattle.pcrf_model.specs.Holdings.{SessionFact, facts_on}
 use Rattle.pcrf_model.specs.Views.{View, Shown, view, value, as_text}

@@ -4,21 +4,21 @@ use Rattle.std.specs.Ordering.{nat_cmp, ordering_then}
 use Rattle.std.specs.Cmp.{nat_cmp_is, first_so, second_so}
 use Rattle.std.proofs.lemmas.List.{map-append}
 use Rattle.std.proofs.lemmas.List.Elements.{filter_map-append}
-use Rattle.ranked.specs.Ascending.{ascending}
-use Rattle.ranked.specs.Sets.{In, Same, Distinct}
-use Rattle.ranked.specs.Tags.{tag_cmp}
-use Rattle.ranked.specs.declared.tag.Tag.{Tag}
-use Rattle.ranked.proofs.Plain.{clash, is_false, not_true}
-use Rattle.ranked.proofs.SetLaws.{In-right, In-cases, In-any, any-In, In-map, map-In, map-Same, Same-itself, Same-through, Same-append}
-use Rattle.ranked.proofs.AscendingLaws.{ascending-In}
-use Rattle.ranked.proofs.DistinctLaws.{take-In, one_of_key}
+use Rattle.pcrf_values.specs.Ascending.{ascending}
+use Rattle.pcrf_values.specs.Sets.{In, Same, Distinct}
+use Rattle.pcrf_values.specs.Tags.{tag_cmp}
+use Rattle.pcrf_values.specs.declared.tag.Tag.{Tag}
+use Rattle.pcrf_values.proofs.Plain.{clash, is_false, not_true}
+use Rattle.pcrf_values.proofs.SetLaws.{In-right, In-cases, In-any, any-In, In-map, map-In, map-Same, Same-itself, Same-through, Same-append}
+use Rattle.pcrf_values.proofs.AscendingLaws.{ascending-In}
+use Rattle.pcrf_values.proofs.DistinctLaws.{take-In, one_of_key}
 use Rattle.pcrf_values.specs.RuleValues.{RuleValue, DeltaValue}
 use Rattle.pcrf_values.specs.Numbers.{request_kind_number}
-use Rattle.pcrf_facts.specs.Places.{SessionField, OriginHost, FlowField, Place, OfSession, OfFlow, OfRuleName, Component, Flow, host}
-use Rattle.pcrf_facts.specs.Values.{Value, Text}
-use Rattle.pcrf_facts.specs.Facts.{Fact, End, Removed, Field, fact_cmp}
-use Rattle.pcrf_facts.specs.Held.{ends, is_ended, blocks, is_gone}
-use Rattle.pcrf_facts.proofs.FactLaws.{fact_ranked}
+use Rattle.pcrf_values.specs.Places.{SessionField, OriginHost, FlowField, Place, OfSession, OfFlow, OfRuleName, Component, Flow, host}
+use Rattle.pcrf_values.specs.Values.{Value, Text}
+use Rattle.pcrf_values.specs.Facts.{Fact, End, Removed, Field, fact_cmp}
+use Rattle.pcrf_values.specs.Held.{ends, is_ended, blocks, is_gone}
+use Rattle.pcrf_values.proofs.FactLaws.{fact_ranked}
 use Rattle.pcrf_model.specs.Sessions.{Session, session_cmp, gx, is_gx}
 use Rattle.pcrf_model.specs.Holdings.{SessionFact, session_fact_cmp, under, on_session, facts_on, Holding}
 use Rattle.pcrf_model.specs.Operations.{Operation}
@@ -37,7 +37,7 @@ use Rattle.pcrf_model.proofs.HoldingLaws.{session_ranked, session_fact_ranked, f
 use Rattle.pcrf_model.proofs.ViewLaws.{its_session, sessions_alone, view-Same}
 use Rattle.pcrf_model.proofs.DifferenceLaws.{no_name_twice, installed-In, apply-difference}
 use Rattle.pcrf_model.proofs.DueLaws.{first_is_all}
-use Rattle.pcrf_model.proofs.FirstEntries.{difference-first}
+use Rattle.pcrf_model.proofs.RestOfEntries.{difference-first}
 use Rattle.pcrf_model.specs.ToldTags.{ToldUpTo}
 use Rattle.pcrf_model.proofs.MadeForms.{said_each, said_there}
 use Rattle.pcrf_model.proofs.FormReading.{found, FlowsFit, flows_fit}

@@ -3,16 +3,16 @@ use Rattle.std.proofs.Common.{◌≡◌, ℕ, suc, ◌<◌, ◌≤◌, ◌^◌, 
 use Rattle.std.proofs.lemmas.Bool.Decides.{nat_tests}
 use Rattle.std.specs.List.{list_all}
 use Rattle.std.specs.Ordering.{is_eq}
-use Rattle.ranked.specs.Ascending.{ascending}
-use Rattle.ranked.specs.Orders.{text_cmp}
-use Rattle.ranked.proofs.Plain.{both}
-use Rattle.ranked.proofs.OrderLaws.{text_ranked, eq_itself}
-use Rattle.ranked.proofs.AscendingLaws.{ascending-ascending}
+use Rattle.pcrf_values.specs.Ascending.{ascending}
+use Rattle.pcrf_values.specs.Orders.{text_cmp}
+use Rattle.pcrf_values.proofs.Plain.{both}
+use Rattle.pcrf_values.proofs.OrderLaws.{text_ranked, eq_itself}
+use Rattle.pcrf_values.proofs.AscendingLaws.{ascending-ascending}
 use Rattle.pcrf_values.specs.Limits.{apn_limit, subscribers_limit}
 use Rattle.pcrf_values.specs.Subscribers.{subscriber_cmp}
 use Rattle.pcrf_values.specs.Texts.{small_letters}
-use Rattle.pcrf_facts.specs.Values.{Subscriber}
-use Rattle.pcrf_facts.proofs.FactLaws.{subscriber_ranked}
+use Rattle.pcrf_values.specs.Values.{Subscriber}
+use Rattle.pcrf_values.proofs.FactLaws.{subscriber_ranked}
 use Rattle.pcrf_model.specs.Forms.{is_within, is_byte, is_text, is_rising, is_apn, is_subscriber, are_subscribers}
 use Rattle.pcrf_model.proofs.FormLaws.{le_passes, test_by_rises}
 

@@ -1,10 +1,10 @@
 -- What is read of a view, and what a site does, is the same on the kept facts.
 use Rattle.std.proofs.Common.{◌≡◌, ℕ, Bool, false, List, [], Option, refl, ap}
-use Rattle.ranked.specs.Sets.{Same}
+use Rattle.pcrf_values.specs.Sets.{Same}
 use Rattle.pcrf_values.specs.declared.request_kind.RequestKind.{RequestKind}
 use Rattle.pcrf_values.specs.declared.request_kind.RequestKind.TheVariants.{Initial, Update, Termination}
-use Rattle.pcrf_facts.specs.Places.{Place}
-use Rattle.pcrf_facts.specs.Values.{Entry}
+use Rattle.pcrf_values.specs.Places.{Place}
+use Rattle.pcrf_values.specs.Values.{Entry}
 use Rattle.pcrf_model.specs.Holdings.{SessionFact, kept_facts, under, Holding, kept_of}
 use Rattle.pcrf_model.specs.Sessions.{Session, gx, af}
 use Rattle.pcrf_model.specs.Views.{View, Shown, view}
@@ -13,7 +13,7 @@ use Rattle.pcrf_model.specs.Bindings.{matches, bind}
 use Rattle.pcrf_model.specs.Tables.{Tables}
 use Rattle.pcrf_model.specs.Rules.{rules}
 use Rattle.pcrf_model.specs.Differences.{told_rules_of, difference}
-use Rattle.pcrf_model.specs.OperatorValues.{operator_value, value_seen}
+use Rattle.pcrf_model.specs.SiteOverviews.{site_overview, value_seen}
 use Rattle.pcrf_model.specs.Requests.{CcrValue, AarValue, StrValue, RequestValue, Ccr, Aar, Str, Base}
 use Rattle.pcrf_model.specs.Making.{ccr_fields, aar_facts, next_tag}
 use Rattle.pcrf_model.specs.Refusals.{ccr_refusal, aar_refusal, str_refusal}
@@ -77,9 +77,9 @@ pub reads-Same : (xs ys : List SessionFact) → Same xs ys → ReadsTheSame (vie
 reads-Same xs ys s = reads _ _ (view-Same xs ys s)
 
 -- an operator sees the same
-pub operator_value-kept_of : (t : Tables) (h : Holding) → operator_value t (kept_of h) ≡ operator_value t h
-unfolding operator_value
-operator_value-kept_of t h = ap (λ (v : View). value_seen t h.clock v) (view_sorted h.facts)
+pub site_overview-kept_of : (t : Tables) (h : Holding) → site_overview t (kept_of h) ≡ site_overview t h
+unfolding site_overview
+site_overview-kept_of t h = ap (λ (v : View). value_seen t h.clock v) (view_sorted h.facts)
 
 -- ---- requests
 

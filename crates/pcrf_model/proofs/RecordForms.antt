@@ -4,16 +4,16 @@ use Rattle.std.proofs.Common.{◌≡◌, ℕ, ◌<◌, ◌≤◌, ◌==◌, true
 use Rattle.std.specs.Cmp.{first_so, second_so}
 use Rattle.std.specs.Ordering.{is_eq}
 use Rattle.std.specs.List.{list_all}
-use Rattle.ranked.specs.Sets.{In}
-use Rattle.ranked.specs.declared.tag.Tag.{Tag}
-use Rattle.ranked.proofs.Plain.{both}
-use Rattle.ranked.proofs.OrderLaws.{eq_is}
-use Rattle.ranked.proofs.SetLaws.{In-left, In-cases, filter-In, top_of}
-use Rattle.ranked.proofs.AscendingLaws.{ascending-ascending}
-use Rattle.pcrf_facts.specs.Facts.{Fact, Field, is_shaded_by}
-use Rattle.pcrf_facts.specs.Held.{kept_set, kept_list, join_of}
-use Rattle.pcrf_facts.proofs.FactLaws.{tag_ranked, shaded_irr, shaded_trans}
-use Rattle.pcrf_facts.proofs.JoinedLaws.{kept-In, sorted-In}
+use Rattle.pcrf_values.specs.Sets.{In}
+use Rattle.pcrf_values.specs.declared.tag.Tag.{Tag}
+use Rattle.pcrf_values.proofs.Plain.{both}
+use Rattle.pcrf_values.proofs.OrderLaws.{eq_is}
+use Rattle.pcrf_values.proofs.SetLaws.{In-left, In-cases, filter-In, top_of}
+use Rattle.pcrf_values.proofs.AscendingLaws.{ascending-ascending}
+use Rattle.pcrf_values.specs.Facts.{Fact, Field, is_shaded_by}
+use Rattle.pcrf_values.specs.Held.{kept_set, kept_list, join_of}
+use Rattle.pcrf_values.proofs.FactLaws.{tag_ranked, shaded_irr, shaded_trans}
+use Rattle.pcrf_values.proofs.JoinedLaws.{kept-In, sorted-In}
 use Rattle.pcrf_values.specs.Limits.{last_counter, site_limit}
 use Rattle.pcrf_model.specs.Sessions.{Kind, Session, session_cmp}
 use Rattle.pcrf_model.specs.Holdings.{SessionFact, session_fact_cmp, under, Holding, with_facts_of}

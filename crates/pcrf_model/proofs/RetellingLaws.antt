@@ -4,21 +4,21 @@ use Rattle.std.proofs.Common.{◌≡◌, ℕ, suc, ◌+◌, ◌<◌, Bool, true,
 use Rattle.std.specs.Cmp.{first_so, second_so}
 use Rattle.std.specs.Ordering.{is_lt}
 use Rattle.std.specs.List.{filter_map}
-use Rattle.ranked.specs.Sets.{In}
-use Rattle.ranked.specs.declared.tag.Tag.{Tag}
-use Rattle.ranked.proofs.Plain.{clash, both, some_same, not_true, split}
-use Rattle.ranked.proofs.Greatest.{greatest_is, greatest_some}
-use Rattle.ranked.proofs.SetLaws.{In-left, In-any, any-In, In-map, map-In, In-filter_map}
+use Rattle.pcrf_values.specs.Sets.{In}
+use Rattle.pcrf_values.specs.declared.tag.Tag.{Tag}
+use Rattle.pcrf_values.proofs.Plain.{clash, both, some_same, not_true, split}
+use Rattle.pcrf_values.proofs.Greatest.{greatest_is, greatest_some}
+use Rattle.pcrf_values.proofs.SetLaws.{In-left, In-any, any-In, In-map, map-In, In-filter_map}
 use Rattle.pcrf_values.specs.Limits.{rule_name_limit, site_limit}
 use Rattle.pcrf_values.specs.RuleValues.{RuleValue, DeltaValue}
-use Rattle.pcrf_facts.specs.Places.{Place, OfRuleName}
-use Rattle.pcrf_facts.specs.Values.{Untold, Told, Entry, entry_cmp}
-use Rattle.pcrf_facts.specs.Facts.{Fact, Field}
-use Rattle.pcrf_facts.specs.Held.{ends, is_ended, blocks, is_gone, entry_at, value_at, entry_shown}
-use Rattle.pcrf_facts.specs.ToldWords.{ToldRule}
-use Rattle.pcrf_facts.proofs.FactLaws.{entry_ranked}
-use Rattle.pcrf_facts.proofs.JoinedLaws.{sorted-In}
-use Rattle.pcrf_facts.proofs.ShownLaws.{field_entry, fact_there}
+use Rattle.pcrf_values.specs.Places.{Place, OfRuleName}
+use Rattle.pcrf_values.specs.Values.{Untold, Told, Entry, entry_cmp}
+use Rattle.pcrf_values.specs.Facts.{Fact, Field}
+use Rattle.pcrf_values.specs.Held.{ends, is_ended, blocks, is_gone, entry_at, value_at, entry_shown}
+use Rattle.pcrf_values.specs.ToldWords.{ToldRule}
+use Rattle.pcrf_values.proofs.FactLaws.{entry_ranked}
+use Rattle.pcrf_values.proofs.JoinedLaws.{sorted-In}
+use Rattle.pcrf_values.proofs.ShownLaws.{field_entry, fact_there}
 use Rattle.pcrf_model.specs.Sessions.{Session, gx}
 use Rattle.pcrf_model.specs.Holdings.{under, facts_on, Holding}
 use Rattle.pcrf_model.specs.Operations.{Operation, with_operation}

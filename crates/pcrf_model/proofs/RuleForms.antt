@@ -8,27 +8,27 @@ use Rattle.std.specs.Prelude.{codes}
 use Rattle.std.proofs.Common.{◌≡◌, ℕ, min, ◌-◌, ◌<◌, ◌≤◌, ◌^◌, true, false, cond, ◌==◌, List, [], ◌∷◌, ◌++◌, map, length, find, Option, Some, None, inl, inr, refl, sym, ap, ◌∙◌, subst, option_map, option_and_then, unwrap_or, decimal, length-append, arith}
 use Rattle.std.specs.Cmp.{first_so, second_so}
 use Rattle.std.specs.List.{list_all}
-use Rattle.ranked.specs.Ascending.{ascending}
-use Rattle.ranked.specs.Sets.{In}
-use Rattle.ranked.proofs.Plain.{clash, both, some_same}
-use Rattle.ranked.proofs.SetLaws.{In-cases, map-In}
-use Rattle.ranked.proofs.DistinctLaws.{take-In}
-use Rattle.ranked.proofs.AscendingLaws.{ascending-In}
+use Rattle.pcrf_values.specs.Ascending.{ascending}
+use Rattle.pcrf_values.specs.Sets.{In}
+use Rattle.pcrf_values.proofs.Plain.{clash, both, some_same}
+use Rattle.pcrf_values.proofs.SetLaws.{In-cases, map-In}
+use Rattle.pcrf_values.proofs.DistinctLaws.{take-In}
+use Rattle.pcrf_values.proofs.AscendingLaws.{ascending-In}
 use Rattle.pcrf_values.specs.Limits.{session_id_limit, rule_name_limit, operator_rule_name_limit}
 use Rattle.pcrf_values.specs.RuleValues.{RuleValue, DeltaValue}
-use Rattle.pcrf_facts.specs.Places.{ComponentStatus, FlowDescriptions, FlowStatus, Place, OfComponent, OfFlow, OfRuleName, apn}
-use Rattle.pcrf_facts.specs.Values.{Value, Number, Filters, Told, Entry}
-use Rattle.pcrf_facts.specs.Facts.{Field}
-use Rattle.pcrf_facts.proofs.ShownLaws.{fact_there}
+use Rattle.pcrf_values.specs.Places.{ComponentStatus, FlowDescriptions, FlowStatus, Place, OfComponent, OfFlow, OfRuleName, apn}
+use Rattle.pcrf_values.specs.Values.{Value, Number, Filters, Told, Entry}
+use Rattle.pcrf_values.specs.Facts.{Field}
+use Rattle.pcrf_values.proofs.ShownLaws.{fact_there}
 use Rattle.pcrf_model.specs.Sessions.{Kind, Gx, Af, Session}
 use Rattle.pcrf_model.specs.Holdings.{facts_on, Holding}
-use Rattle.pcrf_facts.specs.FlowWords.{or_else, as_number, number_at}
+use Rattle.pcrf_values.specs.FlowWords.{or_else, as_number, number_at}
 use Rattle.pcrf_model.specs.Views.{View, view, value, text, as_filters}
 use Rattle.pcrf_model.specs.Live.{is_live}
 use Rattle.pcrf_model.specs.Tables.{Class, OperatorRule, ApnRow, Tables, media_class}
 use Rattle.pcrf_model.specs.Flows.{FlowId, of_component, filters, flow_status, is_signalling, media_type, class_of, Uplink, Downlink, asked_rate, flow_rule_name, flow_rule}
 use Rattle.pcrf_model.specs.Rules.{rule_of, apn_of, operator_rule, operator_rules, flow_rules, listed_cmp, rules}
-use Rattle.pcrf_facts.specs.ToldWords.{ToldRule}
+use Rattle.pcrf_values.specs.ToldWords.{ToldRule}
 use Rattle.pcrf_model.specs.Differences.{told_rules_of, told_name_of, difference}
 use Rattle.pcrf_model.specs.Serving.{delta_of}
 use Rattle.pcrf_model.specs.Forms.{is_byte, is_text, is_unsigned, is_class, is_status, are_filters, is_rule, is_operator_rule, is_session, fits_place, is_holding, are_tables}

@@ -4,15 +4,15 @@ use Rattle.std.specs.Prelude.{codes}
 use Rattle.std.specs.Ordering.{is_eq}
 use Rattle.std.specs.Cmp.{first_so}
 use Rattle.std.proofs.lemmas.List.{append_cancel_left}
-use Rattle.ranked.specs.Ascending.{ascending}
+use Rattle.pcrf_values.specs.Ascending.{ascending}
 use Rattle.pcrf_values.specs.RuleValues.{RuleValue}
-use Rattle.ranked.proofs.Plain.{clash, some_same, came_from}
-use Rattle.ranked.specs.Sets.{In, Distinct}
-use Rattle.pcrf_facts.specs.Places.{FlowDescriptions, Place, OfFlow, apn}
-use Rattle.pcrf_facts.specs.Facts.{Field}
-use Rattle.pcrf_facts.specs.Values.{Entry}
-use Rattle.pcrf_facts.proofs.FactLaws.{rule_ranked}
-use Rattle.pcrf_facts.proofs.ShownLaws.{fact_there}
+use Rattle.pcrf_values.proofs.Plain.{clash, some_same, came_from}
+use Rattle.pcrf_values.specs.Sets.{In, Distinct}
+use Rattle.pcrf_values.specs.Places.{FlowDescriptions, Place, OfFlow, apn}
+use Rattle.pcrf_values.specs.Facts.{Field}
+use Rattle.pcrf_values.specs.Values.{Entry}
+use Rattle.pcrf_values.proofs.FactLaws.{rule_ranked}
+use Rattle.pcrf_values.proofs.ShownLaws.{fact_there}
 use Rattle.pcrf_model.specs.Sessions.{Kind, Gx, Af, Session, session_cmp, is_gx}
 use Rattle.pcrf_model.specs.Holdings.{SessionFact, facts_on}
 use Rattle.pcrf_model.specs.Views.{View, view, text}
@@ -23,10 +23,10 @@ use Rattle.pcrf_model.specs.Flows.{FlowId, filters, class_of, flow_rule_name, fl
 use Rattle.pcrf_model.specs.Rules.{flow_at, rule_of, rule_at, apn_of, operator_rule, operator_rules, flow_rules, listed_cmp, rules}
 use Rattle.pcrf_model.specs.Differences.{rule_name_of}
 use Rattle.pcrf_model.specs.Forms.{are_tables}
-use Rattle.ranked.proofs.SetLaws.{In-cases, filter_map-In, map-In}
-use Rattle.ranked.proofs.OrderLaws.{IsRanked, nat_ranked, pair_ranked, on_ranked}
-use Rattle.ranked.proofs.AscendingLaws.{ascending-In, ascending-ascending, Distinct-ascending}
-use Rattle.ranked.proofs.DistinctLaws.{one_of_key, Distinct-map}
+use Rattle.pcrf_values.proofs.SetLaws.{In-cases, filter_map-In, map-In}
+use Rattle.pcrf_values.proofs.OrderLaws.{IsRanked, nat_ranked, pair_ranked, on_ranked}
+use Rattle.pcrf_values.proofs.AscendingLaws.{ascending-In, ascending-ascending, Distinct-ascending}
+use Rattle.pcrf_values.proofs.DistinctLaws.{one_of_key, Distinct-map}
 use Rattle.pcrf_model.proofs.HoldingLaws.{facts_on-In}
 use Rattle.pcrf_model.proofs.ViewLaws.{sessions_alone, all-shows}
 use Rattle.pcrf_model.proofs.FormReading.{FlowsFit, table_row}

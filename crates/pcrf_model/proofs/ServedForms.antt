@@ -4,11 +4,11 @@ use Rattle.std.proofs.Common.{◌≡◌, ℕ, ◌+◌, ◌-◌, ◌<◌, ◌≤�
 use Rattle.std.proofs.lemmas.List.{length-map}
 use Rattle.std.specs.Cmp.{first_so, second_so}
 use Rattle.std.specs.List.{list_all}
-use Rattle.ranked.specs.Ascending.{ascending}
-use Rattle.ranked.specs.Sets.{In}
-use Rattle.ranked.specs.declared.tag.Tag.{Tag}
-use Rattle.ranked.proofs.Plain.{clash, some_same, not_true}
-use Rattle.ranked.proofs.SetLaws.{Same-itself, Same-through, Same-append, map-Same}
+use Rattle.pcrf_values.specs.Ascending.{ascending}
+use Rattle.pcrf_values.specs.Sets.{In}
+use Rattle.pcrf_values.specs.declared.tag.Tag.{Tag}
+use Rattle.pcrf_values.proofs.Plain.{clash, some_same, not_true}
+use Rattle.pcrf_values.proofs.SetLaws.{Same-itself, Same-through, Same-append, map-Same}
 use Rattle.pcrf_values.specs.Limits.{session_id_limit, last_counter, site_limit}
 use Rattle.pcrf_values.specs.RuleValues.{DeltaValue}
 use Rattle.pcrf_values.specs.Numbers.{request_kind_number}
@@ -16,10 +16,10 @@ use Rattle.pcrf_values.specs.Results.{unknown_session_id, unable_to_comply}
 use Rattle.pcrf_values.specs.declared.refusal.Refusal.{Refusal}
 use Rattle.pcrf_values.specs.declared.request_kind.RequestKind.{RequestKind}
 use Rattle.pcrf_values.specs.declared.request_kind.RequestKind.TheVariants.{Initial, Update, Termination}
-use Rattle.pcrf_facts.specs.Places.{SessionField, RequestType}
-use Rattle.pcrf_facts.specs.Values.{Value, Number}
-use Rattle.pcrf_facts.specs.Facts.{Fact, Field, fact_cmp}
-use Rattle.pcrf_facts.proofs.JoinedLaws as facts
+use Rattle.pcrf_values.specs.Places.{SessionField, RequestType}
+use Rattle.pcrf_values.specs.Values.{Value, Number}
+use Rattle.pcrf_values.specs.Facts.{Fact, Field, fact_cmp}
+use Rattle.pcrf_values.proofs.JoinedLaws as facts
 use Rattle.pcrf_model.specs.Sessions.{Kind, Gx, Af, Session, gx, af, is_gx}
 use Rattle.pcrf_model.specs.Holdings.{SessionFact, under, Holding}
 use Rattle.pcrf_model.specs.Operations.{Operation, with_operation}

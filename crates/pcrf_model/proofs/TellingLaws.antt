@@ -3,20 +3,20 @@ use Rattle.std.proofs.Common.{◌≡◌, ℕ, Bool, true, false, cond, not, List
 use Rattle.std.specs.Ordering.{is_eq}
 use Rattle.std.specs.List.{list_any, filter, filter_map, cons_option}
 use Rattle.std.proofs.lemmas.List.Elements.{filter_map-append}
-use Rattle.ranked.specs.Ascending.{ascending, Rises}
-use Rattle.ranked.specs.Orders.{text_cmp}
-use Rattle.ranked.specs.Sets.{In, Same}
-use Rattle.ranked.specs.Tags.{tag_cmp}
-use Rattle.ranked.specs.declared.tag.Tag.{Tag}
-use Rattle.ranked.proofs.Plain.{clash, split, not_true}
-use Rattle.ranked.proofs.OrderLaws.{text_ranked, eq_is, eq_itself}
-use Rattle.ranked.proofs.SetLaws.{In-left, In-cases, In-filter, filter-In, In-any, any-In, In-map, map-In}
-use Rattle.ranked.proofs.AscendingLaws.{ascending-ascending, ascending-Same, same_ascending, filter-ascending}
+use Rattle.pcrf_values.specs.Ascending.{ascending, Rises}
+use Rattle.pcrf_values.specs.Orders.{text_cmp}
+use Rattle.pcrf_values.specs.Sets.{In, Same}
+use Rattle.pcrf_values.specs.Tags.{tag_cmp}
+use Rattle.pcrf_values.specs.declared.tag.Tag.{Tag}
+use Rattle.pcrf_values.proofs.Plain.{clash, split, not_true}
+use Rattle.pcrf_values.proofs.OrderLaws.{text_ranked, eq_is, eq_itself}
+use Rattle.pcrf_values.proofs.SetLaws.{In-left, In-cases, In-filter, filter-In, In-any, any-In, In-map, map-In}
+use Rattle.pcrf_values.proofs.AscendingLaws.{ascending-ascending, ascending-Same, same_ascending, filter-ascending}
 use Rattle.pcrf_values.specs.RuleValues.{RuleValue, DeltaValue}
-use Rattle.pcrf_facts.specs.Places.{Place, OfSession, OfComponent, OfFlow, OfRuleName}
-use Rattle.pcrf_facts.specs.Values.{Value, Untold, Told, Entry}
-use Rattle.pcrf_facts.specs.Facts.{Fact, Field}
-use Rattle.pcrf_facts.specs.Held.{is_ended, is_gone, entry_shown}
+use Rattle.pcrf_values.specs.Places.{Place, OfSession, OfComponent, OfFlow, OfRuleName}
+use Rattle.pcrf_values.specs.Values.{Value, Untold, Told, Entry}
+use Rattle.pcrf_values.specs.Facts.{Fact, Field}
+use Rattle.pcrf_values.specs.Held.{is_ended, is_gone, entry_shown}
 use Rattle.pcrf_model.specs.Sessions.{Session, session_cmp}
 use Rattle.pcrf_model.specs.Holdings.{SessionFact, under, on_session, facts_on}
 use Rattle.pcrf_model.specs.Views.{View, Shown, shown_cmp, entry_shown_on, shown_by_fact, view}
@@ -24,7 +24,7 @@ use Rattle.pcrf_model.specs.Live.{is_live}
 use Rattle.pcrf_model.specs.Bindings.{bind, is_bound_to}
 use Rattle.pcrf_model.specs.Tables.{Tables}
 use Rattle.pcrf_model.specs.Rules.{flow_at, rule_of, rule_at, operator_rules, listed_cmp, rules}
-use Rattle.pcrf_facts.specs.ToldWords.{ToldRule}
+use Rattle.pcrf_values.specs.ToldWords.{ToldRule}
 use Rattle.pcrf_model.specs.Differences.{told_cmp, told_rules_of, rule_name_of, as_told, stays, last_of_names, apply}
 use Rattle.pcrf_model.specs.Making.{told_facts}
 use Rattle.pcrf_model.proofs.HoldingLaws.{session_ranked, facts_on-In, under-In}

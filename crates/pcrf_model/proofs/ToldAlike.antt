@@ -1,18 +1,18 @@
 -- Where a gateway was told more of one session nothing else is read otherwise.
 use Rattle.std.proofs.Common.{◌≡◌, ℕ, false, not, ◌&&◌, List, [], ◌∷◌, ◌++◌, map, Some, inl, inr, refl, sym, ap, ◌∙◌, subst, Ordering, append-nil}
 use Rattle.std.specs.Ordering.{on}
-use Rattle.ranked.specs.Ascending.{Rises}
-use Rattle.ranked.specs.Sets.{In}
-use Rattle.ranked.proofs.Plain.{none_some, some_same}
-use Rattle.ranked.proofs.OrderLaws.{IsRanked, on_ranked}
-use Rattle.ranked.proofs.SetLaws.{In-left, In-cases, In-filter_map, filter_map-In}
-use Rattle.ranked.proofs.AscendingLaws.{filter_map-ascending, ascending-ascending, same_ascending}
-use Rattle.pcrf_facts.specs.Places.{Place, OfSession, OfComponent, OfFlow, OfRuleName, Removable, Component}
-use Rattle.pcrf_facts.specs.Facts.{Fact, Removed, fact_cmp, is_shaded_by}
-use Rattle.pcrf_facts.specs.Held.{aborts, is_aborted, kept_set, kept_list, removal, removed_parts, entry_shown}
-use Rattle.pcrf_facts.proofs.AbortLaws.{aborted_until_the_end}
-use Rattle.pcrf_facts.proofs.FactLaws.{fact_ranked}
-use Rattle.pcrf_facts.proofs.JoinedLaws.{kept-In, In-kept, sorted-In}
+use Rattle.pcrf_values.specs.Ascending.{Rises}
+use Rattle.pcrf_values.specs.Sets.{In}
+use Rattle.pcrf_values.proofs.Plain.{none_some, some_same}
+use Rattle.pcrf_values.proofs.OrderLaws.{IsRanked, on_ranked}
+use Rattle.pcrf_values.proofs.SetLaws.{In-left, In-cases, In-filter_map, filter_map-In}
+use Rattle.pcrf_values.proofs.AscendingLaws.{filter_map-ascending, ascending-ascending, same_ascending}
+use Rattle.pcrf_values.specs.Places.{Place, OfSession, OfComponent, OfFlow, OfRuleName, Removable, Component}
+use Rattle.pcrf_values.specs.Facts.{Fact, Removed, fact_cmp, is_shaded_by}
+use Rattle.pcrf_values.specs.Held.{aborts, is_aborted, kept_set, kept_list, removal, removed_parts, entry_shown}
+use Rattle.pcrf_values.proofs.AbortLaws.{aborted_until_the_end}
+use Rattle.pcrf_values.proofs.FactLaws.{fact_ranked}
+use Rattle.pcrf_values.proofs.JoinedLaws.{kept-In, In-kept, sorted-In}
 use Rattle.pcrf_model.specs.Sessions.{Session}
 use Rattle.pcrf_model.specs.Holdings.{SessionFact, under, facts_on}
 use Rattle.pcrf_model.specs.Views.{View, view}

@@ -3,20 +3,20 @@ use Rattle.std.proofs.Common.{◌≡◌, ℕ, Bool, true, false, cond, List, ◌
 use Rattle.std.specs.Ordering.{is_lt, ordering_then}
 use Rattle.std.specs.Cmp.{both_ways}
 use Rattle.std.specs.List.{list_any, filter_map}
-use Rattle.ranked.specs.Sets.{In, Same}
-use Rattle.ranked.specs.Tags.{tag_cmp}
-use Rattle.ranked.specs.declared.tag.Tag.{Tag}
-use Rattle.ranked.proofs.Plain.{clash, is_false}
-use Rattle.ranked.proofs.OrderLaws.{eq_is}
-use Rattle.ranked.proofs.Greatest.{greatest_is, greatest_some}
-use Rattle.ranked.proofs.SetLaws.{In-left, In-right, In-cases, In-any, any-In, In-map, map-In, In-filter_map, filter_map-In, greatest-Same}
+use Rattle.pcrf_values.specs.Sets.{In, Same}
+use Rattle.pcrf_values.specs.Tags.{tag_cmp}
+use Rattle.pcrf_values.specs.declared.tag.Tag.{Tag}
+use Rattle.pcrf_values.proofs.Plain.{clash, is_false}
+use Rattle.pcrf_values.proofs.OrderLaws.{eq_is}
+use Rattle.pcrf_values.proofs.Greatest.{greatest_is, greatest_some}
+use Rattle.pcrf_values.proofs.SetLaws.{In-left, In-right, In-cases, In-any, any-In, In-map, map-In, In-filter_map, filter_map-In, greatest-Same}
 use Rattle.pcrf_values.specs.RuleValues.{RuleValue, DeltaValue}
-use Rattle.pcrf_facts.specs.Places.{Place, OfSession, OfComponent, OfFlow, OfRuleName}
-use Rattle.pcrf_facts.specs.Values.{Value, Untold, Told, value_cmp, Entry, entry_cmp}
-use Rattle.pcrf_facts.specs.Facts.{Fact, Field}
-use Rattle.pcrf_facts.specs.Held.{ends, is_ended, blocks, is_gone, entry_at, value_at, entry_shown}
-use Rattle.pcrf_facts.proofs.FactLaws.{place_ranked, entry_ranked}
-use Rattle.pcrf_facts.proofs.ShownLaws.{field_entry, entry_field}
+use Rattle.pcrf_values.specs.Places.{Place, OfSession, OfComponent, OfFlow, OfRuleName}
+use Rattle.pcrf_values.specs.Values.{Value, Untold, Told, value_cmp, Entry, entry_cmp}
+use Rattle.pcrf_values.specs.Facts.{Fact, Field}
+use Rattle.pcrf_values.specs.Held.{ends, is_ended, blocks, is_gone, entry_at, value_at, entry_shown}
+use Rattle.pcrf_values.proofs.FactLaws.{place_ranked, entry_ranked}
+use Rattle.pcrf_values.proofs.ShownLaws.{field_entry, entry_field}
 use Rattle.pcrf_model.specs.Differences.{rule_name_of}
 use Rattle.pcrf_model.specs.Making.{told_facts}
 

@@ -3,21 +3,21 @@ use Rattle.std.proofs.Common.{◌≡◌, ℕ, true, false, cond, List, [], ◌�
 use Rattle.std.specs.Ordering.{is_eq, is_lt, ordering_then}
 use Rattle.std.specs.Cmp.{tied_itself}
 use Rattle.std.specs.List.{filter_map}
-use Rattle.ranked.specs.Ascending.{Rises}
-use Rattle.ranked.specs.Sets.{In}
-use Rattle.ranked.specs.Orders.{text_cmp}
-use Rattle.ranked.specs.declared.tag.Tag.{Tag}
-use Rattle.ranked.proofs.Plain.{clash, some_same}
-use Rattle.ranked.proofs.SetLaws.{filter_map-In, In-filter_map}
-use Rattle.ranked.proofs.OrderLaws.{text_ranked, eq_is, eq_itself}
-use Rattle.ranked.proofs.AscendingLaws.{map-ascending, filter_map-ascending, ascending-ascending, ascending-itself, Distinct-ascending}
+use Rattle.pcrf_values.specs.Ascending.{Rises}
+use Rattle.pcrf_values.specs.Sets.{In}
+use Rattle.pcrf_values.specs.Orders.{text_cmp}
+use Rattle.pcrf_values.specs.declared.tag.Tag.{Tag}
+use Rattle.pcrf_values.proofs.Plain.{clash, some_same}
+use Rattle.pcrf_values.proofs.SetLaws.{filter_map-In, In-filter_map}
+use Rattle.pcrf_values.proofs.OrderLaws.{text_ranked, eq_is, eq_itself}
+use Rattle.pcrf_values.proofs.AscendingLaws.{map-ascending, filter_map-ascending, ascending-ascending, ascending-itself, Distinct-ascending}
 use Rattle.pcrf_values.specs.RuleValues.{RuleValue, rule_cmp}
-use Rattle.pcrf_facts.specs.Places.{Place, OfRuleName, place_cmp}
-use Rattle.pcrf_facts.specs.Values.{Value, Told, entry_cmp}
+use Rattle.pcrf_values.specs.Places.{Place, OfRuleName, place_cmp}
+use Rattle.pcrf_values.specs.Values.{Value, Told, entry_cmp}
 use Rattle.pcrf_model.specs.Sessions.{Session, session_cmp}
 use Rattle.pcrf_model.specs.Holdings.{SessionFact}
 use Rattle.pcrf_model.specs.Views.{View, Shown, shown_cmp, shown_of, entry_shown_on, shown_by_fact, view}
-use Rattle.pcrf_facts.specs.ToldWords.{ToldRule, told_rule_at}
+use Rattle.pcrf_values.specs.ToldWords.{ToldRule, told_rule_at}
 use Rattle.pcrf_model.specs.Differences.{told_cmp, told_rules_of, told_name_of, IsTold}
 use Rattle.pcrf_model.proofs.HoldingLaws.{session_ranked}
 use Rattle.pcrf_model.proofs.ViewLaws.{shown_ranked, all-shows, In-all}

@@ -2,14 +2,14 @@
 use Rattle.std.proofs.Common.{◌≡◌, ℕ, ◌≤◌, max, true, not, List, [], ◌++◌, inl, inr, ap, sym, subst, arith, filter}
 use Rattle.std.specs.Cmp.{second_so}
 use Rattle.std.specs.Ordering.{is_eq}
-use Rattle.ranked.specs.Sets.{In}
-use Rattle.ranked.specs.declared.tag.Tag.{Tag}
-use Rattle.ranked.proofs.OrderLaws.{eq_is}
-use Rattle.ranked.proofs.SetLaws.{In-cases, filter-In}
+use Rattle.pcrf_values.specs.Sets.{In}
+use Rattle.pcrf_values.specs.declared.tag.Tag.{Tag}
+use Rattle.pcrf_values.proofs.OrderLaws.{eq_is}
+use Rattle.pcrf_values.proofs.SetLaws.{In-cases, filter-In}
 use Rattle.pcrf_values.specs.RuleValues.{DeltaValue}
-use Rattle.pcrf_facts.specs.Places.{OfRuleName}
-use Rattle.pcrf_facts.specs.Facts.{Fact, Field}
-use Rattle.pcrf_facts.proofs.FactLaws.{tag_ranked}
+use Rattle.pcrf_values.specs.Places.{OfRuleName}
+use Rattle.pcrf_values.specs.Facts.{Fact, Field}
+use Rattle.pcrf_values.proofs.FactLaws.{tag_ranked}
 use Rattle.pcrf_model.specs.Sessions.{Kind, Gx, Af, Session, session_cmp}
 use Rattle.pcrf_model.specs.Holdings.{SessionFact, under, Holding, kept_facts, union, kept_of, with_facts_of}
 use Rattle.pcrf_model.specs.Operations.{Operation, with_operation}

@@ -1,14 +1,14 @@
 -- Unions and what is kept of them.
 use Rattle.std.proofs.Common.{◌≡◌, ℕ, max, ◌≤◌, List, [], ◌∷◌, ◌++◌, ◌↔◌, inl, inr, refl, sym, ap, ◌∙◌, subst, arith, append_assoc, append-nil}
-use Rattle.ranked.specs.Ascending.{ascending}
-use Rattle.ranked.specs.Sets.{In, Same}
+use Rattle.pcrf_values.specs.Ascending.{ascending}
+use Rattle.pcrf_values.specs.Sets.{In, Same}
 use Rattle.pcrf_model.specs.Sessions.{Session}
 use Rattle.pcrf_model.specs.Holdings.{SessionFact, session_fact_cmp, is_shaded_there_by, kept_facts, under, Holding, nothing_held, union, kept_of}
 use Rattle.pcrf_model.specs.Operations.{Operation, with_operation, holding_of}
 use Rattle.pcrf_model.specs.Views.{View, view}
 use Rattle.pcrf_model.specs.Tables.{Tables}
 use Rattle.pcrf_model.specs.Rules.{rules}
-use Rattle.ranked.proofs.SetLaws.{In-left, In-right, In-cases, Same-itself, Same-back, Same-through, Same-append, Same-turn, Same-twice, maximal-maximal}
+use Rattle.pcrf_values.proofs.SetLaws.{In-left, In-right, In-cases, Same-itself, Same-back, Same-through, Same-append, Same-turn, Same-twice, maximal-maximal}
 use Rattle.pcrf_model.proofs.HoldingLaws.{there_irr, there_trans, kept_facts-append, kept_facts-Same, sorted-Same, sorted-In}
 use Rattle.pcrf_model.proofs.ViewLaws.{view-Same, view-kept}
 

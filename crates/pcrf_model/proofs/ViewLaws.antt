@@ -1,20 +1,20 @@
 -- The view is that of the kept facts, and that of the set.
 use Rattle.std.proofs.Common.{◌≡◌, true, List, map, ◌⊎◌, Option, Some, None, inl, inr, refl, sym, ap, ◌∙◌, subst, option_map}
 use Rattle.std.specs.List.{filter_map}
-use Rattle.ranked.specs.Ascending.{ascending}
-use Rattle.ranked.specs.Sets.{In, Same}
-use Rattle.ranked.proofs.Plain.{none_some}
-use Rattle.ranked.proofs.OrderLaws.{IsRanked, pair_ranked, on_ranked}
-use Rattle.ranked.proofs.SetLaws.{top_of, filter_map-Same, filter_map-In, In-filter_map, In-map, map-In, map-Same}
-use Rattle.ranked.proofs.AscendingLaws.{ascending-In, ascending-Same}
-use Rattle.pcrf_facts.specs.Places.{Place}
-use Rattle.pcrf_facts.specs.Values.{Entry}
-use Rattle.pcrf_facts.specs.Facts.{Fact, End, Removed, Field, Aborted}
-use Rattle.pcrf_facts.specs.Held.{kept_set, kept_list}
-use Rattle.pcrf_facts.specs.Laws.{ShowTheSame}
-use Rattle.pcrf_facts.proofs.FactLaws.{place_ranked, entry_ranked}
-use Rattle.pcrf_facts.proofs.JoinedLaws.{sorted-In}
-use Rattle.pcrf_facts.proofs.ShownLaws.{members_show_the_same, held_shows_the_same, fact_there}
+use Rattle.pcrf_values.specs.Ascending.{ascending}
+use Rattle.pcrf_values.specs.Sets.{In, Same}
+use Rattle.pcrf_values.proofs.Plain.{none_some}
+use Rattle.pcrf_values.proofs.OrderLaws.{IsRanked, pair_ranked, on_ranked}
+use Rattle.pcrf_values.proofs.SetLaws.{top_of, filter_map-Same, filter_map-In, In-filter_map, In-map, map-In, map-Same}
+use Rattle.pcrf_values.proofs.AscendingLaws.{ascending-In, ascending-Same}
+use Rattle.pcrf_values.specs.Places.{Place}
+use Rattle.pcrf_values.specs.Values.{Entry}
+use Rattle.pcrf_values.specs.Facts.{Fact, End, Removed, Field, Aborted}
+use Rattle.pcrf_values.specs.Held.{kept_set, kept_list}
+use Rattle.pcrf_values.specs.FactLaws.{ShowTheSame}
+use Rattle.pcrf_values.proofs.FactLaws.{place_ranked, entry_ranked}
+use Rattle.pcrf_values.proofs.JoinedLaws.{sorted-In}
+use Rattle.pcrf_values.proofs.ShownLaws.{members_show_the_same, held_shows_the_same, fact_there}
 use Rattle.pcrf_model.specs.Sessions.{Session, session_cmp}
 use Rattle.pcrf_model.specs.Holdings.{SessionFact, is_shaded_there_by, kept_facts, facts_on}
 use Rattle.pcrf_model.specs.Views.{Shown, shown_cmp, shown_of, entry_shown_on, shown_by_fact, view}

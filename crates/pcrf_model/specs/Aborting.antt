@@ -3,9 +3,9 @@
 use Rattle.std.specs.Prelude.{ℕ, Bool, not, ◌&&◌, List, [], ◌∷◌, Option, Some, None, find, is_some, is_none}
 use Rattle.std.proofs.Common.{option_map, unwrap_or}
 use Rattle.std.specs.List.{list_all}
-use Rattle.pcrf_facts.specs.Facts as facts
-use Rattle.pcrf_facts.specs.Live.{shows_at}
-use Rattle.pcrf_facts.specs.Places.{Place, host, realm, last}
+use Rattle.pcrf_values.specs.Facts as facts
+use Rattle.pcrf_values.specs.Live.{shows_at}
+use Rattle.pcrf_values.specs.Places.{Place, host, realm, last}
 use Rattle.pcrf_model.specs.Sessions.{Session, is_gx}
 use Rattle.pcrf_model.specs.Holdings.{Holding}
 use Rattle.pcrf_model.specs.Views.{View, view, text}

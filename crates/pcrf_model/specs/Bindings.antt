@@ -3,14 +3,14 @@ use Rattle.std.specs.Prelude.{ℕ, Bool, true, false, if◌then◌else◌, not, 
 use Rattle.std.proofs.Common.{Ordering, option_map, unwrap_or}
 use Rattle.std.specs.Ordering.{is_eq, nat_cmp}
 use Rattle.std.specs.List.{list_any, filter_map}
-use Rattle.ranked.specs.Orders.{pair_cmp, text_cmp}
+use Rattle.pcrf_values.specs.Orders.{pair_cmp, text_cmp}
 use Rattle.pcrf_values.specs.Subscribers.{subscriber_cmp}
-use Rattle.ranked.specs.Sets.{greatest}
+use Rattle.pcrf_values.specs.Sets.{greatest}
 use Rattle.pcrf_model.specs.Sessions.{Session, session_cmp, gx, is_gx}
-use Rattle.pcrf_facts.specs.Live.{Shows, user_places}
-use Rattle.pcrf_facts.specs.Places.{address, prefix, apn, subscribers}
+use Rattle.pcrf_values.specs.Live.{Shows, user_places}
+use Rattle.pcrf_values.specs.Places.{address, prefix, apn, subscribers}
 use Rattle.pcrf_values.specs.Prefixes.{covers}
-use Rattle.pcrf_facts.specs.Values.{Subscriber, Value, Subscribers, Prefix, value_cmp, Entry}
+use Rattle.pcrf_values.specs.Values.{Subscriber, Value, Subscribers, Prefix, value_cmp, Entry}
 use Rattle.pcrf_model.specs.Views.{View, value}
 use Rattle.pcrf_model.specs.Live.{is_live}
 

@@ -27,12 +27,12 @@ abbrev pub start_cursors : ℕ → ℕ → CursorsValue
 start_cursors site epoch = record { site = site; epoch = epoch; makers = replicate site_limit nothing_taken; peers = replicate site_limit None }
 
 -- what was taken of that maker
-abbrev pub maker_entry : CursorsValue → ℕ → Cursor
-maker_entry c maker = slice_index_or c.makers maker nothing_taken
+abbrev pub maker_cursor : CursorsValue → ℕ → Cursor
+maker_cursor c maker = slice_index_or c.makers maker nothing_taken
 
 -- what that peer said that it took
-abbrev pub peer_entry : CursorsValue → ℕ → Option Cursor
-peer_entry c peer = slice_index_or c.peers peer None
+abbrev pub peer_cursor : CursorsValue → ℕ → Option Cursor
+peer_cursor c peer = slice_index_or c.peers peer None
 
 -- ---- making a letter for a peer
 
@@ -43,7 +43,7 @@ question_past (Some c) = if c.cursor == 0 then AskWhole else AskOwn c.cursor
 
 -- what the site is asked, to make a letter for the peer
 abbrev pub ask : CursorsValue → ℕ → SiteEvent
-ask c peer = question_past (peer_entry c peer)
+ask c peer = question_past (peer_cursor c peer)
 
 -- a letter of the site that says this
 abbrev pub letter_saying : CursorsValue → ℕ → LetterBody → LetterValue
@@ -79,13 +79,13 @@ is_acknowledgement (Acknowledgement m e n) = true
 
 -- an acknowledgement is not of its sender's operations, and changes nothing here
 abbrev pub cursors_after_letter : CursorsValue → LetterValue → CursorsValue
-cursors_after_letter c l = if is_acknowledgement l.body then c else record c { makers = slice_set c.makers l.site (maker_after l (maker_entry c l.site)) }
+cursors_after_letter c l = if is_acknowledgement l.body then c else record c { makers = slice_set c.makers l.site (maker_after l (maker_cursor c l.site)) }
 
 -- ---- acknowledgements
 
 -- what the site tells a maker that it took of it
 abbrev pub ack_of : CursorsValue → ℕ → AckValue
-ack_of c maker = record { sender = c.site; sender_epoch = c.epoch; maker = maker; maker_epoch = (maker_entry c maker).epoch; cursor = (maker_entry c maker).cursor }
+ack_of c maker = record { sender = c.site; sender_epoch = c.epoch; maker = maker; maker_epoch = (maker_cursor c maker).epoch; cursor = (maker_cursor c maker).cursor }
 
 -- the acknowledgement as a letter
 abbrev pub ack_letter : ℕ → AckValue → LetterValue
@@ -108,4 +108,4 @@ peer_after a (Some x) =
 abbrev pub cursors_after_ack : CursorsValue → AckValue → CursorsValue
 cursors_after_ack c a =
     if a.maker == c.site && a.maker_epoch == c.epoch
-    then record c { peers = slice_set c.peers a.sender (peer_after a (peer_entry c a.sender)) } else c
+    then record c { peers = slice_set c.peers a.sender (peer_after a (peer_cursor c a.sender)) } else c

@@ -3,12 +3,12 @@ use Rattle.std.specs.Prelude.{◌≡◌, ℕ, ◌+◌, ◌-◌, ◌==◌, Bool, 
 use Rattle.std.proofs.Common.{Ordering}
 use Rattle.std.specs.Ordering.{is_eq}
 use Rattle.std.specs.List.{list_any, filter, filter_map}
-use Rattle.ranked.specs.Orders.{pair_cmp, text_cmp}
-use Rattle.ranked.specs.Ascending.{ascending}
+use Rattle.pcrf_values.specs.Orders.{pair_cmp, text_cmp}
+use Rattle.pcrf_values.specs.Ascending.{ascending}
 use Rattle.pcrf_values.specs.RuleValues.{RuleValue, DeltaValue, rule_cmp}
-use Rattle.ranked.specs.Sets.{Distinct}
+use Rattle.pcrf_values.specs.Sets.{Distinct}
 use Rattle.pcrf_model.specs.Sessions.{Session, session_cmp}
-use Rattle.pcrf_facts.specs.ToldWords.{ToldRule, told_rule_at}
+use Rattle.pcrf_values.specs.ToldWords.{ToldRule, told_rule_at}
 use Rattle.pcrf_model.specs.Views.{View, Shown}
 
 -- by name, and then by rule

@@ -2,9 +2,9 @@
 use Rattle.std.specs.Prelude.{ℕ, List, [], ◌∷◌, Option, Some, None, Ok, Err, codes, replicate}
 use Rattle.std.proofs.Common.{option_map}
 use Rattle.pcrf_values.specs.declared.request_kind.RequestKind.TheVariants.{Initial, Update}
-use Rattle.pcrf_facts.specs.Places.{OfRuleName}
-use Rattle.pcrf_facts.specs.Values.{Value}
-use Rattle.pcrf_facts.specs.Facts.{Field}
+use Rattle.pcrf_values.specs.Places.{OfRuleName}
+use Rattle.pcrf_values.specs.Values.{Value}
+use Rattle.pcrf_values.specs.Facts.{Field}
 use Rattle.pcrf_values.specs.Limits.{delta_limit}
 use Rattle.pcrf_model.specs.Holdings.{SessionFact}
 use Rattle.pcrf_model.specs.Requests.{ComponentValue, RequestValue, Ccr, Aar}

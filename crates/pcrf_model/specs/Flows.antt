@@ -2,8 +2,8 @@
 use Rattle.std.specs.Prelude.{ℕ, Bool, if◌then◌else◌, List, ◌++◌, min, Option, Some, codes, decimal}
 use Rattle.std.proofs.Common.{option_and_then, unwrap_or}
 use Rattle.pcrf_values.specs.RuleValues.{RuleValue}
-use Rattle.pcrf_facts.specs.Places.{ComponentField, MediaType, ComponentRateUp, ComponentRateDown, FlowField, FlowDescriptions, FlowRateUp, FlowRateDown, OfComponent, OfFlow}
-use Rattle.pcrf_facts.specs.FlowWords as words
+use Rattle.pcrf_values.specs.Places.{ComponentField, MediaType, ComponentRateUp, ComponentRateDown, FlowField, FlowDescriptions, FlowRateUp, FlowRateDown, OfComponent, OfFlow}
+use Rattle.pcrf_values.specs.FlowWords as words
 use Rattle.pcrf_model.specs.Sessions.{Session}
 use Rattle.pcrf_model.specs.Views.{View, value, number, as_filters}
 use Rattle.pcrf_model.specs.Tables.{Class, Tables, media_class}

@@ -3,10 +3,10 @@ use Rattle.std.specs.Prelude.{ℕ, max, Bool, not, ◌&&◌, if◌then◌else◌
 use Rattle.std.proofs.Common.{Ordering}
 use Rattle.std.specs.Ordering.{is_eq}
 use Rattle.std.specs.List.{filter, filter_map}
-use Rattle.ranked.specs.Orders.{pair_cmp}
-use Rattle.ranked.specs.Ascending.{ascending}
-use Rattle.ranked.specs.Sets.{maximal}
-use Rattle.pcrf_facts.specs.Facts.{Fact, fact_cmp, is_shaded_by}
+use Rattle.pcrf_values.specs.Orders.{pair_cmp}
+use Rattle.pcrf_values.specs.Ascending.{ascending}
+use Rattle.pcrf_values.specs.Sets.{maximal}
+use Rattle.pcrf_values.specs.Facts.{Fact, fact_cmp, is_shaded_by}
 use Rattle.pcrf_model.specs.Sessions.{Session, session_cmp}
 
 -- a fact with the session on which it is

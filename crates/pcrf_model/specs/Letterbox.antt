@@ -7,7 +7,7 @@ use Rattle.pcrf_model.specs.Replies.{ReplyValue}
 use Rattle.pcrf_model.specs.Steps.{SiteEvent, Serve}
 use Rattle.pcrf_model.specs.Seen.{world_view_after}
 use Rattle.pcrf_model.specs.Letters.{LetterBody, Range, Snapshot, LetterValue}
-use Rattle.pcrf_model.specs.Cursors.{Cursor, CursorsValue, start_cursors, maker_entry, cursors_after_letter}
+use Rattle.pcrf_model.specs.Cursors.{Cursor, CursorsValue, start_cursors, maker_cursor, cursors_after_letter}
 use Rattle.pcrf_model.specs.Worlds.{WorldEvent, ServeAt, PushAt, Letter, Merge, Ack, Restart, Replied, Lettered, Merged, Restarted, NoSuchSite, NoSuchLetter, WorldAnswer, SiteView, WorldView, SiteTook, SentLetter, WorldTook, start, Setting, Writing, WholeLogs, ByCursors, taken_holding, world_view, answer_of, after, after_all}
 use Rattle.pcrf_model.specs.Samples.{operator, first_session, host_address, initial, update, sip_rule, delta}
 use Rattle.pcrf_model.specs.Scenes.{granted, one, call_at_the_end}
@@ -33,7 +33,7 @@ taking_letters (l ∷ ls) = cursors_after_letter (taking_letters ls) l
 
 -- what site 1 took of site 0 by these letters, the last first
 abbrev pub cursor_after : List LetterValue → Cursor
-cursor_after ls = maker_entry (taking_letters ls) 0
+cursor_after ls = maker_cursor (taking_letters ls) 0
 
 -- that many operations of that epoch
 abbrev pub cursor : ℕ → ℕ → Cursor
@@ -127,4 +127,4 @@ seen_holding how = option_map (λ (s : SiteView). s.state.holding) (slice_get (s
 
 -- the cursor that site 1 then has of the operations of site 0
 abbrev pub seen_cursor : Writing → Option Cursor
-seen_cursor how = option_map (λ (s : SiteView). maker_entry s.cursors 0) (slice_get (seen_first how).sites 1)
+seen_cursor how = option_map (λ (s : SiteView). maker_cursor s.cursors 0) (slice_get (seen_first how).sites 1)

@@ -17,10 +17,11 @@ pub mod Malformed
 pub mod Neighbours
 pub mod Networks
 pub mod Operations
-pub mod OperatorValues
+pub mod SiteOverviews
 pub mod Pushing
 pub mod Refusals
 pub mod Replies
+pub mod ReplyViews
 pub mod Requests
 pub mod Retelling
 pub mod Retold

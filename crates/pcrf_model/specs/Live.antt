@@ -2,7 +2,7 @@
 use Rattle.std.specs.Prelude.{ℕ, Bool, not, ◌&&◌, Option}
 use Rattle.std.specs.Ordering.{is_eq}
 use Rattle.std.specs.List.{list_any}
-use Rattle.pcrf_facts.specs.Live.{gx_has_what_it_needs, af_has_what_it_needs, home_by}
+use Rattle.pcrf_values.specs.Live.{gx_has_what_it_needs, af_has_what_it_needs, home_by}
 use Rattle.pcrf_model.specs.Sessions.{Kind, Gx, Af, Session, session_cmp}
 use Rattle.pcrf_model.specs.Views.{View}
 

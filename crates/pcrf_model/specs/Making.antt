@@ -1,13 +1,13 @@
 -- The facts that accepted requests and pushes make.
 use Rattle.std.specs.Prelude.{ℕ, ◌+◌, ◌==◌, Bool, false, if◌then◌else◌, List, [], ◌∷◌, ◌++◌, map, Option, Some, None}
 use Rattle.std.proofs.Common.{option_map, option_to_list, unwrap_or, flat_map}
-use Rattle.ranked.specs.Ascending.{ascending}
-use Rattle.ranked.specs.declared.tag.Tag.{Tag}
+use Rattle.pcrf_values.specs.Ascending.{ascending}
+use Rattle.pcrf_values.specs.declared.tag.Tag.{Tag}
 use Rattle.pcrf_values.specs.RuleValues.{RuleValue, DeltaValue}
 use Rattle.pcrf_values.specs.Numbers.{request_kind_number, flow_status_removed}
-use Rattle.pcrf_facts.specs.Places.{SessionField, FramedIpAddress, CalledStationId, SubscriptionIds, OriginHost, OriginRealm, RequestType, FramedIpv6Prefix, session_fields, MediaType, ComponentStatus, ComponentRateUp, ComponentRateDown, FlowDescriptions, FlowUsage, FlowStatus, FlowRateUp, FlowRateDown, Place, OfSession, OfComponent, OfFlow, OfRuleName, Component, Flow}
-use Rattle.pcrf_facts.specs.Values.{Value, Number, Text, Address, Subscribers, Filters, Untold, Told, Prefix}
-use Rattle.pcrf_facts.specs.Facts.{Fact, End, Removed, Field, fact_cmp}
+use Rattle.pcrf_values.specs.Places.{SessionField, FramedIpAddress, CalledStationId, SubscriptionIds, OriginHost, OriginRealm, RequestType, FramedIpv6Prefix, session_fields, MediaType, ComponentStatus, ComponentRateUp, ComponentRateDown, FlowDescriptions, FlowUsage, FlowStatus, FlowRateUp, FlowRateDown, Place, OfSession, OfComponent, OfFlow, OfRuleName, Component, Flow}
+use Rattle.pcrf_values.specs.Values.{Value, Number, Text, Address, Subscribers, Filters, Untold, Told, Prefix}
+use Rattle.pcrf_values.specs.Facts.{Fact, End, Removed, Field, fact_cmp}
 use Rattle.pcrf_model.specs.Sessions.{Session}
 use Rattle.pcrf_model.specs.Holdings.{Holding}
 use Rattle.pcrf_model.specs.Operations.{Operation}

@@ -1,10 +1,10 @@
 -- What is not of the form: one sample for each thing that the form asks.
 use Rattle.std.specs.Prelude.{ℕ, List, [], ◌∷◌, map, Some, None, codes}
-use Rattle.ranked.specs.declared.tag.Tag.{Tag}
+use Rattle.pcrf_values.specs.declared.tag.Tag.{Tag}
 use Rattle.pcrf_values.specs.declared.request_kind.RequestKind.TheVariants.{Update}
-use Rattle.pcrf_facts.specs.Places.{MediaType, OfComponent, OfRuleName, address}
-use Rattle.pcrf_facts.specs.Values.{Subscriber, Number, Address, Told}
-use Rattle.pcrf_facts.specs.Facts.{Fact, End, Field}
+use Rattle.pcrf_values.specs.Places.{MediaType, OfComponent, OfRuleName, address}
+use Rattle.pcrf_values.specs.Values.{Subscriber, Number, Address, Told}
+use Rattle.pcrf_values.specs.Facts.{Fact, End, Field}
 use Rattle.pcrf_model.specs.Sessions.{Session}
 use Rattle.pcrf_model.specs.Holdings.{Holding}
 use Rattle.pcrf_model.specs.Operations.{Operation}

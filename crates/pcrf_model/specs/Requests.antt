@@ -2,7 +2,7 @@
 use Rattle.std.specs.Prelude.{ℕ, Bool, ◌&&◌, is_none, List, Option}
 use Rattle.pcrf_values.specs.declared.request_kind.RequestKind.{RequestKind}
 use Rattle.pcrf_values.specs.Prefixes.{Ipv6Prefix}
-use Rattle.pcrf_facts.specs.Values.{Subscriber}
+use Rattle.pcrf_values.specs.Values.{Subscriber}
 
 -- What a request of either interface says of its user, each as far as it says it: Framed-IP-Address
 -- as four octets, Framed-IPv6-Prefix, Called-Station-Id in small letters, and the Subscription-Ids,

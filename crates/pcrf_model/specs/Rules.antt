@@ -3,12 +3,12 @@ use Rattle.std.specs.Prelude.{if◌then◌else◌, List, [], ◌++◌, map, Opti
 use Rattle.std.proofs.Common.{Ordering, option_map, option_and_then, unwrap_or}
 use Rattle.std.specs.Ordering.{nat_cmp, on}
 use Rattle.std.specs.List.{filter_map}
-use Rattle.ranked.specs.Orders.{pair_cmp}
-use Rattle.ranked.specs.Ascending.{ascending}
+use Rattle.pcrf_values.specs.Orders.{pair_cmp}
+use Rattle.pcrf_values.specs.Ascending.{ascending}
 use Rattle.pcrf_values.specs.RuleValues.{RuleValue, rule_cmp}
 use Rattle.pcrf_values.specs.declared.default_quality.DefaultQuality.{DefaultQuality}
 use Rattle.pcrf_model.specs.Sessions.{Session}
-use Rattle.pcrf_facts.specs.Places.{FlowDescriptions, Place, OfFlow, apn}
+use Rattle.pcrf_values.specs.Places.{FlowDescriptions, Place, OfFlow, apn}
 use Rattle.pcrf_model.specs.Views.{View, Shown, text}
 use Rattle.pcrf_model.specs.Live.{is_live}
 use Rattle.pcrf_model.specs.Bindings.{is_bound_to}

@@ -6,7 +6,7 @@ use Rattle.pcrf_values.specs.declared.rule.Preemption.TheVariants.{Enabled, Disa
 use Rattle.pcrf_values.specs.declared.request_kind.RequestKind.{RequestKind}
 use Rattle.pcrf_values.specs.declared.request_kind.RequestKind.TheVariants.{Initial, Update, Termination}
 use Rattle.pcrf_model.specs.Sessions.{Session, gx, af}
-use Rattle.pcrf_facts.specs.Values.{Subscriber}
+use Rattle.pcrf_values.specs.Values.{Subscriber}
 use Rattle.pcrf_model.specs.Tables.{Class, Tables}
 use Rattle.pcrf_model.specs.Requests.{UserValue, FlowValue, ComponentValue, CapabilitiesExchange, RequestValue, Ccr, Aar, Str, Base}
 

@@ -1,13 +1,13 @@
 -- What the sites of the worked examples went through.
 use Rattle.std.specs.Prelude.{ℕ, false, List, [], ◌∷◌, Option, Some, None, codes, length, slice_get}
 use Rattle.std.proofs.Common.{option_map}
-use Rattle.ranked.specs.declared.tag.Tag.{Tag}
+use Rattle.pcrf_values.specs.declared.tag.Tag.{Tag}
 use Rattle.pcrf_values.specs.declared.refusal.Refusal.{Refusal}
 use Rattle.pcrf_values.specs.RuleValues.{DeltaValue}
 use Rattle.pcrf_values.specs.Limits.{last_counter, delta_limit}
-use Rattle.pcrf_facts.specs.Places.{FramedIpAddress, CalledStationId, SubscriptionIds, OriginHost, OriginRealm, RequestType, MediaType, ComponentRateUp, ComponentRateDown, FlowDescriptions, FlowUsage, FlowStatus, OfSession, OfComponent, OfFlow, address}
-use Rattle.pcrf_facts.specs.Values.{Number, Text, Subscribers, Filters, Address}
-use Rattle.pcrf_facts.specs.Facts.{Field}
+use Rattle.pcrf_values.specs.Places.{FramedIpAddress, CalledStationId, SubscriptionIds, OriginHost, OriginRealm, RequestType, MediaType, ComponentRateUp, ComponentRateDown, FlowDescriptions, FlowUsage, FlowStatus, OfSession, OfComponent, OfFlow, address}
+use Rattle.pcrf_values.specs.Values.{Number, Text, Subscribers, Filters, Address}
+use Rattle.pcrf_values.specs.Facts.{Field}
 use Rattle.pcrf_model.specs.Holdings.{nothing_held, union}
 use Rattle.pcrf_model.specs.Operations.{Operation, holding_of}
 use Rattle.pcrf_model.specs.Views.{View, view}
@@ -15,7 +15,7 @@ use Rattle.pcrf_model.specs.Requests.{RequestValue}
 use Rattle.pcrf_model.specs.Replies.{PushValue, ReplyValue, OnGx, Pushed, Granted, Rejected}
 use Rattle.pcrf_model.specs.Serving.{serve}
 use Rattle.pcrf_model.specs.Pushing.{push}
-use Rattle.pcrf_model.specs.OperatorValues.{GxShown, AfShown}
+use Rattle.pcrf_model.specs.SiteOverviews.{GxShown, AfShown}
 use Rattle.pcrf_model.specs.Steps.{SiteState, with_own}
 use Rattle.pcrf_model.specs.Samples.{imsi, e164, sip_rule, uplink, any_to_any, operator, first_session, second_session, host_address, initial, update, termination, call, hang_up, audio, no_media, status_only, many_flows, ims_quality}
 

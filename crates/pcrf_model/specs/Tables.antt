@@ -2,7 +2,7 @@
 use Rattle.std.specs.Prelude.{ℕ, List, Option, ◌==◌, find}
 use Rattle.std.proofs.Common.{option_map}
 use Rattle.std.specs.Ordering.{is_eq}
-use Rattle.ranked.specs.Orders.{text_cmp}
+use Rattle.pcrf_values.specs.Orders.{text_cmp}
 use Rattle.pcrf_values.specs.declared.default_quality.DefaultQuality.{DefaultQuality}
 
 -- A class of service: QCI and ARP (priority level, pre-emption capability and vulnerability as AVP values; TS 29.212, 5.3.17 and 5.3.45),

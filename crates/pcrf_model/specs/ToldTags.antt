@@ -1,8 +1,8 @@
 -- The tags of what gateways were told: they have no request number, and a counter up to the clock.
 use Rattle.std.specs.Prelude.{◌≡◌, ℕ, ◌≤◌, List}
-use Rattle.ranked.specs.Sets.{In}
-use Rattle.pcrf_facts.specs.Places.{OfRuleName}
-use Rattle.pcrf_facts.specs.Facts.{Fact, Field}
+use Rattle.pcrf_values.specs.Sets.{In}
+use Rattle.pcrf_values.specs.Places.{OfRuleName}
+use Rattle.pcrf_values.specs.Facts.{Fact, Field}
 use Rattle.pcrf_model.specs.Holdings.{SessionFact}
 
 -- if the fact tells of a rule's name, the number in its tag is 0, and the counter is up to the clock

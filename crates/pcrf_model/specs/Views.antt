@@ -3,14 +3,14 @@ use Rattle.std.specs.Prelude.{ℕ, Bool, List, map, Option, Some, None}
 use Rattle.std.proofs.Common.{Ordering, option_map, option_and_then}
 use Rattle.std.specs.Ordering.{on}
 use Rattle.std.specs.List.{filter_map}
-use Rattle.ranked.specs.Orders.{pair_cmp}
-use Rattle.ranked.specs.Ascending.{ascending}
-use Rattle.ranked.specs.declared.tag.Tag.{Tag}
-use Rattle.pcrf_facts.specs.Places.{Place, Removable, place_cmp}
-use Rattle.pcrf_facts.specs.Values.{Value, Text, Address, Filters, Entry, entry_cmp}
-use Rattle.pcrf_facts.specs.Facts.{Fact, Field}
-use Rattle.pcrf_facts.specs.Held.{entry_shown, removed_parts, is_ended, is_aborted}
-use Rattle.pcrf_facts.specs.FlowWords.{value_at, number_at}
+use Rattle.pcrf_values.specs.Orders.{pair_cmp}
+use Rattle.pcrf_values.specs.Ascending.{ascending}
+use Rattle.pcrf_values.specs.declared.tag.Tag.{Tag}
+use Rattle.pcrf_values.specs.Places.{Place, Removable, place_cmp}
+use Rattle.pcrf_values.specs.Values.{Value, Text, Address, Filters, Entry, entry_cmp}
+use Rattle.pcrf_values.specs.Facts.{Fact, Field}
+use Rattle.pcrf_values.specs.Held.{entry_shown, removed_parts, is_ended, is_aborted}
+use Rattle.pcrf_values.specs.FlowWords.{value_at, number_at}
 use Rattle.pcrf_model.specs.Sessions.{Session, session_cmp}
 use Rattle.pcrf_model.specs.Holdings.{SessionFact, facts_on}
 

@@ -1,7 +1,7 @@
 -- Several sites and the letters between them: what each event answers, and what each site took, read from the events and the answers alone.
 use Rattle.std.specs.Prelude.{◌≡◌, ℕ, zero, suc, ◌+◌, ◌<◌, ◌==◌, Bool, if◌then◌else◌, List, [], ◌∷◌, ◌++◌, take, length, map, slice_get, slice_set, slice_index_or, Option, Some, None, Result, Ok, Err}
 use Rattle.std.proofs.Common.{option_to_list, option_map, unwrap_or}
-use Rattle.ranked.specs.Sets.{Same}
+use Rattle.pcrf_values.specs.Sets.{Same}
 use Rattle.pcrf_values.specs.Limits.{last_epoch}
 use Rattle.pcrf_model.specs.Holdings.{Holding, kept_of}
 use Rattle.pcrf_model.specs.Operations.{Operation, holding_of}
@@ -12,7 +12,7 @@ use Rattle.pcrf_model.specs.Serving.{serve}
 use Rattle.pcrf_model.specs.Pushing.{push, lacks_counter}
 use Rattle.pcrf_model.specs.Aborting.{abort, lacks_counter_to_abort}
 use Rattle.pcrf_model.specs.Retelling.{retell, lacks_counter_to_retell}
-use Rattle.pcrf_model.specs.OperatorValues.{operator_value}
+use Rattle.pcrf_model.specs.SiteOverviews.{site_overview}
 use Rattle.pcrf_model.specs.Steps.{SiteState, SiteEvent, AskOwn, own_from}
 use Rattle.pcrf_model.specs.Letters.{LetterBody, Range, Snapshot, Acknowledgement, LetterValue, meaning}
 use Rattle.pcrf_model.specs.Cursors.{CursorsValue, start_cursors, ask, cursors_after_letter, ack_of, ack_letter, carried_ack, cursors_after_ack}
@@ -312,7 +312,7 @@ GivesAll g w (e ∷ es) (a ∷ answers) = Gives g (world_view w) e a × GivesAll
 
 -- The one site, which is so seen, holds what the other holds, and an operator sees the same of both.
 abbrev pub HoldsTheSame : Tables → SiteView → SiteView → Type 0
-HoldsTheSame t x y = (x.state.holding ≡ y.state.holding) × (operator_value t x.state.holding ≡ operator_value t y.state.holding)
+HoldsTheSame t x y = (x.state.holding ≡ y.state.holding) × (site_overview t x.state.holding ≡ site_overview t y.state.holding)
 
 -- In the world that is so seen, under these operator tables, any two sites that took the same operations hold the same.
 abbrev pub HoldAlike : Tables → WorldTook → WorldView → Type 0

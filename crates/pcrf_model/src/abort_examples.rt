@@ -1,13 +1,13 @@
 //! Worked examples of calls that are aborted, computed, against what is worked out by hand.
 
 ghost use Rattle.std.specs.Prelude.{◌≡◌, [], ◌∷◌, Some, None, Ok, Err, codes, true, false};
-ghost use Rattle.pcrf_facts.specs.Facts.{Aborted, End};
-ghost use Rattle.pcrf_facts.specs.Held.{is_aborted};
+ghost use Rattle.pcrf_values.specs.Facts.{Aborted, End};
+ghost use Rattle.pcrf_values.specs.Held.{is_aborted};
 ghost use Rattle.pcrf_model.specs.Aborting.{lacks_counter_to_abort};
 ghost use Rattle.pcrf_model.specs.Bindings.{bind};
 ghost use Rattle.pcrf_model.specs.Forms.{fits, is_holding};
 ghost use Rattle.pcrf_model.specs.Live.{is_live};
-ghost use Rattle.pcrf_model.specs.OperatorValues.{Ended, Live, operator_value};
+ghost use Rattle.pcrf_model.specs.SiteOverviews.{Ended, Live, site_overview};
 ghost use Rattle.pcrf_model.specs.Replies.{Done};
 ghost use Rattle.pcrf_model.specs.Sessions.{Gx, Af};
 ghost use Rattle.pcrf_model.specs.Worlds.{AbortedOut, ClockFull, NoSuchSite};
@@ -30,7 +30,7 @@ pub fn home_alone_aborts_a_call()
     ensures other { aborts 1 other_before None ≡ no_abort }
     ensures before { (seen other_before).aborted call_session ≡ false }
     ensures after { (seen other_after).aborted call_session ≡ true }
-    ensures shown { operator_value operator other_after.holding ≡ record {
+    ensures shown { site_overview operator other_after.holding ≡ record {
       clock = 5;
       gx = (first_session.id, Ended) ∷ [];
       af = (call_session.id, Live (record live_call { aborted = true })) ∷ [];

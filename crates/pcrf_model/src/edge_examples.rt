@@ -4,8 +4,8 @@ ghost use Rattle.std.specs.Prelude.{◌≡◌, ◌+◌, ℕ, List, [], ◌∷◌
 ghost use Rattle.pcrf_values.specs.Applications.{rx_application, relay_application};
 ghost use Rattle.pcrf_values.specs.Results.{success, unknown_session_id, authorization_rejected, unable_to_comply, session_not_available};
 ghost use Rattle.pcrf_values.specs.Limits.{delta_limit, range_limit};
-ghost use Rattle.pcrf_facts.specs.Places.{OfRuleName, apn};
-ghost use Rattle.pcrf_facts.specs.Values.{Text, Told, Untold};
+ghost use Rattle.pcrf_values.specs.Places.{OfRuleName, apn};
+ghost use Rattle.pcrf_values.specs.Values.{Text, Told, Untold};
 ghost use Rattle.pcrf_model.specs.Holdings.{kept_of};
 ghost use Rattle.pcrf_model.specs.Views.{value, view};
 ghost use Rattle.pcrf_model.specs.Pushing.{lacks_counter};

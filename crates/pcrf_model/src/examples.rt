@@ -1,8 +1,8 @@
 //! Worked examples: what the definitions give, computed, against what is worked out by hand.
 
 ghost use Rattle.std.specs.Prelude.{◌≡◌, ℕ, List, [], ◌∷◌, Some, None, codes, true, false, drop};
-ghost use Rattle.pcrf_facts.specs.Places.{address, apn, subscribers};
-ghost use Rattle.pcrf_facts.specs.Values.{Text, Address, Subscribers};
+ghost use Rattle.pcrf_values.specs.Places.{address, apn, subscribers};
+ghost use Rattle.pcrf_values.specs.Values.{Text, Address, Subscribers};
 ghost use Rattle.pcrf_values.specs.Limits.{last_counter, delta_limit};
 ghost use Rattle.pcrf_model.specs.Holdings.{nothing_held, kept_of, union};
 ghost use Rattle.pcrf_model.specs.Views.{value};
@@ -10,7 +10,7 @@ ghost use Rattle.pcrf_model.specs.Live.{is_live, home};
 ghost use Rattle.pcrf_model.specs.Bindings.{bind};
 ghost use Rattle.pcrf_model.specs.Rules.{rules};
 ghost use Rattle.pcrf_model.specs.Differences.{told_rules_of};
-ghost use Rattle.pcrf_model.specs.OperatorValues.{Ended, Partial, Live, operator_value};
+ghost use Rattle.pcrf_model.specs.SiteOverviews.{Ended, Partial, Live, site_overview};
 ghost use Rattle.pcrf_values.specs.Applications.{gx_application};
 ghost use Rattle.pcrf_values.specs.Results.{success, unknown_session_id, authorization_rejected, missing_avp, no_common_application, unable_to_comply, service_not_authorized, session_not_available, initial_parameters};
 ghost use Rattle.pcrf_model.specs.Replies.{OnGx, Granted, Done, Refused, OnBase};
@@ -255,13 +255,13 @@ pub fn flows_have_the_class_of_their_usage()
 
 /// An operator sees each session, ended, partial or live, and the clock.
 pub fn operator_sees_every_session()
-    ensures ended { operator_value operator ended_there.holding
+    ensures ended { site_overview operator ended_there.holding
         ≡ record { clock = 2; gx = (first_session.id, Ended) ∷ []; af = [] } }
-    ensures partial { operator_value operator at_the_end.holding ≡ record {
+    ensures partial { site_overview operator at_the_end.holding ≡ record {
       clock = last_counter;
       gx = (first_session.id, Live live_first) ∷ (second_session.id, Partial) ∷ [];
       af = [];
     } }
-    ensures call { operator_value operator call_alone.holding
+    ensures call { site_overview operator call_alone.holding
         ≡ record { clock = 2; gx = []; af = (call_session.id, Live live_call) ∷ [] } }
 {}

@@ -2,7 +2,7 @@
 
 ghost use Rattle.std.specs.Prelude.{◌≡◌, [], ◌∷◌, Some, None, true, false, codes};
 ghost use Rattle.std.proofs.Common.{option_map};
-ghost use Rattle.pcrf_facts.specs.Facts.{End};
+ghost use Rattle.pcrf_values.specs.Facts.{End};
 ghost use Rattle.pcrf_values.specs.Limits.{delta_limit};
 ghost use Rattle.pcrf_model.specs.Pushing.{push};
 ghost use Rattle.pcrf_model.specs.Forms.{is_request, are_tables, is_operation, is_holding};

@@ -1,7 +1,7 @@
 //! Worked examples of what a change of one session leaves as it is, of who waits for a push, and of what cursors count.
 
 ghost use Rattle.std.specs.Prelude.{◌≡◌, [], ◌∷◌, Some, None, codes, true, false};
-ghost use Rattle.pcrf_facts.specs.Values.{Address};
+ghost use Rattle.pcrf_values.specs.Values.{Address};
 ghost use Rattle.pcrf_model.specs.CursorLaws.{AllSound, FirstTaken, Reaches};
 ghost use Rattle.pcrf_model.specs.Laws.{BindsAlike, HasAddress, NeverMeet};
 ghost use Rattle.pcrf_model.specs.Waiting.{first_waiting, may_be_due};

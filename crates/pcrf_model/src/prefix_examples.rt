@@ -2,9 +2,9 @@
 //! by hand.
 
 ghost use Rattle.std.specs.Prelude.{◌≡◌, Some, None, true, false};
-ghost use Rattle.pcrf_facts.specs.Places.{address, prefix};
+ghost use Rattle.pcrf_values.specs.Places.{address, prefix};
 ghost use Rattle.pcrf_values.specs.Prefixes.{covers, first_bits};
-ghost use Rattle.pcrf_facts.specs.Values.{Address, Prefix};
+ghost use Rattle.pcrf_values.specs.Values.{Address, Prefix};
 ghost use Rattle.pcrf_model.specs.Bindings.{bind};
 ghost use Rattle.pcrf_model.specs.Forms.{is_prefix, is_request};
 ghost use Rattle.pcrf_model.specs.Laws.{NeverMeet};

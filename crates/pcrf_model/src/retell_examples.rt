@@ -1,9 +1,9 @@
 //! Worked examples of what gateways may have lost, computed, against what is worked out by hand.
 
 ghost use Rattle.std.specs.Prelude.{◌≡◌, [], ◌∷◌, Some, None, Ok, Err, codes, true, false, option_map, length};
-ghost use Rattle.pcrf_facts.specs.Facts.{Field};
-ghost use Rattle.pcrf_facts.specs.Places.{OfRuleName};
-ghost use Rattle.pcrf_facts.specs.Values.{Untold};
+ghost use Rattle.pcrf_values.specs.Facts.{Field};
+ghost use Rattle.pcrf_values.specs.Places.{OfRuleName};
+ghost use Rattle.pcrf_values.specs.Values.{Untold};
 ghost use Rattle.pcrf_model.specs.Bindings.{bind};
 ghost use Rattle.pcrf_model.specs.Differences.{told_rules_of};
 ghost use Rattle.pcrf_model.specs.Forms.{is_holding};

@@ -1,6 +1,6 @@
 //! The files of a site beside its operator tables: the secret that all sites have, and how often the site has started.
 use crate::files::read_file;
-use sealed_links::{Key, SecretFault, secret_of};
+use peer_lines::{Key, SecretFault, secret_of};
 use std::alloc::{AllocError, Global};
 use std::fs::{self, OpenFile};
 use std::io::{self, ErrorKind, Write};

@@ -6,6 +6,7 @@ mod kept_files;
 mod operator_tables;
 mod resident;
 mod run;
+mod seeding;
 mod server;
 mod socket_server;
 mod stamped;

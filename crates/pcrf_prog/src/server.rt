@@ -2,14 +2,14 @@
 use crate::socket_server::{Addresses, SeatPlan, ServerFault, Settings, SiteEpoch, run_server};
 use crate::staying::{Console, Input, Machine, Output, StaySettings, run_staying};
 use crate::words::{Names, ServeWords, StayWords};
-use dia_base::{Identity, MessageForm};
+use dia_base::{Identity, MessageForm, state_at_start};
 use log::Log;
 use op_tables::Tables;
 use pcrf_values::DiameterIdentity;
-use sealed_links::Key;
-use standard_form::state_at_start;
+use peer_lines::Key;
 use std::alloc::{AllocError, Global};
 use std::net::{Ipv4Addr, Net, TcpListener, TcpStream};
+use std::random::RandomSource;
 use std::sync::Wait;
 use std::thread::Threads;
 use std::time::Clock;
@@ -82,7 +82,12 @@ pub fn start_of<R: Clock>(
 
 /// Serves, and answers how many entries the history settled with. The log is told what happens meanwhile.
 pub fn serve<
-    R: Net<Listener = TcpListener, Stream = TcpStream> + Threads + Wait + Clock + Sync,
+    R: Net<Listener = TcpListener, Stream = TcpStream>
+        + Threads
+        + Wait
+        + Clock
+        + RandomSource
+        + Sync,
     G: Log + Sync,
 >(
     rt: &R,

@@ -14,7 +14,9 @@ mod sockets;
 
 pub(crate) use ending::Ending;
 pub use fault::ServerFault;
-pub(crate) use journal::{tell_connected, tell_exchanged, tell_listens, tell_unreached};
+pub(crate) use journal::{
+    tell_connected, tell_exchanged, tell_listens, tell_no_start, tell_unreached,
+};
 pub use serving::run_server;
 pub use settings::{Addresses, SeatPlan, Settings, SiteEpoch};
 pub(crate) use sockets::prepare;

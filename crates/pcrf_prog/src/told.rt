@@ -1,7 +1,7 @@
 //! What an operator is told of the faults of a run beside their lines, if anybody listens: where they are, or why.
 use log::{Log, error};
 use op_tables::PlacedFault;
-use pcrf_script::BadLine;
+use pcrf_world::BadLine;
 
 /// What stands before each line as its target.
 const TARGET: &str = "pcrf";

@@ -5,14 +5,14 @@ use Rattle.dia_base.specs.declared.identity.Identity.{Identity}
 use Rattle.pcrf_model.specs.Replies.{ReplyValue}
 use Rattle.pcrf_model.specs.Requests.{RequestValue}
 use Rattle.pcrf_model.specs.Steps.{Serve}
-use Rattle.link_ends.specs.Books.{ReceiptValue, SeatValue}
-use Rattle.link_ends.specs.Events.{IsPushToHost, IsServed}
+use Rattle.site_lock.specs.Books.{ReceiptValue, SeatValue}
+use Rattle.pcrf_serve.specs.Events.{IsPushToHost, IsServed}
 use Rattle.site_core.specs.Asking.{AskedValue, ToServe, ToRefuse, Nothing}
 use Rattle.site_core.specs.Realms.{meaning_at}
 use Rattle.site_core.specs.Frames.{Answers, AnswersFrame, Unanswered}
 use Rattle.site_core.specs.Frames as frames
-use Rattle.link_ends.specs.Earlier.{Gains}
-use Rattle.link_ends.proofs.Chains.{gains_equal, gains_called, gains_weaker}
+use Rattle.pcrf_serve.specs.Earlier.{Gains}
+use Rattle.pcrf_serve.proofs.Chains.{gains_equal, gains_called, gains_weaker}
 use Rattle.pcrf_serve.specs.Serving.{GainsReply, IsOfConnection}
 
 -- what a connection makes happen, as receipts have it

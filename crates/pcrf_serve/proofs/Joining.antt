@@ -1,9 +1,9 @@
 -- Workers that began with seats give them back.
 use Rattle.std.proofs.Common.{◌≡◌, List, [], ◌∷◌, length, refl, ap, suc}
 use Rattle.std.specs.List.{AllZip}
-use Rattle.link_ends.specs.Books.{SeatValue}
+use Rattle.site_lock.specs.Books.{SeatValue}
 use Rattle.pcrf_serve.specs.declared.workers.Begun.{Begun}
-use Rattle.link_ends.proofs.Chains.{gains_earlier}
+use Rattle.pcrf_serve.proofs.Chains.{gains_earlier}
 use Rattle.pcrf_serve.specs.Serving.{IsOfConnection}
 use Rattle.pcrf_serve.specs.Workers.{AllBegun, AllJoin, AllGiveBack, AllServe}
 

@@ -1,3 +1,10 @@
 pub mod Answering
+pub mod Asked
+pub mod Asking
+pub mod Chains
 pub mod Covering
+pub mod Epochs
+pub mod Following
 pub mod Joining
+pub mod Settled
+pub mod Told

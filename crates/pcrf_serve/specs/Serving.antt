@@ -3,9 +3,9 @@ use Rattle.std.specs.Prelude.{◌⊎◌, ⊤}
 use Rattle.pcrf_model.specs.Replies.{ReplyValue}
 use Rattle.pcrf_model.specs.Requests.{RequestValue}
 use Rattle.pcrf_model.specs.Steps.{SiteEvent, Serve}
-use Rattle.link_ends.specs.Books.{SeatValue}
-use Rattle.link_ends.specs.Calls.{GainsReceipt}
-use Rattle.link_ends.specs.Events.{IsPushToHost, IsServed}
+use Rattle.site_lock.specs.Books.{SeatValue}
+use Rattle.site_lock.specs.Calls.{GainsReceipt}
+use Rattle.pcrf_serve.specs.Events.{IsPushToHost, IsServed}
 
 -- one more receipt, of that request and that reply
 abbrev pub GainsReply : SeatValue → RequestValue → ReplyValue → SeatValue → Type 0

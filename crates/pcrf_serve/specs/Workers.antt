@@ -1,8 +1,8 @@
 -- Workers: each gives its seat back, with its earlier receipts as a prefix, and behind them receipts of requests and of pushes alone.
 use Rattle.std.specs.Prelude.{◌≡◌, ℕ, ◌≤◌, List, [], vec_capacity}
 use Rattle.std.specs.List.{AllZip}
-use Rattle.link_ends.specs.Books.{SeatValue}
-use Rattle.link_ends.specs.Earlier.{Adds, HasEarlier}
+use Rattle.site_lock.specs.Books.{SeatValue}
+use Rattle.pcrf_serve.specs.Earlier.{Adds, HasEarlier}
 use Rattle.pcrf_serve.specs.Serving.{IsOfConnection}
 use Rattle.pcrf_serve.specs.declared.workers.Begun.{Begun}
 use Rattle.pcrf_serve.specs.declared.workers.Room.{Room}

@@ -1,18 +1,22 @@
 //! A connection is served to its end.
 ghost use Rattle.std.specs.Prelude.{◌≡◌};
 ghost use Rattle.dia_codec.specs.Spelling.{IsFrame};
-ghost use Rattle.link_ends.specs.Earlier.{Adds, HasEarlier};
-ghost use Rattle.link_ends.specs.Events.{IsPushToHost};
+ghost use Rattle.pcrf_serve.specs.Earlier.{Adds, HasEarlier};
+ghost use Rattle.pcrf_serve.specs.Events.{IsPushToHost};
 ghost use Rattle.pcrf_serve.specs.Serving.{IsOfConnection};
 
+use crate::end::LinkEnd;
+use crate::gate::Gate;
+use crate::half::Half;
 use crate::link::{Link, Server};
+use crate::observer::Observer;
 use crate::push_answers::tell_push_answer;
+use crate::pushing::push_all;
 use crate::repeats::Repeats;
 use crate::seat_at_site::SeatAtSite;
 use dia_codec::{Assembler, FrameFault};
-use gateway_links::{Half, Observer, push_all};
-use link_ends::{Gate, LinkEnd, SharedSite};
 use site_core::{Answer, answer_frame};
+use site_lock::SharedSite;
 use std::alloc::{AllocError, Global};
 use std::io::{Read, Write};
 use std::sync::{Arc, Wait};

@@ -1,8 +1,12 @@
 //! A connection beside its seat.
+use crate::end::LinkEnd;
+use crate::gate::Gate;
+use crate::gateways::Gateways;
+use crate::half::Half;
+use crate::observer::Observer;
+use crate::outgoing::Outgoing;
 use crate::repeats::{Repeats, Unrepeated};
 use dia_codec::read_header;
-use gateway_links::{Gateways, Half, Observer, Outgoing};
-use link_ends::{Gate, LinkEnd};
 use pcrf_values::DiameterIdentity;
 use std::alloc::{AllocError, Global};
 use std::io::Write;

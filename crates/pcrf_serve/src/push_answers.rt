@@ -1,7 +1,7 @@
 //! What gateways answer to re-authorisation requests.
+use crate::observer::Observer;
 use dia_base::codes::GX;
 use dia_codec::{read_header, read_message};
-use gateway_links::Observer;
 use gx_profile::{Raa, read_raa};
 use std::alloc::Global;
 

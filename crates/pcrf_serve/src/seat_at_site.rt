@@ -1,18 +1,17 @@
 //! A seat at a locked site serves requests.
 ghost use Rattle.std.specs.Prelude.{◌≡◌, IfOk, OnErr};
 ghost use Rattle.pcrf_model.specs.Steps.{Serve as ServeEvent};
-ghost use Rattle.link_ends.specs.Calls.{GainsReceipt};
-ghost use Rattle.link_ends.specs.Events.{IsServed};
-ghost use Rattle.link_ends.specs.Values.{event_value, reply_value, request_value};
+ghost use Rattle.site_lock.specs.Calls.{GainsReceipt};
+ghost use Rattle.pcrf_serve.specs.Events.{IsServed};
+ghost use Rattle.site_lock.specs.Values.{event_value, reply_value, request_value};
 
-use base_profile::BaseKind;
+use crate::observer::Observer;
+use crate::pushing::tell_entries;
 use dia_base::codes::results::SUCCESS;
-use dia_base::{Identity, MessageForm, Origin};
-use gateway_links::{Observer, tell_entries};
-use link_ends::{Event, Reply, Request, SharedSite, StepFault};
-use pcrf_values::DiameterIdentity;
-use ranked::Ranked;
+use dia_base::{BaseKind, Identity, MessageForm, Origin};
+use pcrf_values::{DiameterIdentity, Ranked};
 use site_core::{Serve, ServeFault};
+use site_lock::{Event, Reply, Request, SharedSite, StepFault};
 use std::alloc::AllocError;
 use std::sync::Wait;
 

@@ -3,10 +3,14 @@ ghost use Rattle.std.specs.Prelude.{◌≡◌, ◌≤◌, [], IfOk, IfErr, vec_l
 ghost use Rattle.pcrf_serve.specs.Workers.{AllGiveBack, AllBegun, AllJoin, AllServe, BegunFrom, IsRoomFor, Joins};
 
 use crate::conversing::serve_connection;
+use crate::end::LinkEnd;
+use crate::gate::Gate;
+use crate::gateways::Gateways;
+use crate::half::Half;
 use crate::link::Server;
+use crate::observer::Observer;
 use crate::repeats::Unrepeated;
-use gateway_links::{Gateways, Half, Observer};
-use link_ends::{Gate, LinkEnd, SharedSite};
+use site_lock::SharedSite;
 use std::alloc::{AllocError, Global};
 use std::io::{Read, Write};
 use std::snapshot::Snapshot;
@@ -21,7 +25,7 @@ pub struct KeepsEarlier<S: SharedSite> {
 }
 
 impl<S: SharedSite> Promise<(S::Seat, LinkEnd)> for KeepsEarlier<S> {
-    ghost use Rattle.link_ends.specs.Earlier.{Adds};
+    ghost use Rattle.pcrf_serve.specs.Earlier.{Adds};
     ghost use Rattle.pcrf_serve.specs.Serving.{IsOfConnection};
 
     ghost kept_by = { λ p r. Adds IsOfConnection (S.seen p.seat.value) (S.seen r.0) };

@@ -7,9 +7,9 @@ use Rattle.std.proofs.Math.Seq.{take-suc-set, drop-cons}
 use Rattle.std.proofs.lemmas.List.{drop-set-lt, append_assoc}
 use Rattle.std.specs.Cmp.{first_so, second_so}
 use Rattle.std.specs.Ordering.{is_eq}
-use Rattle.ranked.specs.Orders.{text_cmp}
-use Rattle.ranked.proofs.OrderLaws.{text_ranked, eq_is, eq_itself}
-use Rattle.ranked.proofs.Plain.{both}
+use Rattle.pcrf_values.specs.Orders.{text_cmp}
+use Rattle.pcrf_values.proofs.OrderLaws.{text_ranked, eq_is, eq_itself}
+use Rattle.pcrf_values.proofs.Plain.{both}
 use Rattle.pcrf_values.specs.Prefixes.{Ipv6Prefix, first_of_byte, first_bits, covers}
 
 -- a power of two as that of a lesser exponent times another

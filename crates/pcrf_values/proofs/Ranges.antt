@@ -1,7 +1,7 @@
 -- Lists within a range of lengths.
 use Rattle.std.proofs.Common.{◌≡◌, ◌<◌, ◌≤◌, ℕ, List, [], ◌∷◌, length, Some, arith, refl, nat_le, true}
 use Rattle.std.proofs.lemmas.Bool.Decides.{nat_tests}
-use Rattle.ranked.specs.Sets.{if_any}
+use Rattle.pcrf_values.specs.Sets.{if_any}
 use Rattle.pcrf_values.specs.Texts.{one_to}
 
 -- a list that isn't too long is within the range, if it has a member

@@ -3,7 +3,7 @@
 use Rattle.std.specs.Prelude.{ℕ, ◌+◌, ◌-◌, ◌*◌, ◌/◌, ◌^◌, ◌≡◌, Bool, true, ◌&&◌, if◌then◌else◌, nat_le, List, [], ◌∷◌, ◌++◌, length, Option, Some, None}
 use Rattle.std.proofs.Common.{Ordering, replicate}
 use Rattle.std.specs.Ordering.{is_eq, nat_cmp}
-use Rattle.ranked.specs.Orders.{pair_cmp, text_cmp}
+use Rattle.pcrf_values.specs.Orders.{pair_cmp, text_cmp}
 
 -- the length in bits, up to 128, and 16 bytes, in which the bits past the length are zero
 abbrev pub Ipv6Prefix : Type 0

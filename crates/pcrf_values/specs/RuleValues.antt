@@ -3,7 +3,7 @@ use Rattle.std.specs.Prelude.{ℕ, List}
 use Rattle.std.proofs.Common.{Ordering}
 use Rattle.std.specs.Ordering.{ordering_then, nat_cmp}
 use Rattle.std.specs.Cmp.Lexicographic.{slice_cmp}
-use Rattle.ranked.specs.Orders.{text_cmp}
+use Rattle.pcrf_values.specs.Orders.{text_cmp}
 
 -- A rule: its name, Flow-Status (TS 29.214), filters, QCI, priority level, pre-emption capability and vulnerability
 -- as AVP values, maximum bit rates up and down in bit/s, and precedence.

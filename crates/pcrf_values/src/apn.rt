@@ -4,7 +4,8 @@ ghost use Rattle.pcrf_values.specs.Limits.{apn_limit};
 ghost use Rattle.pcrf_values.specs.Texts.{one_to, small_letters};
 
 use crate::limits::APN_LIMIT;
-use ranked::{Listed, Ranked, Text};
+use crate::order::Ranked;
+use crate::text::Text;
 use std::alloc::{AllocError, Global};
 use std::fmt::{self, Debug, Formatter, Write};
 use std::marker::Model;
@@ -49,9 +50,8 @@ impl Apn {
         for byte in bytes {
             letters.push(byte.to_ascii_lowercase())?;
         }
-        Ok(Some(Apn {
-            text: Listed::of(letters),
-        }))
+        let text = Text::of(letters)?;
+        Ok(Some(Apn { text }))
     }
 
     /// The bytes.
@@ -66,7 +66,7 @@ impl Apn {
 }
 
 impl Ranked for Apn {
-    ghost use Rattle.ranked.specs.laws.Exact.{nat_same, list_same};
+    ghost use Rattle.pcrf_values.specs.laws.Exact.{nat_same, list_same};
 
     ghost same = { list_same nat_same };
 

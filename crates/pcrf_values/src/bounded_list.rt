@@ -1,13 +1,12 @@
-//! Lists with a least and a greatest length, and the texts among them.
-ghost use Rattle.std.specs.Prelude.{◌≡◌, ◌<◌, ◌≤◌, length, IfOk};
+//! Lists with a least and a greatest length.
+ghost use Rattle.std.specs.Prelude.{◌≡◌, ◌<◌, ◌≤◌, length};
 ghost use Rattle.pcrf_values.specs.Texts.{one_to};
 
-use crate::limits::{
-    FILTER_LIMIT, FILTERS_LIMIT, IDENTITY_LIMIT, RULE_NAME_LIMIT, SESSION_ID_LIMIT,
-    SUBSCRIPTION_DATA_LIMIT,
-};
-use ranked::{Listed, Ranked};
-use std::alloc::{AllocError, Global};
+use crate::bounded_text::FilterText;
+use crate::limits::FILTERS_LIMIT;
+use crate::listed::Listed;
+use crate::order::Ranked;
+use std::alloc::AllocError;
 use std::cmp::Ordering;
 use std::fmt::{self, Debug, Formatter, Write};
 use std::marker::Model;
@@ -18,27 +17,8 @@ pub struct BoundedList<T, const MOST: usize> {
     list: Listed<T>,
 }
 
-/// A text of 1 to `MOST` bytes.
-pub type BoundedText<const MOST: usize> = BoundedList<u8, MOST>;
-
-/// A Session-Id (RFC 6733, 8.8). Its greatest length is this project's own.
-pub type SessionId = BoundedText<SESSION_ID_LIMIT>;
-
-/// The name of a Diameter host or realm (RFC 6733, 4.3.1).
-pub type DiameterIdentity = BoundedText<IDENTITY_LIMIT>;
-
-/// The number or name of a subscriber, as Subscription-Id-Data gives it (RFC 8506, 8.48).
-pub type SubscriptionData = BoundedText<SUBSCRIPTION_DATA_LIMIT>;
-
-/// An IPFilterRule as it was given (RFC 6733, 4.3.1).
-pub type FilterText = BoundedText<FILTER_LIMIT>;
-
 /// The one or two filters of a flow, in the order given (Flow-Description, TS 29.214, 5.3.8).
 pub type Filters = BoundedList<FilterText, FILTERS_LIMIT>;
-
-/// The name of a rule, as Charging-Rule-Name gives it (TS 29.212, 5.3.6). Its greatest length is this project's own: it has
-/// room for a Session-Id and two numbers.
-pub type RuleName = BoundedText<RULE_NAME_LIMIT>;
 
 impl<T, const MOST: usize> Model for BoundedList<T, MOST> {
     ghost use Rattle.std.specs.Prelude.{List, ◌<◌, ◌≤◌, length};
@@ -90,21 +70,6 @@ impl<T: Drop, const MOST: usize> BoundedList<T, MOST> {
     }
 }
 
-impl<const MOST: usize> BoundedList<u8, MOST> {
-    /// The text of a copy of these bytes; `None` where there are none or more than `MOST` of them.
-    pub fn read(alloc: Global, bytes: &[u8]) -> Result<Option<BoundedText<MOST>>, AllocError>
-        ensures { IfOk result (λ text. text ≡ one_to MOST bytes.now) }
-    {
-        if bytes.is_empty() || bytes.len() > MOST {
-            return Ok(None);
-        }
-        let copy = Vec::from_slice(alloc, bytes)?;
-        Ok(Some(BoundedList {
-            list: Listed::of(copy),
-        }))
-    }
-}
-
 impl<T: Ranked, const MOST: usize> Ord for BoundedList<T, MOST> {
     ghost use Rattle.std.specs.Cmp.Lexicographic.{slice_cmp, lists_agrees, lists_total, lists_ties};
 
@@ -122,7 +87,7 @@ impl<T: Ranked, const MOST: usize> Ord for BoundedList<T, MOST> {
 }
 
 impl<T: Ranked, const MOST: usize> Ranked for BoundedList<T, MOST> {
-    ghost use Rattle.ranked.specs.laws.Exact.{list_same};
+    ghost use Rattle.pcrf_values.specs.laws.Exact.{list_same};
 
     ghost same = { list_same T.same };
 

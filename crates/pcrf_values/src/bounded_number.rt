@@ -2,7 +2,7 @@
 ghost use Rattle.std.specs.Prelude.{◌≡◌, ◌<◌, ◌≤◌};
 ghost use Rattle.pcrf_values.specs.Numbers.{number_within};
 
-use ranked::Ranked;
+use crate::order::Ranked;
 use std::alloc::AllocError;
 use std::marker::Model;
 
@@ -52,7 +52,7 @@ impl<const LEAST: u32, const MOST: u32> BoundedNumber<LEAST, MOST> {
 }
 
 impl<const LEAST: u32, const MOST: u32> Ranked for BoundedNumber<LEAST, MOST> {
-    ghost use Rattle.ranked.specs.laws.Exact.{nat_same};
+    ghost use Rattle.pcrf_values.specs.laws.Exact.{nat_same};
 
     ghost same = { nat_same };
 

@@ -1,9 +1,10 @@
 //! Differences between the rules that a gateway was told and those that it is to have.
 ghost use Rattle.std.specs.Prelude.{◌≡◌, ◌-◌, take, length};
 
-use crate::bounded_list::RuleName;
+use crate::bounded_text::RuleName;
+use crate::listed::Listed;
+use crate::order::Ranked;
 use crate::rule::Rule;
-use ranked::{Listed, Ranked};
 use std::alloc::AllocError;
 use std::marker::Model;
 

@@ -2,7 +2,7 @@
 ghost use Rattle.std.specs.Prelude.{◌≡◌, ◌≤◌, ℕ, option_map};
 ghost use Rattle.pcrf_values.specs.Numbers.{number_within};
 
-use ranked::Ranked;
+use crate::order::Ranked;
 use std::alloc::AllocError;
 use std::cmp::Ordering;
 use std::fmt::Debug;
@@ -150,7 +150,7 @@ impl<E: Enumeration> Ord for Enumerated<E> {
 }
 
 impl<E: Enumeration> Ranked for Enumerated<E> {
-    ghost use Rattle.ranked.specs.laws.Exact.{nat_same};
+    ghost use Rattle.pcrf_values.specs.laws.Exact.{nat_same};
 
     ghost same = { nat_same };
 

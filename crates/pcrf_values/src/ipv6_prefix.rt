@@ -2,7 +2,8 @@
 ghost use Rattle.std.specs.Prelude.{◌≡◌, ◌≤◌, length, take, refl};
 ghost use Rattle.pcrf_values.specs.Prefixes.{address_bits, address_octets, covers, first_bits, first_of_byte, octets_for, prefix_cmp, prefix_from};
 
-use ranked::{Ranked, compare_bytes};
+use crate::bytes::compare_bytes;
+use crate::order::Ranked;
 use std::alloc::AllocError;
 use std::cmp::Ordering;
 use std::fmt::{self, Display, Formatter, Write};

@@ -3,9 +3,11 @@ ghost use Rattle.std.specs.Prelude.{◌≡◌, true, false, IfOk, IfSome, IfNone
 ghost use Rattle.std.specs.List.{list_all};
 ghost use Rattle.pcrf_values.specs.Filters.{begins_as_filter, filter_of, is_filter, is_printable};
 
-use crate::bounded_list::{BoundedList, FilterText, Filters};
+use crate::bounded_list::{BoundedList, Filters};
+use crate::bounded_text::FilterText;
 use crate::limits::{FILTER_LIMIT, FILTERS_LIMIT};
-use ranked::{Ranked, Text};
+use crate::order::Ranked;
+use crate::text::Text;
 use std::alloc::{AllocError, Global};
 use std::fmt::{self, Debug, Formatter, Write};
 use std::marker::Model;
@@ -90,7 +92,7 @@ impl PermitFilter {
         if !is_filter(text.as_slice()) {
             return None;
         }
-        let Some(text) = FilterText::of(text.into_vec()) else {
+        let Some(text) = FilterText::from_text(text) else {
             unreachable!()
         };
         Some(PermitFilter { text })
@@ -120,7 +122,7 @@ pub fn texts_of(alloc: Global, given: &PermitFilters) -> Result<Filters, AllocEr
 }
 
 impl Ranked for PermitFilter {
-    ghost use Rattle.ranked.specs.laws.Exact.{nat_same, list_same};
+    ghost use Rattle.pcrf_values.specs.laws.Exact.{nat_same, list_same};
 
     ghost same = { list_same nat_same };
 

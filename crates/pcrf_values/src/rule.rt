@@ -1,16 +1,18 @@
 //! PCC rules and differences of rules.
-ghost use Rattle.std.specs.Prelude.{◌≡◌, ◌<◌, ◌≤◌, IfSome, IfNone};
+ghost use Rattle.std.specs.Prelude.{◌≡◌, ◌<◌, ◌≤◌, IfOk, IfSome, IfNone};
 ghost use Rattle.pcrf_values.specs.Numbers.{flow_status_number, preemption_number};
 ghost use Rattle.pcrf_values.specs.RuleValues.{rule_cmp};
 ghost use Rattle.pcrf_values.specs.RuleViews.{rule_value, numbers_of};
 
-use crate::bounded_list::{Filters, RuleName};
+use crate::bounded_list::Filters;
 use crate::bounded_number::{PriorityLevel, QosClass};
+use crate::bounded_text::RuleName;
 use crate::enumerated::Enumeration;
-use ranked::Ranked;
-use std::alloc::AllocError;
+use crate::order::Ranked;
+use std::alloc::{AllocError, Global};
 use std::cmp::Ordering;
 use std::marker::Model;
+use std::sync::Arc;
 
 /// Which directions of a flow are open (Flow-Status, TS 29.214, 5.3.11). REMOVED, 4, is no status of a rule.
 #[derive(Clone, Copy, Debug, PartialEq, Eq, PartialOrd, Ord)]
@@ -137,9 +139,16 @@ pub struct RuleQos {
     pub max_downlink: u32,
 }
 
-/// A PCC rule (Charging-Rule-Definition, TS 29.212, 5.3.4), which contracts see as a `RuleValue`. Ordered field by field.
+/// A PCC rule (Charging-Rule-Definition, TS 29.212, 5.3.4), which contracts see as a `RuleValue`. Ordered field by field. Copies share
+/// their memory.
 #[derive(Debug, Drop)]
 pub struct Rule {
+    definition: Arc<Definition>,
+}
+
+/// What a rule says.
+#[derive(Debug, Drop)]
+struct Definition {
     name: RuleName,
     status: FlowStatus,
     filters: Filters,
@@ -153,48 +162,52 @@ impl Model for Rule {
 
     ghost Value = { RuleValue };
 
-    ghost view = { λ r. rule_value r.name r.status r.filters r.qos r.precedence };
+    ghost view = { λ r. rule_value r.definition.value.name r.definition.value.status r.definition.value.filters r.definition.value.qos r.definition.value.precedence };
 }
 
 impl Rule {
     /// The rule of these parts. Of two rules that a packet fits, the one with the lesser precedence applies.
     pub fn of(
+        alloc: Global,
         name: RuleName,
         status: FlowStatus,
         filters: Filters,
         qos: RuleQos,
         precedence: u32,
-    ) -> Rule
-        ensures { result ≡ rule_value name status filters qos precedence }
+    ) -> Result<Rule, AllocError>
+        ensures { IfOk result (λ rule. rule ≡ rule_value name status filters qos precedence) }
     {
-        Rule {
+        let definition = Definition {
             name,
             status,
             filters,
             qos,
             precedence,
-        }
+        };
+        Ok(Rule {
+            definition: Arc::new(alloc, definition)?,
+        })
     }
 
     /// The name.
     pub fn name(&self) -> &RuleName
         ensures { result.now ≡ self.now.name }
     {
-        &self.name
+        &self.definition.name
     }
 
     /// Which directions are open.
     pub fn status(&self) -> FlowStatus
         ensures { flow_status_number result ≡ self.now.status }
     {
-        self.status
+        self.definition.status
     }
 
     /// The filters that pick the packets.
     pub fn filters(&self) -> &Filters
         ensures { result.now ≡ self.now.filters }
     {
-        &self.filters
+        &self.definition.filters
     }
 
     /// The quality of service.
@@ -207,14 +220,14 @@ impl Rule {
         ensures uplink { result.max_uplink ≡ self.now.max_ul }
         ensures downlink { result.max_downlink ≡ self.now.max_dl }
     {
-        self.qos
+        self.definition.qos
     }
 
     /// The precedence, the least first.
     pub fn precedence(&self) -> u32
         ensures { result ≡ self.now.precedence }
     {
-        self.precedence
+        self.definition.precedence
     }
 
     /// The numbers behind the filters, in the order in which rules are compared.
@@ -290,13 +303,9 @@ impl Ord for Rule {
 
     fn cmp(&self, other: &Rule) -> Ordering {
         let numbers = self.numbers().cmp(&other.numbers());
-        let filters = self.filters.cmp(&other.filters).then(numbers);
-        let status = self
-            .status
-            .number()
-            .cmp(&other.status.number())
-            .then(filters);
-        self.name.cmp(&other.name).then(status)
+        let filters = self.filters().cmp(other.filters()).then(numbers);
+        let statuses = self.status().number().cmp(&other.status().number());
+        self.name().cmp(other.name()).then(statuses.then(filters))
     }
 }
 
@@ -307,11 +316,7 @@ impl Ranked for Rule {
 
     fn try_copy(&self) -> Result<Rule, AllocError> {
         Ok(Rule {
-            name: self.name.try_copy()?,
-            status: self.status,
-            filters: self.filters.try_copy()?,
-            qos: self.qos,
-            precedence: self.precedence,
+            definition: self.definition.clone()?,
         })
     }
 }

@@ -2,11 +2,13 @@
 ghost use Rattle.std.specs.Prelude.{◌≡◌, ◌<◌, ◌≤◌, length, refl};
 ghost use Rattle.pcrf_values.specs.Limits.{session_id_limit};
 
-use crate::bounded_list::SessionId;
-use ranked::{Ranked, compare_bytes, equal_bytes};
+use crate::bounded_text::SessionId;
+use crate::bytes::{compare_bytes, equal_bytes};
+use crate::order::Ranked;
 use std::alloc::AllocError;
 use std::cmp::Ordering;
 use std::fmt::{self, Debug, Formatter, Write};
+use std::hash::{Hash, Hasher};
 use std::marker::Model;
 
 /// The Session-Id of a gateway's session (Gx, TS 29.212, 4a.5.1), which contracts see as its bytes.
@@ -123,10 +125,23 @@ impl Eq for GxSid {
     ghost laws = { nat_list_eq_equiv };
 }
 
+impl Hash for GxSid {
+    ghost use Rattle.std.specs.Prelude.{[], ◌∷◌};
+    ghost use Rattle.pcrf_values.specs.laws.Exact.{same_input};
+
+    ghost hash_input = { λ s. s ∷ [] };
+
+    ghost respects_eq = { same_input };
+
+    fn hash<H: Hasher>(&self, state: &mut H) {
+        state.write(self.as_slice());
+    }
+}
+
 impl PartialOrd for GxSid {
     ghost use Rattle.std.specs.Cmp.Lexicographic.{texts_po};
     ghost use Rattle.std.specs.declared.option.Option.TheVariants.{Some};
-    ghost use Rattle.ranked.specs.Orders.{text_cmp};
+    ghost use Rattle.pcrf_values.specs.Orders.{text_cmp};
 
     ghost partial_cmp = { λ x y. Some (text_cmp x y) };
 
@@ -139,7 +154,7 @@ impl PartialOrd for GxSid {
 
 impl Ord for GxSid {
     ghost use Rattle.std.specs.Cmp.Lexicographic.{nat_list_cmp_total, texts_ties};
-    ghost use Rattle.ranked.specs.Orders.{text_cmp};
+    ghost use Rattle.pcrf_values.specs.Orders.{text_cmp};
 
     ghost cmp = { text_cmp };
 
@@ -155,7 +170,7 @@ impl Ord for GxSid {
 }
 
 impl Ranked for GxSid {
-    ghost use Rattle.ranked.specs.laws.Exact.{text_same};
+    ghost use Rattle.pcrf_values.specs.laws.Exact.{text_same};
 
     ghost same = { text_same };
 
@@ -186,10 +201,23 @@ impl Eq for AfSid {
     ghost laws = { nat_list_eq_equiv };
 }
 
+impl Hash for AfSid {
+    ghost use Rattle.std.specs.Prelude.{[], ◌∷◌};
+    ghost use Rattle.pcrf_values.specs.laws.Exact.{same_input};
+
+    ghost hash_input = { λ s. s ∷ [] };
+
+    ghost respects_eq = { same_input };
+
+    fn hash<H: Hasher>(&self, state: &mut H) {
+        state.write(self.as_slice());
+    }
+}
+
 impl PartialOrd for AfSid {
     ghost use Rattle.std.specs.Cmp.Lexicographic.{texts_po};
     ghost use Rattle.std.specs.declared.option.Option.TheVariants.{Some};
-    ghost use Rattle.ranked.specs.Orders.{text_cmp};
+    ghost use Rattle.pcrf_values.specs.Orders.{text_cmp};
 
     ghost partial_cmp = { λ x y. Some (text_cmp x y) };
 
@@ -202,7 +230,7 @@ impl PartialOrd for AfSid {
 
 impl Ord for AfSid {
     ghost use Rattle.std.specs.Cmp.Lexicographic.{nat_list_cmp_total, texts_ties};
-    ghost use Rattle.ranked.specs.Orders.{text_cmp};
+    ghost use Rattle.pcrf_values.specs.Orders.{text_cmp};
 
     ghost cmp = { text_cmp };
 
@@ -218,7 +246,7 @@ impl Ord for AfSid {
 }
 
 impl Ranked for AfSid {
-    ghost use Rattle.ranked.specs.laws.Exact.{text_same};
+    ghost use Rattle.pcrf_values.specs.laws.Exact.{text_same};
 
     ghost same = { text_same };
 

@@ -3,8 +3,8 @@ ghost use Rattle.std.specs.Prelude.{◌≡◌, ◌<◌, ◌≤◌, length, IfSom
 ghost use Rattle.pcrf_values.specs.Numbers.{subscription_number};
 ghost use Rattle.pcrf_values.specs.Subscribers.{subscriber_cmp};
 
-use crate::bounded_list::SubscriptionData;
-use ranked::Ranked;
+use crate::bounded_text::SubscriptionData;
+use crate::order::Ranked;
 use std::alloc::AllocError;
 use std::cmp::Ordering;
 use std::marker::Model;

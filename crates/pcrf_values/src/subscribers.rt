@@ -1,13 +1,15 @@
 //! The subscribers of a session.
 ghost use Rattle.std.specs.Prelude.{◌≡◌, ◌<◌, ◌≤◌, length, IfOk};
-ghost use Rattle.ranked.specs.Ascending.{ascending};
+ghost use Rattle.pcrf_values.specs.Ascending.{ascending};
 ghost use Rattle.pcrf_values.specs.Limits.{subscribers_limit};
 ghost use Rattle.pcrf_values.specs.Subscribers.{subscriber_cmp};
 ghost use Rattle.pcrf_values.specs.Texts.{one_to};
 
+use crate::ascending::ascending_of;
 use crate::limits::SUBSCRIBERS_LIMIT;
+use crate::listed::Listed;
+use crate::order::Ranked;
 use crate::subscriber::Subscriber;
-use ranked::{Listed, Ranked, ascending_of};
 use std::alloc::{AllocError, Global};
 use std::marker::Model;
 
@@ -19,7 +21,7 @@ pub struct Subscribers {
 
 impl Model for Subscribers {
     ghost use Rattle.std.specs.Prelude.{◌≡◌, ℕ, List, ◌<◌, ◌≤◌, length};
-    ghost use Rattle.ranked.specs.Ascending.{ascending};
+    ghost use Rattle.pcrf_values.specs.Ascending.{ascending};
     ghost use Rattle.pcrf_values.specs.Limits.{subscribers_limit};
     ghost use Rattle.pcrf_values.specs.Subscribers.{subscriber_cmp};
 
@@ -66,7 +68,7 @@ impl Subscribers {
 }
 
 impl Ranked for Subscribers {
-    ghost use Rattle.ranked.specs.laws.Exact.{list_same};
+    ghost use Rattle.pcrf_values.specs.laws.Exact.{list_same};
     ghost use Rattle.pcrf_values.specs.laws.Values.{subscriber_same};
 
     ghost same = { list_same subscriber_same };

@@ -14,7 +14,7 @@ use Rattle.pcrf_model.specs.Seen.{view_made, view_served, view_pushed, view_abor
 use Rattle.site_machine.specs.Sites.{with_made, serve_outcome, push_outcome_at, abort_outcome_at, retell_outcome_at}
 use Rattle.pcrf_world.specs.Members.{seen_of, with_site, started_again}
 use Rattle.pcrf_world.specs.Values.{setting}
-use Rattle.peer_cursors.specs.Writing.{letter_made}
+use Rattle.peer_exchange.specs.Making.{letter_made}
 use Rattle.pcrf_world.specs.declared.site.Member.{Member}
 use Rattle.pcrf_world.proofs.Members.{world_of, seen_at, seen_set}
 

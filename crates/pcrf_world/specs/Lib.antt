@@ -1,3 +1,4 @@
+pub mod Addressed
 pub mod Happening
 pub mod Identities
 pub mod Members

@@ -22,7 +22,7 @@ fn host_of(alloc: Global, number: u8) -> Result<DiameterIdentity, AllocError>
 }
 
 /// The identity of the site of a number: host `s` and the number, realm `r`, the address of the machine itself.
-pub(crate) fn identity_of(alloc: Global, number: u8) -> Result<Identity, AllocError>
+pub fn identity_of(alloc: Global, number: u8) -> Result<Identity, AllocError>
     ensures { IfOk result (λ identity. identity ≡ identity_of number) }
 {
     let host = host_of(alloc, number)?;

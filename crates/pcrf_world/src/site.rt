@@ -6,15 +6,14 @@ ghost use Rattle.pcrf_model.specs.Operations.{holding_of};
 ghost use Rattle.pcrf_model.specs.Seen.{brought_holding, view_in_part, view_merged};
 ghost use Rattle.pcrf_model.specs.Tables as tables;
 ghost use Rattle.pcrf_model.specs.Worlds.{ByCursors, MayStopAfter, first_taken};
-ghost use Rattle.peer_cursors.specs.Writing.{letter_made};
+ghost use Rattle.peer_exchange.specs.Making.{letter_made};
 ghost use Rattle.peer_exchange.specs.Values.{body_value};
 ghost use Rattle.site_machine.specs.Sites.{with_state};
 ghost use Rattle.pcrf_world.specs.Members.{IsMember, new_member, seen_of, started_again};
 
 use crate::identity::identity_of;
 use op_tables::Tables;
-use peer_cursors::Cursors;
-use peer_exchange::{Body, Letter};
+use peer_exchange::{Body, Cursors, Letter};
 use site_machine::Site;
 use std::alloc::{AllocError, Global};
 

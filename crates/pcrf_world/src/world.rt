@@ -1,5 +1,5 @@
 //! A world of sites, which serve requests, push, abort sessions, retell them, make letters and take them.
-ghost use Rattle.std.specs.Prelude.{◌≡◌, ◌<◌, ◌≤◌, slice_get, IfOk, option_map};
+ghost use Rattle.std.specs.Prelude.{◌≡◌, ◌<◌, ◌≤◌, ◌++◌, ◌∷◌, [], length, slice_get, IfOk, OnOk, OnErr, option_map};
 ghost use Rattle.std.specs.Option.{option_copied};
 ghost use Rattle.pcrf_model.specs.CursorLaws.{LeavesNoGap, MakersAreTaken, PeersTook};
 ghost use Rattle.pcrf_model.specs.Worlds.{SiteView, start, world_view, after_all, GivesAll, HoldAlike};
@@ -10,10 +10,9 @@ ghost use Rattle.pcrf_world.specs.Values.{event_value, answer_value, events_valu
 
 use crate::site::Member;
 use op_tables::Tables;
+use pcrf_model::{GxReply, PushOut};
 use pcrf_values::{DefaultQuality, DiameterIdentity, GxSid};
-use peer_cursors::Cursors;
-use peer_exchange::Letter;
-use reply_values::{GxReply, PushOut};
+use peer_exchange::{Cursors, Letter};
 use rx_profile::AbortOut;
 use site_machine::{Reply, Request, Site, StepFault};
 use std::alloc::{AllocError, Global};
@@ -160,6 +159,20 @@ impl World {
         ensures { result.now ≡ self.now.tables }
     {
         &self.tables
+    }
+
+    /// Keeps a letter that came from elsewhere among the world's, and tells its number; a refusal changes nothing.
+    pub fn post(&mut self, letter: Letter) -> Result<usize, AllocError>
+        ensures number { IfOk result (λ k. k ≡ length self.old.seen.letters) }
+        ensures kept { OnOk result
+            (self.new.seen.letters ≡ self.old.seen.letters ++ letter ∷ []) }
+        ensures sites { self.new.seen.sites ≡ self.old.seen.sites }
+        ensures tables { self.new.tables ≡ self.old.tables }
+        ensures refused { OnErr result (self.new ≡ self.old) }
+    {
+        let k = self.letters.len();
+        self.letters.push(letter)?;
+        Ok(k)
     }
 
     /// Makes one event happen.

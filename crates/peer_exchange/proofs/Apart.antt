@@ -1,7 +1,7 @@
 -- No letter's spelling begins another's.
 use Rattle.std.proofs.Common.{◌≡◌, ℕ, true, List, [], ◌∷◌, ◌++◌, length, take, drop, Some, Result, Ok, refl, sym, ap, ◌∙◌, append_assoc, arith}
 use Rattle.std.proofs.lemmas.List.{take_at, drop_at}
-use Rattle.ranked.proofs.Plain.{some_same}
+use Rattle.pcrf_values.proofs.Plain.{some_same}
 use Rattle.pcrf_model.specs.Letters.{LetterValue}
 use Rattle.fact_codec.specs.Spelling.{short_bytes, word_bytes}
 use Rattle.fact_codec.specs.Reading.{word}

@@ -5,10 +5,10 @@ use Rattle.std.specs.List.{flat_map, list_all}
 use Rattle.std.proofs.lemmas.Bool.{eq-eqb}
 use Rattle.std.proofs.lemmas.Bool.Decides.{nat_tests}
 use Rattle.std.proofs.lemmas.List.{append-nil}
-use Rattle.ranked.proofs.Plain.{both}
+use Rattle.pcrf_values.proofs.Plain.{both}
 use Rattle.pcrf_values.specs.Limits.{session_id_limit, last_counter, last_epoch, range_limit}
-use Rattle.pcrf_facts.specs.Places.{FramedIpAddress, CalledStationId, SubscriptionIds, OriginHost, OriginRealm, RequestType, FramedIpv6Prefix, OfSession, OfComponent, OfFlow, OfRuleName}
-use Rattle.pcrf_facts.specs.Facts.{Fact, End, Removed, Field, Aborted}
+use Rattle.pcrf_values.specs.Places.{FramedIpAddress, CalledStationId, SubscriptionIds, OriginHost, OriginRealm, RequestType, FramedIpv6Prefix, OfSession, OfComponent, OfFlow, OfRuleName}
+use Rattle.pcrf_values.specs.Facts.{Fact, End, Removed, Field, Aborted}
 use Rattle.pcrf_model.specs.Sessions.{Kind, Gx, Af}
 use Rattle.pcrf_model.specs.Operations.{Operation}
 use Rattle.pcrf_model.specs.Forms.{is_within, is_unsigned, is_text, is_stamp, is_session, is_request_number, stand_together, fits, is_operation}

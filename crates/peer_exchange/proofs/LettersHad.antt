@@ -1,9 +1,9 @@
 -- What a letter that is read says is what its version has.
 use Rattle.std.proofs.Common.{◌≡◌, ℕ, true, ◌==◌, List, [], ◌∷◌, inl, inr, Option, Some, None, refl, sym, ap, ◌∙◌, subst}
 use Rattle.std.specs.List.{list_all}
-use Rattle.ranked.proofs.Plain.{came_from, some_same}
+use Rattle.pcrf_values.proofs.Plain.{came_from, some_same}
 use Rattle.pcrf_values.specs.Limits.{session_id_limit}
-use Rattle.pcrf_facts.specs.Facts.{Fact}
+use Rattle.pcrf_values.specs.Facts.{Fact}
 use Rattle.pcrf_model.specs.Forms.{is_operation}
 use Rattle.pcrf_model.specs.Sessions.{Session, gx, af}
 use Rattle.pcrf_model.specs.Operations.{Operation}

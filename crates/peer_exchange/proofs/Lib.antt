@@ -5,3 +5,4 @@ pub mod Frames
 pub mod Lengths
 pub mod LettersAgain
 pub mod LettersHad
+pub mod Placed

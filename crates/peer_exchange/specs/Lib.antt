@@ -1,7 +1,9 @@
+pub mod CursorValues
 pub mod Faults
 pub mod Form
 pub mod Frames
 pub mod Limits
+pub mod Making
 pub mod Reading
 pub mod Samples
 pub mod Spelling

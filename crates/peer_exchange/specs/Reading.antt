@@ -2,7 +2,7 @@
 use Rattle.std.specs.Prelude.{◌≡◌, ℕ, ◌==◌, ◌&&◌, nat_le, List, [], ◌∷◌, length, if◌then◌else◌}
 use Rattle.std.specs.Prelude.{Option, Some, None, Result, Ok, Err}
 use Rattle.pcrf_values.specs.Limits.{session_id_limit}
-use Rattle.pcrf_facts.specs.Facts.{Fact}
+use Rattle.pcrf_values.specs.Facts.{Fact}
 use Rattle.pcrf_model.specs.Sessions.{Session, gx, af}
 use Rattle.pcrf_model.specs.Forms.{is_within}
 use Rattle.pcrf_model.specs.Operations.{Operation}

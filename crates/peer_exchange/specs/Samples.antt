@@ -1,8 +1,8 @@
 -- The letters of the worked examples, and their bytes.
 use Rattle.std.specs.Prelude.{ℕ, List, [], ◌∷◌, ◌++◌, codes}
-use Rattle.pcrf_facts.specs.Places.{OriginHost, FramedIpv6Prefix, OfSession}
-use Rattle.pcrf_facts.specs.Values.{Text, Prefix}
-use Rattle.pcrf_facts.specs.Facts.{End, Field, Aborted}
+use Rattle.pcrf_values.specs.Places.{OriginHost, FramedIpv6Prefix, OfSession}
+use Rattle.pcrf_values.specs.Values.{Text, Prefix}
+use Rattle.pcrf_values.specs.Facts.{End, Field, Aborted}
 use Rattle.pcrf_model.specs.Sessions.{gx, af}
 use Rattle.pcrf_model.specs.Operations.{Operation}
 use Rattle.pcrf_model.specs.Letters.{Range, Snapshot, Acknowledgement, LetterValue}

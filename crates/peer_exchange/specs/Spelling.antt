@@ -2,7 +2,7 @@
 -- edition of the sender's operator tables, the sender, its epoch, and what the letter says.
 use Rattle.std.specs.Prelude.{ℕ, List, [], ◌∷◌, ◌++◌, length}
 use Rattle.std.specs.List.{flat_map}
-use Rattle.pcrf_facts.specs.Facts.{Fact}
+use Rattle.pcrf_values.specs.Facts.{Fact}
 use Rattle.pcrf_model.specs.Sessions.{Session, kind_number}
 use Rattle.pcrf_model.specs.Operations.{Operation}
 use Rattle.pcrf_model.specs.Letters.{LetterBody, Range, Snapshot, Acknowledgement, LetterValue}

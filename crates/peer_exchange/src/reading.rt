@@ -22,7 +22,7 @@ use fact_codec::{
     long_at, short_at, text_at, word_at,
 };
 use lattice_core::Tag;
-use pcrf_values::{AfSid, GxSid};
+use pcrf_values::{AfSid, GxSid, HashSeed};
 use site_join::{Operation, SessionFacts, State, are_groups};
 use std::alloc::Global;
 
@@ -237,7 +237,12 @@ fn list_of_groups(
 /// A whole state, behind its kind: groups in their order, each fact with its tag, none with a greater counter than the
 /// clock.
 #[tactic(auto, using(crate::proofs::Added::added), unfolding(crate::specs::Reading::snapshot))]
-fn snapshot_at(alloc: Global, version: LetterVersion, bytes: &[u8]) -> Result<(Body, &[u8]), Unread>
+fn snapshot_at(
+    alloc: Global,
+    seed: HashSeed,
+    version: LetterVersion,
+    bytes: &[u8],
+) -> Result<(Body, &[u8]), Unread>
     ensures read { parts.Gives (λ x. (body_value x.0, x.1.now)) result
         (snapshot version bytes.now) }
     ensures spelled { IfOk result (λ x. 2 ∷ bytes.now ≡ body_bytes (body_value x.0) ++ x.1.now) }
@@ -249,7 +254,7 @@ fn snapshot_at(alloc: Global, version: LetterVersion, bytes: &[u8]) -> Result<(B
     if !are_groups(clock, groups.as_slice()) {
         return Err(Unread::BadShape);
     }
-    let state = State::of_groups(alloc, clock, groups)?;
+    let state = State::of_groups(alloc, seed, clock, groups)?;
     Ok((Body::Snapshot(Snapshot { state, log_length }), rest))
 }
 
@@ -273,14 +278,19 @@ fn acknowledgement_at(bytes: &[u8]) -> Result<(Body, &[u8]), Unread>
 
 /// What a letter says.
 #[tactic(auto, unfolding(crate::specs::Reading::body))]
-fn body_at(alloc: Global, version: LetterVersion, bytes: &[u8]) -> Result<(Body, &[u8]), Unread>
+fn body_at(
+    alloc: Global,
+    seed: HashSeed,
+    version: LetterVersion,
+    bytes: &[u8],
+) -> Result<(Body, &[u8]), Unread>
     ensures read { parts.Gives (λ x. (body_value x.0, x.1.now)) result (body version bytes.now) }
     ensures spelled { IfOk result (λ x. bytes.now ≡ body_bytes (body_value x.0) ++ x.1.now) }
 {
     let (kind, rest) = byte_at(bytes)?;
     match kind {
         1 => range_at(alloc, version, rest),
-        2 => snapshot_at(alloc, version, rest),
+        2 => snapshot_at(alloc, seed, version, rest),
         3 => acknowledgement_at(rest),
         _ => Err(Unread::BadShape),
     }
@@ -290,6 +300,7 @@ fn body_at(alloc: Global, version: LetterVersion, bytes: &[u8]) -> Result<(Body,
 #[tactic(auto, using(crate::proofs::Added::added), unfolding(crate::specs::Reading::content, crate::specs::Spelling::letter_bytes_in))]
 fn content_at(
     alloc: Global,
+    seed: HashSeed,
     version: LetterVersion,
     edition: u32,
     bytes: &[u8],
@@ -303,7 +314,7 @@ fn content_at(
 {
     let (site, rest) = byte_at(bytes)?;
     let (epoch, rest) = short_at(rest)?;
-    let (said, rest) = body_at(alloc, version, rest)?;
+    let (said, rest) = body_at(alloc, seed, version, rest)?;
     let Some(letter) = Letter::of(edition, site, epoch, said) else {
         return Err(Unread::BadShape);
     };
@@ -311,9 +322,15 @@ fn content_at(
     Ok((letter, rest))
 }
 
-/// The letter of that edition that the bytes are, judged in the order of its faults.
+/// The letter of that edition that the bytes are, judged in the order of its faults. If it has a whole state, the state's hashes
+/// begin with that seed.
 #[tactic(auto, unfolding(crate::specs::Reading::letter_of))]
-fn letter_of(alloc: Global, frame: &[u8], edition: u32) -> Result<Letter, LetterFault>
+pub fn read_letter_seeded(
+    alloc: Global,
+    seed: HashSeed,
+    frame: &[u8],
+    edition: u32,
+) -> Result<Letter, LetterFault>
     ensures read { Gives (λ l. l) result (letter_of edition frame.now) }
     ensures spelled { IfOk result (λ l. IsSpelled frame.now l) }
     ensures edition { IfOk result (λ l. l.edition ≡ edition) }
@@ -331,14 +348,15 @@ fn letter_of(alloc: Global, frame: &[u8], edition: u32) -> Result<Letter, Letter
     if counted.len() != length as usize || length > MOST_BYTES {
         return Err(LetterFault::BadShape);
     }
-    let (letter, rest) = content_at(alloc, version, edition, rest)?;
+    let (letter, rest) = content_at(alloc, seed, version, edition, rest)?;
     if !rest.is_empty() {
         return Err(LetterFault::BadShape);
     }
     Ok(letter)
 }
 
-/// The letter that all bytes of a frame are, its length before it, for a site whose operator tables have that edition.
+/// The letter that all bytes of a frame are, its length before it, for a site whose operator tables have that edition. Hashes of
+/// its state, if it has a whole one, begin with a seed that anybody knows.
 pub fn read_letter(alloc: Global, frame: &[u8], edition: u32) -> Result<Letter, LetterFault>
     // What is read is spelled so in a version that is read, of the form, and of the edition.
     ensures found { IfOk result (λ l. IsSpelled frame.now l) }
@@ -350,5 +368,5 @@ pub fn read_letter(alloc: Global, frame: &[u8], edition: u32) -> Result<Letter, 
     // Which fault it is.
     ensures exact { Gives (λ l. l) result (letter_of edition frame.now) }
 {
-    letter_of(alloc, frame, edition)
+    read_letter_seeded(alloc, HashSeed::of(0), frame, edition)
 }

@@ -1,7 +1,7 @@
 //! The two directions of a link, sealed or not.
 use crate::line::Timely;
+use crate::sealed::SealedReader;
 use crate::teller::Output;
-use sealed_links::SealedReader;
 use std::io::{self, Read};
 use std::time::Clock;
 

@@ -1,7 +1,7 @@
 //! What sites say over their links of the hosts that they reach, as the threads of a server share it.
+use crate::hosts::{Moment, ReachedHosts};
 use crate::notice::Notice;
 use pcrf_values::DiameterIdentity;
-use reached_hosts::{Moment, ReachedHosts};
 use std::alloc::{AllocError, Global};
 use std::collections::BTreeSet;
 use std::sync::{Mutex, MutexGuard, Wait};

@@ -3,11 +3,11 @@ use crate::ends::{Ends, Input};
 use crate::heads::Expected;
 use crate::line::{Line, Outward, Timely};
 use crate::link::Link;
-use crate::teller::Output;
-use sealed_links::{
+use crate::sealed::{
     CHALLENGE_BYTES, Course, Greeting, Key, SealFault, SealedReader, SealedWriter, Side,
     prove_dialling, prove_listening,
 };
+use crate::teller::Output;
 use std::alloc::Global;
 use std::random::RandomSource;
 use std::sync::{Arc, Wait};

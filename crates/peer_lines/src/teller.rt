@@ -3,8 +3,8 @@ ghost use Rattle.std.specs.Prelude.{◌≤◌, length, IfOk};
 
 use crate::line::Outward;
 use crate::notice::{put_all, put_change};
+use crate::sealed::SealedWriter;
 use pcrf_values::DiameterIdentity;
-use sealed_links::SealedWriter;
 use std::alloc::{AllocError, Global};
 use std::collections::BTreeSet;
 use std::io::{self, ErrorKind, Write};

@@ -21,8 +21,8 @@ const LEFT: &[u8] = b"\0\0\0\x07\xf0\x03\0\x03gw1";
 
 /// A host.
 fn host(rt: &impl Abort, alloc: Global, name: &[u8]) -> DiameterIdentity {
-    let bytes = Vec::from_slice(alloc, name).expect(rt, "memory");
-    DiameterIdentity::of(bytes).expect(rt, "a short name")
+    let read = DiameterIdentity::read(alloc, name).expect(rt, "memory");
+    read.expect(rt, "a short name")
 }
 
 /// A sieve of site 0.

@@ -2,18 +2,18 @@
 use Rattle.std.proofs.Common.{◌≡◌, ℕ, Bool, true, false, cond, not, ◌&&◌, List, [], ◌∷◌, map, find, Option, Some, None, inl, inr, refl, sym, ap, ◌∙◌, subst, option_map, Ordering, Less}
 use Rattle.std.specs.Cmp.{first_so, second_so}
 use Rattle.std.specs.List.{filter}
-use Rattle.ranked.specs.Ascending.{Rises}
-use Rattle.ranked.specs.Orders.{text_cmp}
-use Rattle.ranked.specs.Sets.{In, Same}
-use Rattle.ranked.proofs.OrderLaws.{IsRanked, text_ranked}
-use Rattle.ranked.proofs.SetLaws.{In-filter, filter-In, In-map, map-In}
-use Rattle.ranked.proofs.AscendingLaws.{filter-ascending, ascending-ascending, same_ascending}
+use Rattle.pcrf_values.specs.Ascending.{Rises}
+use Rattle.pcrf_values.specs.Orders.{text_cmp}
+use Rattle.pcrf_values.specs.Sets.{In, Same}
+use Rattle.pcrf_values.proofs.OrderLaws.{IsRanked, text_ranked}
+use Rattle.pcrf_values.proofs.SetLaws.{In-filter, filter-In, In-map, map-In}
+use Rattle.pcrf_values.proofs.AscendingLaws.{filter-ascending, ascending-ascending, same_ascending}
 use Rattle.lattice_core.specs.Entries.{IsAscending}
 use Rattle.lattice_core.proofs.MapParts.{below_member}
-use Rattle.pcrf_facts.specs.Facts.{Fact}
-use Rattle.pcrf_facts.specs.FlowWords.{or_else}
-use Rattle.pcrf_facts.specs.Places.{Place}
-use Rattle.pcrf_facts.specs.Values.{Entry}
+use Rattle.pcrf_values.specs.Facts.{Fact}
+use Rattle.pcrf_values.specs.FlowWords.{or_else}
+use Rattle.pcrf_values.specs.Places.{Place}
+use Rattle.pcrf_values.specs.Values.{Entry}
 use Rattle.pcrf_model.specs.Holdings.{SessionFact, facts_on}
 use Rattle.pcrf_model.specs.Live.{is_live}
 use Rattle.pcrf_model.specs.Sessions.{Session, session_cmp, gx, is_gx}

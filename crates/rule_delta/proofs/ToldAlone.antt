@@ -2,24 +2,24 @@
 use Rattle.std.proofs.Common.{◌≡◌, ℕ, false, cond, ◌&&◌, List, Some, None, refl, sym, ap, ◌∙◌, subst, Ordering, Less, Equal, Greater}
 use Rattle.std.specs.Ordering.{is_lt, ordering_then}
 use Rattle.std.specs.Cmp.{tied_itself}
-use Rattle.ranked.specs.Ascending.{Rises}
-use Rattle.ranked.specs.Orders.{text_cmp}
-use Rattle.ranked.specs.Sets.{In, Same}
-use Rattle.ranked.specs.declared.tag.Tag.{Tag}
-use Rattle.ranked.proofs.Plain.{clash, is_false, none_some, some_same}
-use Rattle.ranked.proofs.OrderLaws.{text_ranked, eq_itself}
-use Rattle.ranked.proofs.SetLaws.{any-In, both_top, filter_map-In, In-filter_map}
-use Rattle.ranked.proofs.AscendingLaws.{filter_map-ascending, ascending-ascending, same_ascending}
+use Rattle.pcrf_values.specs.Ascending.{Rises}
+use Rattle.pcrf_values.specs.Orders.{text_cmp}
+use Rattle.pcrf_values.specs.Sets.{In, Same}
+use Rattle.pcrf_values.specs.declared.tag.Tag.{Tag}
+use Rattle.pcrf_values.proofs.Plain.{clash, is_false, none_some, some_same}
+use Rattle.pcrf_values.proofs.OrderLaws.{text_ranked, eq_itself}
+use Rattle.pcrf_values.proofs.SetLaws.{any-In, both_top, filter_map-In, In-filter_map}
+use Rattle.pcrf_values.proofs.AscendingLaws.{filter_map-ascending, ascending-ascending, same_ascending}
 use Rattle.pcrf_values.specs.RuleValues.{rule_cmp}
-use Rattle.pcrf_facts.specs.Places.{Place, OfSession, OfComponent, OfFlow, OfRuleName}
-use Rattle.pcrf_facts.specs.Values.{Number, Text, Address, Subscribers, Filters, Untold, Told, Prefix, Entry, entry_cmp}
-use Rattle.pcrf_facts.specs.Facts.{Fact, End, Removed, Field, Aborted, fact_cmp, is_shaded_by}
-use Rattle.pcrf_facts.specs.Held.{kept_set, kept_list, blocks, is_gone, value_at, entry_shown}
-use Rattle.pcrf_facts.specs.ToldWords.{ToldEntry, ToldRule, told_entry, told_entries, told_rule}
-use Rattle.pcrf_facts.specs.ToldWords as words
-use Rattle.pcrf_facts.proofs.FactLaws.{place_ranked, entry_ranked, fact_ranked}
-use Rattle.pcrf_facts.proofs.JoinedLaws.{kept-In, sorted-In}
-use Rattle.pcrf_facts.proofs.ShownLaws.{field_blocked, fact_gives_value, value_is_greatest, shown-held, fact_there}
+use Rattle.pcrf_values.specs.Places.{Place, OfSession, OfComponent, OfFlow, OfRuleName}
+use Rattle.pcrf_values.specs.Values.{Number, Text, Address, Subscribers, Filters, Untold, Told, Prefix, Entry, entry_cmp}
+use Rattle.pcrf_values.specs.Facts.{Fact, End, Removed, Field, Aborted, fact_cmp, is_shaded_by}
+use Rattle.pcrf_values.specs.Held.{kept_set, kept_list, blocks, is_gone, value_at, entry_shown}
+use Rattle.pcrf_values.specs.ToldWords.{ToldEntry, ToldRule, told_entry, told_entries, told_rule}
+use Rattle.pcrf_values.specs.ToldWords as words
+use Rattle.pcrf_values.proofs.FactLaws.{place_ranked, entry_ranked, fact_ranked}
+use Rattle.pcrf_values.proofs.JoinedLaws.{kept-In, sorted-In}
+use Rattle.pcrf_values.proofs.ShownLaws.{field_blocked, fact_gives_value, value_is_greatest, shown-held, fact_there}
 use Rattle.pcrf_model.specs.Sessions.{Session}
 use Rattle.pcrf_model.specs.Holdings.{SessionFact, facts_on}
 use Rattle.pcrf_model.specs.Views.{view}

@@ -1,8 +1,8 @@
 -- The session that is due, record by record: whether it is asked for, and where its gateway is, is read of its own facts alone.
 use Rattle.std.specs.Prelude.{ℕ, Bool, not, ◌&&◌, if◌then◌else◌, List, [], ◌∷◌, Option, Some, None}
-use Rattle.pcrf_facts.specs.Facts.{Fact}
-use Rattle.pcrf_facts.specs.FlowWords.{or_else}
-use Rattle.pcrf_facts.specs.Live.{gx_is_live}
+use Rattle.pcrf_values.specs.Facts.{Fact}
+use Rattle.pcrf_values.specs.FlowWords.{or_else}
+use Rattle.pcrf_values.specs.Live.{gx_is_live}
 use Rattle.pcrf_values.specs.Limits.{delta_limit}
 use Rattle.pcrf_model.specs.Sessions.{gx}
 use Rattle.pcrf_model.specs.Views.{View}

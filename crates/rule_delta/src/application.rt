@@ -5,8 +5,7 @@ ghost use Rattle.pcrf_model.specs.Differences.{apply, as_told, has_name, last_of
 
 use crate::names::{names_of, set_of};
 use gx_records::Told;
-use pcrf_values::{Delta, Rule, RuleName};
-use ranked::{Ranked, ascending_of};
+use pcrf_values::{Delta, Ranked, Rule, RuleName, ascending_of};
 use std::alloc::{AllocError, Global};
 use std::cmp::Ordering;
 

@@ -4,8 +4,7 @@ ghost use Rattle.pcrf_model.specs.Differences.{difference};
 
 use crate::names::{names_of, pairs_of};
 use gx_records::Told;
-use pcrf_values::{Delta, Rule, RuleName};
-use ranked::Ranked;
+use pcrf_values::{Delta, Ranked, Rule, RuleName};
 use std::alloc::{AllocError, Global};
 
 /// What a gateway that was told these rules is still to be told to have those: the names to remove that the rules lack,

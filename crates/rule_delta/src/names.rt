@@ -3,7 +3,7 @@ ghost use Rattle.std.specs.Prelude.{◌≡◌, ℕ, List, IfOk};
 ghost use Rattle.std.specs.BTreeSet.{contains_by};
 ghost use Rattle.std.specs.List.{list_any};
 ghost use Rattle.std.specs.Ordering.{is_eq};
-ghost use Rattle.ranked.specs.Orders.{pair_cmp, text_cmp};
+ghost use Rattle.pcrf_values.specs.Orders.{pair_cmp, text_cmp};
 ghost use Rattle.pcrf_values.specs.RuleValues.{RuleValue, rule_cmp};
 ghost use Rattle.pcrf_model.specs.Differences.{has_name, holds};
 

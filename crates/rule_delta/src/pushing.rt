@@ -1,26 +1,24 @@
 //! The push that is due at a site.
 ghost use Rattle.std.specs.Prelude.{◌≡◌, true, IfOk, IfSome, map, option_map};
 ghost use Rattle.std.specs.Option.{option_copied};
-ghost use Rattle.ranked.specs.Sets.{Distinct};
-ghost use Rattle.pcrf_facts.specs.Live.{gx_is_live};
+ghost use Rattle.pcrf_values.specs.Sets.{Distinct};
+ghost use Rattle.pcrf_values.specs.Live.{gx_is_live};
 ghost use Rattle.pcrf_model.specs.Differences.{is_empty, rule_name_of};
 ghost use Rattle.pcrf_model.specs.Pushing.{due_session, push_to};
 ghost use Rattle.pcrf_model.specs.Rules.{rules};
 ghost use Rattle.pcrf_model.specs.Sessions.{gx};
 ghost use Rattle.pcrf_model.specs.Views.{view};
-ghost use Rattle.reply_values.specs.Replies.{push_view};
+ghost use Rattle.pcrf_model.specs.ReplyViews.{push_view};
 ghost use Rattle.rule_delta.specs.Pushed.{push_of};
 ghost use Rattle.rule_delta.specs.ByRecord.{alone, first_push, is_asked, is_at_host, is_at_home, push_due};
 
 use crate::telling::untold_difference;
 use gx_records::GxRec;
 use op_tables::Tables;
-use pcrf_values::{Delta, GxSid};
-use ranked::Ranked;
-use reply_values::{FirstEntries, PushOut};
-use site_join::State;
+use pcrf_model::{FirstEntries, PushOut};
+use pcrf_values::{Delta, GxSid, Ranked};
+use site_join::{Entries, State};
 use std::alloc::{AllocError, Global};
-use std::collections::btree_map::Iter;
 
 /// Of which sessions a push is asked for.
 #[derive(Clone, Copy)]
@@ -58,7 +56,7 @@ fn first_push(
     tables: &Tables,
     state: &State,
     asked: &Asked<'_>,
-    sessions: Iter<'_, GxSid, GxRec>,
+    sessions: Entries<'_, GxSid, GxRec>,
 ) -> Result<Option<PushOut>, AllocError>
     ensures push { IfOk result (λ push. option_map push_view push
         ≡ first_push tables.now (view state.now.facts) asked.now.site

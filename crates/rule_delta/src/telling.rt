@@ -1,6 +1,6 @@
 //! What the gateway of a session is still to be told.
 ghost use Rattle.std.specs.Prelude.{◌≡◌, IfOk, OnOk, map};
-ghost use Rattle.ranked.specs.Sets.{Distinct};
+ghost use Rattle.pcrf_values.specs.Sets.{Distinct};
 ghost use Rattle.pcrf_model.specs.Differences.{rule_name_of, told_rules_of};
 ghost use Rattle.pcrf_model.specs.Rules.{rules};
 ghost use Rattle.pcrf_model.specs.Sessions.{gx};

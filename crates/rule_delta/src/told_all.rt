@@ -1,7 +1,7 @@
 //! Whether a gateway was told all.
 ghost use Rattle.std.specs.Prelude.{◌≡◌, not};
 ghost use Rattle.std.specs.List.{list_any};
-ghost use Rattle.pcrf_facts.specs.ToldWords.{told_rules};
+ghost use Rattle.pcrf_values.specs.ToldWords.{told_rules};
 ghost use Rattle.pcrf_model.specs.Differences.{difference, holds, is_empty};
 ghost use Rattle.gx_records.specs.GxFacts.{rules_told};
 ghost use Rattle.rule_delta.specs.ToldAll.{has_no_rule, tell};
@@ -35,7 +35,7 @@ fn lacks_a_fact(facts: &[GxFact], rules: &[Rule]) -> bool
 }
 
 /// Whether facts tell just this rule under its name.
-fn tell(facts: &[GxFact], rule: &Rule) -> bool
+pub(crate) fn tell(facts: &[GxFact], rule: &Rule) -> bool
     ensures { result ≡ tell facts.now rule.now }
 {
     facts.iter().any(|fact| tells(fact, rule))

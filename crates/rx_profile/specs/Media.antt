@@ -1,6 +1,6 @@
 -- Media components and their flows as they are read (TS 29.214, 5.3.16 and 5.3.18).
 use Rattle.std.specs.Prelude.{ℕ, List, [], ◌∷◌, ◌++◌, Some, unwrap_or, map}
-use Rattle.ranked.specs.Sets.{if_any}
+use Rattle.pcrf_values.specs.Sets.{if_any}
 use Rattle.dia_codec.specs.Fields.{AvpValue}
 use Rattle.dia_codec.specs.Reading.{avps_of}
 use Rattle.pcrf_model.specs.Requests.{FlowValue, ComponentValue}

@@ -10,9 +10,7 @@ use crate::codes::BEARER_RELEASED;
 use crate::codes::avps::ABORT_CAUSE;
 use dia_base::codes::{RX, avps, commands};
 use dia_base::{AvpWriter, Identity, put_origin, request_header};
-use exact_values::{Exact, same};
-use pcrf_values::{AfSid, DiameterIdentity};
-use ranked::Ranked;
+use pcrf_values::{AfSid, DiameterIdentity, Exact, Ranked, same};
 use std::alloc::{AllocError, Global};
 
 /// An abort: the application function is asked to end its session, to which no gateway's session is bound any more (TS 29.214,

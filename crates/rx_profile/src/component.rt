@@ -11,9 +11,7 @@ use crate::numbers::repeats;
 use crate::raw::{RawComponent, RawFlow};
 use dia_base::codes::results::INVALID_SERVICE_INFORMATION;
 use dia_base::{ReadFault, Refusal};
-use exact_values::{Exact, same, same_items};
-use pcrf_values::{PermitFilter, PermitFilters};
-use ranked::{Ranked, Text};
+use pcrf_values::{Exact, PermitFilter, PermitFilters, Ranked, Text, same, same_items};
 use std::alloc::{AllocError, Global};
 use std::marker::Model;
 

@@ -2,8 +2,7 @@
 use crate::judging::FromRaw;
 use dia_base::codes::results::FILTER_RESTRICTIONS;
 use dia_base::{ReadFault, Refusal};
-use pcrf_values::PermitFilter;
-use ranked::Text;
+use pcrf_values::{PermitFilter, Text};
 use std::alloc::Global;
 
 impl FromRaw<Text> for PermitFilter {

@@ -15,8 +15,8 @@ use dia_base::{
     FromValue, ReadFault, Refusal, optional_number, read_avps, read_each, required_number, tgpp_key,
 };
 use dia_codec::Avp;
+use pcrf_values::Text;
 use pcrf_values::limits::{FILTERS_LIMIT, FLOWS_LIMIT};
-use ranked::Text;
 use std::alloc::Global;
 use std::marker::Model;
 
@@ -29,7 +29,7 @@ pub struct RawFlow {
 
 impl Model for RawFlow {
     ghost use Rattle.std.specs.Prelude.{◌≤◌, length};
-    ghost use Rattle.ranked.specs.Sets.{if_any};
+    ghost use Rattle.pcrf_values.specs.Sets.{if_any};
     ghost use Rattle.pcrf_model.specs.Requests.{FlowValue};
     ghost use Rattle.pcrf_values.specs.Limits.{filters_limit};
     ghost use Rattle.rx_profile.specs.Values.{flow_value};

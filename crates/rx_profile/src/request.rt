@@ -18,10 +18,8 @@ use dia_base::{
     read_origin, read_subscribers, required_text, tgpp_key,
 };
 use dia_codec::{Avp, Message};
-use exact_values::{Exact, same, same_address};
 use pcrf_values::limits::COMPONENTS_LIMIT;
-use pcrf_values::{AfSid, Apn, Ipv6Prefix, Subscribers};
-use ranked::Ranked;
+use pcrf_values::{AfSid, Apn, Exact, Ipv6Prefix, Ranked, Subscribers, same, same_address};
 use std::alloc::{AllocError, Global};
 use std::net::Ipv4Addr;
 

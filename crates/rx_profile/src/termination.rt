@@ -7,9 +7,7 @@ ghost use Rattle.rx_profile.specs.Terminations.{str_of, str_rows, str_view};
 use dia_base::codes::avps::SESSION_ID;
 use dia_base::{Origin, ReadFault, base_key, read_origin, required_text};
 use dia_codec::Message;
-use exact_values::{Exact, same};
-use pcrf_values::AfSid;
-use ranked::Ranked;
+use pcrf_values::{AfSid, Exact, Ranked, same};
 use std::alloc::{AllocError, Global};
 
 /// A session termination request as it was read: what this profile asks of it, and nothing else.

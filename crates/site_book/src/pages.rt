@@ -1,7 +1,7 @@
 //! The pages of a book: a site with its history.
 ghost use Rattle.std.specs.Prelude.{◌≡◌, ◌≤◌, ◌<◌, length, true, Err, IfOk, IfErr, OnErr};
 ghost use Rattle.pcrf_model.specs.Views.{view};
-ghost use Rattle.site_machine.specs.Kept.{AreKept};
+ghost use Rattle.site_machine.specs.Cached.{AreCached};
 ghost use Rattle.site_machine.specs.Many.{AreFresh};
 ghost use Rattle.site_machine.specs.Sites.{SiteMayReply};
 ghost use Rattle.site_machine.specs.Values.{event_value, reply_value, event_lacks_counter};
@@ -82,7 +82,7 @@ impl<L: Ledger> Pages<L> {
             (λ now. now ≡ self.old)) }
         ensures fresh { IfOk result (λ lists. AreFresh self.old.site.tables
             (view self.old.site.state.holding.facts) lists.now) }
-        ensures kept { IfOk result (λ lists. AreKept self.old.site.tables
+        ensures kept { IfOk result (λ lists. AreCached self.old.site.tables
             (view self.old.site.state.holding.facts) lists.now) }
     {
         self.site.renew(rt)

@@ -3,9 +3,9 @@ use Rattle.std.proofs.Common.{◌≡◌, ℕ, ◌≤◌, true, not, List, ◌++�
 use Rattle.std.specs.Option.{option_copied}
 use Rattle.std.specs.Ordering.{is_eq}
 use Rattle.std.specs.List.{list_all}
-use Rattle.ranked.specs.Sets.{In}
-use Rattle.ranked.proofs.SetLaws.{In-cases, filter-In}
-use Rattle.pcrf_facts.specs.Facts.{Fact, End, Removed, Field, Aborted}
+use Rattle.pcrf_values.specs.Sets.{In}
+use Rattle.pcrf_values.proofs.SetLaws.{In-cases, filter-In}
+use Rattle.pcrf_values.specs.Facts.{Fact, End, Removed, Field, Aborted}
 use Rattle.pcrf_model.specs.Sessions.{Session, session_cmp}
 use Rattle.pcrf_model.specs.Holdings.{SessionFact, Holding, under, facts_on, with_facts_of}
 use Rattle.pcrf_model.specs.Forms.{is_holding, is_up_to, are_up_to}

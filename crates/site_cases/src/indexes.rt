@@ -1,4 +1,4 @@
-//! Tests of `session_index`, `kept_rules`, `waiting_pushes` and `indexed_state`: what sessions are bound to, which rules they
+//! Tests of `bind_index`, `pcc_rules`, `rule_delta` and `indexed_state`: what sessions are bound to, which rules they
 //! have and what is pushed by an index, beside what the passes over all sessions say.
 
 mod compared;

@@ -1,4 +1,4 @@
-//! Tests of `many_rules` and of what renews lists of rules: the rules of many sessions, made side by side, are those of each, in
+//! Tests of many rules at once (`pcc_rules`) and of what renews lists of rules: the rules of many sessions, made side by side, are those of each, in
 //! order; a site that renews its lists holds what it held, and keeps one of each live session; a locked site does so once it took
 //! a whole state.
 

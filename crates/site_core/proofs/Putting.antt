@@ -1,7 +1,7 @@
 -- What putting the bytes of an answer came to.
 use Rattle.std.proofs.Common.{◌≡◌, ℕ, true, false, List, Option, Result, Ok, Err, is_err, OnOk, OnErr, subst}
 use Rattle.std.specs.Io.KnownBytes.{Appends}
-use Rattle.watched_io.specs.Counted.{AppendsPart}
+use Rattle.dia_codec.specs.Counted.{AppendsPart}
 
 module _ {X E : Type 0} (from to : Option (List ℕ)) (sent answer : List ℕ) (is : sent ≡ answer) where
   -- all were written

@@ -20,8 +20,8 @@ use Rattle.dia_base.specs.Rows.{value_of, rows_refusal}
 use Rattle.gx_profile.specs.Requests.{ccr_table_refusal, ccr_of}
 use Rattle.rx_profile.specs.Requests.{aar_refusal, aar_of}
 use Rattle.rx_profile.specs.Terminations.{str_rows, str_of}
-use Rattle.base_profile.specs.Avps.{is_base_command}
-use Rattle.base_profile.specs.Requests.{base_rows, base_of}
+use Rattle.dia_base.specs.NeighbourAvps.{is_base_command}
+use Rattle.dia_base.specs.NeighbourRequests.{base_rows, base_of}
 use Rattle.site_machine.specs.Values.{request_value}
 use Rattle.site_core.specs.declared.reading.Command.{Command}
 use Rattle.site_core.specs.declared.reading.Command.TheVariants.{CreditControl, Authorization, SessionTermination, Base}

@@ -1,5 +1,5 @@
 -- Answers in the form of whoever answers.
-use Rattle.std.specs.Prelude.{ℕ, ◌==◌, if◌then◌else◌, List, [], ◌∷◌, take, Option, Some, None}
+use Rattle.std.specs.Prelude.{ℕ, ◌==◌, ◌||◌, if◌then◌else◌, List, [], ◌∷◌, take, Option, Some, None}
 use Rattle.pcrf_values.specs.declared.refusal.Refusal.{Refusal}
 use Rattle.pcrf_model.specs.Requests.{BaseKind, CapabilitiesExchange, DeviceWatchdog, DisconnectPeer, RequestValue, Aar, Base}
 use Rattle.pcrf_values.specs.Results.{missing_avp}
@@ -11,11 +11,12 @@ use Rattle.dia_base.specs.Avps.{result_code}
 use Rattle.dia_base.specs.declared.form.MessageForm.{MessageForm}
 use Rattle.dia_base.specs.declared.form.MessageForm.TheVariants.{Own, Standard}
 use Rattle.dia_base.specs.declared.identity.Identity.{Identity}
-use Rattle.standard_form.specs.Behind.{behind}
-use Rattle.standard_form.specs.Besides.{avps_in, besides, readable}
-use Rattle.standard_form.specs.declared.answered.Answered.{Answered}
-use Rattle.standard_form.specs.declared.answered.Answered.TheVariants.{Capabilities, Unread, Other}
-use Rattle.failed_avps.specs.Failed.{failed_avp}
+use Rattle.dia_base.specs.Behind.{behind}
+use Rattle.dia_base.specs.Besides.{avps_in, besides, readable}
+use Rattle.dia_base.specs.declared.standard.answered.Answered.{Answered}
+use Rattle.dia_base.specs.declared.standard.answered.Answered.TheVariants.{Capabilities, Unread, Other}
+use Rattle.site_core.specs.Failed.{failed_avp}
+use Rattle.site_core.specs.SessionIds.{lacks_session}
 use Rattle.site_core.specs.declared.completing.Completion.{Completion}
 use Rattle.site_core.specs.declared.completing.RefusedBy.{RefusedBy}
 use Rattle.site_core.specs.declared.completing.RefusedBy.TheVariants.{NoCode, Code, AsAnswered}
@@ -32,14 +33,15 @@ abbrev pub answered_request : RequestValue → Answered
 answered_request (Base q) = answered_base q.kind
 answered_request q = Other
 
--- by the refusal of what isn't served: a protocol error is told of by an answer of no command (RFC 6733, 7.2)
-abbrev pub answered_refusal : Refusal → Answered
-answered_refusal refusal = if is_protocol_error refusal then Other else Unread
+-- by the refusal of what isn't served: a protocol error is told of by an answer of no command (RFC 6733, 7.2), and so is one that lacks its
+-- Session-Id
+abbrev pub answered_refusal : Header → Option (List ℕ) → Refusal → Answered
+answered_refusal h session refusal = if is_protocol_error refusal || lacks_session h session then Other else Unread
 
 -- by what a frame asks for
 abbrev pub answered : AskedValue → Answered
 answered (ToServe header request) = answered_request request
-answered (ToRefuse header session refusal) = answered_refusal refusal
+answered (ToRefuse header session refusal) = answered_refusal header session refusal
 answered Nothing = Other
 
 -- ---- what is at fault

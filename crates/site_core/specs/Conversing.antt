@@ -2,7 +2,7 @@
 use Rattle.std.specs.Prelude.{◌≡◌, ℕ, true, false, List, [], ◌∷◌, Option, Some, None, Ok, Err, ⊤, ◌⊎◌}
 use Rattle.std.specs.List.{AllByRecursion}
 use Rattle.std.specs.Io.KnownBytes.{Appends}
-use Rattle.watched_io.specs.Counted.{AppendsPart}
+use Rattle.dia_codec.specs.Counted.{AppendsPart}
 use Rattle.dia_codec.specs.Spelling.{IsFrame}
 use Rattle.dia_codec.specs.Stream.{front_of, stream_of}
 use Rattle.site_machine.specs.Sites.{SiteValue}

@@ -1,23 +1,25 @@
 //! Answers in the form of whoever answers.
 ghost use Rattle.std.specs.Prelude.{◌≡◌, ◌≤◌, length, drop, IfOk, option_map};
+ghost use Rattle.std.specs.Option.{option_copied};
 ghost use Rattle.dia_codec.specs.Limits.{header_bytes};
 ghost use Rattle.dia_codec.specs.Spelling.{avp_view, avp_views};
-ghost use Rattle.base_profile.specs.Requests.{kind_view};
-ghost use Rattle.standard_form.specs.Besides.{readable};
+ghost use Rattle.dia_base.specs.NeighbourRequests.{kind_view};
+ghost use Rattle.dia_base.specs.Besides.{readable};
 ghost use Rattle.site_core.specs.Asking.{asked_value};
 ghost use Rattle.site_core.specs.Completing.{answered, answered_base, answered_refusal, answered_request, code_answered, code_by, completed, completed_there, completion_of, failed_by, refused_by, refused_request, with_failed};
 ghost use Rattle.site_machine.specs.Values.{request_value};
 
+use crate::failed_avps::failed_avp;
 use crate::reading::Asked;
-use base_profile::BaseKind;
+use crate::session_ids::lacks_session;
 use dia_base::codes::avps::RESULT_CODE;
 use dia_base::codes::results::MISSING_AVP;
-use dia_base::{Identity, MessageForm, base_key, first_with};
+use dia_base::{
+    Answered, BaseKind, Identity, MessageForm, avps_besides, base_key, first_with, put_behind,
+};
 use dia_codec::{Avp, AvpKey, HEADER_BYTES, Header, MsgFault, read_group, read_header};
-use failed_avps::failed_avp;
-use pcrf_values::Refusal;
+use pcrf_values::{Refusal, SessionId};
 use site_machine::Request;
-use standard_form::{Answered, avps_besides, put_behind};
 use std::alloc::{AllocError, Global};
 
 /// What is answered, by what a peer asks.
@@ -41,11 +43,12 @@ fn answered_request(request: &Request) -> Answered
 }
 
 /// What is answered, by the refusal of what isn't served. A protocol error is told of by an answer-message, which is of no command (RFC
-/// 6733, 7.1.3 and 7.2).
-fn answered_refusal(refusal: Refusal) -> Answered
-    ensures { result ≡ answered_refusal refusal }
+/// 6733, 7.1.3 and 7.2), and so is a refusal whose Session-Id lacks.
+fn answered_refusal(header: &Header, session: Option<&SessionId>, refusal: Refusal) -> Answered
+    ensures { result
+        ≡ answered_refusal header.now (option_copied session.entry) refusal }
 {
-    if refusal.code / 1000 == 3 {
+    if refusal.code / 1000 == 3 || lacks_session(header, session) {
         Answered::Other
     } else {
         Answered::Unread
@@ -58,7 +61,9 @@ fn answered(asked: &Asked) -> Answered
 {
     match asked {
         Asked::Request(_, request) => answered_request(request),
-        Asked::Refused(_, _, refusal) => answered_refusal(*refusal),
+        Asked::Refused(header, session, refusal) => {
+            answered_refusal(header, session.as_ref(), *refusal)
+        }
         Asked::Silent => Answered::Other,
     }
 }

@@ -3,7 +3,7 @@ ghost use Rattle.std.specs.Prelude.{◌≡◌, ◌≤◌, ◌+◌, ◌-◌, ◌^
 ghost use Rattle.std.specs.Io.KnownBytes.{Appends};
 ghost use Rattle.dia_codec.specs.Spelling.{IsFrame};
 ghost use Rattle.dia_codec.specs.Stream.{front_of};
-ghost use Rattle.watched_io.specs.Counted.{most_calls};
+ghost use Rattle.dia_codec.specs.Counted.{most_calls};
 ghost use Rattle.site_core.specs.Conversations.{IsEnd, ServesSome, conversation_of};
 ghost use Rattle.site_core.specs.Conversing.{Conversed, IsMidway, Turned, Went};
 ghost use Rattle.site_core.specs.Limits.{most_reads};

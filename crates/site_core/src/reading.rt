@@ -7,13 +7,12 @@ ghost use Rattle.dia_base.specs.Rows.{IsFaultOf};
 ghost use Rattle.site_core.specs.Asking.{HeaderFits, ToRefuse, asked_value, command_of, fault_refusal, meaning_of_frame, meaning_of_request, meaning_of_table, request_of, session_among, session_if_cut, table_refusal};
 ghost use Rattle.site_machine.specs.Values.{request_value};
 
-use base_profile::{is_base_command, read_base};
 use dia_base::codes::results::{
     APPLICATION_UNSUPPORTED, COMMAND_UNSUPPORTED, INVALID_AVP_LENGTH, INVALID_HDR_BITS,
     UNSUPPORTED_VERSION,
 };
 use dia_base::codes::{GX, RX, avps, commands};
-use dia_base::{ReadFault, base_key, first_with};
+use dia_base::{ReadFault, base_key, first_with, is_base_command, read_base};
 use dia_codec::{
     Avp, HEADER_BYTES, Header, Message, MsgFault, read_group, read_header, read_message_with,
 };

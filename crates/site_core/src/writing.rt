@@ -1,18 +1,24 @@
 //! From the reply to the bytes of the answer.
-ghost use Rattle.std.specs.Prelude.{◌≡◌, ◌≢◌, ◌<◌, [], is_some, true, IfOk};
+ghost use Rattle.std.specs.Prelude.{◌≡◌, ◌≢◌, ◌<◌, ◌≤◌, [], is_some, true, IfOk, IfErr, OnOk};
 ghost use Rattle.std.specs.Option.{option_copied};
-ghost use Rattle.dia_codec.specs.Limits.{command_bound};
-ghost use Rattle.dia_base.specs.Answers.{IsShortId};
+ghost use Rattle.dia_codec.specs.declared.fault.WriteFault.TheVariants as write;
+ghost use Rattle.dia_codec.specs.Drafts.{Adds};
+ghost use Rattle.dia_codec.specs.Limits.{command_bound, longest_message};
+ghost use Rattle.dia_codec.specs.Written.{written_len, written_spelling};
+ghost use Rattle.dia_base.specs.Answers.{IsShortId, refusal_answer};
 ghost use Rattle.gx_profile.specs.Answers.{cca};
 ghost use Rattle.rx_profile.specs.Answers.{aaa, sta};
-ghost use Rattle.base_profile.specs.Answers.{base_answer};
-ghost use Rattle.base_profile.specs.Requests.{base_view};
+ghost use Rattle.dia_base.specs.NeighbourAnswers.{base_answer};
+ghost use Rattle.dia_base.specs.NeighbourRequests.{base_view};
 ghost use Rattle.gx_profile.specs.Requests.{ccr_view};
-ghost use Rattle.site_core.specs.Answering.{answer_to, busy_answer, bytes_by, is_of_kind, refusal_bytes, to_function, to_gateway, to_peer};
+ghost use Rattle.site_core.specs.Answering.{answer_bytes, answer_message, answer_to, busy_answer, bytes_by, is_answer_message, is_of_kind, message_avps, refusal_bytes, to_function, to_gateway, to_peer, with_error};
 ghost use Rattle.site_machine.specs.Values.{reply_value, request_value};
 
-use base_profile::{BaseRequest, write_base_answer};
-use dia_base::{Identity, write_refusal_answer};
+use crate::session_ids::lacks_session;
+use dia_base::{
+    AvpWriter, BaseRequest, Identity, MessageForm, answer_header, put_origin, put_result,
+    write_base_answer, write_refusal_answer,
+};
 use dia_codec::{Header, WriteFault};
 use gx_profile::{Ccr, GxReply, write_cca};
 use pcrf_values::{AfSid, Refusal, SessionId};
@@ -166,7 +172,10 @@ pub(crate) fn write_busy(
             write_reply(alloc, identity, header, request, &reply)
         }
         Request::Aar(_) | Request::Str(_) => {
-            write_reply(alloc, identity, header, request, &Reply::Refused(busy))
+            let reply = Reply::Refused(busy);
+            let written = write_reply(alloc, identity, header, request, &reply);
+            drop(reply);
+            written
         }
         Request::Base(_) => write_refusal(alloc, identity, header, None, busy),
     }
@@ -183,8 +192,106 @@ fn bytes_of_id(session: Option<&SessionId>) -> Option<&[u8]>
     }
 }
 
-/// The bytes of the answer to a request that could not be read, which are some.
+/// A header with E.
+fn with_error(header: Header) -> Header
+    ensures { result ≡ with_error header }
+{
+    let mut header = header;
+    header.flags.error = true;
+    header
+}
+
+/// Whether an answer is an answer-message since it lacks its Session-Id, which matters in the standards' form alone.
+fn is_answer_message(identity: &Identity, header: &Header, session: Option<&SessionId>) -> bool
+    ensures { result
+        ≡ is_answer_message identity.now header.now (option_copied session.entry) }
+{
+    match identity.form {
+        MessageForm::Own => false,
+        MessageForm::Standard => lacks_session(header, session),
+    }
+}
+
+/// The AVPs of an answer-message without a Session-Id (RFC 6733, 7.2).
+fn message_avps(
+    alloc: Global,
+    identity: &Identity,
+    refusal: Refusal,
+) -> Result<AvpWriter, AllocError>
+    ensures { IfOk result (λ out. Adds [] out (message_avps identity.now refusal)) }
+{
+    let mut out = AvpWriter::start(alloc)?;
+    put_origin(&mut out, identity)?;
+    put_result(&mut out, Some(refusal))?;
+    Ok(out)
+}
+
+/// The bytes of such an answer-message, if it fits a message.
+#[tactic(auto, unfolding(crate::specs::Answering::answer_message))]
+fn message_bytes(
+    alloc: Global,
+    identity: &Identity,
+    header: &Header,
+    refusal: Refusal,
+) -> Result<Vec<u8>, WriteFault>
+    ensures written { IfOk result (λ bytes.
+        bytes.items ≡ written_spelling (answer_message identity.now header.now refusal)) }
+    ensures fits { OnOk result (written_len
+        (answer_message identity.now header.now refusal) ≤ longest_message) }
+    ensures too_long { IfErr result (λ fault. fault ≡ write.TooLong → longest_message
+        < written_len (answer_message identity.now header.now refusal)) }
+{
+    let out = message_avps(alloc, identity, refusal)?;
+    match out.into_bytes(&with_error(answer_header(header, Some(refusal)))) {
+        Some(bytes) => Ok(bytes),
+        None => Err(WriteFault::TooLong),
+    }
+}
+
+/// The bytes of an answer-message without a Session-Id, which are some.
 #[tactic(auto, using(crate::proofs::AnswerBytes::answered, crate::proofs::AnswerBytes::unanswered, crate::proofs::AnswerBytes::some_bytes))]
+fn write_answer_message(
+    alloc: Global,
+    identity: &Identity,
+    header: &Header,
+    refusal: Refusal,
+) -> Result<Vec<u8>, AllocError>
+    ensures bytes { IfOk result (λ bytes.
+        bytes.items ≡ answer_bytes (answer_message identity.now header.now refusal)) }
+    ensures some { IfOk result (λ bytes. bytes.items ≢ []) }
+{
+    identity.note_names();
+    match message_bytes(alloc, identity, header, refusal) {
+        Ok(bytes) => Ok(bytes),
+        Err(WriteFault::TooLong) => Ok(Vec::new(alloc)),
+        Err(WriteFault::NoMemory) => Err(AllocError),
+    }
+}
+
+/// The bytes of the answer of its command to a request that could not be read, which are some.
+#[tactic(auto, using(crate::proofs::AnswerBytes::answered, crate::proofs::AnswerBytes::unanswered, crate::proofs::AnswerBytes::some_bytes))]
+fn write_command_refusal(
+    alloc: Global,
+    identity: &Identity,
+    header: &Header,
+    session: Option<&SessionId>,
+    refusal: Refusal,
+) -> Result<Vec<u8>, AllocError>
+    ensures bytes { IfOk result (λ bytes. bytes.items ≡ answer_bytes
+        (refusal_answer identity.now header.now refusal (option_copied session.entry))) }
+    ensures some { IfOk result (λ bytes. bytes.items ≢ []) }
+{
+    identity.note_names();
+    let id = bytes_of_id(session);
+    match write_refusal_answer(alloc, identity, header, refusal, id) {
+        Ok(bytes) => Ok(bytes),
+        Err(WriteFault::TooLong) => Ok(Vec::new(alloc)),
+        Err(WriteFault::NoMemory) => Err(AllocError),
+    }
+}
+
+/// The bytes of the answer to a request that could not be read, which are some: in the standards' form an answer-message where the
+/// answer of its command would lack its Session-Id.
 pub fn write_refusal(
     alloc: Global,
     identity: &Identity,
@@ -197,11 +304,9 @@ pub fn write_refusal(
         bytes.items ≡ refusal_bytes identity.now header.now (option_copied session.entry) refusal) }
     ensures some { IfOk result (λ bytes. bytes.items ≢ []) }
 {
-    identity.note_names();
-    let id = bytes_of_id(session);
-    match write_refusal_answer(alloc, identity, header, refusal, id) {
-        Ok(bytes) => Ok(bytes),
-        Err(WriteFault::TooLong) => Ok(Vec::new(alloc)),
-        Err(WriteFault::NoMemory) => Err(AllocError),
+    if is_answer_message(identity, header, session) {
+        write_answer_message(alloc, identity, header, refusal)
+    } else {
+        write_command_refusal(alloc, identity, header, session, refusal)
     }
 }

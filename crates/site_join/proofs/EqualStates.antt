@@ -2,23 +2,23 @@
 use Rattle.std.proofs.Common.{◌≡◌, ℕ, Bool, true, false, ◌&&◌, nat_eq, List, [], inl, inr, refl, sym, ap, ◌∙◌, subst}
 use Rattle.std.specs.Prelude.{Decides}
 use Rattle.std.proofs.lemmas.Bool.Decides.{Decides-like, Decides-and, Decides-at, Decides-eqb}
-use Rattle.ranked.specs.Ascending.{ascending}
-use Rattle.ranked.specs.Orders.{text_cmp}
-use Rattle.ranked.specs.Sets.{In, Same}
-use Rattle.ranked.proofs.OrderLaws.{text_ranked}
-use Rattle.ranked.proofs.PartLaws.{IsMadeOf}
-use Rattle.ranked.proofs.SetLaws.{In-left, In-right, In-cases, Same-append, Same-back, Same-through}
+use Rattle.pcrf_values.specs.Ascending.{ascending}
+use Rattle.pcrf_values.specs.Orders.{text_cmp}
+use Rattle.pcrf_values.specs.Sets.{In, Same}
+use Rattle.pcrf_values.proofs.OrderLaws.{text_ranked}
+use Rattle.pcrf_values.proofs.PartLaws.{IsMadeOf}
+use Rattle.pcrf_values.proofs.SetLaws.{In-left, In-right, In-cases, Same-append, Same-back, Same-through}
 use Rattle.lattice_core.specs.Entries.{IsAscending, value_at}
 use Rattle.lattice_core.specs.Subsets.{IsSubset, map_subset}
 use Rattle.lattice_core.proofs.MapParts.{option_facts, map_made}
 use Rattle.lattice_core.proofs.Subsets.{Tells, by_parts, to_parts, map_tells}
-use Rattle.pcrf_facts.specs.Facts.{Fact}
-use Rattle.pcrf_facts.specs.Held.{kept_list}
+use Rattle.pcrf_values.specs.Facts.{Fact}
+use Rattle.pcrf_values.specs.Held.{kept_list}
 use Rattle.pcrf_model.specs.Sessions.{Session, Gx, Af, gx, af}
 use Rattle.pcrf_model.specs.Holdings.{SessionFact, session_fact_cmp, under, Holding}
 use Rattle.pcrf_model.proofs.HoldingLaws.{there_strict, sorted-In, sorted-Same, In-under, under-In}
-use Rattle.fact_records.specs.Sets.{facts_subset, facts_empty}
-use Rattle.fact_records.proofs.SubsetLaws.{facts_tell}
+use Rattle.lattice_core.specs.Sets.{facts_subset, facts_empty}
+use Rattle.lattice_core.proofs.SubsetLaws.{facts_tell}
 use Rattle.site_join.specs.States.{Records, facts_under, facts_of, held_by}
 use Rattle.site_join.proofs.StateLaws.{AreKept, its_id, id_rises, keyed, under_keeps, gx_named, af_named, of_kind, kinds_differ}
 

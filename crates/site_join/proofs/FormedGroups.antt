@@ -4,14 +4,14 @@ use Rattle.std.specs.Ordering.{ordering_then, is_eq, is_lt}
 use Rattle.std.specs.Option.{option_cmp}
 use Rattle.std.specs.Cmp.{first_so, second_so, tied_itself}
 use Rattle.std.specs.List.{list_any, list_all}
-use Rattle.ranked.specs.Ascending.{Rises}
-use Rattle.ranked.specs.Sets.{In}
-use Rattle.ranked.proofs.Plain.{both, clash, is_false}
-use Rattle.ranked.proofs.OrderLaws.{eq_is, eq_itself}
-use Rattle.ranked.proofs.SetLaws.{In-left, In-map, map-In, any-none}
-use Rattle.pcrf_facts.specs.Places.{OfSession, OfComponent, OfFlow, OfRuleName, Component, Flow, position_cmp}
-use Rattle.pcrf_facts.specs.Values.{entry_cmp}
-use Rattle.pcrf_facts.specs.Facts.{Fact, End, Removed, Field, position, entry, fact_cmp, is_shaded_by}
+use Rattle.pcrf_values.specs.Ascending.{Rises}
+use Rattle.pcrf_values.specs.Sets.{In}
+use Rattle.pcrf_values.proofs.Plain.{both, clash, is_false}
+use Rattle.pcrf_values.proofs.OrderLaws.{eq_is, eq_itself}
+use Rattle.pcrf_values.proofs.SetLaws.{In-left, In-map, map-In, any-none}
+use Rattle.pcrf_values.specs.Places.{OfSession, OfComponent, OfFlow, OfRuleName, Component, Flow, position_cmp}
+use Rattle.pcrf_values.specs.Values.{entry_cmp}
+use Rattle.pcrf_values.specs.Facts.{Fact, End, Removed, Field, position, entry, fact_cmp, is_shaded_by}
 use Rattle.pcrf_values.specs.Limits.{last_counter}
 use Rattle.pcrf_model.specs.Sessions.{Session, session_cmp}
 use Rattle.pcrf_model.specs.Holdings.{SessionFact, session_fact_cmp, is_shaded_there_by, kept_facts, under, Holding, kept_of}
@@ -19,7 +19,7 @@ use Rattle.pcrf_model.specs.Forms.{is_session, is_rising, stand_together, fits, 
 use Rattle.pcrf_model.proofs.HoldingLaws.{session_ranked, shades_there, kept_facts-In, sorted-In, In-under}
 use Rattle.pcrf_model.proofs.FormReading.{each_passes}
 use Rattle.pcrf_model.proofs.FormLaws.{all_pass, le_passes, test_by_rises, form_by_test}
-use Rattle.fact_records.proofs.KeepLaws.{same_position}
+use Rattle.lattice_core.proofs.KeepLaws.{same_position}
 use Rattle.site_join.specs.Groups.{Group, facts_of_groups, is_group, are_groups, with_first, groups_of_facts}
 use Rattle.site_join.proofs.GroupLaws.{AreGroups, of_groups}
 use Rattle.site_join.proofs.HeldGroups.{groups_by_test}

@@ -3,16 +3,16 @@ use Rattle.std.proofs.Common.{◌≡◌, ℕ, true, List, [], ◌∷◌, ◌++�
 use Rattle.std.specs.Ordering.{ordering_then}
 use Rattle.std.specs.Cmp.{tied_itself}
 use Rattle.std.specs.List.{filter_map, list_all}
-use Rattle.ranked.specs.Ascending.{Rises}
-use Rattle.ranked.specs.Orders.{text_cmp}
-use Rattle.ranked.specs.Sets.{In}
-use Rattle.ranked.proofs.Plain.{none_some, some_same}
-use Rattle.ranked.proofs.OrderLaws.{text_ranked}
-use Rattle.ranked.proofs.SetLaws.{In-cases, In-left, In-right, In-filter_map, filter_map-In}
-use Rattle.ranked.proofs.AscendingLaws.{filter_map-ascending, map-ascending, same_ascending, ascending-ascending}
+use Rattle.pcrf_values.specs.Ascending.{Rises}
+use Rattle.pcrf_values.specs.Orders.{text_cmp}
+use Rattle.pcrf_values.specs.Sets.{In}
+use Rattle.pcrf_values.proofs.Plain.{none_some, some_same}
+use Rattle.pcrf_values.proofs.OrderLaws.{text_ranked}
+use Rattle.pcrf_values.proofs.SetLaws.{In-cases, In-left, In-right, In-filter_map, filter_map-In}
+use Rattle.pcrf_values.proofs.AscendingLaws.{filter_map-ascending, map-ascending, same_ascending, ascending-ascending}
 use Rattle.lattice_core.specs.Entries.{IsAscending, value_at}
 use Rattle.lattice_core.proofs.MapParts.{entry_found, found_entry, below_member}
-use Rattle.pcrf_facts.specs.Facts.{Fact, fact_cmp}
+use Rattle.pcrf_values.specs.Facts.{Fact, fact_cmp}
 use Rattle.pcrf_model.specs.Sessions.{Kind, Gx, Af, Session, session_cmp, gx, af}
 use Rattle.pcrf_model.specs.Holdings.{SessionFact, session_fact_cmp, on_session, under, facts_on, kept_facts, Holding, kept_of}
 use Rattle.pcrf_model.specs.Forms.{is_rising}

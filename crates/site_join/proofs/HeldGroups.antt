@@ -4,14 +4,14 @@ use Rattle.std.specs.Ordering.{ordering_then}
 use Rattle.std.specs.Option.{option_cmp}
 use Rattle.std.specs.Cmp.{first_so, second_so, tied_itself}
 use Rattle.std.specs.List.{list_any, list_all}
-use Rattle.ranked.specs.Ascending.{ascending, Rises}
-use Rattle.ranked.specs.Sets.{In, Same}
-use Rattle.ranked.proofs.Plain.{both, clash, is_false, not_true}
-use Rattle.ranked.proofs.SetLaws.{In-map, none-any, Same-itself, Same-back, Same-through, Same-append}
-use Rattle.ranked.proofs.AscendingLaws.{ascending-itself}
-use Rattle.pcrf_facts.specs.Places.{position_cmp}
-use Rattle.pcrf_facts.specs.Values.{entry_cmp}
-use Rattle.pcrf_facts.specs.Facts.{Fact, End, Removed, Field, Aborted, position, entry, fact_cmp, is_shaded_by}
+use Rattle.pcrf_values.specs.Ascending.{ascending, Rises}
+use Rattle.pcrf_values.specs.Sets.{In, Same}
+use Rattle.pcrf_values.proofs.Plain.{both, clash, is_false, not_true}
+use Rattle.pcrf_values.proofs.SetLaws.{In-map, none-any, Same-itself, Same-back, Same-through, Same-append}
+use Rattle.pcrf_values.proofs.AscendingLaws.{ascending-itself}
+use Rattle.pcrf_values.specs.Places.{position_cmp}
+use Rattle.pcrf_values.specs.Values.{entry_cmp}
+use Rattle.pcrf_values.specs.Facts.{Fact, End, Removed, Field, Aborted, position, entry, fact_cmp, is_shaded_by}
 use Rattle.pcrf_values.specs.Limits.{last_counter, site_limit}
 use Rattle.pcrf_model.specs.Sessions.{Kind, Session, session_cmp}
 use Rattle.pcrf_model.specs.Holdings.{SessionFact, session_fact_cmp, is_shaded_there_by, kept_facts, under, Holding, kept_of}

@@ -2,18 +2,18 @@
 use Rattle.std.proofs.Common.{◌≡◌, ℕ, Bool, true, false, not, List, ◌++◌, Option, Some, None, Result, Ok, Err, OnErr, if◌then◌else◌, inl, inr, refl, sym, ap, ◌∙◌, subst}
 use Rattle.std.specs.Ordering.{is_eq}
 use Rattle.std.specs.List.{filter}
-use Rattle.ranked.specs.Ascending.{ascending}
-use Rattle.ranked.specs.Orders.{text_cmp}
-use Rattle.ranked.specs.Sets.{In, Same}
-use Rattle.ranked.proofs.Plain.{clash, is_false, not_true}
-use Rattle.ranked.proofs.OrderLaws.{text_ranked, eq_is, eq_itself}
-use Rattle.ranked.proofs.PartLaws.{IsMadeOf}
-use Rattle.ranked.proofs.SetLaws.{In-left, In-right, In-cases, In-filter, filter-In, Same-through, Same-turn}
+use Rattle.pcrf_values.specs.Ascending.{ascending}
+use Rattle.pcrf_values.specs.Orders.{text_cmp}
+use Rattle.pcrf_values.specs.Sets.{In, Same}
+use Rattle.pcrf_values.proofs.Plain.{clash, is_false, not_true}
+use Rattle.pcrf_values.proofs.OrderLaws.{text_ranked, eq_is, eq_itself}
+use Rattle.pcrf_values.proofs.PartLaws.{IsMadeOf}
+use Rattle.pcrf_values.proofs.SetLaws.{In-left, In-right, In-cases, In-filter, filter-In, Same-through, Same-turn}
 use Rattle.lattice_core.specs.Entries.{IsAscending, value_at}
 use Rattle.lattice_core.specs.Placed.{map_with}
 use Rattle.lattice_core.proofs.MapParts.{option_facts, map_made}
 use Rattle.lattice_core.proofs.PlacedValues.{value_placed}
-use Rattle.pcrf_facts.specs.Facts.{Fact}
+use Rattle.pcrf_values.specs.Facts.{Fact}
 use Rattle.pcrf_model.specs.Sessions.{Session, Gx, Af, gx, af, session_cmp}
 use Rattle.pcrf_model.specs.Holdings.{SessionFact, session_fact_cmp, under, with_facts_of}
 use Rattle.pcrf_model.proofs.HoldingLaws as holding

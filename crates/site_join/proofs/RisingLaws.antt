@@ -3,8 +3,8 @@ use Rattle.std.proofs.Common.{◌≡◌, Bool, true, false, ◌&&◌, List, [], 
 use Rattle.std.specs.Ordering.{is_lt}
 use Rattle.std.specs.List.{slice_get}
 use Rattle.std.specs.Cmp.{IsTotalOrder}
-use Rattle.ranked.specs.Ascending.{Rises}
-use Rattle.ranked.proofs.Plain.{lt_less, none_some, some_same}
+use Rattle.pcrf_values.specs.Ascending.{Rises}
+use Rattle.pcrf_values.proofs.Plain.{lt_less, none_some, some_same}
 use Rattle.pcrf_model.specs.Forms.{is_rising}
 use Rattle.pcrf_model.proofs.FormLaws.{all_pass, rises_by_test}
 

@@ -3,16 +3,16 @@ use Rattle.std.proofs.Common.{◌≡◌, ℕ, Bool, true, false, not, ◌&&◌, 
 use Rattle.std.specs.Bool.{◌==◌}
 use Rattle.std.specs.Cmp.{first_so, second_so}
 use Rattle.std.specs.List.{list_any}
-use Rattle.ranked.specs.Ascending.{Rises}
-use Rattle.ranked.specs.Sets.{In}
-use Rattle.ranked.proofs.Plain.{both, clash, is_false, not_true}
-use Rattle.ranked.proofs.SetLaws.{any-none, none-any, In-map}
-use Rattle.pcrf_facts.specs.Places.{position_cmp}
-use Rattle.pcrf_facts.specs.Facts.{Fact, fact_cmp, position, is_shaded_by}
+use Rattle.pcrf_values.specs.Ascending.{Rises}
+use Rattle.pcrf_values.specs.Sets.{In}
+use Rattle.pcrf_values.proofs.Plain.{both, clash, is_false, not_true}
+use Rattle.pcrf_values.proofs.SetLaws.{any-none, none-any, In-map}
+use Rattle.pcrf_values.specs.Places.{position_cmp}
+use Rattle.pcrf_values.specs.Facts.{Fact, fact_cmp, position, is_shaded_by}
 use Rattle.pcrf_model.specs.Forms.{is_rising, stand_together}
 use Rattle.pcrf_model.proofs.FormLaws.{le_passes, rises_by_test, test_by_rises}
-use Rattle.fact_records.specs.Orders.{AreKept, AreNotKept}
-use Rattle.fact_records.proofs.KeepLaws.{kept_when, kept_free, kept_places, position_first}
+use Rattle.lattice_core.specs.Orders.{AreKept, AreNotKept}
+use Rattle.lattice_core.proofs.KeepLaws.{kept_when, kept_free, kept_places, position_first}
 
 -- one overshadows another
 abbrev some_shaded : List Fact → Bool

@@ -3,23 +3,23 @@ use Rattle.std.proofs.Common.{◌≡◌, ℕ, max, true, List, [], ◌∷◌, �
 use Rattle.std.specs.Ordering.{ordering_then}
 use Rattle.std.specs.Cmp.{tied_itself}
 use Rattle.std.proofs.lemmas.Cmp.{nat_list_cmp_total}
-use Rattle.ranked.specs.laws.Exact.{text_same}
+use Rattle.pcrf_values.specs.laws.Exact.{text_same}
 use Rattle.std.proofs.lemmas.List.{map-append}
-use Rattle.ranked.specs.Ascending.{ascending, Rises}
-use Rattle.ranked.specs.Orders.{text_cmp}
-use Rattle.ranked.specs.Sets.{In, Same}
-use Rattle.ranked.proofs.Plain.{clash, is_false}
-use Rattle.ranked.proofs.OrderLaws.{text_ranked}
-use Rattle.ranked.proofs.PartLaws.{Keeps, IsRising, flat_map-In}
-use Rattle.ranked.proofs.SetLaws.{In-left, In-right, In-cases, Same-itself, Same-back, Same-through, Same-append, Same-turn, map-Same, Apart, maximal-apart}
-use Rattle.ranked.proofs.AscendingLaws.{ascending-ascending, same_ascending, filter_map-ascending}
+use Rattle.pcrf_values.specs.Ascending.{ascending, Rises}
+use Rattle.pcrf_values.specs.Orders.{text_cmp}
+use Rattle.pcrf_values.specs.Sets.{In, Same}
+use Rattle.pcrf_values.proofs.Plain.{clash, is_false}
+use Rattle.pcrf_values.proofs.OrderLaws.{text_ranked}
+use Rattle.pcrf_values.proofs.PartLaws.{Keeps, IsRising, flat_map-In}
+use Rattle.pcrf_values.proofs.SetLaws.{In-left, In-right, In-cases, Same-itself, Same-back, Same-through, Same-append, Same-turn, map-Same, Apart, maximal-apart}
+use Rattle.pcrf_values.proofs.AscendingLaws.{ascending-ascending, same_ascending, filter_map-ascending}
 use Rattle.lattice_core.specs.Entries.{IsAscending, AllValues, value_at, put, map_joined}
 use Rattle.lattice_core.specs.laws.Maps.{put_all_itself, joined_single}
 use Rattle.lattice_core.proofs.MapParts.{option_facts, option_valid, valid_at, map_keeps, map_made}
-use Rattle.pcrf_facts.specs.Facts.{Fact, fact_cmp, is_shaded_by}
-use Rattle.pcrf_facts.specs.Held.{kept_set, kept_list, join_of}
-use Rattle.pcrf_facts.proofs.FactLaws.{fact_ranked}
-use Rattle.pcrf_facts.proofs.JoinedLaws.{kept-In, In-kept, sorted-In, joined_comm, joined_assoc, held_twice}
+use Rattle.pcrf_values.specs.Facts.{Fact, fact_cmp, is_shaded_by}
+use Rattle.pcrf_values.specs.Held.{kept_set, kept_list, join_of}
+use Rattle.pcrf_values.proofs.FactLaws.{fact_ranked}
+use Rattle.pcrf_values.proofs.JoinedLaws.{kept-In, In-kept, sorted-In, joined_comm, joined_assoc, held_twice}
 use Rattle.pcrf_model.specs.Sessions.{Session, Kind, Gx, Af, gx, af, session_cmp}
 use Rattle.pcrf_model.specs.Holdings.{SessionFact, session_fact_cmp, is_shaded_there_by, kept_facts, under, on_session, facts_on, union, kept_of}
 use Rattle.pcrf_model.specs.Operations.{Operation, with_operation}

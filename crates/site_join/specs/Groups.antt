@@ -2,7 +2,7 @@
 use Rattle.std.specs.Prelude.{ℕ, Bool, ◌&&◌, nat_le, List, [], ◌∷◌, map, Option, Some, None, if◌then◌else◌}
 use Rattle.std.specs.Ordering.{is_eq}
 use Rattle.std.specs.List.{flat_map, list_all}
-use Rattle.pcrf_facts.specs.Facts.{Fact}
+use Rattle.pcrf_values.specs.Facts.{Fact}
 use Rattle.pcrf_values.specs.Limits.{last_counter}
 use Rattle.pcrf_model.specs.Sessions.{Session, session_cmp}
 use Rattle.pcrf_model.specs.Holdings.{SessionFact, under, Holding}

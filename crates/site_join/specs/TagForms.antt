@@ -1,10 +1,10 @@
 -- The forms that tags of facts may have, one by one.
 use Rattle.std.specs.Prelude.{ℕ, Bool, ◌&&◌, ◌==◌, nat_le, nat_lt}
 use Rattle.std.specs.Ordering.{is_eq}
-use Rattle.ranked.specs.declared.tag.Tag.{Tag}
-use Rattle.ranked.specs.Tags.{tag_cmp}
+use Rattle.pcrf_values.specs.declared.tag.Tag.{Tag}
+use Rattle.pcrf_values.specs.Tags.{tag_cmp}
 use Rattle.pcrf_values.specs.Limits.{site_limit}
-use Rattle.pcrf_facts.specs.Facts.{Fact}
+use Rattle.pcrf_values.specs.Facts.{Fact}
 use Rattle.pcrf_model.specs.Sessions.{Kind}
 use Rattle.pcrf_model.specs.Forms.{is_counted, is_numbered, is_stamp, is_tagged, is_unsigned}
 use Rattle.site_join.specs.declared.tag_form.TagForm.{TagForm}

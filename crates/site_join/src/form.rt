@@ -1,6 +1,6 @@
 //! The form of operations that a site may make, decided.
 //!
-//! Facts stand together just where all of them are kept (`fact_records`), so an operation of n facts takes n log n steps.
+//! Facts stand together just where all of them are kept (`lattice_core`), so an operation of n facts takes n log n steps.
 ghost use Rattle.std.specs.Prelude.{◌≡◌, ◌&&◌, map};
 ghost use Rattle.std.specs.List.{list_all};
 ghost use Rattle.pcrf_model.specs.Sessions.{Kind};
@@ -10,8 +10,7 @@ ghost use Rattle.site_join.specs.TagForms.{has_tag};
 
 use crate::operation::SessionFacts;
 use crate::tag_form::TagForm;
-use fact_records::{TypedFact, are_kept};
-use lattice_core::Tag;
+use lattice_core::{Tag, TypedFact, are_kept};
 use pcrf_model::ranges::note_text;
 use pcrf_values::limits::{LAST_COUNTER, SITE_LIMIT};
 

@@ -12,18 +12,17 @@ use crate::operation::SessionFacts;
 use crate::state::State;
 use af_records::AfRec;
 use gx_records::GxRec;
+use lattice_core::Entries;
 use pcrf_model::ranges::note_text;
 use pcrf_values::limits::LAST_COUNTER;
-use pcrf_values::{AfSid, GxSid};
-use ranked::Ranked;
+use pcrf_values::{AfSid, GxSid, Ranked};
 use std::alloc::{AllocError, Global};
-use std::collections::btree_map::Iter;
 
 /// Adds the facts of gateways' sessions, of those that have some.
 fn add_gx(
     alloc: Global,
     groups: &mut Vec<SessionFacts>,
-    records: Iter<'_, GxSid, GxRec>,
+    records: Entries<'_, GxSid, GxRec>,
 ) -> Result<(), AllocError>
     ensures { OnOk result (map group_of groups.new.items
         ≡ map group_of groups.old.items ++ filter_map (group_at gx) records.entry) }
@@ -42,7 +41,7 @@ fn add_gx(
 fn add_af(
     alloc: Global,
     groups: &mut Vec<SessionFacts>,
-    records: Iter<'_, AfSid, AfRec>,
+    records: Entries<'_, AfSid, AfRec>,
 ) -> Result<(), AllocError>
     ensures { OnOk result (map group_of groups.new.items
         ≡ map group_of groups.old.items ++ filter_map (group_at af) records.entry) }

@@ -11,5 +11,6 @@ mod state;
 mod tag_form;
 
 pub use groups::are_groups;
+pub use lattice_core::Entries;
 pub use operation::{Operation, SessionFacts, are_af_facts, are_gx_facts};
 pub use state::State;

@@ -10,10 +10,9 @@ ghost use Rattle.site_join.specs.States.{session_of, facts_in};
 
 use crate::form::{is_operation, is_record};
 use af_records::AfFact;
-use fact_records::copy_facts;
 use gx_records::GxFact;
-use pcrf_values::{AfSid, GxSid};
-use ranked::Ranked;
+use lattice_core::copy_facts;
+use pcrf_values::{AfSid, GxSid, Ranked};
 use std::alloc::AllocError;
 use std::marker::Model;
 

@@ -2,8 +2,8 @@
 //!
 //! The functions do nothing that a caller sees: what they tell a proof is their contracts.
 ghost use Rattle.std.specs.Prelude.{◌≡◌, true};
-ghost use Rattle.ranked.specs.declared.tag.Tag.{Tag};
-ghost use Rattle.fact_records.specs.SessionFacts.{session_fact};
+ghost use Rattle.pcrf_values.specs.declared.tag.Tag.{Tag};
+ghost use Rattle.lattice_core.specs.SessionFacts.{session_fact};
 ghost use Rattle.af_records.specs.RecordFacts.{fact_of};
 ghost use Rattle.af_records.specs.declared.fact.AfFact.TheVariants.{Component, Flow};
 ghost use Rattle.pcrf_model.specs.Sessions.{Gx, Af};

@@ -8,20 +8,18 @@ ghost use Rattle.pcrf_model.specs.Holdings.{nothing_held, facts_on, union, kept_
 ghost use Rattle.pcrf_model.specs.Operations.{with_operation};
 ghost use Rattle.pcrf_model.specs.ToldTags.{ToldUpTo};
 ghost use Rattle.pcrf_model.specs.Forms.{are_up_to, is_holding, is_record, is_recorded};
-ghost use Rattle.ranked.specs.Orders.{text_cmp};
-ghost use Rattle.lattice_core.specs.Entries.{IsAscending, put, value_at};
+ghost use Rattle.pcrf_values.specs.Orders.{text_cmp};
+ghost use Rattle.lattice_core.specs.Entries.{IsAscending, value_at};
 ghost use Rattle.site_join.specs.Groups.{are_groups, group_of, groups_of_facts, held_in};
 ghost use Rattle.site_join.specs.States.{record_facts, session_of, facts_in, gx_with, af_with};
 
 use crate::operation::{Operation, SessionFacts};
 use af_records::AfRec;
 use gx_records::GxRec;
-use lattice_core::{Join, JoinTree, same_facts};
+use lattice_core::{Entries, Join, JoinTree, same_facts};
 use pcrf_model::ranges::note_text;
-use pcrf_values::{AfSid, GxSid};
-use ranked::Ranked;
+use pcrf_values::{AfSid, GxSid, HashSeed, Ranked};
 use std::alloc::{AllocError, Global};
-use std::collections::btree_map::Iter;
 use std::fmt::{self, Debug, Formatter, Write};
 use std::marker::Model;
 
@@ -59,29 +57,37 @@ impl Model for State {
 }
 
 impl State {
-    /// Nothing is held.
+    /// Nothing is held, and hashes begin with a seed that everyone knows.
     pub fn start(alloc: Global) -> State
+        ensures { result ≡ nothing_held }
+    {
+        State::seeded(alloc, HashSeed::of(0))
+    }
+
+    /// Nothing is held, and hashes begin with that seed.
+    pub fn seeded(alloc: Global, seed: HashSeed) -> State
         ensures { result ≡ nothing_held }
     {
         State {
             alloc,
-            gx: JoinTree::start(alloc),
-            af: JoinTree::start(alloc),
+            gx: JoinTree::seeded(alloc, seed),
+            af: JoinTree::seeded(alloc, seed),
             clock: 0,
         }
     }
 
-    /// The state that holds just the facts of these groups, under that clock. Its time and memory grow with the number of facts.
+    /// The state that holds just the facts of these groups, under that clock, whose hashes begin with that seed. Its time and memory grow with the number of facts.
     pub fn of_groups(
         alloc: Global,
+        seed: HashSeed,
         clock: u64,
         groups: Vec<SessionFacts>,
     ) -> Result<State, AllocError>
         requires { are_groups clock (map group_of groups.items) ≡ true }
         ensures { IfOk result (λ s. s ≡ held_in clock (map group_of groups.items)) }
     {
-        let mut gx = JoinTree::start(alloc);
-        let mut af = JoinTree::start(alloc);
+        let mut gx = JoinTree::seeded(alloc, seed);
+        let mut af = JoinTree::seeded(alloc, seed);
         let mut left = groups.as_slice();
         while let Some((first, rest)) = left.split_first() {
             gx.note_valid();
@@ -125,7 +131,7 @@ impl State {
     }
 
     /// All records of gateways' sessions, in the order of their Session-Ids.
-    pub fn all_gx(&self) -> Iter<'_, GxSid, GxRec>
+    pub fn all_gx(&self) -> Entries<'_, GxSid, GxRec>
         ensures ascending { IsAscending text_cmp result }
         ensures facts { (id : List ℕ) → record_facts (value_at text_cmp result id)
             ≡ facts_on self.now.facts (gx id) }
@@ -135,7 +141,7 @@ impl State {
     }
 
     /// All records of application functions' sessions, in the order of their Session-Ids.
-    pub fn all_af(&self) -> Iter<'_, AfSid, AfRec>
+    pub fn all_af(&self) -> Entries<'_, AfSid, AfRec>
         ensures ascending { IsAscending text_cmp result }
         ensures facts { (id : List ℕ) → record_facts (value_at text_cmp result id)
             ≡ facts_on self.now.facts (af id) }
@@ -337,27 +343,11 @@ fn join_facts(
     match facts {
         SessionFacts::Gx(id, facts) => {
             let record = GxRec::of_facts(alloc, facts.as_slice())?;
-            join_record(gx, id, record)
+            gx.join_under(id, record)
         }
         SessionFacts::Af(id, facts) => {
             let record = AfRec::of_facts(alloc, facts.as_slice())?;
-            join_record(af, id, record)
+            af.join_under(id, record)
         }
     }
-}
-
-/// Joins a record into that of its session.
-fn join_record<K: Ranked, V: Join>(
-    records: &mut JoinTree<K, V>,
-    id: &K,
-    given: V,
-) -> Result<(), AllocError>
-    ensures ok { OnOk result (records.new ≡ put K.cmp V.joined records.old id.now given) }
-    ensures err { OnErr result (records.new ≡ records.old) }
-{
-    let id = id.try_copy()?;
-    if let Err((refused, _)) = records.join_at(id, given) {
-        return Err(refused);
-    }
-    Ok(())
 }

@@ -1,1 +1,12 @@
+pub mod Beginning
+pub mod BookBack
+pub mod Counting
+pub mod Gains
+pub mod Growing
+pub mod LivingTelling
+pub mod Opening
+pub mod Places
+pub mod Settling
+pub mod Taking
 pub mod Telling
+pub mod Tokens

@@ -9,7 +9,7 @@ ghost use Rattle.site_lock.specs.Calls.{GainsReceipt, TellsPast};
 ghost use Rattle.site_lock.specs.Locked.{beside};
 
 use dia_base::Identity;
-use ranked::Ranked;
+use pcrf_values::Ranked;
 use site_book::{Seat, Settled, SiteBook, Unsettled};
 use site_machine::{Event, Reply, Site, StepFault};
 use std::alloc::{AllocError, Global};

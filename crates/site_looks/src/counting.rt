@@ -1,7 +1,7 @@
 //! How many sessions there are, counted some at a time under the site's lock.
 use af_records::AfRec;
-use living_site::{Looker, Site};
 use pcrf_values::{AfSid, GxSid};
+use site_lock::{Looker, Site};
 
 /// How many sessions are looked at under the lock at once.
 pub const PIECE: usize = 1_000;

@@ -5,13 +5,11 @@ ghost use Rattle.pcrf_model.specs.Sessions.{gx, af};
 ghost use Rattle.site_looks.specs.Looks.{IsCallFound, IsGatewayFound, shown};
 
 use af_records::AfRec;
+use bind_index::{SessionIds, network_of};
 use gx_records::GxRec;
 use lattice_core::Join;
-use living_site::Site;
-use pcrf_values::{AfSid, GxSid, Rule};
-use ranked::Ranked;
-use session_index::network_of;
-use session_lists::SessionIds;
+use pcrf_values::{AfSid, GxSid, Ranked, Rule};
+use site_lock::Site;
 use std::alloc::AllocError;
 
 /// What a site knows of a gateway's session.

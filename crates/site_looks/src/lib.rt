@@ -1,5 +1,5 @@
 //! What an operator looks up at a running site: one session, the sessions of a subscriber, and those at an address, each found by an index under
-//! the site's lock, and shown as JSON apart from it; and how many sessions there are, counted some at a time.
+//! the site's lock, and shown as JSON apart from it; how many sessions there are, counted some at a time; and a site whose calls are timed.
 #![tactic(auto)]
 
 mod counting;
@@ -7,6 +7,8 @@ mod found;
 mod known;
 mod listed;
 mod lookers;
+mod metered;
+mod meters;
 mod notes;
 mod shown;
 #[cfg(test)]
@@ -17,5 +19,7 @@ pub use found::{CallFound, GatewayFound, Unbound, call, gateway_session};
 pub use known::KnownSessions;
 pub use listed::{calls_at, gateways_at, sessions_named};
 pub use lookers::{AddressLook, SessionLook, SubscriberLook};
+pub use metered::MeteredSite;
+pub use meters::Meters;
 pub use notes::{NOTES_BYTES, SessionNotes};
 pub use shown::{PAGE, address_shown, session_shown, subscriber_shown};

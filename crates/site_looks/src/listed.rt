@@ -4,9 +4,8 @@ ghost use Rattle.bind_index.specs.Listings.{sessions_of};
 ghost use Rattle.pcrf_values.specs.Numbers.{subscription_number};
 ghost use Rattle.site_looks.specs.Looks.{sessions_named, shown};
 
-use living_site::Site;
-use pcrf_values::{AfSid, GxSid, Subscriber, SubscriptionData, SubscriptionType};
-use ranked::Ranked;
+use pcrf_values::{AfSid, GxSid, Ranked, Subscriber, SubscriptionData, SubscriptionType};
+use site_lock::Site;
 use std::alloc::{AllocError, Global};
 use std::net::Ipv4Addr;
 

@@ -4,8 +4,8 @@ ghost use Rattle.site_looks.specs.Looks.{IsCallFound, IsGatewayFound, sessions_n
 
 use crate::found::{CallFound, GatewayFound, call, gateway_session};
 use crate::listed::{calls_at, gateways_at, sessions_named};
-use living_site::{Looker, Site};
 use pcrf_values::{AfSid, GxSid, SubscriptionData};
+use site_lock::{Looker, Site};
 use std::alloc::{AllocError, Global};
 use std::net::Ipv4Addr;
 

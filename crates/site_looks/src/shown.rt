@@ -6,7 +6,7 @@ use crate::found::{CallFound, GatewayFound, Unbound};
 use crate::lookers::{AddressLook, SessionLook, SubscriberLook};
 use af_records::AfRec;
 use gx_records::GxRec;
-use operator_view::put_text;
+use indexed_state::put_text;
 use pcrf_values::{AfSid, GxSid, Rule, Subscriber};
 use serde_json::{Value, json};
 use std::alloc::{AllocError, Global};

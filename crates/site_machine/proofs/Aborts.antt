@@ -1,7 +1,7 @@
 -- What a site aborts.
 use Rattle.std.proofs.Common.{◌≡◌, ℕ, ◌+◌, false, List, [], ◌∷◌, Option, Some, None, refl, sym, ap, ◌∙◌, option_map}
-use Rattle.ranked.proofs.Plain.{none_some, some_same}
-use Rattle.pcrf_facts.specs.Facts as facts
+use Rattle.pcrf_values.proofs.Plain.{none_some, some_same}
+use Rattle.pcrf_values.specs.Facts as facts
 use Rattle.pcrf_model.specs.Sessions.{Session, af}
 use Rattle.pcrf_model.specs.Holdings.{Holding}
 use Rattle.pcrf_model.specs.Views.{View, view}
@@ -11,7 +11,7 @@ use Rattle.pcrf_model.specs.Refusals.{is_clock_full}
 use Rattle.pcrf_model.proofs.AbortingLaws.{first_abandoned, abandoned_kind}
 use Rattle.site_machine.specs.Facts.{operation_on_call}
 use Rattle.site_machine.specs.Sites.{SiteValue, abort_outcome_at}
-use Rattle.waiting_aborts.proofs.Firsts.{af_is}
+use Rattle.rule_delta.proofs.Firsts.{af_is}
 
 module _ (s : SiteValue) (name : Option (List ℕ)) where
   -- what is held

@@ -2,12 +2,12 @@
 use Rattle.std.proofs.Common.{◌≡◌, ℕ, ◌+◌, Bool, true, false, not, ◌&&◌, is_none, is_some, List, [], ◌∷◌, ◌++◌, Option, Some, None, refl, sym, ap, ◌∙◌, option_map, option_copied, Bor}
 use Rattle.std.proofs.lemmas.List.{append-nil}
 use Rattle.std.specs.List.{list_any}
-use Rattle.ranked.specs.Ascending.{ascending}
+use Rattle.pcrf_values.specs.Ascending.{ascending}
 use Rattle.pcrf_values.specs.declared.refusal.Refusal.{Refusal}
 use Rattle.pcrf_values.specs.Results.{missing_avp, service_not_authorized, session_not_available, unable_to_comply, unknown_session_id}
-use Rattle.pcrf_facts.specs.Facts.{Fact, End, fact_cmp}
-use Rattle.pcrf_facts.specs.Held.{kept_list, join_of, is_ended}
-use Rattle.pcrf_facts.specs.Live.{af_is_live}
+use Rattle.pcrf_values.specs.Facts.{Fact, End, fact_cmp}
+use Rattle.pcrf_values.specs.Held.{kept_list, join_of, is_ended}
+use Rattle.pcrf_values.specs.Live.{af_is_live}
 use Rattle.pcrf_model.specs.Sessions.{gx, af}
 use Rattle.pcrf_model.specs.Holdings.{Holding, SessionFact, under, facts_on}
 use Rattle.pcrf_model.specs.Tables.{Tables}
@@ -17,9 +17,9 @@ use Rattle.pcrf_model.specs.Requests.{gives_no_address, AarValue, StrValue}
 use Rattle.pcrf_model.specs.Refusals.{first_cause, aar_refusal, str_refusal, binds_to_none, has_no_class, is_clock_full}
 use Rattle.pcrf_model.specs.Replies.{Done, Refused}
 use Rattle.pcrf_model.specs.Serving.{serve_aar, serve_str}
-use Rattle.bind_index.proofs.Alike.{HasRecord, kept_record}
+use Rattle.indexed_state.proofs.Records.{HasRecord, kept_record}
 use Rattle.indexed_state.proofs.PlacedRecord.{facts_on-append, own_under, held-append}
-use Rattle.fact_making.specs.Call.{call_facts}
+use Rattle.site_machine.specs.Call.{call_facts}
 use Rattle.site_machine.specs.Calls.{late_refusal}
 use Rattle.site_machine.specs.Facts.{operation_on_call}
 use Rattle.site_machine.specs.Sites.{SiteValue, aar_served, str_served}

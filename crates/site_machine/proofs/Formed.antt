@@ -2,18 +2,18 @@
 use Rattle.std.proofs.lemmas.Bool.Decides.{nat_tests}
 use Rattle.std.proofs.Common.{◌≡◌, ℕ, ◌<◌, ◌≤◌, true, false, List, [], ◌∷◌, ◌++◌, map, refl, sym, ap, ◌∙◌, subst, nat_lt, length, arith}
 use Rattle.std.specs.List.{list_all}
-use Rattle.ranked.specs.Ascending.{ascending}
-use Rattle.ranked.specs.Sets.{Distinct}
-use Rattle.ranked.specs.declared.tag.Tag.{Tag}
-use Rattle.ranked.proofs.Plain.{both, clash}
+use Rattle.pcrf_values.specs.Ascending.{ascending}
+use Rattle.pcrf_values.specs.Sets.{Distinct}
+use Rattle.pcrf_values.specs.declared.tag.Tag.{Tag}
+use Rattle.pcrf_values.proofs.Plain.{both, clash}
 use Rattle.pcrf_values.specs.Limits.{session_id_limit, rule_name_limit, last_counter, site_limit, delta_limit}
 use Rattle.pcrf_values.specs.Numbers.{request_kind_number}
 use Rattle.pcrf_values.specs.RuleValues.{RuleValue, DeltaValue}
 use Rattle.pcrf_values.specs.declared.request_kind.RequestKind.{RequestKind}
 use Rattle.pcrf_values.specs.declared.request_kind.RequestKind.TheVariants.{Initial, Update, Termination}
-use Rattle.pcrf_facts.specs.Facts.{Fact, End, Aborted, fact_cmp}
-use Rattle.pcrf_facts.specs.Places.{RequestType}
-use Rattle.pcrf_facts.specs.Values.{Number}
+use Rattle.pcrf_values.specs.Facts.{Fact, End, Aborted, fact_cmp}
+use Rattle.pcrf_values.specs.Places.{RequestType}
+use Rattle.pcrf_values.specs.Values.{Number}
 use Rattle.pcrf_model.specs.Sessions.{Gx, gx, af}
 use Rattle.pcrf_model.specs.Holdings.{SessionFact, Holding, facts_on, kept_of, with_facts_of}
 use Rattle.pcrf_model.specs.Operations.{Operation, with_operation}
@@ -33,12 +33,12 @@ use Rattle.pcrf_model.proofs.ProvisionLaws.{first_apart}
 use Rattle.pcrf_model.proofs.RecordForms.{holding_up_to}
 use Rattle.pcrf_model.proofs.ServedForms.{ccr_parts, aar_parts, origin_parts, call_makes, fields_in_form, provision_in_form, telling_in_form}
 use Rattle.pcrf_model.proofs.ToldFacts.{IsApart}
-use Rattle.fact_making.specs.Call.{call_facts}
-use Rattle.fact_making.specs.Gateway.{made_facts}
+use Rattle.site_machine.specs.Call.{call_facts}
+use Rattle.site_machine.specs.Gateway.{made_facts}
 use Rattle.site_machine.specs.Facts.{opens, operation_made, operation_told, operation_pushed, operation_on_call}
 use Rattle.site_machine.proofs.Replies.{fields_made}
 use Rattle.site_machine.proofs.Restoring.{restored}
-use Rattle.fact_making.proofs.ToldOrder.{fields_in_order, fields_then_told}
+use Rattle.site_machine.proofs.ToldOrder.{fields_in_order, fields_then_told}
 
 -- ---- stamps
 

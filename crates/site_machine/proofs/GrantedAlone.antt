@@ -1,13 +1,13 @@
 -- What the definitions give to an accepted request whose session comes alone: its gateway is told what it lacks of the operator's rules.
 use Rattle.std.proofs.Common.{◌≡◌, ℕ, ◌+◌, max, true, List, [], ◌++◌, map, Option, Some, IfSome, refl, sym, ap, ◌∙◌, subst}
 use Rattle.std.proofs.lemmas.List.{append-nil}
-use Rattle.ranked.specs.Sets.{In, Distinct}
+use Rattle.pcrf_values.specs.Sets.{In, Distinct}
 use Rattle.pcrf_values.specs.Limits.{delta_limit}
 use Rattle.pcrf_values.specs.RuleValues.{RuleValue, DeltaValue}
-use Rattle.pcrf_facts.specs.Facts.{Fact}
-use Rattle.pcrf_facts.specs.Held.{kept_list, join_of}
-use Rattle.pcrf_facts.specs.ToldWords.{told_rules}
-use Rattle.pcrf_facts.proofs.JoinedLaws.{joined-held, joined_assoc}
+use Rattle.pcrf_values.specs.Facts.{Fact}
+use Rattle.pcrf_values.specs.Held.{kept_list, join_of}
+use Rattle.pcrf_values.specs.ToldWords.{told_rules}
+use Rattle.pcrf_values.proofs.JoinedLaws.{joined-held, joined_assoc}
 use Rattle.pcrf_model.specs.Differences.{difference, first, rule_name_of, told_rules_of}
 use Rattle.pcrf_model.specs.Holdings.{Holding, facts_on, kept_of}
 use Rattle.pcrf_model.specs.Laws.{DifferInOne}

@@ -2,13 +2,13 @@
 use Rattle.std.proofs.Common.{◌≡◌, ℕ, ◌+◌, Bool, true, false, not, cond, List, ◌++◌, map, Option, Some, None, refl, sym, ap, ◌∙◌, subst}
 use Rattle.std.specs.Prelude.{IfSome, if◌then◌else◌}
 use Rattle.std.specs.Cmp.{first_so}
-use Rattle.ranked.specs.Sets.{Distinct}
-use Rattle.ranked.proofs.Plain.{clash, not_true, none_some}
+use Rattle.pcrf_values.specs.Sets.{Distinct}
+use Rattle.pcrf_values.proofs.Plain.{clash, not_true, none_some}
 use Rattle.pcrf_values.specs.Results.{unknown_session_id}
 use Rattle.pcrf_values.specs.declared.refusal.Refusal.{Refusal}
 use Rattle.pcrf_values.specs.declared.request_kind.RequestKind.{RequestKind}
 use Rattle.pcrf_values.specs.declared.request_kind.RequestKind.TheVariants.{Initial, Update, Termination}
-use Rattle.pcrf_facts.specs.Facts.{Fact}
+use Rattle.pcrf_values.specs.Facts.{Fact}
 use Rattle.pcrf_values.specs.Limits.{delta_limit}
 use Rattle.pcrf_model.specs.Sessions.{Session, gx}
 use Rattle.pcrf_model.specs.Holdings.{Holding, under, kept_of}
@@ -28,8 +28,8 @@ use Rattle.pcrf_model.specs.ToldTags.{ToldUpTo}
 use Rattle.pcrf_model.proofs.UnionLaws.{view-kept_of}
 use Rattle.pcrf_model.proofs.ProvisionLaws.{provisioning-tells_up_to, pushing-tells_up_to}
 use Rattle.site_machine.specs.Facts.{opens, operation_made}
-use Rattle.reply_values.specs.declared.answer.GxReply.{GxReply}
-use Rattle.reply_values.specs.declared.answer.GxReply.TheVariants.{Granted, Refused}
+use Rattle.pcrf_model.specs.declared.answer.GxReply.{GxReply}
+use Rattle.pcrf_model.specs.declared.answer.GxReply.TheVariants.{Granted, Refused}
 use Rattle.site_machine.specs.Left.{with_fields, fields_added, granted_opening, LacksTheRest}
 use Rattle.site_machine.specs.Sites.{SiteValue, with_made}
 use Rattle.site_machine.proofs.Replies.{fields_made, shown_with}

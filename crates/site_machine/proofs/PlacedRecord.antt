@@ -1,7 +1,7 @@
 -- The fields of a credit control request joined into the record of its session, and that put in its place.
 use Rattle.std.proofs.Common.{◌≡◌, ℕ, ◌+◌, ◌<◌, ◌≤◌, max, true, List, sym, ap, ◌∙◌, subst, arith}
-use Rattle.pcrf_facts.specs.Facts.{Fact}
-use Rattle.pcrf_facts.specs.Held.{kept_list, join_of}
+use Rattle.pcrf_values.specs.Facts.{Fact}
+use Rattle.pcrf_values.specs.Held.{kept_list, join_of}
 use Rattle.pcrf_values.specs.Limits.{last_counter, site_limit}
 use Rattle.pcrf_model.specs.Sessions.{Gx, gx}
 use Rattle.pcrf_model.specs.Holdings.{Holding, facts_on, kept_of, with_facts_of}

@@ -1,7 +1,7 @@
 -- What a site pushes.
 use Rattle.std.proofs.Common.{◌≡◌, ℕ, ◌+◌, true, false, List, Option, Some, None, refl, sym, ap, ◌∙◌, option_map}
 use Rattle.std.specs.Cmp.{first_so}
-use Rattle.ranked.proofs.Plain.{none_some, some_same}
+use Rattle.pcrf_values.proofs.Plain.{none_some, some_same}
 use Rattle.pcrf_values.specs.Limits.{delta_limit}
 use Rattle.pcrf_model.specs.Serving.{delta_of}
 use Rattle.pcrf_model.specs.Sessions.{Session, gx, is_gx}

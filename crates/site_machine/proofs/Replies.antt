@@ -1,20 +1,20 @@
 -- What a site replies to credit control requests.
 use Rattle.std.proofs.Common.{◌≡◌, ℕ, ◌+◌, Bool, true, false, cond, List, ◌++◌, Option, Some, None, refl, sym, ap, ◌∙◌, subst, option_and_then}
-use Rattle.ranked.specs.Ascending.{ascending}
-use Rattle.ranked.specs.Sets.{In}
-use Rattle.ranked.specs.declared.tag.Tag.{Tag}
-use Rattle.ranked.proofs.Plain.{clash}
+use Rattle.pcrf_values.specs.Ascending.{ascending}
+use Rattle.pcrf_values.specs.Sets.{In}
+use Rattle.pcrf_values.specs.declared.tag.Tag.{Tag}
+use Rattle.pcrf_values.proofs.Plain.{clash}
 use Rattle.pcrf_values.specs.RuleValues.{DeltaValue}
 use Rattle.pcrf_values.specs.Results.{unknown_session_id, initial_parameters, authorization_rejected, unable_to_comply}
 use Rattle.pcrf_values.specs.declared.refusal.Refusal.{Refusal}
 use Rattle.pcrf_values.specs.declared.request_kind.RequestKind.{RequestKind}
 use Rattle.pcrf_values.specs.declared.request_kind.RequestKind.TheVariants.{Initial, Update, Termination}
-use Rattle.pcrf_facts.specs.Facts.{Fact, Field, fact_cmp}
-use Rattle.pcrf_facts.specs.Held.{is_ended, entry_shown}
-use Rattle.pcrf_facts.specs.Live.{gx_is_live}
-use Rattle.pcrf_facts.specs.Places.{apn, host}
-use Rattle.pcrf_facts.specs.Values.{Text}
-use Rattle.pcrf_facts.specs.FlowWords.{or_else}
+use Rattle.pcrf_values.specs.Facts.{Fact, Field, fact_cmp}
+use Rattle.pcrf_values.specs.Held.{is_ended, entry_shown}
+use Rattle.pcrf_values.specs.Live.{gx_is_live}
+use Rattle.pcrf_values.specs.Places.{apn, host}
+use Rattle.pcrf_values.specs.Values.{Text}
+use Rattle.pcrf_values.specs.FlowWords.{or_else}
 use Rattle.pcrf_values.specs.Limits.{delta_limit}
 use Rattle.pcrf_model.specs.Sessions.{Session, gx}
 use Rattle.pcrf_model.specs.Holdings.{SessionFact, session_fact_cmp, under, facts_on, kept_facts, kept_of, Holding}
@@ -32,10 +32,10 @@ use Rattle.site_machine.specs.Sites.{SiteValue}
 use Rattle.pcrf_model.proofs.HoldingLaws.{sorted-In}
 use Rattle.pcrf_model.proofs.ViewLaws.{view-Same, view-kept}
 use Rattle.site_machine.specs.Facts.{opens, operation_made, operation_told}
-use Rattle.fact_making.specs.Gateway.{made_facts}
+use Rattle.site_machine.specs.Gateway.{made_facts}
 use Rattle.site_machine.specs.Replies.{quality_shown, told_reply}
 use Rattle.site_machine.specs.Sites.{ccr_served}
-use Rattle.fact_making.proofs.ToldOrder.{fields_then_told, host_is_set}
+use Rattle.site_machine.proofs.ToldOrder.{fields_then_told, host_is_set}
 
 -- ---- refusals
 

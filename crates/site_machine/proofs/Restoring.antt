@@ -1,13 +1,13 @@
 -- What a site holds after fields are set, once more, or not at all.
 use Rattle.std.proofs.Common.{◌≡◌, max, Bool, true, false, not, List, [], ◌++◌, ◌↔◌, inl, inr, refl, sym, ap, ◌∙◌, subst, arith, filter}
 use Rattle.std.specs.Ordering.{is_eq}
-use Rattle.ranked.specs.Ascending.{ascending, Rises}
-use Rattle.ranked.specs.Sets.{In, Same}
-use Rattle.ranked.proofs.Plain.{clash, is_false}
-use Rattle.ranked.proofs.AscendingLaws.{ascending-ascending, same_ascending}
-use Rattle.ranked.proofs.OrderLaws.{eq_is, eq_itself}
-use Rattle.ranked.proofs.SetLaws.{In-left, In-right, In-cases, top_of}
-use Rattle.pcrf_facts.specs.Facts.{Fact}
+use Rattle.pcrf_values.specs.Ascending.{ascending, Rises}
+use Rattle.pcrf_values.specs.Sets.{In, Same}
+use Rattle.pcrf_values.proofs.Plain.{clash, is_false}
+use Rattle.pcrf_values.proofs.AscendingLaws.{ascending-ascending, same_ascending}
+use Rattle.pcrf_values.proofs.OrderLaws.{eq_is, eq_itself}
+use Rattle.pcrf_values.proofs.SetLaws.{In-left, In-right, In-cases, top_of}
+use Rattle.pcrf_values.specs.Facts.{Fact}
 use Rattle.pcrf_model.specs.Sessions.{Session, session_cmp}
 use Rattle.pcrf_model.specs.Holdings.{Holding, SessionFact, session_fact_cmp, is_shaded_there_by, under, facts_on, kept_facts, kept_of, with_facts_of}
 use Rattle.pcrf_model.specs.Operations.{Operation, with_operation}

@@ -1,10 +1,10 @@
 -- What a site retells.
 use Rattle.std.proofs.lemmas.Bool.Decides.{nat_tests}
 use Rattle.std.proofs.Common.{◌≡◌, ℕ, suc, ◌+◌, ◌<◌, Bool, true, false, cond, not, ◌&&◌, ◌==◌, List, [], ◌∷◌, length, Some, refl, sym, ap, ◌∙◌, arith}
-use Rattle.ranked.proofs.Plain.{clash}
+use Rattle.pcrf_values.proofs.Plain.{clash}
 use Rattle.pcrf_values.specs.Limits.{site_limit}
-use Rattle.pcrf_facts.specs.Live.{gx_is_live}
-use Rattle.pcrf_facts.specs.ToldWords.{ToldRule}
+use Rattle.pcrf_values.specs.Live.{gx_is_live}
+use Rattle.pcrf_values.specs.ToldWords.{ToldRule}
 use Rattle.pcrf_model.specs.Sessions.{gx}
 use Rattle.pcrf_model.specs.Holdings.{facts_on, Holding}
 use Rattle.pcrf_model.specs.Views.{View, view}

@@ -1,6 +1,6 @@
 -- What a reply shows that was handed to a witness.
 use Rattle.std.proofs.Common.{Option, None}
-use Rattle.reply_values.specs.declared.push.PushOut.{PushOut}
+use Rattle.pcrf_model.specs.declared.push.PushOut.{PushOut}
 use Rattle.rx_profile.specs.declared.abort.AbortOut.{AbortOut}
 use Rattle.site_machine.specs.declared.event.Reply.{Reply}
 use Rattle.site_machine.specs.declared.event.Reply.TheVariants.{Pushed, Aborted}

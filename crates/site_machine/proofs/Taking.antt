@@ -1,6 +1,6 @@
 -- What a site holds after each operation that it makes or takes.
 use Rattle.std.proofs.Common.{◌≡◌, List, [], ◌∷◌, ◌++◌, sym, ap, ◌∙◌}
-use Rattle.ranked.proofs.SetLaws.{Same-turn}
+use Rattle.pcrf_values.proofs.SetLaws.{Same-turn}
 use Rattle.pcrf_model.specs.Holdings.{Holding, under, union, kept_of}
 use Rattle.pcrf_model.specs.Operations.{Operation, with_operation, holding_of}
 use Rattle.pcrf_model.proofs.UnionLaws.{union_assoc, union_nothing, kept_of-union, holding_of-Same}

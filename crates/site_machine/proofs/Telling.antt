@@ -1,16 +1,16 @@
 -- What a session has when its gateway is told of rules, where the fields of the request are set already; and when it is ended.
 use Rattle.std.proofs.Common.{◌≡◌, ℕ, ◌≤◌, max, true, false, List, [], ◌∷◌, ◌++◌, length, Option, Some, None, IfSome, inl, refl, sym, ap, ◌∙◌, subst, append_assoc, arith}
 use Rattle.std.proofs.lemmas.List.{append-nil}
-use Rattle.ranked.specs.Ascending.{ascending}
-use Rattle.ranked.specs.Sets.{In, Same}
-use Rattle.ranked.specs.declared.tag.Tag.{Tag}
-use Rattle.ranked.proofs.Plain.{clash}
-use Rattle.ranked.proofs.SetLaws.{In-right}
+use Rattle.pcrf_values.specs.Ascending.{ascending}
+use Rattle.pcrf_values.specs.Sets.{In, Same}
+use Rattle.pcrf_values.specs.declared.tag.Tag.{Tag}
+use Rattle.pcrf_values.proofs.Plain.{clash}
+use Rattle.pcrf_values.proofs.SetLaws.{In-right}
 use Rattle.pcrf_values.specs.Limits.{session_id_limit}
 use Rattle.pcrf_values.specs.RuleValues.{DeltaValue}
-use Rattle.pcrf_facts.specs.Facts.{Fact, End, Removed, Aborted, Field, fact_cmp, is_shaded_by}
-use Rattle.pcrf_facts.specs.Held.{kept_list, join_of, kept_set}
-use Rattle.pcrf_facts.proofs.JoinedLaws.{kept-In, In-kept, sorted-In, sorted-Same, joined-held}
+use Rattle.pcrf_values.specs.Facts.{Fact, End, Removed, Aborted, Field, fact_cmp, is_shaded_by}
+use Rattle.pcrf_values.specs.Held.{kept_list, join_of, kept_set}
+use Rattle.pcrf_values.proofs.JoinedLaws.{kept-In, In-kept, sorted-In, sorted-Same, joined-held}
 use Rattle.pcrf_model.specs.Holdings.{Holding, facts_on, kept_of}
 use Rattle.pcrf_model.specs.Operations.{Operation, with_operation}
 use Rattle.pcrf_model.specs.Requests.{CcrValue}
@@ -22,7 +22,7 @@ use Rattle.pcrf_model.proofs.RecordForms.{operation_record}
 use Rattle.pcrf_model.proofs.ToldFacts.{told-tells}
 use Rattle.indexed_state.specs.Indexed.{tells}
 use Rattle.indexed_state.proofs.PlacedRecord.{held-append, taken_facts}
-use Rattle.fact_making.specs.Told.{facts_told}
+use Rattle.site_machine.specs.Told.{facts_told}
 use Rattle.site_machine.specs.Facts.{operation_pushed, operation_with}
 use Rattle.site_machine.proofs.Formed.{pushed_formed}
 

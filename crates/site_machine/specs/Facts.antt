@@ -3,12 +3,12 @@ use Rattle.std.specs.Prelude.{ℕ, Bool, true, false, List, ◌++◌}
 use Rattle.pcrf_values.specs.declared.request_kind.RequestKind.{RequestKind}
 use Rattle.pcrf_values.specs.declared.request_kind.RequestKind.TheVariants.{Initial, Update, Termination}
 use Rattle.pcrf_values.specs.RuleValues.{DeltaValue}
-use Rattle.pcrf_facts.specs.Facts.{Fact}
+use Rattle.pcrf_values.specs.Facts.{Fact}
 use Rattle.pcrf_model.specs.Sessions.{gx, af}
 use Rattle.pcrf_model.specs.Operations.{Operation}
 use Rattle.pcrf_model.specs.Requests.{CcrValue}
-use Rattle.fact_making.specs.Gateway.{made_facts}
-use Rattle.fact_making.specs.Told.{facts_told}
+use Rattle.site_machine.specs.Gateway.{made_facts}
+use Rattle.site_machine.specs.Told.{facts_told}
 
 -- the request leaves its session open
 abbrev pub opens : RequestKind → Bool

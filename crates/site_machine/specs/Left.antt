@@ -7,8 +7,8 @@ use Rattle.pcrf_model.specs.Views.{view}
 use Rattle.pcrf_model.specs.Requests.{CcrValue}
 use Rattle.pcrf_model.specs.Making.{ccr_fields, next_tag}
 use Rattle.pcrf_model.specs.Laws.{TellsTheFirst}
-use Rattle.reply_values.specs.declared.answer.GxReply.{GxReply}
-use Rattle.reply_values.specs.declared.answer.GxReply.TheVariants.{Granted, Refused}
+use Rattle.pcrf_model.specs.declared.answer.GxReply.{GxReply}
+use Rattle.pcrf_model.specs.declared.answer.GxReply.TheVariants.{Granted, Refused}
 use Rattle.gx_profile.specs.Requests.{ccr_view}
 use Rattle.site_machine.specs.Facts.{opens}
 use Rattle.site_machine.specs.Sites.{SiteValue}

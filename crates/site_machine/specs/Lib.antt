@@ -1,8 +1,12 @@
+pub use Rattle.indexed_state.specs.Cached
+pub use Rattle.indexed_state.specs.Many
+pub mod Call
 pub mod Calls
 pub mod Facts
+pub mod Gateway
+pub mod Given
 pub mod Left
 pub mod Replies
 pub mod Sites
+pub mod Told
 pub mod Values
-pub use Rattle.indexed_state.specs.Kept
-pub use Rattle.indexed_state.specs.Many

@@ -1,10 +1,10 @@
 -- Replies as the definitions have them.
 use Rattle.std.specs.Prelude.{Bool, true, false, List, Option}
 use Rattle.std.proofs.Common.{option_and_then}
-use Rattle.pcrf_facts.specs.Facts.{Fact}
-use Rattle.pcrf_facts.specs.FlowWords.{value_at}
-use Rattle.pcrf_facts.specs.Held.{entry_shown}
-use Rattle.pcrf_facts.specs.Places.{apn}
+use Rattle.pcrf_values.specs.Facts.{Fact}
+use Rattle.pcrf_values.specs.FlowWords.{value_at}
+use Rattle.pcrf_values.specs.Held.{entry_shown}
+use Rattle.pcrf_values.specs.Places.{apn}
 use Rattle.pcrf_values.specs.declared.default_quality.DefaultQuality.{DefaultQuality}
 use Rattle.pcrf_values.specs.Limits.{delta_limit}
 use Rattle.pcrf_model.specs.Sessions.{Session}
@@ -13,8 +13,8 @@ use Rattle.pcrf_model.specs.Tables.{ApnRow, Tables, apn_row}
 use Rattle.pcrf_model.specs.Rules.{quality_of}
 use Rattle.pcrf_model.specs.Serving.{delta_of}
 use Rattle.pcrf_model.specs.Replies.{ReplyValue, OnGx, Granted}
-use Rattle.reply_values.specs.declared.answer.GxReply.{GxReply}
-use Rattle.reply_values.specs.Replies.{gx_reply_view}
+use Rattle.pcrf_model.specs.declared.answer.GxReply.{GxReply}
+use Rattle.pcrf_model.specs.ReplyViews.{gx_reply_view}
 use Rattle.site_machine.specs.declared.event.Reply.{Reply}
 use Rattle.site_machine.specs.declared.event.Reply.TheVariants as reply
 

@@ -1,6 +1,6 @@
 -- What is seen of a site, and what serving, pushes, aborts, retellings and letters make of it.
 use Rattle.std.specs.Prelude.{◌≡◌, ℕ, List, [], ◌∷◌, ◌++◌, Option, Some, None}
-use Rattle.pcrf_facts.specs.Facts.{Fact}
+use Rattle.pcrf_values.specs.Facts.{Fact}
 use Rattle.pcrf_values.specs.Limits.{delta_limit}
 use Rattle.pcrf_model.specs.Sessions.{Session}
 use Rattle.pcrf_model.specs.Holdings.{Holding, nothing_held, union, kept_of, with_facts_of}

@@ -12,12 +12,12 @@ use Rattle.pcrf_model.specs.Aborting.{lacks_counter_to_abort}
 use Rattle.pcrf_model.specs.Retelling.{lacks_counter_to_retell}
 use Rattle.pcrf_model.specs.Steps.{SiteEvent}
 use Rattle.pcrf_model.specs.Steps as events
-use Rattle.reply_values.specs.Replies.{push_view}
+use Rattle.pcrf_model.specs.ReplyViews.{push_view}
 use Rattle.gx_profile.specs.Requests.{ccr_view}
 use Rattle.rx_profile.specs.Aborts.{abort_view}
 use Rattle.rx_profile.specs.Requests.{aar_view}
 use Rattle.rx_profile.specs.Terminations.{str_view}
-use Rattle.base_profile.specs.Requests.{base_view}
+use Rattle.dia_base.specs.NeighbourRequests.{base_view}
 use Rattle.site_machine.specs.Replies.{gx_reply_value}
 use Rattle.site_machine.specs.declared.request.Request.{Request}
 use Rattle.site_machine.specs.declared.request.Request.TheVariants as request

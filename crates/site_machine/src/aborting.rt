@@ -1,7 +1,7 @@
 //! Sessions of application functions that a site asks to end, of its own accord.
 ghost use Rattle.std.specs.Prelude.{◌≡◌, ◌≢◌, ◌<◌, ◌∷◌, [], Some, false, true, length, IfOk, IfSome, OnOk, OnErr, IfErr, option_map};
 ghost use Rattle.std.specs.Option.{option_copied};
-ghost use Rattle.pcrf_facts.specs.Facts as facts;
+ghost use Rattle.pcrf_values.specs.Facts as facts;
 ghost use Rattle.pcrf_model.specs.Aborting.{abandoned_session, abort_of, lacks_counter_to_abort};
 ghost use Rattle.pcrf_model.specs.Forms.{is_operation};
 ghost use Rattle.pcrf_model.specs.Replies.{Aborted};
@@ -14,8 +14,7 @@ use crate::site::Site;
 use crate::witness::{Witness, shown};
 use af_records::AfFact;
 use pcrf_model::ranges::note_text;
-use pcrf_values::AfSid;
-use ranked::Ranked;
+use pcrf_values::{AfSid, Ranked};
 use rx_profile::AbortOut;
 use site_join::{Operation, SessionFacts};
 use std::alloc::AllocError;

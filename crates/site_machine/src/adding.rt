@@ -1,11 +1,13 @@
 //! Operations of a site's own, where what is known of their session then is made already.
-ghost use Rattle.std.specs.Prelude.{◌≡◌, ◌<◌, Some, None, length, OnOk, OnErr, IfSome};
-ghost use Rattle.pcrf_facts.specs.Held.{kept_list, join_of};
+ghost use Rattle.std.specs.Prelude.{◌≡◌, ◌<◌, true, Some, None, length, OnOk, OnErr, IfSome};
+ghost use Rattle.pcrf_values.specs.Facts.{Fact};
+ghost use Rattle.pcrf_values.specs.Held.{kept_list, join_of};
+ghost use Rattle.pcrf_values.specs.Sets.{In};
 ghost use Rattle.pcrf_model.specs.Holdings.{facts_on, kept_of};
 ghost use Rattle.pcrf_model.specs.Operations.{with_operation};
 ghost use Rattle.pcrf_model.specs.Sessions.{gx, af};
-ghost use Rattle.indexed_state.specs.Alike.{ShowAlike};
-ghost use Rattle.indexed_state.specs.Indexed.{IsTold};
+ghost use Rattle.indexed_state.specs.Alike.{BringsNothing};
+ghost use Rattle.indexed_state.specs.Indexed.{IsTold, tells};
 ghost use Rattle.indexed_state.specs.Opened.{OpensAlone};
 
 use crate::site::Site;
@@ -84,24 +86,37 @@ impl Site {
         Ok(())
     }
 
-    /// Adds an operation of the site's own on a gateway's session as `add_to_gateway` does, where rules and bindings by the record
-    /// that is known of it then are those by what was known.
-    pub(crate) fn add_refreshed(
-        &mut self,
-        operation: Operation,
-        id: &GxSid,
-        known: GxRec,
-    ) -> Result<(), AllocError>
+    /// Adds an operation of the site's own on a gateway's session that says nothing but what the gateway is told: its facts are
+    /// joined in place. Or changes nothing.
+    pub(crate) fn add_pushed(&mut self, operation: Operation, id: &GxSid) -> Result<(), AllocError>
         requires later { length self.old.state.log < operation.counter }
         requires session { operation.session ≡ gx id.now }
-        requires joins { known ≡ join_of
-            (facts_on self.old.state.holding.facts (gx id.now)) (kept_list operation.facts) }
-        requires alike { ShowAlike (facts_on self.old.state.holding.facts (gx id.now)) known }
+        requires told { (f : Fact) → In f operation.facts → tells f ≡ true }
         ensures ok { OnOk result (self.new ≡ with_made self.old (Some operation)) }
         ensures err { OnErr result (self.new ≡ self.old) }
     {
         self.log.try_reserve(1)?;
-        self.held.take_refreshed(&operation, id, known)?;
+        self.held.take_pushed(&operation, id)?;
+        self.log.push(operation).unwrap();
+        Ok(())
+    }
+
+    /// Adds an operation of the site's own on a gateway's session, where the record that is known of it then brings nothing new:
+    /// its facts are joined in place. Or changes nothing.
+    pub(crate) fn add_refreshed(
+        &mut self,
+        operation: Operation,
+        id: &GxSid,
+    ) -> Result<(), AllocError>
+        requires later { length self.old.state.log < operation.counter }
+        requires session { operation.session ≡ gx id.now }
+        requires nothing { BringsNothing self.old.tables self.old.state.holding (gx id.now) (join_of
+            (facts_on self.old.state.holding.facts (gx id.now)) (kept_list operation.facts)) }
+        ensures ok { OnOk result (self.new ≡ with_made self.old (Some operation)) }
+        ensures err { OnErr result (self.new ≡ self.old) }
+    {
+        self.log.try_reserve(1)?;
+        self.held.take_refreshed(&operation, id)?;
         self.log.push(operation).unwrap();
         Ok(())
     }

@@ -2,11 +2,11 @@
 ghost use Rattle.std.specs.Prelude.{◌≡◌, ◌<◌, length, ◌+◌, ◌++◌, ◌∷◌, [], List, ◌&&◌, Some, true, IfOk, IfSome, OnOk, OnErr, is_none, map, not};
 ghost use Rattle.std.specs.List.{list_any};
 ghost use Rattle.std.specs.Option.{option_copied};
-ghost use Rattle.ranked.specs.Ascending.{ascending};
-ghost use Rattle.pcrf_facts.specs.Facts.{Fact, fact_cmp};
-ghost use Rattle.pcrf_facts.specs.FlowWords.{or_else};
-ghost use Rattle.pcrf_facts.specs.Held.{kept_list, is_ended, join_of};
-ghost use Rattle.pcrf_facts.specs.Live.{af_is_live};
+ghost use Rattle.pcrf_values.specs.Ascending.{ascending};
+ghost use Rattle.pcrf_values.specs.Facts.{Fact, fact_cmp};
+ghost use Rattle.pcrf_values.specs.FlowWords.{or_else};
+ghost use Rattle.pcrf_values.specs.Held.{kept_list, is_ended, join_of};
+ghost use Rattle.pcrf_values.specs.Live.{af_is_live};
 ghost use Rattle.pcrf_model.specs.Forms.{is_operation};
 ghost use Rattle.pcrf_model.specs.Sessions.{af};
 ghost use Rattle.pcrf_model.specs.Holdings.{facts_on, under};
@@ -18,23 +18,22 @@ ghost use Rattle.af_records.specs.RecordFacts.{fact_of};
 ghost use Rattle.site_join.specs.States.{record_facts};
 ghost use Rattle.rx_profile.specs.Requests.{aar_view};
 ghost use Rattle.rx_profile.specs.Terminations.{str_view};
-ghost use Rattle.fact_making.specs.Call.{call_facts};
+ghost use Rattle.site_machine.specs.Call.{call_facts};
 ghost use Rattle.site_machine.specs.Calls.{late_refusal};
 ghost use Rattle.site_machine.specs.Replies.{is_plain};
 ghost use Rattle.site_machine.specs.Values.{reply_value};
 
 use crate::event::Reply;
+use crate::facts::{call_of, end_facts, ended_call, note_aar, note_str};
 use crate::site::Site;
 use af_records::{AfFact, AfRec};
 use dia_base::codes::results::{
     MISSING_AVP, SERVICE_NOT_AUTHORIZED, SESSION_NOT_AVAILABLE, UNABLE_TO_COMPLY,
     UNKNOWN_SESSION_ID,
 };
-use fact_making::{call_of, end_facts, ended_call, note_aar, note_str};
+use indexed_state::Tables;
 use lattice_core::Join;
-use op_tables::Tables;
-use pcrf_values::{AfSid, Refusal};
-use ranked::Ranked;
+use pcrf_values::{AfSid, Ranked, Refusal};
 use rx_profile::{Aar, Component, Str, is_removed};
 use site_join::{Operation, SessionFacts};
 use std::alloc::{AllocError, Global};

@@ -1,8 +1,8 @@
 //! Initial requests of sessions that come alone: no call can be bound to them, so they have the operator's rules at once.
 ghost use Rattle.std.specs.Prelude.{◌≡◌, ◌≢◌, ◌≤◌, ◌+◌, ◌++◌, [], Some, true, map, IfOk, IfSome, OnOk, OnErr};
 ghost use Rattle.pcrf_values.specs.Limits.{delta_limit, last_counter};
-ghost use Rattle.pcrf_facts.specs.Held.{kept_list, join_of};
-ghost use Rattle.pcrf_facts.specs.ToldWords.{told_rules};
+ghost use Rattle.pcrf_values.specs.Held.{kept_list, join_of};
+ghost use Rattle.pcrf_values.specs.ToldWords.{told_rules};
 ghost use Rattle.pcrf_model.specs.Differences.{difference, first};
 ghost use Rattle.pcrf_model.specs.Forms.{is_record};
 ghost use Rattle.pcrf_model.specs.Holdings.{facts_on};
@@ -13,16 +13,16 @@ ghost use Rattle.gx_profile.specs.Requests.{ccr_view};
 ghost use Rattle.indexed_state.specs.Opened.{OpensAlone};
 ghost use Rattle.site_machine.specs.Replies.{gx_reply_value, quality_shown};
 
+use crate::facts::{note_ccr, note_entries};
 use crate::refreshing::quality_by;
 use crate::site::Site;
 use crate::witness::{Witness, shown_to_gateway};
-use fact_making::{note_ccr, note_entries};
 use gx_profile::Ccr;
 use gx_records::{GxFact, GxRec};
 use lattice_core::Join;
+use pcrf_model::{FirstEntries, GxReply};
 use pcrf_values::{RequestKind, Rule};
-use reply_values::{FirstEntries, GxReply};
-use rule_delta::difference;
+use rule_delta::difference_of;
 use std::alloc::{AllocError, Global};
 
 impl Site {
@@ -80,8 +80,8 @@ impl Site {
         self.note_log();
         self.note_kept();
         let quality = quality_by(self.held.tables(), &known);
-        let before = known.told_rules(self.alloc)?;
-        let delta = FirstEntries::of(difference(self.alloc, &before, rules.as_slice())?);
+        let missing = difference_of(self.alloc, &known, rules.as_slice())?;
+        let delta = FirstEntries::of(missing);
         note_entries(&delta);
         let told = self.facts_told(counter, &delta)?;
         let known = told_joined(self.alloc, known, told.as_slice())?;

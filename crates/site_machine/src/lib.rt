@@ -1,11 +1,12 @@
-//! One site that decides: what it holds, and what it replies to each event. No bytes of messages: these are read and written
-//! above (`site_core`).
+//! One site that decides: what it holds, what it replies to each event, and which facts it makes of a request and of what a gateway
+//! is told (`facts`). No bytes of messages: these are read and written above (`site_core`).
 #![tactic(auto)]
 
 mod aborting;
 mod adding;
 mod calls;
 mod event;
+pub mod facts;
 mod fault;
 mod granting;
 mod lookup;
@@ -20,6 +21,10 @@ mod steps;
 mod witness;
 
 pub use event::{Event, Reply};
+pub use facts::{
+    call_of, end_facts, ended_call, ended_gateway, facts_made, note_aar, note_ccr, note_entries,
+    note_str, put_told, put_told_away,
+};
 pub use fault::StepFault;
 pub use indexed_state::Rules;
 pub use request::Request;

@@ -1,6 +1,6 @@
 //! What is looked up at a site: sessions, and whether one may be due.
 ghost use Rattle.std.specs.Prelude.{◌≡◌, Some, false, IfOk, IfSome};
-ghost use Rattle.bind_index.specs.Listings.{sessions_of};
+ghost use Rattle.indexed_state.specs.Listings.{sessions_of};
 ghost use Rattle.indexed_state.specs.Index.{Covers};
 ghost use Rattle.pcrf_model.specs.Pushing.{lacks_counter, nothing_pushed};
 ghost use Rattle.pcrf_model.specs.Views.{view};

@@ -3,9 +3,8 @@ ghost use Rattle.std.specs.Prelude.{◌≡◌, ◌↔◌, IsTrue};
 ghost use Rattle.site_join.specs.States.{session_of, facts_in};
 
 use af_records::{AfFact, ComponentValue, FlowValue};
-use exact_values::same;
 use gx_records::{GxFact, SessionValue};
-use ranked::Ranked;
+use pcrf_values::{Ranked, same};
 use site_join::{Operation, SessionFacts};
 
 /// Both lists have the same operations in the same order.

@@ -2,8 +2,8 @@
 ghost use Rattle.std.specs.Prelude.{◌≡◌, Some, None, if◌then◌else◌};
 ghost use Rattle.std.specs.Option.{option_copied};
 ghost use Rattle.pcrf_values.specs.Results.{authorization_rejected};
-ghost use Rattle.pcrf_facts.specs.Held.{is_ended};
-ghost use Rattle.pcrf_facts.specs.Live.{gx_is_live};
+ghost use Rattle.pcrf_values.specs.Held.{is_ended};
+ghost use Rattle.pcrf_values.specs.Live.{gx_is_live};
 ghost use Rattle.pcrf_model.specs.Refusals.{lacks_parameters, names_no_row};
 ghost use Rattle.pcrf_model.specs.Requests.{gives_no_address};
 ghost use Rattle.gx_profile.specs.Requests.{ccr_view};
@@ -12,7 +12,7 @@ ghost use Rattle.site_join.specs.States.{record_facts};
 use dia_base::codes::results::AUTHORIZATION_REJECTED;
 use gx_profile::Ccr;
 use gx_records::GxRec;
-use op_tables::Tables;
+use indexed_state::Tables;
 use pcrf_values::{Apn, Refusal};
 
 /// The session has ended, as far as is known.

@@ -1,6 +1,6 @@
 //! Lists of rules that a site keeps, and makes anew all at once.
 ghost use Rattle.std.specs.Prelude.{◌≡◌, IfOk};
-ghost use Rattle.indexed_state.specs.Kept.{AreKept};
+ghost use Rattle.indexed_state.specs.Cached.{AreCached};
 ghost use Rattle.indexed_state.specs.Many.{AreFresh};
 ghost use Rattle.pcrf_model.specs.Views.{view};
 
@@ -16,10 +16,10 @@ impl Site {
 
     /// The lists of PCC rules that are kept, each that of its gateway's session, by precedence and name. Of a session of which
     /// none is kept they may have changed, or nobody asked for them yet.
-    pub fn kept_rules(&self) -> &Rules
-        ensures { AreKept self.now.tables (view self.now.state.holding.facts) result.now }
+    pub fn cached_rules(&self) -> &Rules
+        ensures { AreCached self.now.tables (view self.now.state.holding.facts) result.now }
     {
-        self.held.kept_rules()
+        self.held.cached_rules()
     }
 
     /// Derives the rules of each live gateway's session of which none are kept, in as many threads as there are processors, and
@@ -30,7 +30,7 @@ impl Site {
         ensures fresh { IfOk result (λ lists.
             AreFresh self.old.tables (view self.old.state.holding.facts) lists.now) }
         ensures kept { IfOk result (λ lists.
-            AreKept self.old.tables (view self.old.state.holding.facts) lists.now) }
+            AreCached self.old.tables (view self.old.state.holding.facts) lists.now) }
     {
         self.held.renew(rt)
     }

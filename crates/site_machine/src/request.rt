@@ -2,7 +2,7 @@
 ghost use Rattle.std.specs.Prelude.{◌≡◌, ◌↔◌, IfOk, IsTrue};
 ghost use Rattle.site_machine.specs.Values.{request_value};
 
-use base_profile::BaseRequest;
+use dia_base::BaseRequest;
 use gx_profile::Ccr;
 use rx_profile::{Aar, Str};
 use std::alloc::AllocError;

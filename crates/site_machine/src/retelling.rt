@@ -8,13 +8,12 @@ ghost use Rattle.pcrf_model.specs.Retelling.{all_removed, lacks_counter_to_retel
 ghost use Rattle.pcrf_model.specs.Sessions.{gx};
 ghost use Rattle.pcrf_model.specs.Views.{view};
 
+use crate::facts::put_told_away;
 use crate::fault::StepFault;
 use crate::refusals::is_live;
 use crate::site::Site;
-use fact_making::put_told_away;
 use gx_records::Told;
-use pcrf_values::GxSid;
-use ranked::Ranked;
+use pcrf_values::{GxSid, Ranked};
 use rule_delta::told_rules_of;
 use site_join::{Operation, SessionFacts};
 use std::alloc::AllocError;
@@ -86,6 +85,7 @@ impl Site {
             told.as_slice(),
         )?;
         let facts = SessionFacts::Gx(session.try_copy()?, facts);
-        self.add(Operation::with_stamp(counter, self.number, 0, facts))
+        let operation = Operation::with_stamp(counter, self.number, 0, facts);
+        self.add_pushed(operation, session)
     }
 }

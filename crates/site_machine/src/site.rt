@@ -1,10 +1,10 @@
 //! One site: what it holds, and the operations that it made itself.
 ghost use Rattle.std.specs.Prelude.{◌≡◌, ◌≢◌, ◌<◌, ◌≤◌, ◌+◌, ◌++◌, [], ◌∷◌, None, Some, false, true, length, map, take, if◌then◌else◌, IfOk, OnOk, OnErr, IfErr, IfSome, option_map};
 ghost use Rattle.std.specs.Option.{option_copied};
-ghost use Rattle.ranked.specs.Sets.{Distinct};
+ghost use Rattle.pcrf_values.specs.Sets.{Distinct};
 ghost use Rattle.pcrf_values.specs.Results.{unable_to_comply};
 ghost use Rattle.pcrf_values.specs.declared.request_kind.RequestKind.TheVariants.{Termination};
-ghost use Rattle.pcrf_facts.specs.Held.{kept_list, join_of};
+ghost use Rattle.pcrf_values.specs.Held.{kept_list, join_of};
 ghost use Rattle.pcrf_values.specs.Limits.{delta_limit, last_counter, site_limit};
 ghost use Rattle.pcrf_model.specs.Holdings.{facts_on, kept_of, with_facts_of};
 ghost use Rattle.pcrf_model.specs.Pushing.{due_session, lacks_counter};
@@ -15,43 +15,41 @@ ghost use Rattle.pcrf_model.specs.Steps.{own_from};
 ghost use Rattle.pcrf_model.specs.Views.{view};
 ghost use Rattle.pcrf_model.specs.Rules.{quality_of, rules};
 ghost use Rattle.pcrf_model.specs.Differences.{rule_name_of};
-ghost use Rattle.pcrf_model.specs.OperatorValues.{bindings_of, operator_value};
-ghost use Rattle.operator_view.specs.Shown.{value_view};
+ghost use Rattle.pcrf_model.specs.SiteOverviews.{bindings_of, site_overview};
+ghost use Rattle.indexed_state.specs.Shown.{value_view};
 ghost use Rattle.pcrf_model.specs.Refusals.{is_clock_full, ccr_refusal};
 ghost use Rattle.pcrf_model.specs.ToldTags.{ToldUpTo};
 ghost use Rattle.pcrf_model.specs.Forms.{are_up_to, is_holding, is_operation, is_record};
 ghost use Rattle.pcrf_model.specs.Operations.{with_operation};
-ghost use Rattle.pcrf_facts.specs.FlowWords.{or_else};
-ghost use Rattle.reply_values.specs.Replies.{push_view};
+ghost use Rattle.pcrf_values.specs.FlowWords.{or_else};
+ghost use Rattle.pcrf_model.specs.ReplyViews.{push_view};
 ghost use Rattle.rule_delta.specs.Pushed.{push_of, untold_difference};
 ghost use Rattle.gx_records.specs.GxFacts.{fact_of};
 ghost use Rattle.gx_profile.specs.Requests.{ccr_view};
-ghost use Rattle.base_profile.specs.Requests.{base_view};
+ghost use Rattle.dia_base.specs.NeighbourRequests.{base_view};
 ghost use Rattle.site_join.specs.States.{record_facts};
 ghost use Rattle.site_machine.specs.Replies.{gx_reply_value, is_plain};
 ghost use Rattle.site_machine.specs.Values.{reply_value, request_value};
 
 use crate::event::Reply;
+use crate::facts::{ended_gateway, facts_made, note_ccr, note_entries, put_told};
 use crate::fault::StepFault;
 use crate::refreshing::quality_by;
 use crate::refusals::{has_ended, is_live, lacks, row_refusal};
 use crate::request::Request;
 use crate::witness::{Witness, shown, shown_plain, shown_to_gateway};
-use base_profile::{BaseRequest, base_refusal};
-use dia_base::Identity;
 use dia_base::codes::results::{INITIAL_PARAMETERS, SUCCESS, UNABLE_TO_COMPLY, UNKNOWN_SESSION_ID};
-use fact_making::{ended_gateway, facts_made, note_ccr, note_entries, put_told};
+use dia_base::{BaseRequest, Identity, base_refusal};
 use gx_profile::Ccr;
 use gx_records::{GxFact, GxRec};
-use indexed_state::IndexedState;
+use indexed_state::{IndexedState, SiteOverview, Tables, value};
 use lattice_core::Join;
-use op_tables::Tables;
-use operator_view::{OperatorValue, value};
 use pcrf_model::ranges::note_text;
+use pcrf_model::{FirstEntries, GxReply, PushOut};
 use pcrf_values::limits::{LAST_COUNTER, RANGE_LIMIT};
-use pcrf_values::{AfSid, DefaultQuality, Delta, GxSid, Refusal, RequestKind, Rule};
-use ranked::{Ranked, Tag};
-use reply_values::{FirstEntries, GxReply, PushOut};
+use pcrf_values::{
+    AfSid, DefaultQuality, Delta, GxSid, HashSeed, Ranked, Refusal, RequestKind, Rule, Tag,
+};
 use site_join::{Operation, SessionFacts, State};
 use std::alloc::{AllocError, Global};
 use std::marker::Model;
@@ -86,14 +84,28 @@ impl Model for Site {
 }
 
 impl Site {
-    ghost use Rattle.fact_making.specs.Told.{facts_told};
+    ghost use Rattle.site_machine.specs.Told.{facts_told};
     ghost use Rattle.site_machine.specs.Facts.{fields_of, opens, operation_made, operation_pushed, operation_told, operation_with};
     ghost use Rattle.site_machine.specs.Left.{LacksTheRest, fields_added, granted_opening, granted_request};
     ghost use Rattle.site_machine.specs.Replies.{told_reply};
     ghost use Rattle.site_machine.specs.Sites.{new_site, ccr_served, emptied_site, push_outcome_at, serve_outcome, with_made, with_one, with_record, with_state, with_taken};
 
-    /// A site that took nothing.
+    /// A site that took nothing. Hashes of Session-Ids begin with a seed that anybody knows: one that peers talk to is `seeded`.
     pub fn start(alloc: Global, tables: Tables, identity: Identity, number: u8) -> Site
+        requires { number < site_limit }
+        ensures { result ≡ new_site tables identity number }
+    {
+        Site::seeded(alloc, tables, identity, number, HashSeed::of(0))
+    }
+
+    /// A site that took nothing. Hashes of Session-Ids begin with this seed.
+    pub fn seeded(
+        alloc: Global,
+        tables: Tables,
+        identity: Identity,
+        number: u8,
+        seed: HashSeed,
+    ) -> Site
         requires { number < site_limit }
         ensures { result ≡ new_site tables identity number }
     {
@@ -101,9 +113,14 @@ impl Site {
             alloc,
             identity,
             number,
-            held: IndexedState::start(alloc, tables),
+            held: IndexedState::seeded(alloc, tables, seed),
             log: Vec::new(alloc),
         }
+    }
+
+    /// What hashes of Session-Ids begin with at this site.
+    pub fn seed(&self) -> HashSeed {
+        self.held.seed()
     }
 
     /// The number of the site.
@@ -154,9 +171,9 @@ impl Site {
     }
 
     /// All that an operator sees of the site.
-    pub fn value(&self) -> Result<OperatorValue, AllocError>
+    pub fn value(&self) -> Result<SiteOverview, AllocError>
         ensures { IfOk result (λ value.
-            value_view value ≡ operator_value self.now.tables self.now.state.holding) }
+            value_view value ≡ site_overview self.now.tables self.now.state.holding) }
     {
         value(self.alloc, self.held.tables(), self.held.state())
     }
@@ -292,8 +309,8 @@ impl Site {
     }
 
     /// Sets the fields of an accepted request and tells the gateway what it lacks then, or changes nothing. Where the request
-    /// brings nothing new, no rules are derived and nothing is compared but the record. Where it opens a session to which no
-    /// call can be bound, its rules are the operator's.
+    /// brings nothing new, no record is made and no rules are derived. Where it opens a session to which no call can be bound, its
+    /// rules are the operator's.
     fn provision<W: Witness>(
         &mut self,
         ccr: &Ccr,
@@ -317,12 +334,13 @@ impl Site {
         self.note_told();
         self.note_form();
         let facts = facts_made(self.alloc, ccr, self.tag(ccr.number, counter))?;
+        if let Some(known) = self.unchanged(ccr, facts.as_slice()) {
+            let quality = quality_by(self.held.tables(), known);
+            return self.refresh(ccr, counter, facts, quality, witness);
+        }
         let known = self.fields_joined(ccr, counter, facts.as_slice())?;
         if let Some(rules) = self.rules_alone(ccr, &known)? {
             return self.grant(ccr, counter, facts, known, rules, witness);
-        }
-        if self.held.brings_nothing(&ccr.session, &known) {
-            return self.refresh(ccr, counter, facts, known, witness);
         }
         let clock = self.held.clock();
         let stood = self.set_fields(ccr, counter, known)?;
@@ -661,7 +679,8 @@ impl Site {
         let mut facts = Vec::new(self.alloc);
         put_told(self.alloc, &mut facts, self.tag(0, counter), &push.delta)?;
         let facts = SessionFacts::Gx(push.session.try_copy()?, facts);
-        self.add(Operation::with_stamp(counter, self.number, 0, facts))
+        let operation = Operation::with_stamp(counter, self.number, 0, facts);
+        self.add_pushed(operation, &push.session)
     }
 
     /// Takes operations in order. An error tells how many stand taken.

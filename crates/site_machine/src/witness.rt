@@ -5,7 +5,7 @@ ghost use Rattle.site_machine.specs.Replies.{gx_reply_value, is_plain};
 ghost use Rattle.site_machine.specs.Values.{reply_value};
 
 use crate::event::Reply;
-use reply_values::GxReply;
+use pcrf_model::GxReply;
 use std::alloc::AllocError;
 
 /// Whoever is shown the reply to an event before the event happens, to keep of it what is wanted. Where memory for that is

@@ -1,6 +1,5 @@
 //! The hosts that came, so that an operator is told once of one that something may wait for while it is away.
-use pcrf_values::DiameterIdentity;
-use ranked::Ranked;
+use pcrf_values::{DiameterIdentity, Ranked};
 use std::alloc::Global;
 use std::sync::{Mutex, Wait};
 

@@ -1,7 +1,5 @@
 //! What a site says of itself on its own account.
-use base_profile::write_dwr;
-use dia_base::Identity;
-use standard_form::stated;
+use dia_base::{Identity, stated, write_dwr};
 use std::alloc::{AllocError, Global};
 use std::sync::atomic::{AtomicU64, Ordering};
 use std::time::Duration;

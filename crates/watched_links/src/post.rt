@@ -2,9 +2,9 @@
 //! worker waits for bytes. So nobody else waits for a peer that doesn't read.
 use crate::cause::Cause;
 use crate::counted::MessageCounts;
+use crate::outbox::{Outbox, PutFault};
 use crate::pushes::SentPushes;
 use dia_codec::read_header;
-use outbox::{Outbox, PutFault};
 use std::alloc::Global;
 use std::io::{self, ErrorKind, Write};
 use std::net::{Shutdown, TcpStream};

@@ -1,9 +1,10 @@
 //! Re-authorisation requests that went out, kept for a while, so that an operator can be told which rules one was about that a gateway
 //! refused.
 use crate::avps::first_avp;
+use crate::message::RecentMessage;
+use crate::messages::RecentMessages;
 use crate::printable::Printable;
 use dia_codec::{HEADER_BYTES, read_header};
-use kept_messages::{KeptMessage, KeptMessages};
 use std::alloc::{AllocError, Global};
 use std::fmt::Write;
 use std::sync::{Mutex, Wait};
@@ -30,7 +31,7 @@ const EVER: u64 = 1;
 #[derive(Drop)]
 pub struct SentPushes {
     alloc: Global,
-    kept: Mutex<KeptMessages>,
+    kept: Mutex<RecentMessages>,
 }
 
 /// Writes a name behind others.
@@ -91,13 +92,13 @@ fn names_in(alloc: Global, request: &[u8]) -> Result<String, AllocError> {
 }
 
 /// A message as it is kept, if it is a re-authorisation request.
-fn kept_push(alloc: Global, message: &[u8]) -> Option<KeptMessage> {
+fn kept_push(alloc: Global, message: &[u8]) -> Option<RecentMessage> {
     let header = read_header(message.first_chunk()?);
     if !header.flags.request || header.command != RE_AUTH {
         return None;
     }
     let bytes = Vec::from_slice(alloc, message).ok()?;
-    KeptMessage::of(header.hop_id, Vec::new(alloc), EVER, bytes)
+    RecentMessage::of(header.hop_id, Vec::new(alloc), EVER, bytes)
 }
 
 impl SentPushes {
@@ -105,7 +106,7 @@ impl SentPushes {
     pub fn start(alloc: Global) -> SentPushes {
         SentPushes {
             alloc,
-            kept: Mutex::new(KeptMessages::with_room(alloc, ROOM)),
+            kept: Mutex::new(RecentMessages::with_room(alloc, ROOM)),
         }
     }
 

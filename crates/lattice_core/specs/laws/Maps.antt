@@ -6,7 +6,7 @@ use Rattle.std.specs.Ordering.{ordering_reverse}
 use Rattle.std.specs.Cmp.{IsTotalOrder}
 use Rattle.std.proofs.Common.{ap, sym, ◌∙◌}
 use Rattle.std.proofs.lemmas.Cmp.{tied_itself, alike_right}
-use Rattle.ranked.specs.Exact.{IsExact}
+use Rattle.pcrf_values.specs.Exact.{IsExact}
 use Rattle.lattice_core.specs.Entries.{IsBelow, IsAscending, AllValues, put, put_all, map_joined}
 
 module _ {K V : Type 0} (cmp : K → K → Ordering) (join : V → V → V) (o : IsTotalOrder cmp) (s : IsExact cmp) where

@@ -4,11 +4,11 @@ use Rattle.std.specs.declared.cmp.Ordering.{Ordering}
 use Rattle.std.specs.Cmp.{IsTotalOrder}
 use Rattle.std.specs.Cmp.Lexicographic.{options_total}
 use Rattle.std.proofs.lemmas.Cmp.{then_total, on_total}
-use Rattle.ranked.specs.declared.tag.Tag.{Tag}
-use Rattle.ranked.specs.Exact.{IsExact}
-use Rattle.ranked.specs.laws.Exact.{option_same, pair_same}
-use Rattle.ranked.specs.laws.Tags.{tag_total, tag_same}
-use Rattle.ranked.specs.laws.Greater.{greater_comm, greater_assoc, greater_idem}
+use Rattle.pcrf_values.specs.declared.tag.Tag.{Tag}
+use Rattle.pcrf_values.specs.Exact.{IsExact}
+use Rattle.pcrf_values.specs.laws.Exact.{option_same, pair_same}
+use Rattle.pcrf_values.specs.laws.Tags.{tag_total, tag_same}
+use Rattle.pcrf_values.specs.laws.Greater.{greater_comm, greater_assoc, greater_idem}
 use Rattle.lattice_core.specs.Registers.{reg_cmp, reg_joined}
 
 module _ {T : Type 0} {R : T → T → Ordering} (o : IsTotalOrder R) where

@@ -2,9 +2,8 @@
 use crate::exchanging::letters::*;
 use crate::exchanging::peers::{Case, Outcome, assert_case, ends, told};
 use crate::exchanging::wire::{Doors, READ_BYTES, WRITE_BYTES};
-use link_ends::LinkEnd;
+use pcrf_serve::{LinkEnd, Role};
 use peer_exchange::LetterFault;
-use peer_links::Role;
 use std::test::*;
 
 /// The site was asked once.

@@ -1,14 +1,14 @@
 //! Letters of a site that begins anew: each is of the epoch in which the site made what it brings.
 ghost use Rattle.std.specs.Prelude.{◌≡◌};
-ghost use Rattle.living_site.specs.Sound.{AreNames};
+ghost use Rattle.site_lock.specs.Sound.{AreNames};
 
 use crate::exchanging::letters::*;
 use crate::exchanging::sites::{attach, new_site};
 use crate::exchanging::wire::{Gateways, OPEN, Wire};
-use link_ends::{Gate, LinkEnd};
-use living_site::{Keeper, LivingSite, Roll, Roster, Seat, Site};
-use peer_cursors::Cursors;
-use peer_links::{Role, exchange_with};
+use pcrf_serve::{Gate, LinkEnd, Role, exchange_with};
+use peer_exchange::Cursors;
+use site_lock::living::Seat;
+use site_lock::{Keeper, LivingSite, Roll, Roster, Site};
 use std::alloc::Global;
 use std::marker::Brand;
 use std::process::Abort;

@@ -1,10 +1,10 @@
 //! A peer that says what was written down before, a gate, and whoever reaches gateways.
 ghost use Rattle.std.specs.Prelude.{◌≡◌};
-ghost use Rattle.link_ends.specs.Earlier.{Adds};
-ghost use Rattle.link_ends.specs.Events.{IsPushToHost};
+ghost use Rattle.pcrf_serve.specs.Earlier.{Adds};
+ghost use Rattle.pcrf_serve.specs.Events.{IsPushToHost};
 
 use dia_base::Origin;
-use link_ends::{Gate, Pushes, SharedSite};
+use pcrf_serve::{Gate, Pushes, SharedSite};
 use samples::origin;
 use site_machine::Event;
 use std::alloc::{AllocError, Global};

@@ -1,5 +1,5 @@
 //! Gates that put messages of different connections in order.
-use link_ends::Gate;
+use pcrf_serve::Gate;
 use std::sync::atomic::{AtomicBool, Ordering};
 use std::thread;
 use std::time::{Clock, Duration};

@@ -1,16 +1,15 @@
 //! Pushes to two hosts at one site: each gets what is due to its own sessions.
 ghost use Rattle.std.specs.Prelude.{◌≡◌};
-ghost use Rattle.living_site.specs.Sound.{AreNames};
+ghost use Rattle.site_lock.specs.Sound.{AreNames};
 
 use crate::books::{opened, settled};
 use crate::serving::connections::{Keeping, Place, Written};
 use crate::serving::frames::put_frames;
 use crate::serving::gates::Open;
-use gateway_links::{Gateways, Half, Outgoing, push_all};
-use living_site::{LivingSite, Roll, Roster};
+use pcrf_serve::{Gateways, Half, Outgoing, push_all};
 use pcrf_values::DiameterIdentity;
 use samples::{SampleFault, initial, names, origin, with_rules};
-use shared_site::SharedSite;
+use site_lock::{LivingSite, Roll, Roster, SharedSite};
 use site_machine::{Event, Request, Site};
 use std::alloc::{AllocError, Global};
 use std::fmt::Write as _;

@@ -1,7 +1,6 @@
 //! An observer that notes what it is told.
 use dia_base::Origin;
-use gateway_links::Observer;
-use link_ends::LinkEnd;
+use pcrf_serve::{LinkEnd, Observer};
 use pcrf_values::{DiameterIdentity, GxSid};
 use std::alloc::{AllocError, Global};
 use std::fmt::Write as _;

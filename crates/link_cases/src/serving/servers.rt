@@ -4,7 +4,7 @@ ghost use Rattle.std.specs.Prelude.{◌≡◌};
 use crate::serving::connections::Input;
 use crate::serving::gates::{AtFirstWrite, InOrder, Leaving, Order, Place, Shut, Writes};
 use crate::serving::outcomes::{Outcome, serve};
-use link_ends::Gate;
+use pcrf_serve::Gate;
 use samples::messages::{
     CALL, DISCONNECT, EXCHANGE, INITIAL, OTHER_EXCHANGE, PUSH_DONE, PUSH_NAMELESS, PUSH_REFUSED,
     PUSH_UNAVAILABLE, RELEASE, WATCHDOG, WATCHDOG_ANSWER,

@@ -5,7 +5,7 @@ use crate::serving::connections::Input;
 use crate::serving::frames::first_frame;
 use crate::serving::gates::Open;
 use crate::serving::outcomes::{Outcome, serve};
-use link_ends::LinkEnd;
+use pcrf_serve::LinkEnd;
 use samples::messages::{INITIAL, INITIAL_GRANTED, INITIAL_TOO_BUSY, WATCHDOG};
 use std::alloc::{AllocError, Global};
 use std::marker::Brand;

@@ -4,8 +4,7 @@ use crate::socket_server::journal::{tell_sending_ended, tell_sent, tell_taken, t
 use crate::socket_server::settings::SiteEpoch;
 use crate::socket_server::sockets::PeerLink;
 use log::Log;
-use pcrf_serve::{Gate, LinkEnd, LockedSite, Pushes, Seat};
-use peer_links::{Cursors, Role, exchange_with};
+use pcrf_serve::{Cursors, Gate, LinkEnd, LockedSite, Pushes, Role, Seat, exchange_with};
 use std::alloc::Global;
 use std::sync::Wait;
 use std::sync::ledger::Ledger;

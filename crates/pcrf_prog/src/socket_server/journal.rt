@@ -5,6 +5,7 @@ use dia_base::codes::results::SUCCESS;
 use log::{Log, error, info, warn};
 use pcrf_serve::{LinkEnd, Observer};
 use pcrf_values::{DiameterIdentity, GxSid};
+use std::io;
 use std::net::SocketAddr;
 use std::sync::atomic::{AtomicBool, Ordering};
 use watched_links::Printable;
@@ -167,4 +168,9 @@ pub fn tell_sending_ended<G: Log>(log: &G, peer: SocketAddr, end: LinkEnd) {
 /// Letters of a peer site are taken no more.
 pub fn tell_taking_ended<G: Log>(log: &G, peer: SocketAddr, end: LinkEnd) {
     info!(log; target: TARGET, "letters of peer site {peer} ended: {}", Ending(end));
+}
+
+/// The machine tells no time or gives no random bytes.
+pub fn tell_no_start<G: Log>(log: &G, why: &io::Error) {
+    error!(log; target: TARGET, "the time or random bytes can't be had: {why}");
 }

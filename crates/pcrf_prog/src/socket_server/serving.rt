@@ -2,6 +2,7 @@
 ghost use Rattle.std.specs.Prelude.{◌≡◌, ◌≤◌};
 ghost use Rattle.pcrf_serve.specs.Limits.{most_seats};
 
+use crate::seeding::drawn_seed;
 use crate::socket_server::accepting::{Accepted, Reading, Writing, places};
 use crate::socket_server::exchanging::{Begun, Exchange, Exchanges, begin, join};
 use crate::socket_server::fault::ServerFault;
@@ -19,6 +20,7 @@ use std::alloc::{AllocError, Global};
 use std::io::{Read, Write};
 use std::marker::Brand;
 use std::net::{Net, TcpListener, TcpStream};
+use std::random::RandomSource;
 use std::sync::Wait;
 use std::sync::ledger::{Blank, Ledger};
 use std::thread::{self, Scope, Threads};
@@ -261,7 +263,12 @@ fn serve_locked<T: Threads + Wait + Sync, L: Ledger + Send + Sync, G: Log + Sync
 /// Runs a server: binds its sockets, meets its peer sites, accepts its connections and serves them, each by a worker of its own,
 /// and when all have ended settles the history and tells how many entries it has. The log is told what happens meanwhile.
 pub fn run_server<
-    R: Net<Listener = TcpListener, Stream = TcpStream> + Threads + Wait + Clock + Sync,
+    R: Net<Listener = TcpListener, Stream = TcpStream>
+        + Threads
+        + Wait
+        + Clock
+        + RandomSource
+        + Sync,
     G: Log + Sync,
 >(
     rt: &R,
@@ -271,9 +278,10 @@ pub fn run_server<
     settings: &Settings<'_>,
     log: &G,
 ) -> Result<usize, ServerFault> {
+    let seed = drawn_seed(rt, log)?;
     let sockets = open_sockets(rt, alloc, &settings.addresses, log)?;
     let places = places(alloc, settings.plan.connections)?;
-    let site = Site::start(alloc, tables, identity, settings.place.number);
+    let site = Site::seeded(alloc, tables, identity, settings.place.number, seed);
     let count = settings.plan.seats();
     let blank = Blank::new(count as u64);
     serve_locked::<R, Brand, G>(

@@ -3,7 +3,7 @@ use crate::socket_server::fault::ServerFault;
 use crate::socket_server::journal::{tell_dialled, tell_dialling, tell_listens};
 use crate::socket_server::settings::Addresses;
 use log::Log;
-use peer_links::Role;
+use pcrf_serve::Role;
 use std::alloc::Global;
 use std::net::{Net, SocketAddr, SocketAddrV4, TcpListener, TcpStream};
 use std::sync::Mutex;

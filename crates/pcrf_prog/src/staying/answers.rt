@@ -1,11 +1,11 @@
 //! Answers that are kept for requests which are repeated.
 use crate::staying::retelling::Glance;
 use dia_codec::{HEADER_BYTES, Header, read_header};
-use kept_messages::{KeptMessage, KeptMessages, with_hop_id};
 use pcrf_serve::Repeats;
 use std::alloc::{AllocError, Global};
 use std::sync::{Mutex, Wait};
 use std::time::Clock;
+use watched_links::{RecentMessage, RecentMessages, with_hop_id};
 
 /// How much room answers have: 64 MiB.
 const ROOM: u32 = 1 << 26;
@@ -18,17 +18,17 @@ const BASE: u32 = 0;
 
 /// Answers to requests that were served, each under the host that asked and its End-to-End Identifier.
 #[derive(Drop)]
-pub struct KeptAnswers<'r, C> {
+pub struct RecentAnswers<'r, C> {
     clock: &'r C,
-    kept: Mutex<KeptMessages>,
+    kept: Mutex<RecentMessages>,
 }
 
-impl<'r, C: Clock> KeptAnswers<'r, C> {
+impl<'r, C: Clock> RecentAnswers<'r, C> {
     /// None yet.
-    pub fn start(alloc: Global, clock: &'r C) -> KeptAnswers<'r, C> {
-        KeptAnswers {
+    pub fn start(alloc: Global, clock: &'r C) -> RecentAnswers<'r, C> {
+        RecentAnswers {
             clock,
-            kept: Mutex::new(KeptMessages::with_room(alloc, ROOM)),
+            kept: Mutex::new(RecentMessages::with_room(alloc, ROOM)),
         }
     }
 
@@ -40,17 +40,17 @@ impl<'r, C: Clock> KeptAnswers<'r, C> {
 }
 
 /// An answer, as it is kept.
-fn kept_answer(alloc: Global, at: u64, request: &[u8], answer: &[u8]) -> Option<KeptMessage> {
+fn kept_answer(alloc: Global, at: u64, request: &[u8], answer: &[u8]) -> Option<RecentMessage> {
     let header = read_header(request.first_chunk()?);
     if header.application == BASE {
         return None;
     }
     let name = Vec::from_slice(alloc, Glance::of(request).host?).ok()?;
     let bytes = Vec::from_slice(alloc, answer).ok()?;
-    KeptMessage::of(header.end_id, name, at, bytes)
+    RecentMessage::of(header.end_id, name, at, bytes)
 }
 
-impl<C: Clock> Repeats for KeptAnswers<'_, C> {
+impl<C: Clock> Repeats for RecentAnswers<'_, C> {
     fn answer_again<R: Wait>(
         &self,
         rt: &R,

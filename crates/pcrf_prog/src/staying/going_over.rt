@@ -2,19 +2,18 @@
 use crate::staying::journal::{tell_not_taken_over, tell_taken_over};
 use crate::staying::machine::Machine;
 use crate::staying::working::Shared;
-use gateway_links::{GoneOver, go_over};
 use gx_profile::Ccr;
 use gx_records::GxRec;
-use left_sessions::{Leaves, PIECE, next_updates};
-use link_ends::{Event, Pushes, Reply, SharedSite};
 use log::Log;
+use pcrf_serve::{
+    Event, GoneOver, Leaves, PIECE, Pushes, Reply, SharedSite, go_over, next_updates,
+};
 use pcrf_values::limits::SITE_LIMIT;
-use pcrf_values::{DiameterIdentity, GxSid};
+use pcrf_values::{DiameterIdentity, GxSid, Ranked};
 use peer_lines::{Hearing, Moment, Notice, ReachedHosts};
-use ranked::Ranked;
+use site_join::Entries;
 use std::alloc::AllocError;
 use std::collections::BTreeSet;
-use std::collections::btree_map::Iter;
 use std::sync::atomic::Ordering;
 use std::thread;
 use std::time::Duration;
@@ -51,7 +50,7 @@ struct Known<'a> {
 }
 
 impl Leaves for Known<'_> {
-    ghost use Rattle.reached_hosts.specs.Hosts.{goes_over};
+    ghost use Rattle.peer_lines.specs.Hosts.{goes_over};
 
     ghost leaves = { λ known host home. goes_over known.hosts.now known.moment host home };
 
@@ -137,7 +136,7 @@ fn moved_among<'s, 'r, S: SharedSite, M: Machine, G: Log>(
 fn next_piece<'s, 'r, S: SharedSite, M: Machine, G: Log>(
     rt: &'s M,
     all: &'s Shared<'s, 'r, S, M, G>,
-    sessions: &mut Iter<'_, GxSid, GxRec>,
+    sessions: &mut Entries<'_, GxSid, GxRec>,
 ) -> Result<Vec<Ccr>, AllocError> {
     let moment = Hearing::moment(rt, all.exchange.patience);
     let known = all.exchange.hosts.lock(rt);
@@ -175,7 +174,7 @@ fn take_over_among<'s, 'r, S: SharedSite, M: Machine, G: Log>(
     rt: &'s M,
     all: &'s Shared<'s, 'r, S, M, G>,
     seat: &mut S::Seat,
-    sessions: Iter<'_, GxSid, GxRec>,
+    sessions: Entries<'_, GxSid, GxRec>,
 ) -> Result<u64, AllocError> {
     let mut sessions = sessions;
     let mut taken = 0u64;

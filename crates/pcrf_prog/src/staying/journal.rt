@@ -7,14 +7,13 @@ use crate::staying::status::SiteFigures;
 use dia_base::Origin;
 use dia_base::codes::results::SUCCESS;
 use log::{Log, error, info, warn};
-use lost_rules::Refused;
 use pcrf_serve::{LinkEnd, Observer};
 use pcrf_values::{DiameterIdentity, GxSid};
 use std::io;
 use std::net::SocketAddr;
 use std::sync::Wait;
 use std::time::Clock;
-use watched_links::{Cause, Guests, Printable, SentPushes};
+use watched_links::{Cause, Guests, Printable, Refused, SentPushes};
 
 /// What stands before each line as its target.
 const TARGET: &str = "pcrf";
@@ -217,9 +216,4 @@ pub fn tell_unbound<G: Log>(log: &G, address: &str, why: &io::Error) {
 /// A text is no address.
 pub fn tell_no_address<G: Log>(log: &G, address: &str) {
     error!(log; target: TARGET, "{address} is no IPv4 address with a port from 0 to 65535");
-}
-
-/// The machine tells no time or gives no random bytes.
-pub fn tell_no_start<G: Log>(log: &G, why: &io::Error) {
-    error!(log; target: TARGET, "the time or random bytes can't be had: {why}");
 }

@@ -1,5 +1,5 @@
 //! How long the log of a site's own operations is.
-use link_ends::{Event, Reply, SharedSite};
+use pcrf_serve::{Event, Reply, SharedSite};
 use std::sync::Wait;
 
 /// A position in the log that none has: what comes from there on is nothing, and how long the log is is told all the same.

@@ -1,9 +1,8 @@
 //! How gateways are reached by who exchanges letters with peer sites.
 use crate::staying::journal::Journal;
 use crate::staying::machine::Machine;
-use link_ends::{Pushes, SharedSite};
 use log::Log;
-use pcrf_serve::Gateways;
+use pcrf_serve::{Gateways, Pushes, SharedSite};
 use std::alloc::{AllocError, Global};
 use std::sync::Wait;
 use std::thread::Threads;

@@ -7,8 +7,8 @@ mod remembering;
 mod repeating;
 
 pub use glance::Glance;
-use link_ends::{Event, Reply, SharedSite, StepFault};
 pub use losses::Losses;
+use pcrf_serve::{Event, Reply, SharedSite, StepFault};
 use pcrf_values::GxSid;
 pub use remembering::Remembering;
 pub use repeating::tell_refused_again;

@@ -1,16 +1,16 @@
 //! A server that stays, from its start on.
 ghost use Rattle.std.specs.Prelude.{◌≡◌, ◌≤◌};
-ghost use Rattle.living_site.specs.Sound.{AreNames};
+ghost use Rattle.site_lock.specs.Sound.{AreNames};
 
-use crate::socket_server::{Addresses, ServerFault, SiteEpoch, tell_listens};
+use crate::seeding::drawn_seed;
+use crate::socket_server::{Addresses, ServerFault, SiteEpoch, tell_listens, tell_no_start};
 use crate::staying::accepting::accept_all;
-use crate::staying::answers::KeptAnswers;
+use crate::staying::answers::RecentAnswers;
 use crate::staying::chairs::{Doors, chairs};
 use crate::staying::exchange::{Exchange, accept_links, dial_on, take_links};
 use crate::staying::going_over::look_for_moved;
 use crate::staying::journal::{
-    Journal, tell_no_start, tell_no_taking_over, tell_uncounted, tell_unkept, tell_unlinked_peer,
-    tell_unstaffed,
+    Journal, tell_no_taking_over, tell_uncounted, tell_unkept, tell_unlinked_peer, tell_unstaffed,
 };
 use crate::staying::keeping::{EpochKeeper, Housekeeper, keep_house};
 use crate::staying::machine::Machine;
@@ -20,16 +20,13 @@ use crate::staying::sockets::{address_of, bind};
 use crate::staying::status::{ASKS, Figures, Looked, accept_asks, answer_asks, count_sessions};
 use crate::staying::working::{Furniture, Shared, work};
 use dia_base::Identity;
-use gateway_links::first_end_id;
-use link_ends::SharedSite;
-use living_site::{LivingSite, Roll, Roster};
 use log::Log;
-use metered_site::MeteredSite;
 use op_tables::Tables;
-use pcrf_serve::{Gateways, Server, Site};
-use peer_lines::{Board, Expected, Hearing, Opening, Slot};
-use ranked::Ranked;
-use sealed_links::Key;
+use pcrf_serve::{Gateways, Server, SharedSite, Site, first_end_id};
+use pcrf_values::Ranked;
+use peer_lines::{Board, Expected, Hearing, Key, Opening, Slot};
+use site_lock::{LivingSite, Roll, Roster};
+use site_looks::MeteredSite;
 use std::alloc::{AllocError, Global};
 use std::io;
 use std::marker::Brand;
@@ -554,7 +551,7 @@ where
     };
     let gateways = Gateways::observed(alloc, journal);
     let repeats = Remembering {
-        kept: KeptAnswers::start(alloc, rt),
+        kept: RecentAnswers::start(alloc, rt),
         losses: &premises.furniture.losses,
         site,
         seat: Mutex::new(seats.retelling.take()),
@@ -647,6 +644,7 @@ pub fn run_staying<M: Machine, G: Log + Sync, R: Input, W: Output>(
     console: Console<R, W>,
     log: &G,
 ) -> Result<(), ServerFault> {
+    let seed = drawn_seed(rt, log)?;
     let exchange = exchange_of(rt, alloc, tables.edition(), settings, log)?;
     let seats = exchange.peers.len().saturating_mul(SEATS_OF_A_PEER);
     let serving = bind(rt, settings.addresses.listen, log)?;
@@ -669,7 +667,7 @@ pub fn run_staying<M: Machine, G: Log + Sync, R: Input, W: Output>(
         wait: settings.wait,
         log_limit: settings.log_limit,
     };
-    let site = Site::start(alloc, tables, identity, settings.place.number);
+    let site = Site::seeded(alloc, tables, identity, settings.place.number, seed);
     let others = seats.saturating_add(OTHER_SEATS);
     let roster = Roster::new(alloc, settings.connections.saturating_add(others))?;
     let file = settings.epoch_file;

@@ -2,10 +2,10 @@
 use crate::staying::journal::tell_unshown;
 use crate::staying::machine::Machine;
 use crate::staying::working::Shared;
-use link_ends::{Event, Reply, SharedSite};
+use indexed_state::{put_value, value};
 use log::Log;
 use op_tables::Tables;
-use operator_view::{put_value, value};
+use pcrf_serve::{Event, Reply, SharedSite};
 use std::alloc::{AllocError, Global};
 use std::io::{Read, Write};
 

@@ -2,8 +2,8 @@
 use Rattle.std.specs.Prelude.{◌≡◌}
 use Rattle.std.specs.Cmp.{IsTotalOrder}
 use Rattle.std.proofs.lemmas.Cmp.{then_total, on_total, nat_cmp_total, nat_list_cmp_total, lists_total}
-use Rattle.ranked.specs.Exact.{IsExact}
-use Rattle.ranked.specs.laws.Exact.{nat_same, text_same, list_same, pair_same, then_parts}
+use Rattle.pcrf_values.specs.Exact.{IsExact}
+use Rattle.pcrf_values.specs.laws.Exact.{nat_same, text_same, list_same, pair_same, then_parts}
 use Rattle.pcrf_values.specs.Prefixes.{prefix_cmp}
 use Rattle.pcrf_values.specs.Subscribers.{subscriber_cmp}
 use Rattle.pcrf_values.specs.RuleValues.{rule_cmp, delta_cmp}

@@ -1,8 +1,7 @@
 //! What site 0 counts as known to its peers, and what it is asked then for a letter.
 use crate::checks::{check, check_case, check_same};
 use crate::cursors::letters::{Brought, EDITION, acknowledgement, letter, operations};
-use peer_cursors::{Ack, Cursors};
-use peer_exchange::{Body, Letter};
+use peer_exchange::{Ack, Body, Cursors, Letter};
 use site_join::State;
 use site_machine::{Event, Reply};
 use std::alloc::AllocGlobal;

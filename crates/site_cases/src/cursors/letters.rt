@@ -1,7 +1,6 @@
 //! Letters of site 0 to site 1, and of site 1 to site 0.
-use pcrf_values::GxSid;
+use pcrf_values::{GxSid, Tag};
 use peer_exchange::{Acknowledgement, Body, Letter, Range, Snapshot};
-use ranked::Tag;
 use samples::{gateway_end, text};
 use site_join::{Operation, State};
 use std::alloc::AllocGlobal;

@@ -1,8 +1,7 @@
 //! What site 1 counts as taken of site 0.
 use crate::checks::{check_case, check_same};
 use crate::cursors::letters::{Brought, acknowledgement, letter};
-use peer_cursors::{Ack, Cursors};
-use peer_exchange::Letter;
+use peer_exchange::{Ack, Cursors, Letter};
 use std::alloc::AllocGlobal;
 use std::process::Abort;
 

@@ -1,12 +1,10 @@
 //! Whether an indexed state says what the passes over all sessions say of the state that it holds.
 use crate::indexes::making::{call_id, gateway_id, host, subscriber};
 use bind_index::{bind, sessions_of};
-use indexed_state::IndexedState;
-use operator_view::bindings;
+use indexed_state::{IndexedState, bindings};
 use pcc_rules::derive;
-use pcrf_values::{AfSid, GxSid, Rule};
-use ranked::Ranked;
-use reply_values::PushOut;
+use pcrf_model::PushOut;
+use pcrf_values::{AfSid, GxSid, Ranked, Rule};
 use rule_delta::next_push;
 use std::alloc::AllocGlobal;
 use std::process::Abort;

@@ -10,8 +10,8 @@ use crate::indexes::making::{
 };
 use gx_records::OpenRequestType;
 use indexed_state::IndexedState;
-use ranked::{Ranked, Tag};
-use reply_values::PushOut;
+use pcrf_model::PushOut;
+use pcrf_values::{Ranked, Tag};
 use samples::{Given, telephony};
 use site_join::{Operation, State};
 use std::alloc::AllocGlobal;

@@ -1,13 +1,11 @@
 //! What an index lists, and which rules are kept, of states of which the answers are known. What comes of a site's index is seen by
 //! what the site answers and pushes (`cases`).
 use crate::indexes::making::{address, call, call_id, gateway_id, host, request};
+use bind_index::Index;
 use gx_records::OpenRequestType;
-use kept_rules::Rules;
-use pcc_rules::derive;
-use pcrf_values::{GxSid, Subscriber};
-use ranked::{Ranked, Tag};
+use pcc_rules::{Rules, derive};
+use pcrf_values::{GxSid, Ranked, Subscriber, Tag};
 use samples::{Given, subscriber, telephony};
-use session_index::Index;
 use site_join::{Operation, State};
 use std::alloc::AllocGlobal;
 use std::process::Abort;
@@ -85,7 +83,7 @@ fn keep(rt: &(impl AllocGlobal + Abort), rules: &mut Rules, state: &State, sessi
 }
 
 /// How many rules are kept of a session.
-fn count_kept(rules: &Rules, session: &GxSid) -> Option<usize> {
+fn count_cached(rules: &Rules, session: &GxSid) -> Option<usize> {
     rules.get(session).map(|list| list.len())
 }
 
@@ -97,25 +95,25 @@ fn rules_are_stale_at_the_address_that_is_touched_alone(rt: HostRuntime) {
     let first = gateway_id(&rt, 1);
     let second = gateway_id(&rt, 2);
     let third = gateway_id(&rt, 3);
-    assert_eq!(rt; count_kept(&rules, &first), None);
+    assert_eq!(rt; count_cached(&rules, &first), None);
     keep(&rt, &mut rules, &state, &first);
     keep(&rt, &mut rules, &state, &second);
     keep(&rt, &mut rules, &state, &third);
-    assert_eq!(rt; count_kept(&rules, &first), Some(2));
-    assert_eq!(rt; count_kept(&rules, &second), Some(1));
-    assert_eq!(rt; count_kept(&rules, &third), Some(0));
+    assert_eq!(rt; count_cached(&rules, &first), Some(2));
+    assert_eq!(rt; count_cached(&rules, &second), Some(1));
+    assert_eq!(rt; count_cached(&rules, &third), Some(0));
     rules.touch(&index, address(1));
-    assert_eq!(rt; count_kept(&rules, &first), None);
-    assert_eq!(rt; count_kept(&rules, &second), Some(1));
+    assert_eq!(rt; count_cached(&rules, &first), None);
+    assert_eq!(rt; count_cached(&rules, &second), Some(1));
     rules.touch(&index, address(3));
     rules.touch_one(&third);
-    assert_eq!(rt; count_kept(&rules, &second), Some(1));
-    assert_eq!(rt; count_kept(&rules, &third), None);
+    assert_eq!(rt; count_cached(&rules, &second), Some(1));
+    assert_eq!(rt; count_cached(&rules, &third), None);
     keep(&rt, &mut rules, &state, &first);
-    assert_eq!(rt; count_kept(&rules, &first), Some(2));
+    assert_eq!(rt; count_cached(&rules, &first), Some(2));
     rules.touch_all();
-    assert_eq!(rt; count_kept(&rules, &first), None);
-    assert_eq!(rt; count_kept(&rules, &second), None);
+    assert_eq!(rt; count_cached(&rules, &first), None);
+    assert_eq!(rt; count_cached(&rules, &second), None);
     drop(third);
     drop(second);
     drop(first);

@@ -2,9 +2,8 @@
 use af_records::{AfFact, ComponentValue, FlowValue};
 use gx_records::{GxFact, SessionValue};
 use pcrf_values::{
-    AfSid, GxSid, Ipv6Prefix, Rule, RuleName, Subscriber, Subscribers, SubscriptionType,
+    AfSid, GxSid, Ipv6Prefix, Rule, RuleName, Subscriber, Subscribers, SubscriptionType, Tag,
 };
-use ranked::Tag;
 use samples::{Given, filters, operation, text};
 use site_join::{Operation, SessionFacts};
 use std::alloc::AllocGlobal;

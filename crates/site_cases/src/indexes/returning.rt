@@ -4,12 +4,11 @@ use crate::indexes::making::{
     address, call, call_end, call_within, gateway_end, host, prefix, prefixed, request, subscribed,
     subscriber,
 };
+use bind_index::{Index, network_of};
 use gx_records::OpenRequestType;
 use indexed_state::IndexedState;
-use pcrf_values::Subscriber;
-use ranked::Tag;
+use pcrf_values::{Subscriber, Tag};
 use samples::{Given, telephony};
-use session_index::{Index, network_of};
 use site_join::{Operation, State};
 use std::alloc::AllocGlobal;
 use std::process::Abort;

@@ -4,15 +4,12 @@
 use crate::indexes::making::{
     address, call, call_end, call_id, gateway_end, gateway_id, host, request,
 };
-use bind_index::bind;
+use bind_index::{Index, bind};
 use gx_records::OpenRequestType;
-use kept_rules::{Rules, derive_by};
 use op_tables::Tables;
-use pcc_rules::derive;
-use pcrf_values::GxSid;
-use ranked::{Ranked, Tag};
+use pcc_rules::{Rules, derive, derive_by};
+use pcrf_values::{GxSid, Ranked, Tag};
 use samples::{Given, telephony};
-use session_index::Index;
 use site_join::{Operation, State};
 use std::alloc::AllocGlobal;
 use std::process::Abort;

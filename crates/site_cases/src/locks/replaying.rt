@@ -1,8 +1,7 @@
 //! The history of a locked site, by the receipts of its seats, played again by a world of one site.
 use crate::checks::check;
-use exact_values::Exact;
+use pcrf_values::{Exact, Ranked};
 use pcrf_world::{World, WorldEvent, WorldFault, WorldOutcome};
-use ranked::Ranked;
 use samples::with_rules;
 use site_book::{Receipt, Seat};
 use site_machine::{Event, Reply};

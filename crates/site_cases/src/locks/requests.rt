@@ -1,5 +1,5 @@
 //! Requests of gateways and application functions, by the place of their session, as a site is asked to serve them.
-use base_profile::{BaseKind, BaseRequest};
+use dia_base::{BaseKind, BaseRequest};
 use dia_codec::HEADER_BYTES;
 use gx_profile::{Ccr, RequestKind};
 use pcrf_values::{AfSid, GxSid};

@@ -1,13 +1,11 @@
 //! The rules of many sessions beside those of each.
 use crate::many::expected::{is_with_call, is_without_call};
 use crate::many::making::{gateway_id, sessions, state_of};
-use kept_rules::derive_by;
-use many_rules::{derive_many, derive_many_by};
+use bind_index::Index;
 use op_tables::Tables;
-use pcc_rules::derive;
+use pcc_rules::{derive, derive_by, derive_many, derive_many_by};
 use pcrf_values::{GxSid, Rule};
 use samples::telephony;
-use session_index::Index;
 use site_join::State;
 use std::alloc::{AllocError, Global};
 use std::process::Abort;

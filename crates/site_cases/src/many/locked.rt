@@ -2,7 +2,7 @@
 ghost use Rattle.std.specs.Prelude.{◌≡◌};
 
 use crate::many::making::state_of;
-use crate::many::renewing::{count_kept, new_site};
+use crate::many::renewing::{count_cached, new_site};
 use site_book::Seat;
 use site_join::State;
 use site_lock::LockedSite;
@@ -44,7 +44,7 @@ fn settled<L: Ledger>(
         Ok(settled) => {
             let pages = settled.pages();
             let is_same = pages.site().sessions().equal(wanted);
-            let kept = count_kept(rt, alloc, pages.site().kept_rules(), MANY);
+            let kept = count_cached(rt, alloc, pages.site().cached_rules(), MANY);
             let entries = pages.entries();
             drop(settled);
             if is_same { Some((entries, kept)) } else { None }

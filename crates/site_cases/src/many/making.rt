@@ -1,8 +1,7 @@
 //! States of many gateways' sessions, each with an address of its own, and of as many calls, of which one is bound to each.
 use af_records::{AfFact, FlowValue};
 use gx_records::OpenRequestType;
-use pcrf_values::{AfSid, GxSid};
-use ranked::Tag;
+use pcrf_values::{AfSid, GxSid, Tag};
 use samples::{Given, call, filters, gateway_end, gateway_request, operation, text};
 use site_join::{Operation, SessionFacts, State};
 use std::alloc::Global;

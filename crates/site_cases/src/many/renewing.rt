@@ -1,10 +1,9 @@
 //! A site that renews its lists of rules: what it holds stays the same, and a list is kept of each live session.
 use crate::many::expected::is_with_call;
 use crate::many::making::{end, gateway_id, second_flow, state_of};
-use kept_rules::Rules;
-use operator_view::{AfSeen, GxSeen, OperatorValue, SessionSeen};
-use pcrf_values::Rule;
-use ranked::Ranked;
+use indexed_state::{AfSeen, GxSeen, SessionSeen, SiteOverview};
+use pcc_rules::Rules;
+use pcrf_values::{Ranked, Rule};
 use samples::{names, telephony};
 use site_join::Operation;
 use site_machine::Site;
@@ -36,7 +35,7 @@ fn site_of(rt: &impl Abort, alloc: Global, size: u16) -> Site {
 }
 
 /// Of how many of the first sessions a list is there, the one that they have by hand.
-pub fn count_kept(rt: &impl Abort, alloc: Global, lists: &Rules, size: u16) -> u16 {
+pub fn count_cached(rt: &impl Abort, alloc: Global, lists: &Rules, size: u16) -> u16 {
     let mut count = 0u16;
     for number in 0..size {
         let id = gateway_id(rt, alloc, number);
@@ -53,7 +52,7 @@ pub fn count_kept(rt: &impl Abort, alloc: Global, lists: &Rules, size: u16) -> u
 /// How many rules are kept of a session, if any list is.
 fn count_rules(rt: &impl Abort, alloc: Global, site: &Site, number: u16) -> Option<usize> {
     let id = gateway_id(rt, alloc, number);
-    let count = site.kept_rules().get(&id).map(|list: &[Rule]| list.len());
+    let count = site.cached_rules().get(&id).map(|list: &[Rule]| list.len());
     drop(id);
     count
 }
@@ -63,12 +62,12 @@ fn count_rules(rt: &impl Abort, alloc: Global, site: &Site, number: u16) -> Opti
 fn renew(rt: &(impl Threads + Abort + Sync), alloc: Global, site: &mut Site, size: u16) -> u16 {
     let before = site.sessions().try_copy().expect(rt, "memory");
     let logged = site.logged();
-    let count = count_kept(rt, alloc, site.renew(rt).expect(rt, "memory"), size);
+    let count = count_cached(rt, alloc, site.renew(rt).expect(rt, "memory"), size);
     let is_same = site.sessions().equal(&before);
     drop(before);
     assert!(rt; is_same);
     assert_eq!(rt; site.logged(), logged);
-    assert_eq!(rt; count_kept(rt, alloc, site.kept_rules(), size), count);
+    assert_eq!(rt; count_cached(rt, alloc, site.cached_rules(), size), count);
     count
 }
 
@@ -76,7 +75,7 @@ fn renew(rt: &(impl Threads + Abort + Sync), alloc: Global, site: &mut Site, siz
 fn many_lists_are_kept(rt: HostRuntime) {
     let alloc = rt.alloc();
     let mut site = site_of(&rt, alloc, MANY);
-    assert_eq!(&rt; count_kept(&rt, alloc, site.kept_rules(), MANY), 0);
+    assert_eq!(&rt; count_cached(&rt, alloc, site.cached_rules(), MANY), 0);
     assert_eq!(&rt; renew(&rt, alloc, &mut site, MANY), MANY);
     assert_eq!(&rt; renew(&rt, alloc, &mut site, MANY), MANY);
 }
@@ -106,7 +105,7 @@ fn same_call(ours: &SessionSeen<AfSeen>, theirs: &SessionSeen<AfSeen>) -> bool {
 }
 
 /// An operator sees the same rules and bindings, and the same clock.
-fn same_value(ours: &OperatorValue, theirs: &OperatorValue) -> bool {
+fn same_value(ours: &SiteOverview, theirs: &SiteOverview) -> bool {
     let mut is_same = ours.clock == theirs.clock
         && ours.gx.len() == theirs.gx.len()
         && ours.af.len() == theirs.af.len();
@@ -155,7 +154,7 @@ fn an_ended_session_has_no_list(rt: HostRuntime) {
     let mut site = site_of(&rt, alloc, FEW);
     assert_eq!(&rt; renew(&rt, alloc, &mut site, FEW), 12);
     take_one(&rt, alloc, &mut site, end(&rt, alloc, 3, 100));
-    assert_eq!(&rt; count_kept(&rt, alloc, site.kept_rules(), FEW), 11);
+    assert_eq!(&rt; count_cached(&rt, alloc, site.cached_rules(), FEW), 11);
     assert_eq!(&rt; renew(&rt, alloc, &mut site, FEW), 11);
     assert_eq!(&rt; count_rules(&rt, alloc, &site, 3), None);
 }
@@ -168,7 +167,7 @@ fn a_stale_list_is_made_anew(rt: HostRuntime) {
     assert_eq!(&rt; count_rules(&rt, alloc, &site, 5), Some(2));
     take_one(&rt, alloc, &mut site, second_flow(&rt, alloc, 5, 100));
     assert_eq!(&rt; count_rules(&rt, alloc, &site, 5), None);
-    assert_eq!(&rt; count_kept(&rt, alloc, site.kept_rules(), FEW), 11);
+    assert_eq!(&rt; count_cached(&rt, alloc, site.cached_rules(), FEW), 11);
     assert_eq!(&rt; renew(&rt, alloc, &mut site, FEW), 11);
     assert_eq!(&rt; count_rules(&rt, alloc, &site, 5), Some(3));
 }

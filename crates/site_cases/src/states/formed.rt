@@ -1,7 +1,7 @@
 //! An operation with as many facts as a call of 64 components of 64 flows has. Which other parts make one is tried by `cases`.
 use crate::states::building::call_id;
 use af_records::{AfFact, ComponentValue, FlowValue};
-use ranked::Tag;
+use pcrf_values::Tag;
 use site_join::{Operation, SessionFacts};
 use std::alloc::AllocGlobal;
 use std::process::Abort;

@@ -10,7 +10,7 @@ use crate::states::building::{
 };
 use af_records::AfRec;
 use gx_records::{GxRec, OpenRequestType};
-use ranked::Tag;
+use pcrf_values::Tag;
 use samples::{Given, call, gateway_request};
 use site_join::{Operation, State};
 use std::alloc::AllocGlobal;

@@ -1,5 +1,5 @@
 use Rattle.std.proofs.Common.{◌≡◌, option_map}
-use Rattle.ranked.specs.Sets.{greatest}
+use Rattle.pcrf_values.specs.Sets.{greatest}
 use Rattle.pcrf_model.specs.Bindings.{candidate_cmp}
 use Rattle.bind_index.specs.Matches.{best_from, match_value, matches_among}
 use Rattle.bind_index.proofs.binding.greatest_match.Given as goal

@@ -1,7 +1,7 @@
 use Rattle.std.proofs.Common.{◌≡◌, ◌≤◌, length, arith, ◌∙◌, ap}
-use Rattle.ranked.specs.Ascending.{ascending}
-use Rattle.ranked.specs.Sets.{if_any}
-use Rattle.ranked.proofs.Lengths.{length-ascending}
+use Rattle.pcrf_values.specs.Ascending.{ascending}
+use Rattle.pcrf_values.specs.Sets.{if_any}
+use Rattle.pcrf_values.proofs.Lengths.{length-ascending}
 use Rattle.pcrf_values.specs.Limits.{subscribers_limit}
 use Rattle.pcrf_values.specs.Subscribers.{subscriber_cmp}
 use Rattle.pcrf_values.proofs.Ranges.{one_to-if_any}

@@ -1,7 +1,7 @@
 use Rattle.std.proofs.Common.{◌≡◌, ◌∙◌, sym, ap, rules, append_assoc}
 use Rattle.std.specs.Ordering.{is_eq}
-use Rattle.ranked.specs.Orders.{text_cmp}
-use Rattle.ranked.proofs.OrderLaws.{eq_is, text_ranked}
+use Rattle.pcrf_values.specs.Orders.{text_cmp}
+use Rattle.pcrf_values.proofs.OrderLaws.{eq_is, text_ranked}
 use Rattle.fact_codec.proofs.texts.apn_at.Goals as goal
 
 pub returns-clause-spelled : goal.returns-clause-spelled

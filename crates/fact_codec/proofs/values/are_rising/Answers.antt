@@ -1,7 +1,7 @@
 use Rattle.std.proofs.Common.{◌∙◌, sym, ap}
 use Rattle.std.specs.Ordering.{is_lt}
 use Rattle.pcrf_values.specs.Subscribers.{subscriber_cmp}
-use Rattle.pcrf_facts.proofs.FactLaws.{subscriber_ranked}
+use Rattle.pcrf_values.proofs.FactLaws.{subscriber_ranked}
 use Rattle.fact_codec.proofs.Rising.{rises_on}
 use Rattle.fact_codec.proofs.values.are_rising.Goals as goal
 

@@ -1,8 +1,8 @@
 use Rattle.std.proofs.Common.{◌≡◌, ℕ, ◌∙◌, ◌&&◌, nat_le, List, ◌∷◌, ◌++◌, length, take, Some, sym, ap}
 use Rattle.std.specs.Ordering.{is_eq}
-use Rattle.ranked.specs.Orders.{text_cmp}
-use Rattle.ranked.proofs.OrderLaws.{eq_is, text_ranked}
-use Rattle.ranked.proofs.Plain.{came_from, some_same}
+use Rattle.pcrf_values.specs.Orders.{text_cmp}
+use Rattle.pcrf_values.proofs.OrderLaws.{eq_is, text_ranked}
+use Rattle.pcrf_values.proofs.Plain.{came_from, some_same}
 use Rattle.pcrf_values.specs.Prefixes.{Ipv6Prefix, address_bits, address_octets, first_bits, octets_for, padded}
 use Rattle.fact_codec.proofs.values.prefix_at.Goals as goal
 

@@ -1,9 +1,9 @@
 use Rattle.std.proofs.Common.{◌≡◌, ◌∙◌, true, ap, None, Some, rules, append_assoc}
-use Rattle.ranked.specs.Ascending.{ascending}
+use Rattle.pcrf_values.specs.Ascending.{ascending}
 use Rattle.pcrf_values.specs.Limits.{subscribers_limit}
 use Rattle.pcrf_values.specs.Subscribers.{subscriber_cmp}
 use Rattle.pcrf_values.specs.Texts.{one_to}
-use Rattle.pcrf_facts.proofs.FactLaws.{subscriber_ranked}
+use Rattle.pcrf_values.proofs.FactLaws.{subscriber_ranked}
 use Rattle.pcrf_model.specs.Forms.{is_rising}
 use Rattle.fact_codec.specs.Said.{subscribers}
 use Rattle.fact_codec.proofs.Rising.{one_to_is, set_itself}

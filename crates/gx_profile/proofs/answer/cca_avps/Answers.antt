@@ -1,5 +1,5 @@
 use Rattle.gx_profile.specs.Requests.{ccr_view}
-use Rattle.reply_values.specs.Replies.{gx_reply_view}
+use Rattle.pcrf_model.specs.ReplyViews.{gx_reply_view}
 use Rattle.gx_profile.proofs.MessageLengths.{cca_within}
 use Rattle.gx_profile.proofs.answer.cca_avps.Goals as goal
 

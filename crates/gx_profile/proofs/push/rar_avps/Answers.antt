@@ -1,5 +1,5 @@
 use Rattle.std.proofs.Common.{rules}
-use Rattle.reply_values.specs.Replies.{push_view}
+use Rattle.pcrf_model.specs.ReplyViews.{push_view}
 use Rattle.gx_profile.proofs.MessageLengths.{rar_within}
 use Rattle.gx_profile.proofs.push.rar_avps.Goals as goal
 

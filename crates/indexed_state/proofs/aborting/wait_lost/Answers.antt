@@ -1,10 +1,10 @@
 use Rattle.std.proofs.Common.{sym, ap, ◌∙◌, subst}
-use Rattle.ranked.proofs.Plain.{none_some, some_same}
+use Rattle.pcrf_values.proofs.Plain.{none_some, some_same}
 use Rattle.pcrf_model.specs.Views.{view}
 use Rattle.pcrf_values.specs.Prefixes.{Ipv6Prefix}
-use Rattle.session_index.specs.Networks.{network_of}
-use Rattle.waiting_sessions.proofs.Waited.{keeps_through}
-use Rattle.waiting_aborts.specs.Abandoned.{NetworkCallsWait}
+use Rattle.bind_index.specs.Networks.{network_of}
+use Rattle.rule_delta.proofs.Waited.{keeps_through}
+use Rattle.rule_delta.specs.Abandoned.{NetworkCallsWait}
 use Rattle.indexed_state.proofs.Near.{calls_on}
 use Rattle.indexed_state.proofs.aborting.wait_lost.Goals as goal
 

@@ -1,9 +1,9 @@
 use Rattle.std.proofs.Common.{true, refl, ap, ◌∙◌}
-use Rattle.ranked.proofs.Plain.{clash}
+use Rattle.pcrf_values.proofs.Plain.{clash}
 use Rattle.pcrf_model.specs.Sessions.{gx}
 use Rattle.pcrf_model.specs.Views.{view}
 use Rattle.site_join.specs.States.{record_facts}
-use Rattle.waiting_sessions.proofs.Waited.{keeps_through, waits_on}
+use Rattle.rule_delta.proofs.Waited.{keeps_through, waits_on}
 use Rattle.indexed_state.proofs.Agreeing.{Followed, agree_anew, agree_followed}
 use Rattle.indexed_state.proofs.BindingAlike.{binds_alike, agree_alike}
 use Rattle.indexed_state.proofs.following.follow.Goals as goal

@@ -1,10 +1,10 @@
 use Rattle.std.proofs.Common.{List, sym, ap, ◌∙◌, subst}
 use Rattle.std.specs.Option.{option_copied}
-use Rattle.pcrf_facts.specs.Facts.{Fact}
+use Rattle.pcrf_values.specs.Facts.{Fact}
 use Rattle.pcrf_model.specs.Views.{view}
-use Rattle.session_index.specs.Index.{ListsGateway}
-use Rattle.session_index.proofs.Covered.{covers_grow}
-use Rattle.session_index.proofs.Covering.{grows_itself}
+use Rattle.bind_index.specs.Index.{ListsGateway}
+use Rattle.bind_index.proofs.Covered.{covers_grow}
+use Rattle.bind_index.proofs.Covering.{grows_itself}
 use Rattle.site_join.specs.States.{record_facts}
 use Rattle.indexed_state.proofs.Agreeing.{placed_covered, none_listed}
 use Rattle.indexed_state.proofs.following.list_known.Goals as goal

@@ -1,4 +1,4 @@
-use Rattle.ranked.proofs.Plain.{clash}
+use Rattle.pcrf_values.proofs.Plain.{clash}
 use Rattle.pcrf_model.specs.Sessions.{af}
 use Rattle.indexed_state.proofs.Reading.{not_shown}
 use Rattle.indexed_state.proofs.forgetting.forget_call_at.Goals as goal

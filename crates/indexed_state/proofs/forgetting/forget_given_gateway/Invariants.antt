@@ -3,7 +3,7 @@ use Rattle.std.specs.Option.{option_copied}
 use Rattle.pcrf_model.specs.Holdings.{SessionFact, facts_on}
 use Rattle.pcrf_model.specs.Sessions.{gx}
 use Rattle.pcrf_model.specs.Views.{view}
-use Rattle.session_index.specs.Index.{Covers}
+use Rattle.bind_index.specs.Index.{Covers}
 use Rattle.site_join.specs.States.{record_facts}
 use Rattle.indexed_state.proofs.forgetting.forget_given_gateway.Given as goal
 

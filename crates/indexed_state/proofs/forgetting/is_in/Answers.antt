@@ -1,9 +1,9 @@
 use Rattle.std.proofs.Common.{sym, ap, ◌∙◌}
 use Rattle.std.specs.Ordering.{is_eq}
-use Rattle.ranked.proofs.Plain.{some_same}
+use Rattle.pcrf_values.proofs.Plain.{some_same}
 use Rattle.pcrf_values.specs.Prefixes.{prefix_cmp}
-use Rattle.session_index.specs.Networks.{network_of}
-use Rattle.session_index.proofs.Covering.{network_itself}
+use Rattle.bind_index.specs.Networks.{network_of}
+use Rattle.bind_index.proofs.Covering.{network_itself}
 use Rattle.indexed_state.proofs.forgetting.is_in.Goals as goal
 
 pub returns-in-Some : goal.returns-in-Some

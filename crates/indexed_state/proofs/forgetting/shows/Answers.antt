@@ -1,8 +1,8 @@
 use Rattle.std.proofs.Common.{sym, ap, ◌∙◌}
 use Rattle.std.specs.Ordering.{is_eq}
-use Rattle.ranked.proofs.Plain.{some_same}
-use Rattle.session_index.specs.Index.{address_cmp}
-use Rattle.session_index.proofs.Covering.{address_itself}
+use Rattle.pcrf_values.proofs.Plain.{some_same}
+use Rattle.bind_index.specs.Index.{address_cmp}
+use Rattle.bind_index.proofs.Covering.{address_itself}
 use Rattle.indexed_state.proofs.forgetting.shows.Goals as goal
 
 pub returns-in-Some : goal.returns-in-Some

@@ -2,7 +2,7 @@ use Rattle.std.proofs.Common.{[], Some, None, refl, sym, ap, ◌∙◌}
 use Rattle.std.specs.Option.{option_copied}
 use Rattle.pcrf_model.specs.Sessions.{gx}
 use Rattle.site_join.specs.States.{record_facts}
-use Rattle.pcrf_facts.specs.Values.{Prefix}
+use Rattle.pcrf_values.specs.Values.{Prefix}
 use Rattle.indexed_state.proofs.Reading.{prefix_shown}
 use Rattle.indexed_state.proofs.reached.prefix_in.Goals as goal
 

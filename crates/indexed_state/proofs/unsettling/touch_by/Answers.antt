@@ -1,6 +1,6 @@
 use Rattle.std.proofs.Common.{Option, sym, ◌∙◌, subst}
 use Rattle.pcrf_values.specs.Prefixes.{Ipv6Prefix}
-use Rattle.session_index.proofs.CoveredNetworks.{network_of_all}
+use Rattle.bind_index.proofs.CoveredNetworks.{network_of_all}
 use Rattle.indexed_state.specs.Indexed.{TouchesBy}
 use Rattle.indexed_state.proofs.Near.{none_touched, all_touched, both_touched}
 use Rattle.indexed_state.proofs.unsettling.touch_by.Goals as goal

@@ -1,8 +1,8 @@
 use Rattle.std.proofs.Common.{Option, sym, ◌∙◌, subst}
 use Rattle.pcrf_model.specs.Views.{view}
 use Rattle.pcrf_values.specs.Prefixes.{Ipv6Prefix}
-use Rattle.session_index.proofs.CoveredNetworks.{network_of_all}
-use Rattle.waiting_sessions.proofs.Waited.{keeps_itself, keeps_through}
+use Rattle.bind_index.proofs.CoveredNetworks.{network_of_all}
+use Rattle.rule_delta.proofs.Waited.{keeps_itself, keeps_through}
 use Rattle.indexed_state.specs.Indexed.{WaitsBy}
 use Rattle.indexed_state.proofs.Near.{none_waits, all_waits, both_wait}
 use Rattle.indexed_state.proofs.unsettling.wait_by.Goals as goal

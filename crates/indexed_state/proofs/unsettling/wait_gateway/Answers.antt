@@ -1,6 +1,6 @@
 use Rattle.std.proofs.Common.{sym, ap, ◌∙◌, is_some}
-use Rattle.ranked.proofs.Plain.{clash}
-use Rattle.waiting_sessions.proofs.Waited.{keeps_itself}
+use Rattle.pcrf_values.proofs.Plain.{clash}
+use Rattle.rule_delta.proofs.Waited.{keeps_itself}
 use Rattle.indexed_state.proofs.unsettling.wait_gateway.Goals as goal
 
 pub returns-then-is_some-clause-keeps : goal.returns-then-is_some-clause-keeps

@@ -1,4 +1,4 @@
-use Rattle.session_index.proofs.Covering.{grows_itself}
+use Rattle.bind_index.proofs.Covering.{grows_itself}
 use Rattle.indexed_state.proofs.whole.make_whole.Goals as goal
 
 pub returns-then-is_whole-clause-grows : goal.returns-then-is_whole-clause-grows

@@ -1,7 +1,7 @@
 use Rattle.std.proofs.Common.{◌≡◌, List, ℕ, None, map, take, refl, ap, sym, ◌∙◌}
 use Rattle.std.proofs.lemmas.List.{take_all}
 use Rattle.std.specs.BTreeMap.{insert_entry}
-use Rattle.ranked.specs.Orders.{text_cmp}
+use Rattle.pcrf_values.specs.Orders.{text_cmp}
 use Rattle.toml.specs.View.{view}
 use Rattle.pcrf_model.specs.Tables.{ApnRow}
 use Rattle.op_tables.specs.declared.place.TableKey.TheVariants as key

@@ -1,5 +1,5 @@
 use Rattle.pcrf_model.proofs.DifferenceLaws.{apply-difference, no_name_twice}
-use Rattle.pcrf_model.proofs.FirstEntries.{difference-first}
+use Rattle.pcrf_model.proofs.RestOfEntries.{difference-first}
 use Rattle.pcrf_model.proofs.DueLaws.{first_is_all}
 use Rattle.pcrf_model.proofs.laws.difference_leads_to_the_rules.Goals as goal
 

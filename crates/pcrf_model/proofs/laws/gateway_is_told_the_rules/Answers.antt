@@ -2,7 +2,7 @@ use Rattle.pcrf_model.specs.Views.{view}
 use Rattle.pcrf_model.specs.Rules.{rules}
 use Rattle.pcrf_model.specs.Differences.{told_rules_of}
 use Rattle.pcrf_model.proofs.DifferenceLaws.{apply-difference}
-use Rattle.pcrf_model.proofs.FirstEntries.{difference-first}
+use Rattle.pcrf_model.proofs.RestOfEntries.{difference-first}
 use Rattle.pcrf_model.proofs.FormReading.{flows_fit}
 use Rattle.pcrf_model.proofs.RuleNames.{rules-names_differ}
 use Rattle.pcrf_model.proofs.ToldLaws.{told_is_told}

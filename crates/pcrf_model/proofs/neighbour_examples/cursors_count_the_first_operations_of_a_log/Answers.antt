@@ -1,6 +1,6 @@
 use Rattle.std.proofs.Common.{zero, suc, inl, inr, refl, arith}
 use Rattle.std.specs.Fmt.{digits}
-use Rattle.ranked.proofs.Plain.{none_some}
+use Rattle.pcrf_values.proofs.Plain.{none_some}
 use Rattle.pcrf_model.specs.Views.{view}
 use Rattle.pcrf_model.specs.Bindings.{bind}
 use Rattle.pcrf_model.specs.Rules.{rules}

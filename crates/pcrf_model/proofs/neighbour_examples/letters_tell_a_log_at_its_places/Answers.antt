@@ -1,7 +1,7 @@
 use Rattle.std.proofs.Common.{◌≡◌, ◌≤◌, ℕ, ◌+◌, zero, suc, Some, inl, refl, sym, ◌∙◌, subst, slice_get, arith}
 use Rattle.std.specs.Fmt.{digits}
-use Rattle.ranked.proofs.Plain.{none_some, some_same}
-use Rattle.ranked.specs.Sets.{In}
+use Rattle.pcrf_values.proofs.Plain.{none_some, some_same}
+use Rattle.pcrf_values.specs.Sets.{In}
 use Rattle.pcrf_model.specs.Views.{view}
 use Rattle.pcrf_model.specs.Bindings.{bind}
 use Rattle.pcrf_model.specs.Rules.{rules}

@@ -1,9 +1,9 @@
 use Rattle.std.proofs.Common.{◌≡◌, Bool, false, Some, refl, ap}
 use Rattle.std.specs.Fmt.{digits}
 use Rattle.std.specs.Ordering.{is_eq}
-use Rattle.ranked.specs.Orders.{text_cmp}
-use Rattle.ranked.proofs.Plain.{clash, some_same}
-use Rattle.pcrf_facts.specs.Values.{Value, Address}
+use Rattle.pcrf_values.specs.Orders.{text_cmp}
+use Rattle.pcrf_values.proofs.Plain.{clash, some_same}
+use Rattle.pcrf_values.specs.Values.{Value, Address}
 use Rattle.pcrf_model.specs.Views.{view}
 use Rattle.pcrf_model.specs.Bindings.{Party, bind}
 use Rattle.pcrf_model.specs.Rules.{rules}

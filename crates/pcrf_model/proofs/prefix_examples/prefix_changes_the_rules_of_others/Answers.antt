@@ -10,7 +10,7 @@ use Rattle.pcrf_model.specs.Laws.{NeverMeet}
 use Rattle.pcrf_model.specs.Networks.{call_by_prefix, wider_session}
 use Rattle.pcrf_model.specs.Samples.{first_session, second_session}
 use Rattle.pcrf_model.specs.Scenes.{seen}
-use Rattle.ranked.proofs.Plain.{none_some}
+use Rattle.pcrf_values.proofs.Plain.{none_some}
 use Rattle.pcrf_model.proofs.prefix_examples.prefix_changes_the_rules_of_others.Goals as goal
 
 pub returns : goal.returns

@@ -2,8 +2,8 @@ use Rattle.std.proofs.Common.{◌≡◌, ◌≤◌, ℕ, true, nat_le, refl, sub
 use Rattle.std.proofs.lemmas.Bool.Decides.{nat_tests}
 use Rattle.std.specs.List.{list_all}
 use Rattle.std.specs.Ordering.{is_eq}
-use Rattle.ranked.specs.Orders.{text_cmp}
-use Rattle.ranked.proofs.OrderLaws.{text_ranked, eq_itself}
+use Rattle.pcrf_values.specs.Orders.{text_cmp}
+use Rattle.pcrf_values.proofs.OrderLaws.{text_ranked, eq_itself}
 use Rattle.pcrf_values.specs.Prefixes.{address_bits, first_bits}
 use Rattle.pcrf_model.specs.Forms.{is_byte}
 use Rattle.pcrf_model.proofs.ranges.note_prefix.Goals as goal

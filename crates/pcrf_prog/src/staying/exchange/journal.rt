@@ -2,8 +2,7 @@
 use crate::socket_server::Ending;
 use log::{Log, debug, info, warn};
 use pcrf_serve::LinkEnd;
-use peer_lines::Unlinked;
-use sealed_links::SealFault;
+use peer_lines::{SealFault, Unlinked};
 use std::io::{self, ErrorKind};
 use std::net::SocketAddr;
 

@@ -1,9 +1,9 @@
 //! What is known of what gateways may have lost.
-use lost_rules::{OriginStates, Refused, RefusedPushes};
 use pcrf_values::GxSid;
 use std::alloc::Global;
 use std::sync::{Mutex, Wait};
 use std::time::Clock;
+use watched_links::{OriginStates, Refused, RefusedPushes};
 
 /// What is known of what gateways may have lost. Its locks are held for a look-up or a change alone.
 #[derive(Drop)]

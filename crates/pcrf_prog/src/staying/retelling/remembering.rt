@@ -1,5 +1,5 @@
 //! Initial requests whose gateways may have lost what their sessions were told.
-use crate::staying::answers::KeptAnswers;
+use crate::staying::answers::RecentAnswers;
 use crate::staying::retelling::glance::Glance;
 use crate::staying::retelling::losses::Losses;
 use crate::staying::retelling::retell;
@@ -8,8 +8,7 @@ use dia_base::codes::GX;
 use dia_base::codes::commands::CREDIT_CONTROL;
 use dia_codec::{Header, MsgFault, read_header, read_message};
 use gx_profile::{Ccr, RequestKind, read_ccr};
-use link_ends::{SharedSite, StepFault};
-use pcrf_serve::Repeats;
+use pcrf_serve::{Repeats, SharedSite, StepFault};
 use pcrf_values::{DiameterIdentity, GxSid, SessionId};
 use std::alloc::{AllocError, Global};
 use std::sync::{Mutex, Wait};
@@ -29,7 +28,7 @@ const INITIAL: u32 = 1;
 /// and the push behind it has all.
 #[derive(Drop)]
 pub struct Remembering<'s, 'r, S: SharedSite, M> {
-    pub(crate) kept: KeptAnswers<'r, M>,
+    pub(crate) kept: RecentAnswers<'r, M>,
     pub(crate) losses: &'r Losses,
     pub(crate) site: &'s S,
     /// The seat at which sessions are told again, if there is one.

@@ -4,12 +4,11 @@ use crate::staying::machine::Machine;
 use crate::staying::retelling::losses::millis;
 use crate::staying::retelling::retell;
 use crate::staying::working::Shared;
-use link_ends::{Pushes, SharedSite};
 use log::Log;
-use lost_rules::PIECE;
-use pcrf_values::GxSid;
-use ranked::Ranked;
+use pcrf_serve::{Pushes, SharedSite};
+use pcrf_values::{GxSid, Ranked};
 use std::alloc::AllocError;
+use watched_links::PIECE;
 
 /// What came of the sessions that were due.
 #[derive(Clone, Copy)]

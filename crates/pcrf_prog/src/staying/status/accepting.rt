@@ -2,8 +2,8 @@
 use crate::staying::accepting::arrived;
 use crate::staying::machine::Machine;
 use crate::staying::working::Shared;
-use link_ends::SharedSite;
 use log::Log;
+use pcrf_serve::SharedSite;
 use std::net::TcpListener;
 use std::sync::Wait;
 use std::thread;

@@ -6,8 +6,9 @@ use crate::staying::status::looking::{address, gateway, session, subscriber};
 use crate::staying::status::telling::figures_of;
 use crate::staying::working::Shared;
 use log::{Log, debug};
-use overview_page::{CSS, HTML, SCRIPT};
-use site_status::{Head, Media, Page, Status, page_of, put_response, query_of, read_head};
+use site_status::{
+    CSS, HTML, Head, Media, Page, SCRIPT, Status, page_of, put_response, query_of, read_head,
+};
 use std::alloc::AllocError;
 use std::io::{self, ErrorKind, Read, Write};
 use std::net::{Shutdown, TcpStream};

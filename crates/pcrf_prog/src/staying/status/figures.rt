@@ -1,9 +1,9 @@
 //! What a server that stays counts of itself.
 use crate::staying::journal::is_lost;
 use crate::staying::status::history::History;
-use link_ends::LinkEnd;
-use metered_site::Meters;
+use pcrf_serve::LinkEnd;
 use peer_lines::LetterTraffic;
+use site_looks::Meters;
 use site_status::{CodeCounts, Counter, Gauge};
 use std::alloc::{AllocError, Global};
 use std::time::{Clock, Instant};

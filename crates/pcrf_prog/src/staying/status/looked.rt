@@ -1,7 +1,7 @@
 //! A site that can be looked at.
-use link_ends::SharedSite;
-use living_site::{LivingSite, Looker, Roll};
-use metered_site::MeteredSite;
+use pcrf_serve::SharedSite;
+use site_lock::{LivingSite, Looker, Roll};
+use site_looks::MeteredSite;
 use std::sync::Wait;
 use std::time::Clock;
 

@@ -5,8 +5,7 @@ use crate::staying::status::looked::Looked;
 use crate::staying::working::Shared;
 use form_urlencoded::parse;
 use log::Log;
-use pcrf_values::{AfSid, GxSid, SessionId, SubscriptionData};
-use ranked::Ranked;
+use pcrf_values::{AfSid, GxSid, Ranked, SessionId, SubscriptionData};
 use serde_json::json;
 use site_looks::{
     AddressLook, SessionLook, SubscriberLook, address_shown, session_shown, subscriber_shown,

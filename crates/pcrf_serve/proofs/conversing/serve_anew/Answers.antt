@@ -1,5 +1,5 @@
 use Rattle.std.proofs.Common.{ap}
-use Rattle.link_ends.proofs.Chains.{gains_equal, gains_then}
+use Rattle.pcrf_serve.proofs.Chains.{gains_equal, gains_then}
 use Rattle.pcrf_serve.proofs.Answering.{IsOfWorker, pushes_gained}
 use Rattle.pcrf_serve.proofs.conversing.serve_anew.Goals as goal
 use Rattle.pcrf_serve.proofs.conversing.serve_anew.Goals.{then-calls+in_ok-push, else-calls}

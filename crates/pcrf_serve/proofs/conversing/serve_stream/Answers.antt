@@ -1,4 +1,4 @@
-use Rattle.link_ends.proofs.Chains.{gains_then}
+use Rattle.pcrf_serve.proofs.Chains.{gains_then}
 use Rattle.pcrf_serve.proofs.Answering.{IsOfWorker}
 use Rattle.pcrf_serve.proofs.conversing.serve_stream.Goals as goal
 

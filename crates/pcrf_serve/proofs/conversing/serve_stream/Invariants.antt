@@ -1,4 +1,4 @@
-use Rattle.link_ends.specs.Earlier.{Adds}
+use Rattle.pcrf_serve.specs.Earlier.{Adds}
 use Rattle.pcrf_serve.specs.Serving.{IsOfConnection}
 use Rattle.pcrf_serve.proofs.conversing.serve_stream.Given as goal
 

@@ -1,7 +1,7 @@
 use Rattle.std.proofs.Common.{length, arith, ap, subst, ◌∙◌}
 use Rattle.pcrf_serve.specs.Workers.{BegunFrom}
 use Rattle.pcrf_serve.proofs.Covering.{Covers, covers_next, covers_all}
-use Rattle.link_ends.proofs.Chains.{gains_same}
+use Rattle.pcrf_serve.proofs.Chains.{gains_same}
 use Rattle.pcrf_serve.proofs.Answering.{IsOfWorker}
 use Rattle.pcrf_serve.proofs.workers.begin_all.Goals as goal
 

@@ -1,5 +1,5 @@
 use Rattle.std.proofs.Common.{◌≡◌, ℕ, List, [], ◌∷◌, ◌++◌, Some, sym, ap, ◌∙◌, subst, append_assoc, rules}
-use Rattle.ranked.proofs.Plain.{came_from, some_same}
+use Rattle.pcrf_values.proofs.Plain.{came_from, some_same}
 use Rattle.pcrf_model.specs.Letters.{LetterValue}
 use Rattle.fact_codec.specs.Spelling.{short_bytes, word_bytes}
 use Rattle.peer_exchange.specs.Form.{is_addressed, if_addressed}

@@ -1,5 +1,5 @@
 use Rattle.std.proofs.Common.{◌≡◌, ◌++◌, Some, subst, rules}
-use Rattle.ranked.proofs.Plain.{came_from, some_same}
+use Rattle.pcrf_values.proofs.Plain.{came_from, some_same}
 use Rattle.pcrf_model.specs.Operations.{Operation}
 use Rattle.pcrf_model.specs.Forms.{is_operation}
 use Rattle.site_join.specs.Formed.{operation_of, if_formed}

@@ -1,7 +1,7 @@
 use Rattle.std.proofs.Common.{◌≡◌, ℕ, ◌-◌, ◌≤◌, true, ◌&&◌, List, ◌++◌, length, drop, ap, ◌∙◌, rules, arith}
 use Rattle.fact_codec.specs.Spelling.{word_bytes}
 use Rattle.peer_exchange.specs.Spelling.{letter_bytes, spelling, spelling_in}
-use Rattle.ranked.proofs.Plain.{both}
+use Rattle.pcrf_values.proofs.Plain.{both}
 use Rattle.pcrf_model.proofs.FormLaws.{le_passes}
 use Rattle.peer_exchange.specs.Limits.{longest_letter}
 use Rattle.peer_exchange.specs.Form.{is_addressed, is_formed, is_letter}

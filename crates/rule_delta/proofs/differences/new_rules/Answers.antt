@@ -1,6 +1,6 @@
 use Rattle.std.proofs.Common.{not, ◌+◌, ◌++◌, ◌∷◌, [], take, filter, ap, sym, ◌∙◌, arith}
 use Rattle.std.specs.BTreeSet.{contains_by}
-use Rattle.ranked.specs.Orders.{pair_cmp, text_cmp}
+use Rattle.pcrf_values.specs.Orders.{pair_cmp, text_cmp}
 use Rattle.pcrf_values.specs.RuleValues.{RuleValue, rule_cmp}
 use Rattle.pcrf_model.specs.Differences.{holds}
 use Rattle.rule_delta.proofs.Steps.{taken_more, kept_more, left_more}

@@ -2,7 +2,7 @@
 use Rattle.std.proofs.Common.{◌≡◌, ℕ, List, take}
 use Rattle.std.specs.BTreeSet.{contains_by}
 use Rattle.std.specs.List.{list_any}
-use Rattle.ranked.specs.Orders.{text_cmp}
+use Rattle.pcrf_values.specs.Orders.{text_cmp}
 use Rattle.pcrf_model.specs.Differences.{has_name}
 use Rattle.rule_delta.proofs.names.names_of.Given as goal
 

@@ -1,7 +1,7 @@
 use Rattle.std.proofs.Common.{true, cond, ◌&&◌, ap, ◌∙◌, arith}
 use Rattle.std.specs.Ordering.{is_eq}
 use Rattle.std.specs.BTreeSet.{contains_by}
-use Rattle.ranked.specs.Orders.{pair_cmp, text_cmp}
+use Rattle.pcrf_values.specs.Orders.{pair_cmp, text_cmp}
 use Rattle.pcrf_values.specs.RuleValues.{rule_cmp}
 use Rattle.rule_delta.proofs.Steps.{any_more, both_equal}
 use Rattle.rule_delta.proofs.names.pairs_of.Goals as goal

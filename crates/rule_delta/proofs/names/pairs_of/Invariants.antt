@@ -1,7 +1,7 @@
 -- The set has the pairs before the index.
 use Rattle.std.proofs.Common.{◌≡◌, take}
 use Rattle.std.specs.BTreeSet.{contains_by}
-use Rattle.ranked.specs.Orders.{pair_cmp, text_cmp}
+use Rattle.pcrf_values.specs.Orders.{pair_cmp, text_cmp}
 use Rattle.pcrf_values.specs.RuleValues.{RuleValue, rule_cmp}
 use Rattle.pcrf_model.specs.Differences.{holds}
 use Rattle.rule_delta.proofs.names.pairs_of.Given as goal

@@ -3,7 +3,7 @@ use Rattle.std.proofs.Common.{◌≡◌, ℕ, List, take}
 use Rattle.std.specs.BTreeSet.{contains_by}
 use Rattle.std.specs.List.{list_any}
 use Rattle.std.specs.Ordering.{is_eq}
-use Rattle.ranked.specs.Orders.{text_cmp}
+use Rattle.pcrf_values.specs.Orders.{text_cmp}
 use Rattle.rule_delta.proofs.names.set_of.Given as goal
 
 abbrev pub invariant-loop-name : goal.invariant-loop-name

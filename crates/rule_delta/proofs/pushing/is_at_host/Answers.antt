@@ -2,8 +2,8 @@ use Rattle.std.proofs.Common.{ℕ, false, List, Option, sym, ap, ◌∙◌, opti
 use Rattle.std.specs.Option.{option_copied}
 use Rattle.std.specs.Ordering.{is_eq}
 use Rattle.std.proofs.lemmas.Map.Text.{is_eq-slice_cmp}
-use Rattle.ranked.specs.Orders.{text_cmp}
-use Rattle.pcrf_facts.specs.Values.{Entry}
+use Rattle.pcrf_values.specs.Orders.{text_cmp}
+use Rattle.pcrf_values.specs.Values.{Entry}
 use Rattle.pcrf_model.specs.Views.{as_text}
 use Rattle.rule_delta.specs.ByRecord.{is_at_host}
 use Rattle.rule_delta.proofs.pushing.is_at_host.Goals as goal

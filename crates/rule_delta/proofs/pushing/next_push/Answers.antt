@@ -1,7 +1,7 @@
 use Rattle.std.proofs.Common.{◌≡◌, IfOk, Option, option_map, subst}
 use Rattle.std.specs.Option.{option_copied}
 use Rattle.pcrf_model.specs.Replies.{PushValue}
-use Rattle.reply_values.specs.Replies.{push_view}
+use Rattle.pcrf_model.specs.ReplyViews.{push_view}
 use Rattle.rule_delta.proofs.DueRecord.{pushed_is}
 use Rattle.rule_delta.proofs.pushing.next_push.Goals as goal
 

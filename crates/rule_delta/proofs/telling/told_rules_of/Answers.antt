@@ -1,5 +1,5 @@
 use Rattle.std.proofs.Common.{◌≡◌, IfOk, List, ap, ◌∙◌, subst}
-use Rattle.pcrf_facts.specs.ToldWords.{ToldRule, told_rules}
+use Rattle.pcrf_values.specs.ToldWords.{ToldRule, told_rules}
 use Rattle.pcrf_model.specs.Sessions.{gx}
 use Rattle.rule_delta.proofs.ToldAlone.{told_alone}
 use Rattle.rule_delta.proofs.telling.told_rules_of.Goals as goal

@@ -1,7 +1,7 @@
 use Rattle.std.proofs.Common.{◌≡◌, ◌∙◌, sym, Less}
 use Rattle.pcrf_model.specs.Sessions.{session_cmp}
 use Rattle.pcrf_model.proofs.HoldingLaws.{session_ranked}
-use Rattle.ranked.proofs.Plain.{lt_less}
+use Rattle.pcrf_values.proofs.Plain.{lt_less}
 use Rattle.site_join.specs.Groups.{Group, group_of}
 use Rattle.site_join.specs.States.{session_of}
 use Rattle.site_join.proofs.RisingLaws.{rises_on}

@@ -1,5 +1,5 @@
 use Rattle.std.proofs.Common.{refl}
-use Rattle.pcrf_facts.specs.Places.{FramedIpAddress}
+use Rattle.pcrf_values.specs.Places.{FramedIpAddress}
 use Rattle.af_records.proofs.record.AfRec.address.Goals as goal
 
 pub returns-in-Some-default-Address : goal.returns-in-Some-default-Address

@@ -1,5 +1,5 @@
 use Rattle.std.proofs.Common.{refl}
-use Rattle.pcrf_facts.specs.Places.{CalledStationId}
+use Rattle.pcrf_values.specs.Places.{CalledStationId}
 use Rattle.af_records.proofs.record.AfRec.apn.Goals as goal
 
 pub returns-in-Some-default-Apn : goal.returns-in-Some-default-Apn

@@ -1,6 +1,6 @@
 use Rattle.std.proofs.Common.{◌≡◌, [], ap, sym, ◌∙◌}
-use Rattle.pcrf_facts.specs.Places.{OfComponent}
-use Rattle.pcrf_facts.specs.Held.{entry_shown}
+use Rattle.pcrf_values.specs.Places.{OfComponent}
+use Rattle.pcrf_values.specs.Held.{entry_shown}
 use Rattle.af_records.proofs.TypedLaws.{component_says}
 use Rattle.af_records.proofs.record.AfRec.component_field.Goals as goal
 

@@ -1,5 +1,5 @@
 use Rattle.std.proofs.Common.{refl}
-use Rattle.pcrf_facts.specs.Places.{MediaType}
+use Rattle.pcrf_values.specs.Places.{MediaType}
 use Rattle.af_records.proofs.record.AfRec.component_media_type.Goals as goal
 
 pub returns-in-Some-default-MediaType : goal.returns-in-Some-default-MediaType

@@ -1,5 +1,5 @@
 use Rattle.std.proofs.Common.{refl}
-use Rattle.pcrf_facts.specs.Places.{ComponentRateDown}
+use Rattle.pcrf_values.specs.Places.{ComponentRateDown}
 use Rattle.af_records.proofs.record.AfRec.component_rate_down.Goals as goal
 
 pub returns-in-Some-default-RateDown : goal.returns-in-Some-default-RateDown

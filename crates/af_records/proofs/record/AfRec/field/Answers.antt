@@ -1,6 +1,6 @@
 use Rattle.std.proofs.Common.{◌≡◌, [], ap, sym, ◌∙◌}
-use Rattle.pcrf_facts.specs.Places.{OfSession}
-use Rattle.pcrf_facts.specs.Held.{entry_shown}
+use Rattle.pcrf_values.specs.Places.{OfSession}
+use Rattle.pcrf_values.specs.Held.{entry_shown}
 use Rattle.af_records.proofs.TypedLaws.{session_says}
 use Rattle.af_records.proofs.record.AfRec.field.Goals as goal
 

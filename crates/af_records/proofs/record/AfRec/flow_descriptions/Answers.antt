@@ -1,5 +1,5 @@
 use Rattle.std.proofs.Common.{refl}
-use Rattle.pcrf_facts.specs.Places.{FlowDescriptions}
+use Rattle.pcrf_values.specs.Places.{FlowDescriptions}
 use Rattle.af_records.proofs.record.AfRec.flow_descriptions.Goals as goal
 
 pub returns-in-Some-default-Descriptions : goal.returns-in-Some-default-Descriptions

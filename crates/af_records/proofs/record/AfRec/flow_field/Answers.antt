@@ -1,6 +1,6 @@
 use Rattle.std.proofs.Common.{◌≡◌, [], ap, sym, ◌∙◌}
-use Rattle.pcrf_facts.specs.Places.{OfFlow}
-use Rattle.pcrf_facts.specs.Held.{entry_shown}
+use Rattle.pcrf_values.specs.Places.{OfFlow}
+use Rattle.pcrf_values.specs.Held.{entry_shown}
 use Rattle.af_records.proofs.TypedLaws.{flow_says}
 use Rattle.af_records.proofs.record.AfRec.flow_field.Goals as goal
 

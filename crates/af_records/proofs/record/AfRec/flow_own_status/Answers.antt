@@ -1,5 +1,5 @@
 use Rattle.std.proofs.Common.{refl}
-use Rattle.pcrf_facts.specs.Places.{FlowStatus}
+use Rattle.pcrf_values.specs.Places.{FlowStatus}
 use Rattle.af_records.proofs.record.AfRec.flow_own_status.Goals as goal
 
 pub returns-in-Some-default-Status : goal.returns-in-Some-default-Status

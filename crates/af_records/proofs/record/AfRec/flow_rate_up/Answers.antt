@@ -1,5 +1,5 @@
 use Rattle.std.proofs.Common.{refl}
-use Rattle.pcrf_facts.specs.Places.{FlowRateUp}
+use Rattle.pcrf_values.specs.Places.{FlowRateUp}
 use Rattle.af_records.proofs.record.AfRec.flow_rate_up.Goals as goal
 
 pub returns-in-Some-default-RateUp : goal.returns-in-Some-default-RateUp

@@ -1,5 +1,5 @@
 use Rattle.std.proofs.Common.{refl}
-use Rattle.pcrf_facts.specs.Places.{FlowUsage}
+use Rattle.pcrf_values.specs.Places.{FlowUsage}
 use Rattle.af_records.proofs.record.AfRec.flow_usage.Goals as goal
 
 pub returns-in-Some-default-Usage : goal.returns-in-Some-default-Usage

@@ -1,5 +1,5 @@
 use Rattle.std.proofs.Common.{refl}
-use Rattle.pcrf_facts.specs.Places.{OriginHost}
+use Rattle.pcrf_values.specs.Places.{OriginHost}
 use Rattle.af_records.proofs.record.AfRec.host.Goals as goal
 
 pub returns-in-Some-default-Host : goal.returns-in-Some-default-Host

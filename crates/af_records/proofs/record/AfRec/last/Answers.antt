@@ -1,5 +1,5 @@
 use Rattle.std.proofs.Common.{refl}
-use Rattle.pcrf_facts.specs.Places.{RequestType}
+use Rattle.pcrf_values.specs.Places.{RequestType}
 use Rattle.af_records.proofs.record.AfRec.last.Goals as goal
 
 pub returns-in-Some-default-Last : goal.returns-in-Some-default-Last

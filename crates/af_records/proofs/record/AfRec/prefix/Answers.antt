@@ -1,5 +1,5 @@
 use Rattle.std.proofs.Common.{refl}
-use Rattle.pcrf_facts.specs.Places.{FramedIpv6Prefix}
+use Rattle.pcrf_values.specs.Places.{FramedIpv6Prefix}
 use Rattle.af_records.proofs.record.AfRec.prefix.Goals as goal
 
 pub returns-in-Some-default-Prefix : goal.returns-in-Some-default-Prefix

@@ -1,5 +1,5 @@
 use Rattle.std.proofs.Common.{refl}
-use Rattle.pcrf_facts.specs.Places.{SubscriptionIds}
+use Rattle.pcrf_values.specs.Places.{SubscriptionIds}
 use Rattle.af_records.proofs.record.AfRec.subscribers.Goals as goal
 
 pub returns-in-Some-default-Subscribers : goal.returns-in-Some-default-Subscribers

@@ -1,6 +1,6 @@
 use Rattle.std.proofs.Common.{◌≡◌, [], ap, sym, ◌∙◌}
-use Rattle.pcrf_facts.specs.Places.{OfSession}
-use Rattle.pcrf_facts.specs.Held.{entry_shown}
+use Rattle.pcrf_values.specs.Places.{OfSession}
+use Rattle.pcrf_values.specs.Held.{entry_shown}
 use Rattle.gx_records.proofs.FieldLaws.{entry_of_field}
 use Rattle.gx_records.proofs.record.GxRec.field.Goals as goal
 

@@ -1,6 +1,6 @@
 use Rattle.std.proofs.Common.{◌≡◌, ◌∙◌, ap, None}
-use Rattle.pcrf_facts.specs.Places.{OfComponent, OfFlow}
-use Rattle.pcrf_facts.specs.Held.{entry_shown}
+use Rattle.pcrf_values.specs.Places.{OfComponent, OfFlow}
+use Rattle.pcrf_values.specs.Held.{entry_shown}
 use Rattle.gx_records.proofs.FieldLaws.{no_components, no_flows}
 use Rattle.gx_records.proofs.record.GxRec.note_places.Goals as goal
 

@@ -1,5 +1,5 @@
 use Rattle.std.proofs.Common.{◌≡◌, true, List, map, sym, subst}
-use Rattle.pcrf_facts.specs.Facts.{Fact}
+use Rattle.pcrf_values.specs.Facts.{Fact}
 use Rattle.pcrf_model.specs.Forms.{is_record}
 use Rattle.pcrf_model.specs.Sessions.{Gx}
 use Rattle.gx_records.specs.GxFacts.{fact_of}

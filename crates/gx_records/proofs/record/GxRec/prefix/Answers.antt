@@ -1,5 +1,5 @@
 use Rattle.std.proofs.Common.{refl}
-use Rattle.pcrf_facts.specs.Places.{FramedIpv6Prefix}
+use Rattle.pcrf_values.specs.Places.{FramedIpv6Prefix}
 use Rattle.gx_records.proofs.record.GxRec.prefix.Goals as goal
 
 pub returns-in-Some-default-Prefix : goal.returns-in-Some-default-Prefix

@@ -1,5 +1,5 @@
 use Rattle.std.proofs.Common.{refl}
-use Rattle.pcrf_facts.specs.Places.{OriginRealm}
+use Rattle.pcrf_values.specs.Places.{OriginRealm}
 use Rattle.gx_records.proofs.record.GxRec.realm.Goals as goal
 
 pub returns-in-Some-default-Realm : goal.returns-in-Some-default-Realm

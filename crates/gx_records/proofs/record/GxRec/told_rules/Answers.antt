@@ -1,6 +1,6 @@
 use Rattle.std.proofs.Common.{◌++◌, ap, ◌∙◌}
 use Rattle.std.specs.List.{filter_map, flat_map}
-use Rattle.pcrf_facts.specs.ToldWords.{told_rule}
+use Rattle.pcrf_values.specs.ToldWords.{told_rule}
 use Rattle.gx_records.specs.GxFacts.{rules_told}
 use Rattle.gx_records.proofs.FieldLaws.{rules_listed}
 use Rattle.gx_records.proofs.record.GxRec.told_rules.Goals as goal

@@ -1,5 +1,5 @@
 use Rattle.std.proofs.Common.{◌≡◌, true, List, sym, subst}
-use Rattle.pcrf_facts.specs.Facts.{Fact}
+use Rattle.pcrf_values.specs.Facts.{Fact}
 use Rattle.pcrf_model.specs.Forms.{is_record}
 use Rattle.pcrf_model.specs.Sessions.{Gx}
 use Rattle.pcrf_model.proofs.RecordForms.{joined_record}

@@ -3,10 +3,10 @@ use Rattle.pcrf_values.specs.Prefixes.{Ipv6Prefix}
 use Rattle.pcrf_model.specs.Holdings.{Holding}
 use Rattle.pcrf_model.specs.Sessions.{Session, is_gx}
 use Rattle.pcrf_model.specs.Views.{view}
-use Rattle.session_index.specs.Networks.{network_of}
-use Rattle.waiting_sessions.specs.Waits.{WaitsIfDue}
-use Rattle.waiting_sessions.proofs.Waited.{keeps_through, waits_on}
-use Rattle.waiting_aborts.specs.Abandoned.{ListedCallsWait, NetworkCallsWait}
+use Rattle.bind_index.specs.Networks.{network_of}
+use Rattle.rule_delta.specs.Waits.{WaitsIfDue}
+use Rattle.rule_delta.proofs.Waited.{keeps_through, waits_on}
+use Rattle.rule_delta.specs.Abandoned.{ListedCallsWait, NetworkCallsWait}
 use Rattle.indexed_state.specs.Indexed.{Agree, IsReached, Unsettled, spans}
 use Rattle.indexed_state.proofs.Agreeing.{Followed, agree_index, agree_grown, agree_followed, operation_differs, operation_covered}
 use Rattle.indexed_state.proofs.indexed.IndexedState.take.Goals as goal

@@ -1,6 +1,6 @@
 use Rattle.std.proofs.Common.{ℕ, max, Some, false, refl, sym, ap, ◌∙◌, subst}
-use Rattle.ranked.proofs.Plain.{clash}
-use Rattle.pcrf_facts.specs.Held.{kept_list, join_of}
+use Rattle.pcrf_values.proofs.Plain.{clash}
+use Rattle.pcrf_values.specs.Held.{kept_list, join_of}
 use Rattle.pcrf_model.specs.Holdings.{Holding, facts_on, kept_of}
 use Rattle.pcrf_model.specs.Operations.{with_operation}
 use Rattle.pcrf_model.specs.Sessions.{af}

@@ -1,12 +1,12 @@
 use Rattle.std.proofs.Common.{ℕ, max, Some, sym, ap, ◌∙◌, subst, true, refl}
-use Rattle.pcrf_facts.specs.Held.{kept_list, join_of}
-use Rattle.ranked.proofs.Plain.{clash}
+use Rattle.pcrf_values.specs.Held.{kept_list, join_of}
+use Rattle.pcrf_values.proofs.Plain.{clash}
 use Rattle.pcrf_model.specs.Holdings.{Holding, facts_on, kept_of}
 use Rattle.pcrf_model.specs.Operations.{with_operation}
 use Rattle.pcrf_model.specs.Sessions.{gx}
 use Rattle.pcrf_model.specs.Views.{view}
 use Rattle.site_join.specs.States.{record_facts}
-use Rattle.waiting_sessions.proofs.Waited.{keeps_through, waits_on}
+use Rattle.rule_delta.proofs.Waited.{keeps_through, waits_on}
 use Rattle.indexed_state.specs.Indexed.{Agree, IndexedValue, with_holding}
 use Rattle.indexed_state.proofs.Agreeing.{Followed, agree_index, agree_grown, agree_followed, operation_covered, placed_differs}
 use Rattle.indexed_state.proofs.PlacedRecord.{put_is_taken, put_known, put_up_to}

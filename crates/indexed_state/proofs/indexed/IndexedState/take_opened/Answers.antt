@@ -1,10 +1,10 @@
 use Rattle.std.proofs.Common.{ℕ, List, max, Some, sym, ap, ◌∙◌, subst}
-use Rattle.pcrf_facts.specs.Facts.{Fact}
-use Rattle.pcrf_facts.specs.Held.{kept_list, join_of}
+use Rattle.pcrf_values.specs.Facts.{Fact}
+use Rattle.pcrf_values.specs.Held.{kept_list, join_of}
 use Rattle.pcrf_model.specs.Holdings.{Holding, facts_on, kept_of}
 use Rattle.pcrf_model.specs.Operations.{with_operation}
 use Rattle.pcrf_model.specs.Sessions.{gx}
-use Rattle.session_index.specs.Index.{ListsGateway}
+use Rattle.bind_index.specs.Index.{ListsGateway}
 use Rattle.site_join.specs.States.{record_facts}
 use Rattle.indexed_state.specs.Alike.{ShowAlike}
 use Rattle.indexed_state.specs.Indexed.{Agree, IndexedValue, with_holding}

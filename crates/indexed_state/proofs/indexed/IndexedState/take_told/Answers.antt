@@ -1,5 +1,5 @@
 use Rattle.std.proofs.Common.{ℕ, max, Some, sym, ap, ◌∙◌, subst}
-use Rattle.pcrf_facts.specs.Held.{kept_list, join_of}
+use Rattle.pcrf_values.specs.Held.{kept_list, join_of}
 use Rattle.pcrf_model.specs.Holdings.{Holding, facts_on, kept_of}
 use Rattle.pcrf_model.specs.Operations.{with_operation}
 use Rattle.pcrf_model.specs.Sessions.{gx}

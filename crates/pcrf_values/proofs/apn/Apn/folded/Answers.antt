@@ -6,5 +6,5 @@ use Rattle.pcrf_values.proofs.apn.Apn.folded.Goals as goal
 
 pub invariant_of-result : goal.invariant_of-result
 invariant_of-result c =
-    let letters : c.of.result ≡ small_letters c.args.bytes.now = c.of.ensures ∙ c.loop-byte.invariant ∙ ap small_letters (take_all _ _ c.loop-byte-test.false) in
-    folded_keeps c.args.bytes.now c.of.result letters (search rules) (omega arith)
+    let letters : c.in_ok-text.text ≡ small_letters c.args.bytes.now = c.in_ok-text.ensures ∙ c.loop-byte.invariant ∙ ap small_letters (take_all _ _ c.loop-byte-test.false) in
+    folded_keeps c.args.bytes.now c.in_ok-text.text letters (search rules) (omega arith)

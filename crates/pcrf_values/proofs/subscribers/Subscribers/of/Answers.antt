@@ -1,8 +1,8 @@
 use Rattle.std.proofs.Common.{rules, sym, subst, ◌≡◌, ◌∙◌}
-use Rattle.ranked.specs.Ascending.{ascending}
+use Rattle.pcrf_values.specs.Ascending.{ascending}
 use Rattle.pcrf_values.specs.Subscribers.{subscriber_cmp}
 use Rattle.pcrf_values.specs.laws.Values.{subscriber_total, subscriber_same}
-use Rattle.ranked.proofs.AscendingLaws.{ascending_twice}
+use Rattle.pcrf_values.proofs.AscendingLaws.{ascending_twice}
 use Rattle.pcrf_values.proofs.subscribers.Subscribers.of.Goals as goal
 
 pub invariant_of-result : goal.invariant_of-result

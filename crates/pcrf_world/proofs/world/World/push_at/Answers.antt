@@ -5,7 +5,7 @@ use Rattle.pcrf_model.specs.Pushing.{lacks_counter}
 use Rattle.pcrf_model.specs.Replies.{Pushed}
 use Rattle.pcrf_model.specs.Worlds.{PushAt, PushedOut, ClockFull, Gives}
 use Rattle.pcrf_model.specs.Seen.{world_view_after}
-use Rattle.reply_values.specs.Replies.{push_view}
+use Rattle.pcrf_model.specs.ReplyViews.{push_view}
 use Rattle.site_machine.specs.Sites.{SiteValue, push_outcome_at, with_made}
 use Rattle.pcrf_world.specs.Members.{IsMember, seen_of, with_site}
 use Rattle.pcrf_world.specs.Values.{WorldValue, setting}

@@ -2,7 +2,7 @@ use Rattle.std.proofs.Common.{◌≡◌, true, List, [], ◌∷◌, ◌++◌, ma
 use Rattle.std.proofs.lemmas.List.{nil_from_length}
 use Rattle.std.specs.Cmp.{first_so, second_so}
 use Rattle.std.specs.List.{list_all}
-use Rattle.ranked.specs.Sets.{Same}
+use Rattle.pcrf_values.specs.Sets.{Same}
 use Rattle.pcrf_model.specs.Holdings.{SessionFact, Holding, kept_facts}
 use Rattle.pcrf_model.specs.Forms.{is_holding}
 use Rattle.site_join.specs.Groups.{Group, group_of, is_group, facts_of_groups}

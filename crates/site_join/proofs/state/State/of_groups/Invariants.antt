@@ -1,6 +1,6 @@
 use Rattle.std.proofs.Common.{◌≡◌, true, ◌++◌, length, map}
 use Rattle.std.specs.List.{list_all}
-use Rattle.ranked.specs.Sets.{Same}
+use Rattle.pcrf_values.specs.Sets.{Same}
 use Rattle.pcrf_model.specs.Holdings.{kept_facts}
 use Rattle.site_join.specs.Groups.{group_of, is_group, facts_of_groups}
 use Rattle.site_join.specs.States.{facts_of}

@@ -1,7 +1,7 @@
 use Rattle.std.proofs.Common.{rules, ◌≡◌, ℕ, true, [], ◌∷◌, Some, ap, sym, ◌∙◌, option_map, arith}
 use Rattle.std.specs.Option.{option_copied}
 use Rattle.pcrf_values.specs.Limits.{session_id_limit}
-use Rattle.pcrf_facts.specs.Facts as facts
+use Rattle.pcrf_values.specs.Facts as facts
 use Rattle.pcrf_model.specs.Forms.{is_text}
 use Rattle.pcrf_model.specs.Aborting.{lacks_counter_to_abort}
 use Rattle.pcrf_model.specs.Replies.{Outcome}

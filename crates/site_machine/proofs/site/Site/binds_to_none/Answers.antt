@@ -3,8 +3,8 @@ use Rattle.pcrf_model.specs.Bindings.{bind}
 use Rattle.pcrf_model.specs.Sessions.{af}
 use Rattle.pcrf_model.specs.Holdings.{under}
 use Rattle.pcrf_model.specs.Views.{view}
-use Rattle.bind_index.specs.Asking.{with_record}
-use Rattle.bind_index.proofs.Alike.{record_decides}
+use Rattle.indexed_state.specs.Asking.{with_record}
+use Rattle.indexed_state.proofs.Records.{record_decides}
 use Rattle.site_machine.specs.Sites.{SiteValue}
 use Rattle.site_machine.proofs.CallLaws.{asks_with, none_copied}
 use Rattle.site_machine.proofs.site.Site.binds_to_none.Goals as goal

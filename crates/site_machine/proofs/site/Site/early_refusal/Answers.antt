@@ -1,8 +1,8 @@
 use Rattle.std.proofs.Common.{not, ◌&&◌, List, Some, ap, sym, ◌∙◌}
 use Rattle.std.specs.List.{list_any}
-use Rattle.pcrf_facts.specs.Facts.{Fact}
-use Rattle.pcrf_facts.specs.Held.{is_ended}
-use Rattle.pcrf_facts.specs.Live.{af_is_live}
+use Rattle.pcrf_values.specs.Facts.{Fact}
+use Rattle.pcrf_values.specs.Held.{is_ended}
+use Rattle.pcrf_values.specs.Live.{af_is_live}
 use Rattle.pcrf_model.specs.Sessions.{af}
 use Rattle.pcrf_model.specs.Holdings.{facts_on}
 use Rattle.pcrf_model.specs.Refusals.{has_no_class}

@@ -1,7 +1,7 @@
 use Rattle.std.proofs.Common.{◌≡◌, List, IfOk, map, ap, sym, ◌∙◌, subst}
 use Rattle.gx_records.specs.GxFacts.{fact_of}
-use Rattle.pcrf_facts.specs.Facts.{Fact}
-use Rattle.pcrf_facts.specs.Held.{kept_list, join_of}
+use Rattle.pcrf_values.specs.Facts.{Fact}
+use Rattle.pcrf_values.specs.Held.{kept_list, join_of}
 use Rattle.pcrf_model.specs.Holdings.{facts_on}
 use Rattle.pcrf_model.specs.Sessions.{gx}
 use Rattle.gx_profile.specs.Requests.{ccr_view}

@@ -3,7 +3,7 @@ use Rattle.pcrf_model.specs.Sessions.{gx}
 use Rattle.pcrf_model.specs.Forms.{is_operation}
 use Rattle.gx_records.specs.GxFacts.{fact_of}
 use Rattle.gx_profile.specs.Requests.{ccr_view}
-use Rattle.fact_making.specs.Gateway.{made_facts}
+use Rattle.site_machine.specs.Gateway.{made_facts}
 use Rattle.site_machine.specs.Sites.{SiteValue}
 use Rattle.site_machine.proofs.Formed.{stamped, made_formed}
 use Rattle.site_machine.proofs.site.Site.fields_made.Goals as goal

@@ -1,9 +1,9 @@
 use Rattle.std.proofs.Common.{◌≡◌, ℕ, ◌+◌, true, List, ◌++◌, map, Some, ap, sym, ◌∙◌, subst, arith}
-use Rattle.pcrf_facts.specs.Facts.{Fact}
-use Rattle.pcrf_facts.specs.Held.{kept_list, join_of}
-use Rattle.pcrf_facts.specs.ToldWords.{told_rules}
+use Rattle.pcrf_values.specs.Facts.{Fact}
+use Rattle.pcrf_values.specs.Held.{kept_list, join_of}
+use Rattle.pcrf_values.specs.ToldWords.{told_rules}
 use Rattle.pcrf_values.specs.Limits.{delta_limit}
-use Rattle.pcrf_values.specs.RuleValues.{DeltaValue}
+use Rattle.pcrf_values.specs.RuleValues.{DeltaValue, RuleValue}
 use Rattle.pcrf_model.specs.Differences.{difference, first}
 use Rattle.pcrf_model.specs.Forms.{is_operation, is_record}
 use Rattle.pcrf_model.specs.Holdings.{facts_on, kept_of}
@@ -32,8 +32,8 @@ told_joined-requires g c = λ some.
     let k = kept_of (with_operation h (operation_made s.number (h.clock + 1) q q.kind)) in
     let joins = c.requires.joins ∙ ap (λ (n : ℕ). join_of (facts_on h.facts (gx q.session)) (kept_list (fields_of s.number n q q.kind))) next in
     let d = c.of-delta.result in
-    let lacks : d ≡ first delta_limit (difference (told_rules c.args.known) rs) = c.of-delta.ensures ∙ ap (first delta_limit) c.in_ok-difference.ensures
-    ∙ (λ i. first delta_limit (difference (c.in_ok-before.ensures i) (c.as_slice.ensures.value i))) in
+    let lacks : d ≡ first delta_limit (difference (told_rules c.args.known) rs) = c.of-delta.ensures ∙ ap (first delta_limit) c.in_ok-missing.ensures
+    ∙ ap (λ (rules : List RuleValue). first delta_limit (difference (told_rules c.args.known) rules)) c.as_slice.ensures.value in
     let is : d ≡ delta_of delta_limit s.tables (view k.facts) (gx q.session) = lacks ∙ delta_is s q c.note_kept.ensures c.args.known rs joins c.requires.alone in
     let apart = names_apart s q c.note_kept.ensures c.args.known rs joins c.requires.alone in
     let text = (origin_parts q.session q.host q.realm (ccr_parts q c.note_ccr.ensures).0).0 in
@@ -53,8 +53,8 @@ all_made-requires g c =
     let k = kept_of (with_operation h (operation_made s.number (h.clock + 1) q q.kind)) in
     let joins = c.requires.joins ∙ ap (λ (n : ℕ). join_of (facts_on h.facts (gx q.session)) (kept_list (fields_of s.number n q q.kind))) next in
     let d = c.of-delta.result in
-    let lacks : d ≡ first delta_limit (difference (told_rules c.args.known) rs) = c.of-delta.ensures ∙ ap (first delta_limit) c.in_ok-difference.ensures
-    ∙ (λ i. first delta_limit (difference (c.in_ok-before.ensures i) (c.as_slice.ensures.value i))) in
+    let lacks : d ≡ first delta_limit (difference (told_rules c.args.known) rs) = c.of-delta.ensures ∙ ap (first delta_limit) c.in_ok-missing.ensures
+    ∙ ap (λ (rules : List RuleValue). first delta_limit (difference (told_rules c.args.known) rules)) c.as_slice.ensures.value in
     let is : d ≡ delta_of delta_limit s.tables (view k.facts) (gx q.session) = lacks ∙ delta_is s q c.note_kept.ensures c.args.known rs joins c.requires.alone in
     let apart = names_apart s q c.note_kept.ensures c.args.known rs joins c.requires.alone in
     let fields = c.requires.fields in
@@ -88,8 +88,8 @@ pub returns-clause-ok : goal.returns-clause-ok
 returns-clause-ok g c =
     let s = c.args.self.now in
     let q = ccr_view c.args.ccr.now in
-    let lacks : c.of-delta.result ≡ first delta_limit (difference (told_rules c.args.known) c.args.rules.items) = c.of-delta.ensures ∙ ap (first delta_limit) c.in_ok-difference.ensures
-    ∙ (λ i. first delta_limit (difference (c.in_ok-before.ensures i) (c.as_slice.ensures.value i))) in
+    let lacks : c.of-delta.result ≡ first delta_limit (difference (told_rules c.args.known) c.args.rules.items) = c.of-delta.ensures ∙ ap (first delta_limit) c.in_ok-missing.ensures
+    ∙ ap (λ (rules : List RuleValue). first delta_limit (difference (told_rules c.args.known) rules)) c.as_slice.ensures.value in
     let fields = c.requires.fields in
     let told = c.in_ok-told.ensures in
     c.in_ok-add_opened.ensures.ok

@@ -1,7 +1,7 @@
 use Rattle.std.proofs.Common.{rules, ◌≡◌, ◌≤◌, ℕ, true, map, length, Some, Option, IfSome, ap, sym, ◌∙◌, subst, option_map, arith}
 use Rattle.std.specs.Option.{option_copied}
-use Rattle.ranked.specs.Sets.{Distinct}
-use Rattle.ranked.specs.declared.tag.Tag.{Tag}
+use Rattle.pcrf_values.specs.Sets.{Distinct}
+use Rattle.pcrf_values.specs.declared.tag.Tag.{Tag}
 use Rattle.pcrf_values.specs.Limits.{session_id_limit, delta_limit}
 use Rattle.pcrf_values.specs.RuleValues.{DeltaValue}
 use Rattle.pcrf_model.specs.Forms.{is_text}
@@ -12,11 +12,11 @@ use Rattle.pcrf_model.specs.Sessions.{gx}
 use Rattle.pcrf_model.specs.Views.{view}
 use Rattle.pcrf_model.specs.Rules as session
 use Rattle.pcrf_model.specs.Differences.{rule_name_of}
-use Rattle.reply_values.specs.declared.push.PushOut.{PushOut}
+use Rattle.pcrf_model.specs.declared.push.PushOut.{PushOut}
 use Rattle.pcrf_model.specs.Pushing.{lacks_counter}
 use Rattle.pcrf_model.specs.Replies.{Outcome}
 use Rattle.site_machine.specs.Sites.{SiteValue}
-use Rattle.reply_values.specs.Replies.{push_view}
+use Rattle.pcrf_model.specs.ReplyViews.{push_view}
 use Rattle.site_machine.specs.Facts.{operation_pushed}
 use Rattle.site_machine.specs.Left.{LacksTheRest}
 use Rattle.site_machine.specs.Sites.{push_outcome_at, with_made}

@@ -1,12 +1,12 @@
 use Rattle.std.proofs.Common.{◌≡◌, ℕ, ◌+◌, List, Some, Option, is_none, map, IfSome, ap, sym, ◌∙◌, subst, arith}
-use Rattle.ranked.specs.Ascending.{ascending}
+use Rattle.pcrf_values.specs.Ascending.{ascending}
 use Rattle.pcrf_values.specs.declared.refusal.Refusal.{Refusal}
-use Rattle.pcrf_facts.specs.Facts.{Fact, fact_cmp}
-use Rattle.pcrf_facts.specs.FlowWords.{or_else}
+use Rattle.pcrf_values.specs.Facts.{Fact, fact_cmp}
+use Rattle.pcrf_values.specs.FlowWords.{or_else}
 use Rattle.pcrf_model.specs.Replies.{Outcome}
 use Rattle.af_records.specs.RecordFacts.{fact_of}
 use Rattle.rx_profile.specs.Requests.{aar_view}
-use Rattle.fact_making.specs.Call.{call_facts}
+use Rattle.site_machine.specs.Call.{call_facts}
 use Rattle.site_machine.specs.Calls.{late_refusal}
 use Rattle.site_machine.specs.Facts.{operation_on_call}
 use Rattle.site_machine.specs.Sites.{with_made}

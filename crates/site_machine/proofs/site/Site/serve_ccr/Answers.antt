@@ -4,7 +4,7 @@ use Rattle.pcrf_values.specs.declared.request_kind.RequestKind.{RequestKind}
 use Rattle.pcrf_values.specs.declared.request_kind.RequestKind.TheVariants.{Termination}
 use Rattle.pcrf_values.specs.Results.{unable_to_comply}
 use Rattle.pcrf_values.specs.declared.refusal.Refusal.{Refusal}
-use Rattle.pcrf_facts.specs.FlowWords.{or_else}
+use Rattle.pcrf_values.specs.FlowWords.{or_else}
 use Rattle.pcrf_model.specs.Replies.{ReplyValue, Outcome}
 use Rattle.site_machine.specs.Sites.{SiteValue}
 use Rattle.gx_profile.specs.Requests.{ccr_view}

@@ -1,7 +1,7 @@
 use Rattle.std.proofs.Common.{ℕ, ◌+◌, List, Some, map, ap, sym, ◌∙◌}
-use Rattle.pcrf_facts.specs.Facts.{Fact}
-use Rattle.pcrf_facts.specs.Held.{kept_list, join_of}
-use Rattle.pcrf_facts.specs.Live.{af_is_live}
+use Rattle.pcrf_values.specs.Facts.{Fact}
+use Rattle.pcrf_values.specs.Held.{kept_list, join_of}
+use Rattle.pcrf_values.specs.Live.{af_is_live}
 use Rattle.pcrf_model.specs.Sessions.{af}
 use Rattle.pcrf_model.specs.Holdings.{facts_on}
 use Rattle.pcrf_model.specs.Replies.{Refused, Outcome}

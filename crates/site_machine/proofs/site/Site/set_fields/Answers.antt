@@ -1,6 +1,6 @@
 use Rattle.std.proofs.Common.{◌≡◌, true, Some, refl, sym, ap, ◌∙◌, subst}
 use Rattle.std.proofs.lemmas.Result.{on_ok_weaker}
-use Rattle.pcrf_facts.specs.Held.{kept_list}
+use Rattle.pcrf_values.specs.Held.{kept_list}
 use Rattle.pcrf_model.specs.Forms.{are_up_to}
 use Rattle.pcrf_model.specs.Holdings.{with_facts_of}
 use Rattle.pcrf_model.specs.Sessions.{gx}

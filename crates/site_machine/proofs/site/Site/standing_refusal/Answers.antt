@@ -3,10 +3,10 @@ use Rattle.pcrf_values.specs.declared.refusal.Refusal.{Refusal}
 use Rattle.pcrf_model.specs.Sessions.{gx}
 use Rattle.pcrf_model.specs.Holdings.{facts_on}
 use Rattle.pcrf_model.specs.Tables.{Tables}
-use Rattle.pcrf_facts.specs.FlowWords.{or_else}
+use Rattle.pcrf_values.specs.FlowWords.{or_else}
 use Rattle.site_machine.specs.Sites.{SiteValue}
-use Rattle.pcrf_facts.specs.Held.{is_ended}
-use Rattle.pcrf_facts.specs.Live.{gx_is_live}
+use Rattle.pcrf_values.specs.Held.{is_ended}
+use Rattle.pcrf_values.specs.Live.{gx_is_live}
 use Rattle.gx_profile.specs.Requests.{ccr_view}
 use Rattle.site_machine.proofs.Replies.{by_clock, by_row, initial_ended, initial_lacking, initial_whole, update_unknown, update_known, termination_unknown, termination_known}
 use Rattle.site_machine.proofs.site.Site.standing_refusal.Goals as goal

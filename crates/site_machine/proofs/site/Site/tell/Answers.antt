@@ -1,7 +1,7 @@
 use Rattle.std.proofs.Common.{◌≡◌, true, List, ◌++◌, map, Some, ap, sym, ◌∙◌, subst, arith}
 use Rattle.pcrf_values.specs.RuleValues.{DeltaValue}
-use Rattle.pcrf_facts.specs.Facts.{Fact}
-use Rattle.pcrf_facts.specs.Held.{kept_list, join_of}
+use Rattle.pcrf_values.specs.Facts.{Fact}
+use Rattle.pcrf_values.specs.Held.{kept_list, join_of}
 use Rattle.pcrf_values.specs.Limits.{delta_limit}
 use Rattle.pcrf_model.specs.Forms.{is_operation, is_record}
 use Rattle.pcrf_model.specs.Holdings.{facts_on, kept_of}

@@ -1,6 +1,6 @@
 use Rattle.std.proofs.Common.{rules, ◌≡◌, Bool, true, false, cond, List, [], IfOk, ap, sym, ◌∙◌, subst}
-use Rattle.pcrf_facts.specs.Live.{gx_is_live}
-use Rattle.pcrf_facts.specs.ToldWords.{ToldRule}
+use Rattle.pcrf_values.specs.Live.{gx_is_live}
+use Rattle.pcrf_values.specs.ToldWords.{ToldRule}
 use Rattle.pcrf_model.specs.Sessions.{gx}
 use Rattle.pcrf_model.specs.Holdings.{facts_on}
 use Rattle.pcrf_model.specs.Live.{is_live}

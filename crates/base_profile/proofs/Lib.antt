@@ -1,2 +1,0 @@
-pub mod AnswerLengths
-pub mod RequestLengths

@@ -1,6 +1,0 @@
-use Rattle.std.proofs.Common.{◌≡◌, ◌++◌, take}
-use Rattle.base_profile.proofs.applications.add_group.Given as goal
-
--- the applications so far are there
-abbrev pub invariant-loop-application : goal.invariant-loop-application
-invariant-loop-application l = l.found.items ≡ l.fn.found.items ++ take l.application-index l.fn.group

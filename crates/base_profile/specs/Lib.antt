@@ -1,4 +1,0 @@
-pub mod Answers
-pub mod Avps
-pub mod OwnRequests
-pub mod Requests

@@ -1,0 +1,250 @@
+//! Sessions by what they were given, found without a pass over all.
+ghost use Rattle.std.specs.Prelude.{◌≡◌, [], None, OnOk};
+ghost use Rattle.std.specs.Option.{option_copied};
+ghost use Rattle.std.specs.declared.net.ipv4_addr.Ipv4Addr.{Ipv4Addr as Address};
+ghost use Rattle.pcrf_values.specs.Values.{Subscriber as SubscriberValue};
+ghost use Rattle.pcrf_values.specs.Places as places;
+ghost use Rattle.pcrf_model.specs.Sessions.{Gx, Af, gx, af};
+ghost use Rattle.pcrf_model.specs.Views.{View, value};
+ghost use Rattle.pcrf_values.specs.Prefixes.{Ipv6Prefix as PrefixValue, prefix_cmp};
+ghost use Rattle.pcrf_values.specs.Orders.{text_cmp};
+ghost use Rattle.pcrf_values.specs.Sets.{In};
+ghost use Rattle.bind_index.specs.Lists.{ids_or_none, without_id};
+ghost use Rattle.bind_index.specs.Forgetting.{ForgetsEach, SameKeyed, SamePrefixed, ShowsAddress, ShowsNetwork};
+ghost use Rattle.bind_index.specs.Index.{Covers, Grows, GrowsUnder, ListedUnder, address_cmp, listed_at, listed_in, listed_of};
+ghost use Rattle.bind_index.specs.Networks.{network_of};
+
+use crate::addresses::AddressLists;
+use crate::ids::SessionIds;
+use crate::lists::SessionLists;
+use crate::networks::network_of;
+use pcrf_values::{AfSid, GxSid, Ipv6Prefix, Subscriber};
+use std::alloc::{AllocError, Global};
+use std::collections::btree_map::Iter;
+use std::marker::Model;
+use std::net::Ipv4Addr;
+
+/// Gateways' sessions by address and by subscriber, application functions' sessions by address, and both by the network of the
+/// IPv6 prefix that they were given. A session may show nothing of what it is listed under.
+#[derive(Drop)]
+pub struct Index {
+    gateways: AddressLists<GxSid>,
+    calls: AddressLists<AfSid>,
+    pub(crate) subscribed: SessionLists<Subscriber, GxSid>,
+    gateway_networks: SessionLists<Ipv6Prefix, GxSid>,
+    call_networks: SessionLists<Ipv6Prefix, AfSid>,
+}
+
+impl Model for Index {
+    ghost use Rattle.bind_index.specs.Index.{IndexValue};
+
+    ghost Value = { IndexValue };
+
+    ghost view = { λ i. record {
+      gateways = i.gateways;
+      calls = i.calls;
+      subscribed = i.subscribed;
+      gateway_networks = i.gateway_networks;
+      call_networks = i.call_networks;
+    } };
+}
+
+impl Index {
+    /// No session.
+    pub fn start(alloc: Global) -> Index
+        ensures gateways { (a : Address) → listed_at result Gx a ≡ [] }
+        ensures calls { (a : Address) → listed_at result Af a ≡ [] }
+        ensures subscribers { (x : SubscriberValue) → listed_of result x ≡ [] }
+        ensures gateway_networks { (n : PrefixValue) → listed_in result Gx n ≡ [] }
+        ensures call_networks { (n : PrefixValue) → listed_in result Af n ≡ [] }
+    {
+        Index {
+            gateways: AddressLists::start(alloc),
+            calls: AddressLists::start(alloc),
+            subscribed: SessionLists::start(alloc),
+            gateway_networks: SessionLists::start(alloc),
+            call_networks: SessionLists::start(alloc),
+        }
+    }
+
+    /// The gateways' sessions that are listed under an address.
+    pub fn gateways_at(&self, address: Ipv4Addr) -> Option<&SessionIds<GxSid>>
+        ensures { ids_or_none (option_copied result) ≡ listed_at self.now Gx address }
+    {
+        self.gateways.at(&address)
+    }
+
+    /// The application functions' sessions that are listed under an address.
+    pub fn calls_at(&self, address: Ipv4Addr) -> Option<&SessionIds<AfSid>>
+        ensures { ids_or_none (option_copied result) ≡ listed_at self.now Af address }
+    {
+        self.calls.at(&address)
+    }
+
+    /// The gateways' sessions that are listed under a subscriber.
+    pub fn gateways_of(&self, subscriber: &Subscriber) -> Option<&SessionIds<GxSid>>
+        ensures { ids_or_none (option_copied result) ≡ listed_of self.now subscriber.now }
+    {
+        self.subscribed.at(subscriber)
+    }
+
+    /// The gateways' sessions that are listed under a network.
+    pub fn gateways_in(&self, network: &Ipv6Prefix) -> Option<&SessionIds<GxSid>>
+        ensures { ids_or_none (option_copied result) ≡ listed_in self.now Gx network.now }
+    {
+        self.gateway_networks.at(network)
+    }
+
+    /// The application functions' sessions that are listed under a network.
+    pub fn calls_in(&self, network: &Ipv6Prefix) -> Option<&SessionIds<AfSid>>
+        ensures { ids_or_none (option_copied result) ≡ listed_in self.now Af network.now }
+    {
+        self.call_networks.at(network)
+    }
+
+    /// The application functions' sessions that are listed under networks, by these.
+    pub fn calls_by_network(&self) -> Iter<'_, Ipv6Prefix, SessionIds<AfSid>>
+        ensures { result ≡ self.now.call_networks }
+    {
+        self.call_networks.iter()
+    }
+
+    /// Lists a gateway's session under an address.
+    pub(crate) fn add_gateway(&mut self, address: &Ipv4Addr, id: &GxSid) -> Result<(), AllocError>
+        ensures grows { Grows self.old self.new }
+        ensures lists { OnOk result (In id.now (listed_at self.new Gx address.now)) }
+    {
+        self.gateways.add(address, id)
+    }
+
+    /// Lists an application function's session under an address.
+    pub(crate) fn add_call(&mut self, address: &Ipv4Addr, id: &AfSid) -> Result<(), AllocError>
+        ensures grows { Grows self.old self.new }
+        ensures lists { OnOk result (In id.now (listed_at self.new Af address.now)) }
+    {
+        self.calls.add(address, id)
+    }
+
+    /// Lists a gateway's session under the network of a prefix.
+    pub(crate) fn add_prefixed_gateway(
+        &mut self,
+        prefix: &Ipv6Prefix,
+        id: &GxSid,
+    ) -> Result<(), AllocError>
+        ensures grows { Grows self.old self.new }
+        ensures lists { OnOk result (In id.now (listed_in self.new Gx (network_of prefix.now))) }
+    {
+        self.gateway_networks.add(&network_of(prefix), id)
+    }
+
+    /// Lists an application function's session under the network of a prefix.
+    pub(crate) fn add_prefixed_call(
+        &mut self,
+        prefix: &Ipv6Prefix,
+        id: &AfSid,
+    ) -> Result<(), AllocError>
+        ensures grows { Grows self.old self.new }
+        ensures lists { OnOk result (In id.now (listed_in self.new Af (network_of prefix.now))) }
+    {
+        self.call_networks.add(&network_of(prefix), id)
+    }
+
+    /// Lists a gateway's session under these subscribers; a refusal leaves what was listed so far.
+    pub(crate) fn add_subscribed(
+        &mut self,
+        subscribers: &[Subscriber],
+        id: &GxSid,
+    ) -> Result<(), AllocError>
+        ensures grows { Grows self.old self.new }
+        ensures lists { OnOk result (ListedUnder self.new.subscribed id.now subscribers.now) }
+    {
+        list_under(&mut self.subscribed, subscribers, id)
+    }
+
+    /// Takes a gateway's session out from under an address: one that it no longer shows, since it moved to another.
+    pub fn forget_gateway_at(&mut self, address: Ipv4Addr, id: &GxSid)
+        ensures gateways { (a : Address) → listed_at self.new Gx a
+            ≡ without_id address_cmp text_cmp self.old.gateways address id.now a }
+        ensures calls { self.new.calls ≡ self.old.calls }
+        ensures subscribers { self.new.subscribed ≡ self.old.subscribed }
+        ensures prefixed { SamePrefixed self.old self.new }
+        ensures covers { (v : View) → ¬ ShowsAddress v (gx id.now) address
+            → Covers v self.old → Covers v self.new }
+    {
+        self.gateways.remove(&address, id);
+    }
+
+    /// Takes an application function's session out from under an address: one that it no longer shows.
+    pub fn forget_call_at(&mut self, address: Ipv4Addr, id: &AfSid)
+        ensures calls { (a : Address) → listed_at self.new Af a
+            ≡ without_id address_cmp text_cmp self.old.calls address id.now a }
+        ensures gateways { self.new.gateways ≡ self.old.gateways }
+        ensures subscribers { self.new.subscribed ≡ self.old.subscribed }
+        ensures prefixed { SamePrefixed self.old self.new }
+        ensures covers { (v : View) → ¬ ShowsAddress v (af id.now) address
+            → Covers v self.old → Covers v self.new }
+    {
+        self.calls.remove(&address, id);
+    }
+
+    /// Takes a gateway's session out from under these subscribers: those that it no longer shows.
+    pub fn forget_gateway_of(&mut self, subscribers: &[Subscriber], id: &GxSid)
+        ensures subscribers { ForgetsEach
+            self.old.subscribed self.new.subscribed id.now subscribers.now }
+        ensures gateways { self.new.gateways ≡ self.old.gateways }
+        ensures calls { self.new.calls ≡ self.old.calls }
+        ensures prefixed { SamePrefixed self.old self.new }
+        ensures covers { (v : View) → (value v (gx id.now) places.subscribers ≡ None)
+            → Covers v self.old → Covers v self.new }
+    {
+        unlist_under(&mut self.subscribed, subscribers, id);
+    }
+
+    /// Takes a gateway's session out from under a network: it no longer shows a prefix of it.
+    pub fn forget_gateway_in(&mut self, network: &Ipv6Prefix, id: &GxSid)
+        ensures gateways { (n : PrefixValue) → listed_in self.new Gx n
+            ≡ without_id prefix_cmp text_cmp self.old.gateway_networks network.now id.now n }
+        ensures calls { self.new.call_networks ≡ self.old.call_networks }
+        ensures keyed { SameKeyed self.old self.new }
+        ensures covers { (v : View) → ¬ ShowsNetwork v (gx id.now) network.now
+            → Covers v self.old → Covers v self.new }
+    {
+        self.gateway_networks.remove(network, id);
+    }
+
+    /// Takes an application function's session out from under a network: it no longer shows a prefix of it.
+    pub fn forget_call_in(&mut self, network: &Ipv6Prefix, id: &AfSid)
+        ensures calls { (n : PrefixValue) → listed_in self.new Af n
+            ≡ without_id prefix_cmp text_cmp self.old.call_networks network.now id.now n }
+        ensures gateways { self.new.gateway_networks ≡ self.old.gateway_networks }
+        ensures keyed { SameKeyed self.old self.new }
+        ensures covers { (v : View) → ¬ ShowsNetwork v (af id.now) network.now
+            → Covers v self.old → Covers v self.new }
+    {
+        self.call_networks.remove(network, id);
+    }
+}
+
+/// Lists a session under these subscribers.
+fn list_under(
+    lists: &mut SessionLists<Subscriber, GxSid>,
+    subscribers: &[Subscriber],
+    id: &GxSid,
+) -> Result<(), AllocError>
+    ensures grows { GrowsUnder lists.old lists.new }
+    ensures lists { OnOk result (ListedUnder lists.new id.now subscribers.now) }
+{
+    for subscriber in subscribers {
+        lists.add(subscriber, id)?;
+    }
+    Ok(())
+}
+
+/// Takes a session out from under these subscribers.
+fn unlist_under(lists: &mut SessionLists<Subscriber, GxSid>, subscribers: &[Subscriber], id: &GxSid)
+    ensures { ForgetsEach lists.old lists.new id.now subscribers.now }
+{
+    for subscriber in subscribers {
+        lists.remove(subscriber, id);
+    }
+}

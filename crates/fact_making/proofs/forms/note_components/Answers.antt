@@ -1,5 +1,0 @@
-use Rattle.fact_making.proofs.RequestForms.{components_apart}
-use Rattle.fact_making.proofs.forms.note_components.Goals as goal
-
-pub returns-clause-apart : goal.returns-clause-apart
-returns-clause-apart c = components_apart c.args.components.now c.as_slice-component-items.ensures.apart

@@ -1,4 +1,0 @@
-pub mod Call
-pub mod Gateway
-pub mod Given
-pub mod Told

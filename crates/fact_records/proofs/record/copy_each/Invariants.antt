@@ -1,5 +1,0 @@
-use Rattle.std.proofs.Common.{◌≡◌, map, take}
-use Rattle.fact_records.proofs.record.copy_each.Given as goal
-
-abbrev pub invariant-each : goal.invariant-each
-invariant-each g l = l.copies.items ≡ map (λ f. f.now) (take l.fact-index l.facts)

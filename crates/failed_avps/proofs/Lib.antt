@@ -1,3 +1,0 @@
-pub mod RefusalsOfFaults
-pub mod ServedRecognized
-pub mod Steps

@@ -1,6 +1,0 @@
-use Rattle.std.proofs.Common.{rules, append_assoc}
-use Rattle.flow_filters.proofs.Splitting.{options_written}
-use Rattle.flow_filters.proofs.downlink.put_options.Goals as goal
-
-pub returns : goal.returns
-returns c = rw (c.in-Some.is, options_written c.in-Some.options.now) (search (rules, append_assoc))

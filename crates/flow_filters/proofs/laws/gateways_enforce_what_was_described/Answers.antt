@@ -1,8 +1,0 @@
-use Rattle.flow_filters.proofs.Exchanging.{texts_come_back, enforced_as_described}
-use Rattle.flow_filters.proofs.laws.gateways_enforce_what_was_described.Goals as goal
-
-pub returns-clause-inverse : goal.returns-clause-inverse
-returns-clause-inverse c = texts_come_back
-
-pub returns-clause-described : goal.returns-clause-described
-returns-clause-described c = enforced_as_described

@@ -1,7 +1,0 @@
-use Rattle.std.proofs.Common.{◌≡◌, ◌<◌, ℕ, false, get_or}
-use Rattle.flow_filters.specs.Words.{is_space}
-use Rattle.flow_filters.proofs.words.word_length.Given as goal
-
--- none so far is a space
-abbrev pub invariant-loop-length : goal.invariant-loop-length
-invariant-loop-length l = (k : ℕ) → k < l.length → is_space (get_or l.text k 0) ≡ false

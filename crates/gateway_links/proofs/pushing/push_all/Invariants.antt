@@ -1,6 +1,0 @@
-use Rattle.link_ends.specs.Earlier.{Adds}
-use Rattle.link_ends.specs.Events.{IsPushToHost}
-use Rattle.gateway_links.proofs.pushing.push_all.Given as goal
-
-abbrev pub invariant-loop : goal.invariant-loop
-invariant-loop g l = Adds IsPushToHost (g.S.SharedSite.seen l.fn.seat) (g.S.SharedSite.seen l.seat)

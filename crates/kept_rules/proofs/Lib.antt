@@ -1,3 +1,0 @@
-pub mod Stale
-pub mod ByIndex
-pub mod Keeping

@@ -1,7 +1,0 @@
--- How many sessions are gone through at once.
-use Rattle.std.specs.Prelude.{ℕ}
-use Rattle.left_sessions.specs.declared.taking.TheConstants as constants
-
--- for how many there are requests at most
-abbrev pub piece : ℕ
-piece = constants.PIECE

@@ -1,5 +1,0 @@
-use Rattle.living_site.proofs.Beginning.{entries_stay, peers_still, ranges_still}
-use Rattle.living_site.proofs.laws.cursors_count_across_beginnings.Goals as goal
-
-pub returns : goal.returns
-returns c = record { makers = entries_stay; peers = peers_still; ranges = ranges_still }

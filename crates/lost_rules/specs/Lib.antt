@@ -1,5 +1,0 @@
-pub mod Answers
-pub mod Limits
-pub mod Refusals
-pub mod Stages
-pub mod States

@@ -1,3 +1,0 @@
-pub mod ByRecord
-pub mod Fields
-pub mod Shown

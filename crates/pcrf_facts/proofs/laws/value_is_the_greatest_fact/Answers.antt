@@ -1,5 +1,0 @@
-use Rattle.pcrf_facts.proofs.ShownLaws.{value_is_greatest, fact_gives_value}
-use Rattle.pcrf_facts.proofs.laws.value_is_the_greatest_fact.Goals as goal
-
-pub returns : goal.returns
-returns c = record { greatest = value_is_greatest; some = fact_gives_value }

@@ -1,0 +1,27 @@
+//! How values that peers choose are found by a hash.
+use std::hash::{BuildHasher, DefaultHasher, Hasher};
+
+/// What each hash of a site begins with (SipHash-1-3). A peer that doesn't know it can't choose Session-Ids that all have one hash.
+#[derive(Clone, Copy)]
+pub struct HashSeed {
+    begun: DefaultHasher,
+}
+
+impl HashSeed {
+    /// The one that begins with this number. A site that peers talk to draws it at random.
+    pub fn of(number: u128) -> HashSeed {
+        let mut begun = DefaultHasher::new();
+        begun.write_u128(number);
+        HashSeed { begun }
+    }
+}
+
+impl BuildHasher for HashSeed {
+    type Hasher = DefaultHasher;
+
+    ghost build_hasher = { λ s. s.begun };
+
+    fn build_hasher(&self) -> DefaultHasher {
+        self.begun
+    }
+}

@@ -1,0 +1,5 @@
+pub mod Bytes
+pub mod Places
+pub mod RoundTrip
+pub mod Sealing
+pub mod Unsealing

@@ -1,0 +1,11 @@
+pub mod Hmac
+pub mod Hosts
+pub mod Laws
+pub mod Limits
+pub mod Proving
+pub mod Reading
+pub mod Records
+pub mod Said
+pub mod Secrets
+pub mod Streams
+pub mod Writing

@@ -1,4 +1,0 @@
-pub mod Exchanging
-pub mod Headings
-pub mod Lives
-pub mod Turns

@@ -1,4 +1,0 @@
-pub mod Bytes
-pub mod Sealing
-pub mod Opening
-pub mod RoundTrip

@@ -1,6 +1,0 @@
-use Rattle.std.proofs.Common.{◌≡◌}
-use Rattle.std.proofs.lemmas.List.{drop-replicate}
-use Rattle.sealed_links.proofs.hmac.padded.Goals as goal
-
-pub returns : goal.returns
-returns c = rw (c.copy_from_slice.ensures.after, drop-replicate)

@@ -1,9 +1,0 @@
-pub mod Hmac
-pub mod Limits
-pub mod Records
-pub mod Reading
-pub mod Writing
-pub mod Proving
-pub mod Laws
-pub mod Secrets
-pub mod Streams

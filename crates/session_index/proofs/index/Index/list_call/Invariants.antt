@@ -1,9 +1,0 @@
-use Rattle.std.proofs.Common.{map, take}
-use Rattle.af_records.specs.RecordFacts as af_facts
-use Rattle.pcrf_model.specs.Sessions.{af}
-use Rattle.session_index.specs.Index.{Grows, ListsFacts}
-use Rattle.session_index.proofs.index.Index.list_call.Given as goal
-
--- nothing was unlisted, and the session is listed by the facts so far
-abbrev pub invariant-loop-fact : goal.invariant-loop-fact
-invariant-loop-fact l = record { grows : Grows l.fn.self l.self; so_far : ListsFacts l.self (af l.id) (map af_facts.fact_of (take l.fact-index l.facts)) }

@@ -1,7 +1,0 @@
-use Rattle.session_index.specs.Index.{Grows, ListsGateway}
-use Rattle.session_index.proofs.Records.{EachLeft}
-use Rattle.session_index.proofs.index.Index.list_gateways.Given as goal
-
--- nothing was unlisted, and once those that are left are listed, all are
-abbrev pub invariant-loop-id : goal.invariant-loop-id
-invariant-loop-id l = record { grows : Grows l.fn.self l.self; listed : EachLeft ListsGateway l.self l.id-iterator l.fn.sessions }

@@ -1,5 +1,0 @@
-use Rattle.session_index.proofs.CoveredNetworks.{covers_in_its_network}
-use Rattle.session_index.proofs.laws.prefixes_cover_in_their_network.Goals as goal
-
-pub returns : goal.returns
-returns c = covers_in_its_network

@@ -1,5 +1,0 @@
-pub mod Forgetting
-pub mod Index
-pub mod Neighbours
-pub mod Networks
-pub mod Numbers

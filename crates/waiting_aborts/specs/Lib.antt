@@ -1,2 +1,0 @@
-pub mod Abandoned
-pub mod ByRecord

@@ -1,2 +1,0 @@
-pub mod DueAlone
-pub mod Passing

@@ -1,4 +1,0 @@
-pub mod Waited
-pub mod Reading
-pub mod Listed
-pub mod FirstDue

@@ -1,7 +1,0 @@
--- Limits of scripts.
-use Rattle.std.specs.Prelude.{ℕ}
-use Rattle.watched_io.specs.declared.lines.TheConstants as limit
-
--- how many reads a script may take: this project's own limit
-abbrev pub read_limit : ℕ
-read_limit = limit.READ_LIMIT

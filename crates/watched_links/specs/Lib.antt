@@ -1,0 +1,7 @@
+pub mod Answers
+pub mod Kept
+pub mod Limits
+pub mod LostRulesLimits
+pub mod Refusals
+pub mod Stages
+pub mod States
