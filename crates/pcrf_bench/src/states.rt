@@ -85,10 +85,14 @@ pub fn measure_taking<T: Taker>(
 
 /// How many sessions a state has.
 pub fn count_sessions(state: &State) -> usize {
-    state
-        .all_gx()
-        .count()
-        .saturating_add(state.all_af().count())
+    let mut count: usize = 0;
+    for _session in state.all_gx() {
+        count = count.saturating_add(1);
+    }
+    for _session in state.all_af() {
+        count = count.saturating_add(1);
+    }
+    count
 }
 
 /// Merges two states.
