@@ -11,18 +11,13 @@
 #![tactic(auto)]
 
 mod carried;
-mod cutting;
-mod drawing;
-mod edits;
 mod fault;
 mod letters;
-mod pieces;
 mod questions;
 mod replays;
 mod scripts;
 mod streams;
 mod tables;
-mod verdicts;
 mod worlds;
 
 use crate::fault::Fault;

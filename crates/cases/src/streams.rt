@@ -1,13 +1,34 @@
 //! Whole streams that a site answers: each line is one, as hexadecimal digits. A new site answers each, and a line tells how
 //! the stream ended, and what was written, where anything was. Every second stream comes in small pieces.
+ghost use Rattle.std.specs.Prelude.{◌≤◌, length, IfOk};
+
 use crate::fault::Fault;
-use crate::pieces::Pieces;
 use dia_codec::{Counted, FrameFault};
 use op_tables::Tables;
 use pcrf_world::identity_of;
 use pcrf_world::words::bytes;
 use site_core::{Ended, Site, converse};
 use std::alloc::{AllocError, Global};
+use std::io;
+use std::io::Read;
+
+/// A reader of a few bytes at a time.
+#[derive(Drop)]
+struct Pieces<'a> {
+    /// What it has still to give.
+    left: &'a [u8],
+    /// How many it gives at once.
+    most: usize,
+}
+
+impl Read for Pieces<'_> {
+    fn read(&mut self, buf: &mut [u8]) -> io::Result<usize> {
+        let count = self.most.min(buf.len()).min(self.left.len());
+        buf[..count].copy_from_slice(&self.left[..count]);
+        self.left = &self.left[count..];
+        Ok(count)
+    }
+}
 
 /// How many bytes of a stream are read at once.
 fn piece_bytes(line: usize) -> usize {
