@@ -18,7 +18,7 @@ use Rattle.pcrf_values.specs.Values.{entry_cmp}
 use Rattle.pcrf_values.specs.Facts.{Fact, position, entry, fact_cmp}
 use Rattle.pcrf_values.specs.Held.{kept_list}
 use Rattle.lattice_core.proofs.KeepLaws.{kept_rises}
-use Rattle.lattice_core.specs.declared.session_value.SessionValue.TheVariants as session
+use Rattle.lattice_core.specs.declared.fact.SessionValue.TheVariants as session
 use Rattle.af_records.specs.declared.fact.ComponentValue.TheVariants as component
 use Rattle.af_records.specs.declared.fact.FlowValue.{FlowValue}
 use Rattle.af_records.specs.declared.fact.FlowValue.TheVariants as flow

@@ -4,7 +4,7 @@ use Rattle.std.specs.List.{filter_map}
 use Rattle.pcrf_values.specs.Places as places
 use Rattle.pcrf_values.specs.Facts.{Fact}
 use Rattle.pcrf_values.specs.Held.{kept_list, removal, removed_parts}
-use Rattle.lattice_core.specs.declared.session_value.SessionValue.TheVariants as session
+use Rattle.lattice_core.specs.declared.fact.SessionValue.TheVariants as session
 use Rattle.af_records.specs.declared.fact.ComponentValue.TheVariants as component
 use Rattle.af_records.specs.declared.fact.FlowValue.TheVariants as flow
 use Rattle.af_records.specs.declared.fact.AfFact.{AfFact}

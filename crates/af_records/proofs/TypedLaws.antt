@@ -5,8 +5,8 @@ use Rattle.pcrf_values.specs.Values.{Value, Number}
 use Rattle.pcrf_values.specs.Facts.{position, entry}
 use Rattle.lattice_core.specs.SessionValues.{entry_by, session_value}
 use Rattle.lattice_core.specs.SessionFacts.{session_fact}
-use Rattle.lattice_core.specs.declared.session_value.SessionValue.{SessionValue}
-use Rattle.lattice_core.specs.declared.session_value.SessionValue.TheVariants as session
+use Rattle.lattice_core.specs.declared.fact.SessionValue.{SessionValue}
+use Rattle.lattice_core.specs.declared.fact.SessionValue.TheVariants as session
 use Rattle.af_records.specs.declared.fact.ComponentValue.{ComponentValue}
 use Rattle.af_records.specs.declared.fact.ComponentValue.TheVariants as component
 use Rattle.af_records.specs.declared.fact.FlowValue.{FlowValue}

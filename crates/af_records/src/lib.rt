@@ -7,7 +7,6 @@ mod flows;
 mod rates;
 mod record;
 mod removed;
-mod typed;
 
 pub use af_request_type::AfRequestType;
 pub use fact::{AfFact, ComponentValue, FlowValue};

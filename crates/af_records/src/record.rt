@@ -19,11 +19,10 @@ ghost use Rattle.af_records.specs.FieldValues.{component_entry, component_number
 ghost use Rattle.af_records.specs.RecordFacts.{fact_of};
 
 use crate::af_request_type::AfRequestType;
-use crate::fact::{AfFact, ComponentValue, FlowValue};
+use crate::fact::{AfFact, ComponentValue, FlowValue, component_position, flow_position};
 use crate::flows::Flows;
 use crate::rates::GivenRates;
 use crate::removed::RemovedParts;
-use crate::typed::{component_position, flow_position};
 use lattice_core::{FactSet, Join, Record, SessionValue, Tag, copy_facts, position_of_field};
 use pcrf_values::{
     Apn, DiameterIdentity, Enumerated, Filters, FlowStatus, FlowUsage, Ipv6Prefix, Subscribers,

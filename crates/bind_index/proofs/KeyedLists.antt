@@ -1,4 +1,4 @@
--- Lists by key after the list at one key changed.
+-- Lists by key after the list at one key changed, and what a table by hashes has under a key.
 use Rattle.std.proofs.Common.{◌≡◌, Bool, true, false, cond, List, [], Option, Some, None, refl, sym, ap, ◌∙◌, Ordering, if◌then◌else◌}
 use Rattle.std.specs.BTreeMap.{is_at}
 use Rattle.std.specs.Cmp.{IsTotalOrder}
@@ -11,6 +11,17 @@ use Rattle.bind_index.specs.Lists.{ids_or_none, ids_at}
 -- lists of Session-Ids by key, as the entries of a tree
 abbrev pub Lists : Type 0 → Type 0 → Type 0
 Lists K A = List (K × List A)
+
+module _ {K V : Type 0} (cmp : K → K → Ordering) (eq : K → K → Bool) (ties : (x y : K) → eq x y ≡ is_eq (cmp x y)) where
+  -- a key that is equal is one that the order doesn't tell apart
+  pub found_alike : (es : List (K × V)) (q : K) → lookup (eq q) es ≡ lookup (is_at (cmp q)) es
+  found_alike es q = λ i. lookup (λ x. ties q x i) es
+
+  -- so are the keys at which a change of the table is seen
+  pub changed_alike : (key : K) (w : Option V) (es fs : List (K × V))
+      → ((q : K) → lookup (eq q) fs ≡ cond (eq key q) w (lookup (eq q) es))
+      → (q : K) → lookup (is_at (cmp q)) fs ≡ cond (is_at (cmp key) q) w (lookup (is_at (cmp q)) es)
+  changed_alike key w es fs changes q = sym (found_alike fs q) ∙ changes q ∙ (λ i. cond (ties key q i) w (found_alike es q i))
 
 module _ {K A : Type 0} (cmp : K → K → Ordering) (total : IsTotalOrder cmp) (same : IsExact cmp) (es now : Lists K A) (is : es ≡ now) (key : K) where
   -- after w took the place of what stood at the key, or came there, or nothing is left there, each key has the list that it had, and that key has w

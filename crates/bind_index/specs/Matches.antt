@@ -11,7 +11,7 @@ use Rattle.pcrf_values.specs.Values.{Subscriber}
 use Rattle.pcrf_model.specs.Sessions.{gx, af}
 use Rattle.pcrf_model.specs.Bindings.{Stamp, Candidate, candidate_cmp, candidate, matches, shares_one}
 use Rattle.bind_index.specs.Beside.{beside}
-use Rattle.bind_index.specs.declared.matching.Match.{Match}
+use Rattle.bind_index.specs.declared.binding.Match.{Match}
 
 -- the Gx session of the second facts matches the AF session of the first
 abbrev pub matches_beside : List Fact → List Fact → Bool

@@ -5,11 +5,11 @@ ghost use Rattle.std.specs.declared.net.ipv4_addr.Ipv4Addr.{Ipv4Addr as Address}
 ghost use Rattle.bind_index.specs.Lists.{ids_at, ids_or_none, with_id, without_id};
 ghost use Rattle.bind_index.specs.Index.{address_cmp};
 
-use crate::ids::SessionIds;
-use crate::lists::SessionLists;
-use pcrf_values::Ranked;
+use crate::lists::{SessionIds, SessionLists};
+use pcrf_values::{HashSeed, Ranked};
 use std::alloc::{AllocError, Global};
 use std::cmp::Ordering;
+use std::hash::{Hash, Hasher};
 use std::marker::Model;
 use std::net::Ipv4Addr;
 
@@ -66,6 +66,21 @@ impl Eq for AddressNumber {
     ghost laws = { eq_by_cmp_equiv address_total };
 }
 
+impl Hash for AddressNumber {
+    ghost use Rattle.std.specs.Prelude.{[], ◌∷◌};
+    ghost use Rattle.std.specs.Net.Addr.{ipv4_octets};
+    ghost use Rattle.pcrf_values.specs.laws.Addresses.{address_same};
+    ghost use Rattle.pcrf_values.specs.laws.Exact.{input_alike};
+
+    ghost hash_input = { λ a. ipv4_octets a ∷ [] };
+
+    ghost respects_eq = { input_alike address_same (λ a. ipv4_octets a ∷ []) };
+
+    fn hash<H: Hasher>(&self, state: &mut H) {
+        state.write(&self.number.to_be_bytes());
+    }
+}
+
 impl PartialOrd for AddressNumber {
     ghost use Rattle.std.specs.Ordering.{as_partial_cmp};
     ghost use Rattle.std.specs.Cmp.{partial_order_from_total};
@@ -111,8 +126,8 @@ impl Ranked for AddressNumber {
     }
 }
 
-/// Session-Ids under addresses, which contracts see as the list of addresses with their ascending lists. A call takes the
-/// logarithm of the number of addresses and of the number of Session-Ids under one.
+/// Session-Ids under addresses, which contracts see as the list of addresses with their ascending lists. An address
+/// is found by its hash, and a Session-Id under it in the logarithm of their number there.
 #[derive(Drop)]
 pub(crate) struct AddressLists<S: Ranked> {
     lists: SessionLists<AddressNumber, S>,
@@ -128,12 +143,12 @@ impl<S: Ranked> Model for AddressLists<S> {
 }
 
 impl<S: Ranked> AddressLists<S> {
-    /// No list.
-    pub(crate) fn start(alloc: Global) -> AddressLists<S>
+    /// No list. Hashes begin with this seed.
+    pub(crate) fn seeded(alloc: Global, seed: HashSeed) -> AddressLists<S>
         ensures { (a : Address) → ids_at address_cmp result a ≡ [] }
     {
         AddressLists {
-            lists: SessionLists::start(alloc),
+            lists: SessionLists::seeded(alloc, seed),
         }
     }
 

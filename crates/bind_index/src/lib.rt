@@ -5,21 +5,17 @@
 
 mod addresses;
 mod binding;
-mod cover;
 mod forget;
-mod ids;
 mod index;
 mod iter;
 mod laws;
 mod listing;
 mod lists;
 mod lookup;
-mod matching;
 mod networks;
 mod subscribed;
 
-pub use binding::{bind, bind_by, greater};
-pub use ids::SessionIds;
+pub use binding::{Match, bind, bind_by, greater, match_of};
 pub use index::Index;
 pub use iter::Ids;
 pub use laws::{
@@ -27,6 +23,5 @@ pub use laws::{
     ended_sessions_show_nothing, prefixes_cover_in_their_network,
 };
 pub use listing::{sessions_at, sessions_covering, sessions_of};
-pub use lists::SessionLists;
-pub use matching::{Match, match_of};
+pub use lists::{SessionIds, SessionLists};
 pub use networks::{all_networks, network_of, spans_networks};

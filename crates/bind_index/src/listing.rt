@@ -5,7 +5,7 @@ ghost use Rattle.pcrf_model.specs.Views.{view};
 ghost use Rattle.pcrf_values.specs.Held.{entry_shown};
 ghost use Rattle.bind_index.specs.Listings.{asked_value, listed_among, sessions_at, sessions_covering, sessions_of, shows_asked};
 
-use crate::matching::is_among;
+use crate::binding::is_among;
 use gx_records::GxRec;
 use pcrf_values::{GxSid, Ipv6Prefix, Ranked, Subscriber};
 use site_join::{Entries, State};

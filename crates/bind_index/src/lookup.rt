@@ -11,10 +11,9 @@ ghost use Rattle.bind_index.specs.Networks.{network_of};
 ghost use Rattle.bind_index.specs.Matches.{best_from, match_of, match_value};
 ghost use Rattle.bind_index.specs.Lists.{ids_or_none};
 
-use crate::binding::greater;
-use crate::ids::SessionIds;
+use crate::binding::{Match, greater, match_of};
 use crate::index::Index;
-use crate::matching::{Match, match_of};
+use crate::lists::SessionIds;
 use crate::networks::{all_networks, network_of, spans_networks};
 use af_records::AfRec;
 use pcrf_values::{AfSid, GxSid, Ipv6Prefix};

@@ -17,9 +17,8 @@ ghost use Rattle.site_join.specs.States.{record_facts};
 ghost use Rattle.bind_index.specs.Forgetting.{ForgetsUnshown, SamePrefixed, shows_subscriber};
 ghost use Rattle.bind_index.specs.Index.{Covers, asked_among};
 
-use crate::ids::SessionIds;
 use crate::index::Index;
-use crate::lists::SessionLists;
+use crate::lists::{SessionIds, SessionLists};
 use gx_records::GxRec;
 use pcrf_values::{GxSid, Ranked, Subscriber};
 use site_join::State;

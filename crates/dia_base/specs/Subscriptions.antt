@@ -5,7 +5,7 @@ use Rattle.pcrf_values.specs.Sets.{if_any}
 use Rattle.pcrf_values.specs.Limits.{subscribers_limit, subscription_data_limit}
 use Rattle.pcrf_values.specs.Numbers.{subscription_number}
 use Rattle.pcrf_values.specs.Subscribers.{subscriber_cmp}
-use Rattle.pcrf_values.specs.declared.subscriber.SubscriptionType.TheVariants.{EndUserE164, EndUserPrivate}
+use Rattle.pcrf_values.specs.declared.subscribers.SubscriptionType.TheVariants.{EndUserE164, EndUserPrivate}
 use Rattle.dia_codec.specs.Fields.{AvpValue}
 use Rattle.dia_codec.specs.Reading.{avps_of}
 use Rattle.dia_base.specs.Avps.{subscription_id, subscription_id_data, subscription_id_type}

@@ -8,16 +8,14 @@ pub mod codes;
 mod form;
 mod identity;
 pub mod neighbours;
-mod origin;
 mod read_fault;
-mod repeated;
 mod rows;
 mod session_answer;
 pub mod standard;
-mod subscriptions;
-mod writer;
 
-pub use answer::{answer_header, put_origin, put_result, request_header, write_refusal_answer};
+pub use answer::{
+    AvpWriter, answer_header, put_origin, put_result, request_header, write_refusal_answer,
+};
 pub use dia_codec::Mark;
 pub use form::MessageForm;
 pub use identity::Identity;
@@ -25,18 +23,14 @@ pub use neighbours::{
     ApplicationId, BaseKind, BaseRequest, base_refusal, is_base_command, read_base,
     write_base_answer, write_dwr,
 };
-pub use origin::{Origin, read_origin};
 pub use pcrf_values::Refusal;
 pub use read_fault::ReadFault;
-pub use repeated::{FromValue, read_avps, read_each};
 pub use rows::{
-    base_key, count_of, first_with, optional_address, optional_apn, optional_number,
-    optional_number_within, optional_prefix, required_number, required_number_within,
-    required_text, tgpp_key,
+    FromValue, Origin, base_key, count_of, first_with, optional_address, optional_apn,
+    optional_number, optional_number_within, optional_prefix, read_avps, read_each, read_origin,
+    read_subscribers, required_number, required_number_within, required_text, tgpp_key,
 };
 pub use session_answer::{SessionAnswer, read_session_answer};
 pub use standard::{
     Answered, avps_behind_are_spelled, avps_besides, put_behind, state_at_start, stated,
 };
-pub use subscriptions::read_subscribers;
-pub use writer::AvpWriter;

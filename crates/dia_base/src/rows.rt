@@ -1,21 +1,34 @@
-//! AVPs of a request, judged row by row. Each reader judges one row of a table and gives what stands there.
-ghost use Rattle.std.specs.Prelude.{◌≡◌, ◌<◌, ◌≤◌, length, OnOk, OnErr, IfOk, IfErr, IfSome, Some, option_map, option_copied};
+//! AVPs of a request, judged row by row. Each reader judges one row of a table and gives what stands there: one AVP, groups of
+//! AVPs, AVPs that may stand several times, who sent the request, and the subscribers that it names (Subscription-Id, RFC 8506,
+//! 8.46).
+ghost use Rattle.std.specs.Prelude.{◌≡◌, ◌<◌, ◌≤◌, length, OnOk, OnErr, IfOk, IfErr, IfSome, Some, option_map, option_copied, ℕ, List, None, map, ◌↔◌, IsTrue};
 ghost use Rattle.std.specs.Net.Addr.{ipv4_octets};
 ghost use Rattle.pcrf_values.specs.Limits.{apn_limit};
 ghost use Rattle.pcrf_values.specs.Results.{avp_occurs_too_many_times};
 ghost use Rattle.pcrf_values.specs.Texts.{small_letters};
 ghost use Rattle.dia_codec.specs.Spelling.{avp_view, avp_views};
-ghost use Rattle.dia_base.specs.Avps.{base_key, tgpp_key};
-ghost use Rattle.dia_base.specs.Rows.{first_at, values_of, value_of, value_in, number_at, IsOnlyAt, required, optional, unsigned32, enumerated, text_to, ipv4_address, ipv6_prefix, prefix_at, prefix_in, Accepts, RefusesWith, RefusesAnyKind, FaultsWith};
+ghost use Rattle.dia_base.specs.Avps.{base_key, tgpp_key, origin_host, origin_realm, subscription_id_type};
+ghost use Rattle.dia_base.specs.Rows.{first_at, values_of, value_of, value_in, number_at, IsOnlyAt, required, optional, unsigned32, enumerated, text_to, ipv4_address, ipv6_prefix, prefix_at, prefix_in, Accepts, RefusesWith, RefusesAnyKind, FaultsWith, Kind, is_too_often, repeated, IsFaultOf, IsFaultOfAnyGroup, AcceptsAll, rows_refusal};
+ghost use Rattle.dia_codec.specs.Reading.{avps_of};
+ghost use Rattle.dia_base.specs.Origins.{origin_rows};
+ghost use Rattle.pcrf_values.specs.Numbers.{subscription_number};
+ghost use Rattle.dia_base.specs.Subscriptions.{subscription, subscription_type_row, subscription_row, subscriber_of, subscribers_of};
 
 use crate::codes::TGPP;
+use crate::codes::avps::{
+    ORIGIN_HOST, ORIGIN_REALM, SUBSCRIPTION_ID, SUBSCRIPTION_ID_DATA, SUBSCRIPTION_ID_TYPE,
+};
 use crate::codes::results::{
     AVP_OCCURS_TOO_MANY_TIMES, INVALID_AVP_LENGTH, INVALID_AVP_VALUE, MISSING_AVP,
 };
 use crate::read_fault::ReadFault;
-use dia_codec::{Avp, AvpKey};
-use pcrf_values::{Apn, BoundedText, Ipv6Prefix, Refusal};
-use std::alloc::Global;
+use dia_codec::{Avp, AvpKey, MsgFault, read_group};
+use pcrf_values::limits::SUBSCRIBERS_LIMIT;
+use pcrf_values::{
+    Apn, BoundedText, DiameterIdentity, Exact, Ipv6Prefix, Ranked, Refusal, Subscriber,
+    Subscribers, SubscriptionType, Text, same,
+};
+use std::alloc::{AllocError, Global};
 use std::net::Ipv4Addr;
 
 /// The name of an AVP of RFC 6733 or another document of the IETF.
@@ -258,4 +271,167 @@ pub fn optional_apn(alloc: Global, avps: &[Avp], key: AvpKey) -> Result<Option<A
         return Err(ReadFault::Refused(Refusal::base(INVALID_AVP_VALUE)));
     };
     Ok(Some(apn))
+}
+
+/// Reads the AVPs of a group (Grouped, RFC 6733, 4.4).
+pub fn read_avps(alloc: Global, value: &[u8]) -> Result<Vec<Avp>, ReadFault>
+    ensures avps { IfOk result (λ avps. avps_of value.now ≡ Some (avp_views avps.items)) }
+    ensures refused { IfErr result (IsFaultOfAnyGroup value.now) }
+{
+    match read_group(alloc, value) {
+        Ok(avps) => Ok(avps),
+        Err(MsgFault::NoMemory) => Err(ReadFault::NoMemory),
+        Err(_) => Err(ReadFault::Refused(Refusal::base(INVALID_AVP_LENGTH))),
+    }
+}
+
+/// What the value of an AVP is read as.
+pub trait FromValue: Sized + Drop {
+    ghost kind: { Kind };
+
+    ghost of_value: { List ℕ → Self };
+
+    /// Reads the value of an AVP, or gives the first refusal of it.
+    fn from_value(alloc: Global, value: &[u8]) -> Result<Self, ReadFault>
+        ensures accepted { OnOk result (kind value.now ≡ None) }
+        ensures read { IfOk result (λ read. read ≡ of_value value.now) }
+        ensures refused { IfErr result (IsFaultOf (kind value.now)) };
+}
+
+/// They stand more often than a row allows, where it has a limit.
+fn is_too_often(count: usize, most: Option<usize>) -> bool
+    ensures { result ≡ is_too_often most count }
+{
+    match most {
+        Some(most) => count > most,
+        None => false,
+    }
+}
+
+/// Reads the AVPs with a key, which may stand `most` times, or any number of times, in the order in which they stand. Each is
+/// judged wholly before the next.
+pub fn read_each<V: FromValue>(
+    alloc: Global,
+    avps: &[Avp],
+    key: AvpKey,
+    most: Option<usize>,
+) -> Result<Vec<V>, ReadFault>
+    ensures accepted { OnOk result (Accepts (repeated key most V.kind) (avp_views avps.now)) }
+    ensures read { IfOk result (λ each.
+        each.items ≡ map V.of_value (values_of key (avp_views avps.now))) }
+    ensures within { IfOk result (λ each. IfSome most (λ n. length each.items ≤ n)) }
+    ensures refused { IfErr result (FaultsWith (repeated key most V.kind) (avp_views avps.now)) }
+{
+    if is_too_often(count_of(avps, key), most) {
+        return Err(ReadFault::Refused(Refusal::base(AVP_OCCURS_TOO_MANY_TIMES)));
+    }
+    let mut each = Vec::new(alloc);
+    for avp in avps {
+        if avp.key() == key {
+            each.push(V::from_value(alloc, avp.text())?)?;
+        }
+    }
+    Ok(each)
+}
+
+impl FromValue for Text {
+    ghost use Rattle.dia_base.specs.Rows.{octet_string};
+
+    ghost kind = { octet_string };
+
+    ghost of_value = { λ value. value };
+
+    fn from_value(alloc: Global, value: &[u8]) -> Result<Text, ReadFault> {
+        Ok(Text::read(alloc, value)?)
+    }
+}
+
+/// The node that sent a request (RFC 6733, 6.3 and 6.4).
+#[derive(Debug, Drop, PartialEq, Eq)]
+pub struct Origin {
+    /// Origin-Host.
+    pub host: DiameterIdentity,
+    /// Origin-Realm.
+    pub realm: DiameterIdentity,
+}
+
+impl Origin {
+    /// An equal origin.
+    pub fn try_copy(&self) -> Result<Origin, AllocError>
+        ensures { IfOk result (λ copy. copy ≡ self.now) }
+    {
+        let host = self.host.try_copy()?;
+        let realm = self.realm.try_copy()?;
+        Ok(Origin { host, realm })
+    }
+}
+
+impl Exact for Origin {
+    fn equal(&self, other: &Origin) -> bool {
+        same(&self.host, &other.host) && same(&self.realm, &other.realm)
+    }
+}
+
+/// Reads Origin-Host, and then Origin-Realm.
+pub fn read_origin(alloc: Global, avps: &[Avp]) -> Result<Origin, ReadFault>
+    ensures accepted { OnOk result (AcceptsAll origin_rows (avp_views avps.now)) }
+    ensures host { IfOk result (λ o. value_of origin_host (avp_views avps.now) ≡ Some o.host) }
+    ensures realm { IfOk result (λ o. value_of origin_realm (avp_views avps.now) ≡ Some o.realm) }
+    ensures refused { IfErr result (IsFaultOf (rows_refusal origin_rows (avp_views avps.now))) }
+{
+    let host = required_text(alloc, avps, base_key(ORIGIN_HOST))?;
+    let realm = required_text(alloc, avps, base_key(ORIGIN_REALM))?;
+    Ok(Origin { host, realm })
+}
+
+/// Reads the Subscription-Id-Type.
+fn read_subscription_type(avps: &[Avp]) -> Result<SubscriptionType, Refusal>
+    ensures accepted { OnOk result (Accepts subscription_type_row (avp_views avps.now)) }
+    ensures number { IfOk result (λ kind.
+        number_at subscription_id_type (avp_views avps.now) ≡ Some (subscription_number kind)) }
+    ensures refused { IfErr result (RefusesWith subscription_type_row (avp_views avps.now)) }
+{
+    let first = SubscriptionType::EndUserE164.number();
+    let last = SubscriptionType::EndUserPrivate.number();
+    let number = required_number_within(avps, base_key(SUBSCRIPTION_ID_TYPE), first, last)?;
+    let Some(kind) = SubscriptionType::from_number(number) else {
+        unreachable!()
+    };
+    Ok(kind)
+}
+
+/// Reads the value of a Subscription-Id.
+#[tactic(auto, unfolding(crate::specs::Rows::row_refusal))]
+fn read_subscription(alloc: Global, value: &[u8]) -> Result<Subscriber, ReadFault>
+    ensures accepted { OnOk result (subscription value.now ≡ None) }
+    ensures subscriber { IfOk result (λ subscriber. subscriber ≡ subscriber_of value.now) }
+    ensures refused { IfErr result (IsFaultOf (subscription value.now)) }
+{
+    let avps = read_avps(alloc, value)?;
+    let kind = read_subscription_type(&avps)?;
+    let data = required_text(alloc, &avps, base_key(SUBSCRIPTION_ID_DATA))?;
+    Ok(Subscriber::of(kind, data))
+}
+
+impl FromValue for Subscriber {
+    ghost kind = { subscription };
+
+    ghost of_value = { subscriber_of };
+
+    fn from_value(alloc: Global, value: &[u8]) -> Result<Subscriber, ReadFault> {
+        read_subscription(alloc, value)
+    }
+}
+
+/// Reads the subscribers that a request names, each once; None where it names none.
+pub fn read_subscribers(alloc: Global, avps: &[Avp]) -> Result<Option<Subscribers>, ReadFault>
+    ensures accepted { OnOk result (Accepts subscription_row (avp_views avps.now)) }
+    ensures subscribers { IfOk result (λ subscribers.
+        subscribers ≡ subscribers_of (avp_views avps.now)) }
+    ensures refused { IfErr result (FaultsWith subscription_row (avp_views avps.now)) }
+{
+    let key = base_key(SUBSCRIPTION_ID);
+    let given = read_each::<Subscriber>(alloc, avps, key, Some(SUBSCRIBERS_LIMIT))?;
+    let set = Subscribers::of(alloc, given)?;
+    Ok(set)
 }

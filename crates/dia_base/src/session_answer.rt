@@ -6,8 +6,7 @@ ghost use Rattle.dia_base.specs.SessionAnswers.{experimental_at, experimental_ro
 
 use crate::codes::avps::{EXPERIMENTAL_RESULT, EXPERIMENTAL_RESULT_CODE, RESULT_CODE, SESSION_ID};
 use crate::read_fault::ReadFault;
-use crate::repeated::{FromValue, read_avps, read_each};
-use crate::rows::{base_key, optional_number, required_text};
+use crate::rows::{FromValue, base_key, optional_number, read_avps, read_each, required_text};
 use dia_codec::{Avp, Message};
 use pcrf_values::SessionId;
 use std::alloc::Global;

@@ -1,7 +1,7 @@
 -- Sizes, limits and bits of messages (RFC 6733, sections 3 and 4.1). They stand apart from those of the code, so that
 -- they are a check on it, but for the one that is this project's own.
 use Rattle.std.specs.Prelude.{ℕ, ◌^◌}
-use Rattle.dia_codec.specs.declared.fields.TheConstants as limit
+use Rattle.dia_codec.specs.declared.reading.TheConstants as limit
 
 -- ---- messages
 

@@ -11,26 +11,20 @@
 //! `run_lines` reads a script line by line, has each obeyed by whoever obeys lines, and writes what each prints.
 #![tactic(auto)]
 
-mod assembling;
 mod counted;
 mod fault;
-mod fields;
 mod line_fault;
 mod lines;
 mod message;
 mod reading;
 mod stream;
-mod writer;
 mod writing;
 
-pub use assembling::Assembler;
 pub use counted::Counted;
 pub use fault::{FrameFault, MsgFault, WriteFault};
-pub use fields::{HEADER_BYTES, read_header};
 pub use line_fault::LineFault;
 pub use lines::{Obey, ScriptEnd, run_lines};
 pub use message::{Avp, AvpKey, Flags, Header, Message};
-pub use reading::{read_group, read_message, read_message_with};
-pub use stream::{FramedStream, StreamEnd, frames_of, one_cut};
-pub use writer::{Mark, MessageWriter};
-pub use writing::{round_trip, write_group, write_message};
+pub use reading::{HEADER_BYTES, read_group, read_header, read_message, read_message_with};
+pub use stream::{Assembler, FramedStream, StreamEnd, frames_of, one_cut};
+pub use writing::{Mark, MessageWriter, round_trip, write_group, write_message};

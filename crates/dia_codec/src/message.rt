@@ -4,7 +4,7 @@ ghost use Rattle.std.specs.Prelude.{◌≡◌};
 ghost use Rattle.std.specs.Net.Addr.{ipv4_octets};
 ghost use Rattle.std.specs.Option.{option_map};
 
-use crate::fields::word_at;
+use crate::reading::word_at;
 use std::net::Ipv4Addr;
 
 /// The command flags of a header (RFC 6733, section 3). The four reserved bits are not kept.

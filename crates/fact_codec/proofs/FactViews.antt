@@ -4,8 +4,8 @@ use Rattle.pcrf_values.specs.declared.tag.Tag.{Tag}
 use Rattle.pcrf_values.specs.Places.{OfSession, OfComponent, OfFlow}
 use Rattle.pcrf_values.specs.Facts.{Field}
 use Rattle.lattice_core.specs.SessionFacts.{session_fact}
-use Rattle.lattice_core.specs.declared.session_value.SessionValue.{SessionValue}
-use Rattle.lattice_core.specs.declared.session_value.SessionValue.TheVariants.{Address, Apn, Subscribers, Host, Realm, Last, Prefix}
+use Rattle.lattice_core.specs.declared.fact.SessionValue.{SessionValue}
+use Rattle.lattice_core.specs.declared.fact.SessionValue.TheVariants.{Address, Apn, Subscribers, Host, Realm, Last, Prefix}
 use Rattle.af_records.specs.RecordFacts.{fact_of}
 use Rattle.af_records.specs.declared.fact.AfFact.TheVariants.{Component, Flow}
 use Rattle.af_records.specs.declared.fact.ComponentValue.{ComponentValue}

@@ -5,8 +5,8 @@ use Rattle.pcrf_values.specs.Values.{Value, Number, Text, Filters}
 use Rattle.pcrf_values.specs.Values as values
 use Rattle.pcrf_values.specs.RuleValues.{RuleValue}
 use Rattle.lattice_core.specs.SessionFacts.{address_value}
-use Rattle.lattice_core.specs.declared.session_value.SessionValue.{SessionValue}
-use Rattle.lattice_core.specs.declared.session_value.SessionValue.TheVariants.{Address, Apn, Subscribers, Host, Realm, Last, Prefix}
+use Rattle.lattice_core.specs.declared.fact.SessionValue.{SessionValue}
+use Rattle.lattice_core.specs.declared.fact.SessionValue.TheVariants.{Address, Apn, Subscribers, Host, Realm, Last, Prefix}
 use Rattle.gx_records.specs.GxFacts.{told_value}
 use Rattle.af_records.specs.declared.fact.ComponentValue.{ComponentValue}
 use Rattle.af_records.specs.declared.fact.ComponentValue.TheVariants as component_value

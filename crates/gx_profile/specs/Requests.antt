@@ -5,8 +5,8 @@ use Rattle.pcrf_values.specs.Limits.{apn_limit}
 use Rattle.pcrf_values.specs.Numbers.{request_kind_number, request_kind_of}
 use Rattle.pcrf_values.specs.Texts.{small_letters}
 use Rattle.pcrf_values.specs.declared.refusal.Refusal.{Refusal}
-use Rattle.pcrf_values.specs.declared.request_kind.RequestKind.{RequestKind}
-use Rattle.pcrf_values.specs.declared.request_kind.RequestKind.TheVariants.{Initial, Termination}
+use Rattle.pcrf_values.specs.declared.numbers.RequestKind.{RequestKind}
+use Rattle.pcrf_values.specs.declared.numbers.RequestKind.TheVariants.{Initial, Termination}
 use Rattle.dia_codec.specs.Fields.{AvpValue}
 use Rattle.pcrf_model.specs.Requests.{CcrValue}
 use Rattle.dia_base.specs.Avps.{session_id, origin_host, origin_realm, framed_ip_address, framed_ipv6_prefix, called_station_id, cc_request_number, cc_request_type}

@@ -1,24 +1,52 @@
-//! Answers to credit control requests (TS 29.212, 5.6.3).
-ghost use Rattle.std.specs.Prelude.{◌≡◌, ◌≤◌, ◌+◌, [], IfOk, OnOk};
+//! Answers to credit control requests (TS 29.212, 5.6.3), and what each message about a gateway's session begins with (5.6.3 and
+//! 5.6.4).
+ghost use Rattle.std.specs.Prelude.{◌≤◌, length, OnOk, ◌≡◌, ◌+◌, [], IfOk};
 ghost use Rattle.std.specs.List.{sum_by};
+ghost use Rattle.pcrf_values.specs.Limits.{identity_limit};
 ghost use Rattle.dia_codec.specs.Drafts.{Adds};
-ghost use Rattle.dia_codec.specs.Limits.{longest_message};
 ghost use Rattle.dia_codec.specs.Written.{padded_len, written_len, written_spelling};
+ghost use Rattle.gx_profile.specs.Lengths.{opening_room, delta_room};
+ghost use Rattle.gx_profile.specs.Openings.{opening_avps};
+ghost use Rattle.dia_codec.specs.Limits.{longest_message};
 ghost use Rattle.gx_profile.specs.Answers.{cca, cca_avps};
-ghost use Rattle.gx_profile.specs.Lengths.{delta_room};
 ghost use Rattle.gx_profile.specs.Requests.{ccr_view};
 ghost use Rattle.gx_profile.specs.Rules.{delta_avps};
 ghost use Rattle.pcrf_model.specs.ReplyViews.{gx_reply_view, reply_delta};
 
 use crate::ccr::Ccr;
-use crate::opening::put_opening;
-use crate::quality::put_quality;
-use crate::rules::put_delta;
-use dia_base::codes::avps;
-use dia_base::{AvpWriter, Identity, MessageForm, answer_header, put_result};
+use crate::rules::{put_delta, put_quality};
+use dia_base::codes::{GX, avps};
+use dia_base::{AvpWriter, Identity, MessageForm, answer_header, put_origin, put_result};
 use dia_codec::Header;
 use pcrf_model::GxReply;
+use pcrf_values::{DiameterIdentity, GxSid};
 use std::alloc::{AllocError, Global};
+
+/// A name of a host or a realm has 255 bytes at most. It does nothing: its contract tells a proof what the type keeps.
+pub(crate) fn note_name(name: &DiameterIdentity)
+    ensures { length name.now ≤ identity_limit }
+{
+    let _bytes = name.as_slice();
+}
+
+/// Writes Session-Id, Auth-Application-Id, Origin-Host and Origin-Realm.
+pub(crate) fn put_opening(
+    out: &mut AvpWriter,
+    session: &GxSid,
+    identity: &Identity,
+) -> Result<(), AllocError>
+    ensures added { OnOk result
+        (Adds out.old out.new (opening_avps session.now identity.now)) }
+    ensures within { OnOk result
+        (sum_by padded_len (opening_avps session.now identity.now) ≤ opening_room) }
+{
+    note_name(&identity.host);
+    note_name(&identity.realm);
+    out.text(avps::SESSION_ID, session.as_slice())?;
+    out.number(avps::AUTH_APPLICATION_ID, GX)?;
+    put_origin(out, identity)?;
+    Ok(())
+}
 
 /// Writes what a reply removes and installs.
 #[tactic(auto, unfolding(crate::specs::Rules::delta_avps))]

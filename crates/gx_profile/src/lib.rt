@@ -6,9 +6,7 @@ mod answer;
 mod ccr;
 mod codes;
 pub mod filters;
-mod opening;
 mod push;
-mod quality;
 mod raa;
 mod rules;
 

@@ -7,8 +7,8 @@ ghost use Rattle.dia_codec.specs.Written.{padded_len, written_len, written_spell
 ghost use Rattle.gx_profile.specs.Pushes.{rar, rar_avps};
 ghost use Rattle.pcrf_model.specs.ReplyViews.{push_view};
 
+use crate::answer::put_opening;
 use crate::codes::base;
-use crate::opening::put_opening;
 use crate::rules::put_delta;
 use dia_base::codes::{GX, avps};
 use dia_base::{AvpWriter, Identity, request_header};

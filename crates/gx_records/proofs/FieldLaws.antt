@@ -19,8 +19,8 @@ use Rattle.lattice_core.specs.SessionValues.{entry_by, session_value}
 use Rattle.gx_records.specs.declared.fact.GxFact.{GxFact}
 use Rattle.gx_records.specs.declared.fact.GxFact.TheVariants.{End, Field, Told}
 use Rattle.lattice_core.specs.SessionFacts.{session_fact}
-use Rattle.lattice_core.specs.declared.session_value.SessionValue.{SessionValue}
-use Rattle.lattice_core.specs.declared.session_value.SessionValue.TheVariants.{Address, Apn, Subscribers, Host, Realm, Last, Prefix}
+use Rattle.lattice_core.specs.declared.fact.SessionValue.{SessionValue}
+use Rattle.lattice_core.specs.declared.fact.SessionValue.TheVariants.{Address, Apn, Subscribers, Host, Realm, Last, Prefix}
 use Rattle.gx_records.specs.GxFacts.{told_value, fact_of, rules_told}
 
 -- what was told compares as its values do

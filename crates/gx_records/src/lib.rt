@@ -4,11 +4,8 @@
 mod fact;
 mod open_request_type;
 mod record;
-mod told;
-mod typed;
 
 pub use fact::GxFact;
 pub use lattice_core::SessionValue;
 pub use open_request_type::OpenRequestType;
-pub use record::GxRec;
-pub use told::Told;
+pub use record::{GxRec, Told};

@@ -1,4 +1,4 @@
-//! Records of Gx sessions.
+//! Records of Gx sessions, and the rules that a gateway was told.
 ghost use Rattle.std.specs.Prelude.{◌≡◌, ℕ, ◌++◌, IfOk, IfSome, OnOk, None, map, option_map, true};
 ghost use Rattle.std.specs.List.{filter_map, flat_map};
 ghost use Rattle.pcrf_values.specs.Held.{kept_list, is_ended, entry_shown};
@@ -16,7 +16,6 @@ ghost use Rattle.gx_records.specs.GxFacts.{fact_of, rule_under, rules_told};
 
 use crate::fact::GxFact;
 use crate::open_request_type::OpenRequestType;
-use crate::told::Told;
 use lattice_core::{FactSet, Join, Record, SessionValue, Tag, copy_facts, position_of_field};
 use pcrf_values::{
     Apn, DiameterIdentity, Enumerated, Ipv6Prefix, Ranked, Rule, RuleName, Subscribers,
@@ -24,6 +23,39 @@ use pcrf_values::{
 use std::alloc::{AllocError, Global};
 use std::marker::Model;
 use std::net::Ipv4Addr;
+
+/// The names that show a rule, each with its rule, ascending by name; which contracts see as that list.
+#[derive(Drop)]
+pub struct Told {
+    pub(crate) pairs: Vec<(RuleName, Rule)>,
+}
+
+impl Model for Told {
+    ghost use Rattle.std.specs.Prelude.{ℕ, List};
+    ghost use Rattle.pcrf_values.specs.RuleValues.{RuleValue};
+
+    ghost Value = { List (List ℕ × RuleValue) };
+
+    ghost view = { λ t. t.pairs.items };
+}
+
+impl Told {
+    ghost use Rattle.std.specs.Prelude.{◌≡◌};
+
+    /// These names and their rules.
+    pub fn of(pairs: Vec<(RuleName, Rule)>) -> Told
+        ensures { result ≡ pairs.items }
+    {
+        Told { pairs }
+    }
+
+    /// The names and their rules.
+    pub fn as_slice(&self) -> &[(RuleName, Rule)]
+        ensures { result.now ≡ self.now }
+    {
+        self.pairs.as_slice()
+    }
+}
 
 /// What is known of a gateway's session, at least one fact, which contracts see as the facts that are kept, ascending. Each is one that an
 /// operation gives.

@@ -1,7 +1,7 @@
 -- The fields that facts of an AF session give are those that the facts show.
 use Rattle.std.proofs.Common.{◌≡◌, List, [], ◌∷◌, map, Option, Some, None, refl, ◌∙◌, option_map}
 use Rattle.std.specs.List.{filter_map, cons_option}
-use Rattle.lattice_core.specs.declared.session_value.SessionValue.TheVariants as session_value
+use Rattle.lattice_core.specs.declared.fact.SessionValue.TheVariants as session_value
 use Rattle.af_records.specs.RecordFacts.{fact_of}
 use Rattle.af_records.specs.declared.fact.AfFact.{AfFact}
 use Rattle.af_records.specs.declared.fact.AfFact.TheVariants.{End, ComponentRemoved, FlowRemoved, Aborted, Session, Component, Flow}

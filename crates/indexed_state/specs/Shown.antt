@@ -10,7 +10,7 @@ use Rattle.pcrf_values.specs.Values.{Text, Subscribers, Number, Filters, Prefix}
 use Rattle.pcrf_model.specs.SiteOverviews.{FieldShown, GxShown, AfShown, SessionValue, SiteOverview}
 use Rattle.pcrf_model.specs.SiteOverviews as seen
 use Rattle.lattice_core.specs.SessionFacts.{address_value}
-use Rattle.lattice_core.specs.declared.session_value.SessionValue.TheVariants as session_value
+use Rattle.lattice_core.specs.declared.fact.SessionValue.TheVariants as session_value
 use Rattle.af_records.specs.declared.fact.ComponentValue.TheVariants as component_value
 use Rattle.af_records.specs.declared.fact.FlowValue.TheVariants as flow_value
 use Rattle.indexed_state.specs.declared.seen.SessionSeen.{SessionSeen}

@@ -12,10 +12,9 @@ ghost use Rattle.site_join.specs.States.{session_of};
 ghost use Rattle.rule_delta.specs.Waits.{Keeps, WaitsIfDue};
 ghost use Rattle.rule_delta.specs.Abandoned.{ListedCallsWait, NetworkCallsWait};
 
-use crate::indexed::{IndexedState, name_of, wait_for};
+use crate::indexed::{IndexedState, make_whole, name_of, wait_for};
 use crate::reached::Reached;
 use crate::unsettling::spans;
-use crate::whole::make_whole;
 use bind_index::{Index, network_of};
 use pcrf_values::DiameterIdentity;
 use rule_delta::aborts::{gather, wait_at, wait_in, wait_one};
@@ -123,7 +122,7 @@ pub(crate) fn wait_lost(
     ensures all { spans before.now.prefix ≡ true → aborts.new.all ≡ true }
 {
     if spans(before.prefix) {
-        *aborts = WaitingCalls::start(alloc);
+        *aborts = WaitingCalls::seeded(alloc, aborts.seed());
         return;
     }
     wait_at(state, index, aborts, before.address);

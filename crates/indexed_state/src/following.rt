@@ -78,7 +78,7 @@ fn keep_nothing(
 {
     *is_whole = false;
     unsettle_all(alloc, rules, waiting);
-    *aborts = WaitingCalls::start(alloc);
+    *aborts = WaitingCalls::seeded(alloc, aborts.seed());
 }
 
 /// Lists a gateway's session by the record that is known of it; false where memory is refused.

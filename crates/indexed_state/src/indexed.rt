@@ -1,12 +1,14 @@
-//! A state with its index.
-ghost use Rattle.std.specs.Prelude.{◌≡◌, ℕ, ◌==◌, List, [], ◌<◌, ◌≤◌, Some, None, true, false, not, ◌||◌, IfOk, IfSome, IsSome, OnOk, OnErr, map, option_map};
+//! A state with its index: an index that is made whole, and what is read of the state as it stands.
+ghost use Rattle.std.specs.Prelude.{◌≡◌, true, OnOk, ℕ, ◌==◌, List, [], ◌<◌, ◌≤◌, Some, None, false, not, ◌||◌, IfOk, IfSome, IsSome, OnErr, map, option_map};
+ghost use Rattle.pcrf_model.specs.Views.{view, View};
+ghost use Rattle.bind_index.specs.Index.{Covers, Grows};
 ghost use Rattle.std.specs.Option.{option_copied};
 ghost use Rattle.bind_index.specs.Asking.{with_record};
 ghost use Rattle.bind_index.specs.Listings.{sessions_of};
 ghost use Rattle.pcrf_model.specs.ReplyViews.{push_view};
 ghost use Rattle.pcrf_model.specs.Bindings.{bind};
 ghost use Rattle.pcrf_model.specs.Differences.{rule_name_of};
-ghost use Rattle.pcrf_model.specs.Forms.{are_up_to};
+ghost use Rattle.pcrf_model.specs.Forms.{are_up_to, is_holding};
 ghost use Rattle.pcrf_model.specs.Holdings.{facts_on, kept_of, nothing_held, with_facts_of, union};
 ghost use Rattle.pcrf_values.specs.Limits.{last_counter};
 ghost use Rattle.pcrf_model.specs.SiteOverviews.{bindings_of};
@@ -15,13 +17,12 @@ ghost use Rattle.pcrf_model.specs.Pushing.{due_session};
 ghost use Rattle.pcrf_model.specs.Rules.{rules};
 ghost use Rattle.pcrf_model.specs.Sessions.{gx, af};
 ghost use Rattle.pcrf_model.specs.Tables.{Tables as TablesValue};
-ghost use Rattle.pcrf_model.specs.Views.{View, view};
 ghost use Rattle.pcrf_values.specs.Sets.{Distinct};
 ghost use Rattle.rule_delta.specs.Pushed.{push_of, untold_difference};
-ghost use Rattle.bind_index.specs.Index.{Covers};
 ghost use Rattle.site_join.specs.States.{record_facts};
 ghost use Rattle.rule_delta.specs.Waits.{DueWait, is_waiting};
 ghost use Rattle.rule_delta.specs.Abandoned.{AbandonedWait};
+ghost use Rattle.pcrf_model.specs.ToldTags.{ToldUpTo};
 
 use crate::aborting::wait_calls;
 use crate::binding::{bindings, bindings_by};
@@ -29,7 +30,6 @@ use crate::following::follow;
 use crate::forgetting::{forget_given, forget_moved, subscribers_before};
 use crate::reached::reached_by;
 use crate::unsettling::{unsettle, wait_unlisted};
-use crate::whole::make_whole;
 use af_records::AfRec;
 use bind_index::{Index, bind, bind_by, sessions_of};
 use gx_records::GxRec;
@@ -41,6 +41,26 @@ use rule_delta::{Waiting, WaitingCalls, gather, next_push, next_waiting, untold_
 use site_join::{Operation, State};
 use std::alloc::{AllocError, Global};
 use std::marker::Model;
+
+/// Has the index cover the state, where it isn't whole; a refusal leaves what was listed so far. Its time grows with the
+/// number of sessions where the index isn't whole.
+pub(crate) fn make_whole(
+    state: &State,
+    index: &mut Index,
+    is_whole: &mut bool,
+) -> Result<(), AllocError>
+    ensures grows { Grows index.old index.new }
+    ensures whole { OnOk result (is_whole.new ≡ true) }
+    ensures covers { (is_whole.old ≡ true → Covers (view state.now.facts) index.old)
+        → is_whole.new ≡ true → Covers (view state.now.facts) index.new }
+{
+    if *is_whole {
+        return Ok(());
+    }
+    index.cover_state(state)?;
+    *is_whole = true;
+    Ok(())
+}
 
 /// What a site holds, with the operator tables, by which it is told what rules are. Beside it, unseen, an index of the sessions
 /// that are held, lists of rules that are kept until they may have changed, and the sessions that wait to be looked at for a
@@ -95,11 +115,11 @@ impl IndexedState {
             alloc,
             tables,
             state: State::seeded(alloc, seed),
-            index: Index::start(alloc),
+            index: Index::seeded(alloc, seed),
             is_whole: true,
             rules: Rules::seeded(alloc, seed),
-            waiting: Waiting::start(alloc),
-            aborts: WaitingCalls::start(alloc),
+            waiting: Waiting::seeded(alloc, seed),
+            aborts: WaitingCalls::seeded(alloc, seed),
             site: 0,
         }
     }
@@ -127,12 +147,13 @@ impl IndexedState {
     pub fn clear(&mut self)
         ensures { self.new ≡ with_holding self.old nothing_held }
     {
-        self.state = State::seeded(self.alloc, self.rules.seed());
-        self.index = Index::start(self.alloc);
+        let seed = self.rules.seed();
+        self.state = State::seeded(self.alloc, seed);
+        self.index = Index::seeded(self.alloc, seed);
         self.is_whole = true;
         self.rules.touch_all();
-        self.waiting = Waiting::start(self.alloc);
-        self.aborts = WaitingCalls::start(self.alloc);
+        self.waiting = Waiting::seeded(self.alloc, seed);
+        self.aborts = WaitingCalls::seeded(self.alloc, seed);
     }
 
     /// Takes an operation, wherever it was made, once or again; a refusal changes nothing. Its time grows with the number of
@@ -183,12 +204,13 @@ impl IndexedState {
         ensures err { OnErr result (self.new ≡ self.old) }
     {
         let merged = self.state.merged_copy(state)?;
-        self.index = index_of(self.alloc, &merged)?;
+        let seed = self.rules.seed();
+        self.index = index_of(self.alloc, seed, &merged)?;
         self.state = merged;
         self.is_whole = true;
         self.rules.touch_all();
-        self.waiting = Waiting::start(self.alloc);
-        self.aborts = WaitingCalls::start(self.alloc);
+        self.waiting = Waiting::seeded(self.alloc, seed);
+        self.aborts = WaitingCalls::seeded(self.alloc, seed);
         Ok(())
     }
 
@@ -372,10 +394,10 @@ impl IndexedState {
 }
 
 /// An index of what a state shows, and of nothing else.
-fn index_of(alloc: Global, state: &State) -> Result<Index, AllocError>
+fn index_of(alloc: Global, seed: HashSeed, state: &State) -> Result<Index, AllocError>
     ensures { IfOk result (λ index. Covers (view state.now.facts) index) }
 {
-    let mut index = Index::start(alloc);
+    let mut index = Index::seeded(alloc, seed);
     index.cover_state(state)?;
     Ok(index)
 }
@@ -398,8 +420,8 @@ pub(crate) fn wait_for(
         return;
     }
     *of = site;
-    *waiting = Waiting::start(alloc);
-    *aborts = WaitingCalls::start(alloc);
+    *waiting = Waiting::seeded(alloc, waiting.seed());
+    *aborts = WaitingCalls::seeded(alloc, aborts.seed());
 }
 
 /// Whether one waits at a site for a host, where those that wait may be due at this one: all do where it is another.
@@ -420,4 +442,61 @@ pub(crate) fn name_of(
         return Ok(None);
     };
     DiameterIdentity::read(alloc, bytes)
+}
+
+impl IndexedState {
+    /// The greatest counter of the operations that were taken, 0 at first.
+    pub fn clock(&self) -> u64
+        ensures clock { result ≡ self.now.holding.clock }
+        ensures bounded { result ≤ last_counter }
+    {
+        self.state.clock()
+    }
+
+    /// The index of the sessions, where it is whole.
+    pub fn index(&self) -> Option<&Index>
+        ensures { IfSome result (λ index. Covers (view self.now.holding.facts) index.now) }
+    {
+        if !self.is_whole {
+            return None;
+        }
+        Some(&self.index)
+    }
+
+    /// The record of a gateway's session, if a fact of it is known.
+    pub fn gx(&self, id: &GxSid) -> Option<&GxRec>
+        ensures { record_facts (option_copied result)
+            ≡ facts_on self.now.holding.facts (gx id.now) }
+    {
+        self.state.gx(id)
+    }
+
+    /// The record of an application function's session, if a fact of it is known.
+    pub fn af(&self, id: &AfSid) -> Option<&AfRec>
+        ensures { record_facts (option_copied result)
+            ≡ facts_on self.now.holding.facts (af id.now) }
+    {
+        self.state.af(id)
+    }
+
+    /// Does nothing: its contract tells a proof that no fact that is held overshadows another.
+    pub fn note_kept(&self)
+        ensures { kept_of self.now.holding ≡ self.now.holding }
+    {
+        self.state.note_kept();
+    }
+
+    /// Does nothing: its contract tells a proof that what is held has the form of what operations make.
+    pub fn note_form(&self)
+        ensures { is_holding self.now.holding ≡ true }
+    {
+        self.state.note_form();
+    }
+
+    /// Does nothing: its contract tells a proof that what gateways were told has tags up to the clock.
+    pub fn note_told(&self)
+        ensures { ToldUpTo self.now.holding.clock self.now.holding.facts }
+    {
+        self.state.note_told();
+    }
 }

@@ -9,7 +9,6 @@ mod calls;
 mod following;
 mod forgetting;
 mod gateways;
-mod held;
 mod indexed;
 mod opened;
 mod reached;
@@ -19,7 +18,6 @@ mod renewing;
 mod seen;
 mod showing;
 mod unsettling;
-mod whole;
 mod whole_view;
 
 pub use bind_index::Index;

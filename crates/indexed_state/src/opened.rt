@@ -10,8 +10,7 @@ ghost use Rattle.bind_index.specs.Beside.{beside};
 ghost use Rattle.pcc_rules.specs.Listing.{RowNamesApart, keyed, keyed_cmp, unkeyed};
 ghost use Rattle.indexed_state.specs.Opened.{KeepsOne, NoCallAt, NoCallIn, OpensAlone};
 
-use crate::indexed::IndexedState;
-use crate::whole::make_whole;
+use crate::indexed::{IndexedState, make_whole};
 use bind_index::{Index, network_of, spans_networks};
 use gx_records::GxRec;
 use op_tables::Tables;

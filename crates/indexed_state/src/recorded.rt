@@ -10,10 +10,9 @@ ghost use Rattle.indexed_state.specs.Indexed.{IsTold, tells};
 
 use crate::aborting::wait_lost;
 use crate::forgetting::{forget_call, forget_gateway, forget_stood};
-use crate::indexed::IndexedState;
+use crate::indexed::{IndexedState, make_whole};
 use crate::reached::{call_reached_in, gateway_reached_in};
 use crate::unsettling::{unsettle_both, unsettle_gateway, wait_gateway};
-use crate::whole::make_whole;
 use af_records::AfRec;
 use gx_records::GxRec;
 use pcrf_values::{AfSid, GxSid};

@@ -5,8 +5,7 @@ ghost use Rattle.pcrf_model.specs.Views.{view};
 ghost use Rattle.pcc_rules.specs.Cached.{AreCached};
 ghost use Rattle.bind_index.specs.Index.{Covers};
 
-use crate::indexed::IndexedState;
-use crate::whole::make_whole;
+use crate::indexed::{IndexedState, make_whole};
 use bind_index::Index;
 use op_tables::Tables;
 use pcc_rules::{Rules, renew};

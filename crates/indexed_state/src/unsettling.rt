@@ -124,7 +124,7 @@ pub(crate) fn unsettle_all(alloc: Global, rules: &mut Rules, waiting: &mut Waiti
     ensures { Unsettled rules.new waiting.new }
 {
     rules.touch_all();
-    *waiting = Waiting::start(alloc);
+    *waiting = Waiting::seeded(alloc, waiting.seed());
 }
 
 /// Has the lists of rules be stale of the gateways' sessions that are listed where a user is reached, and has these wait.

@@ -1,13 +1,15 @@
 -- What a search by position finds shows at its place.
-use Rattle.std.proofs.Common.{◌≡◌, ℕ, zero, suc, ◌<◌, Bool, true, false, List, [], ◌∷◌, length, get_or, map, ◌||◌, ◌⊎◌, Option, Some, None, inl, inr, refl, sym, ap, ◌∙◌, subst, arith, Result, Ok, Err, Ordering, Less, Equal, Greater}
+use Rattle.std.proofs.Common.{◌≡◌, ℕ, zero, suc, ◌<◌, ◌+◌, Bool, true, false, List, [], ◌∷◌, ◌++◌, length, get_or, map, take, is_some, ◌||◌, ◌⊎◌, Option, Some, None, inl, inr, refl, sym, ap, ◌∙◌, subst, arith, Result, Ok, Err, Ordering, Less, Equal, Greater}
 use Rattle.std.specs.Ordering.{is_eq, is_lt, ordering_reverse}
 use Rattle.std.specs.List.{list_any}
 use Rattle.std.specs.List.Sorted.{IsSearchInRange, IsBinarySearchResult}
 use Rattle.std.specs.Cmp.{tied_itself}
+use Rattle.std.proofs.lemmas.List.Folds.{list_any-append}
+use Rattle.std.proofs.lemmas.List.{map_more}
 use Rattle.pcrf_values.specs.declared.tag.Tag.{Tag}
 use Rattle.pcrf_values.specs.Sets.{In, Same}
 use Rattle.pcrf_values.proofs.Plain.{clash, is_false, none_some, or_left, some_same}
-use Rattle.pcrf_values.proofs.SetLaws.{any-In, none-any}
+use Rattle.pcrf_values.proofs.SetLaws.{any-In, In-any, none-any}
 use Rattle.pcrf_values.specs.Places.{Place, Component, Flow, Position, position_cmp, place_position}
 use Rattle.pcrf_values.specs.Values.{Value, Entry}
 use Rattle.pcrf_values.specs.Facts.{Fact, End, Removed, Field, Aborted, position, entry, fact_cmp, is_shaded_by}
@@ -86,6 +88,41 @@ pub found_none : {A : Type 0} (fact : A → Fact) (xs : List A) (p : Position) (
 found_none fact xs p at k bound parted f i e =
     let none = sym (found_by_search position_cmp position_ranked.total fact position xs p (kept_places (map fact xs) k) (Err at) bound parted) in
     clash (is_eq (position_cmp (position f) p)) (ap is_eq (ap (position_cmp (position f)) (sym e) ∙ tied_itself position_ranked.total (position f))) (none-any (λ y. is_eq (position_cmp (position y) p)) (map fact xs) none f i)
+
+-- ---- facts that are looked at one after the other
+
+-- a comparison that answers `Equal`
+is_equal : (o : Ordering) → is_eq o ≡ true → o ≡ Equal
+is_equal Less h = absurd (cc)
+is_equal Equal h = refl
+is_equal Greater h = absurd (cc)
+
+-- what is at a position stands there
+stands_there : (p : Position) (f : Fact) → position f ≡ p → stands_at p f ≡ true
+stands_there p f e = ap is_eq (ap (position_cmp (position f)) (sym e) ∙ tied_itself position_ranked.total (position f))
+
+-- what stands at a position is at it
+at_there : (p : Position) (f : Fact) → stands_at p f ≡ true → position f ≡ p
+at_there p f h = position_ranked.same (position f) p (is_equal (position_cmp (position f) p) h)
+
+-- the one that is looked at stands there
+pub found_here : {A : Type 0} (fact : A → Fact) (xs : List A) (p : Position) (at : ℕ) (x : A) → at < length xs → x ≡ get_or xs at x → stands_at p (fact x) ≡ true → IsFound p (map fact xs) (Some (fact x))
+found_here fact xs p at x lt e h = (In-made fact xs at x lt e, at_there p (fact x) h)
+
+-- nor does the next
+pub none_yet : {A : Type 0} (fact : A → Fact) (xs : List A) (p : Position) (at : ℕ) (x : A) → at < length xs → x ≡ get_or xs at x → stands_at p (fact x) ≡ false → list_any (stands_at p) (map fact (take at xs)) ≡ false → list_any (stands_at p) (map fact (take (at + 1) xs)) ≡ false
+none_yet fact xs p at x lt e other none =
+    let more = map_more fact xs at x lt ∙ ap (λ y. map fact (take at xs) ++ fact y ∷ []) (sym e) in
+    ap (list_any (stands_at p)) more ∙ list_any-append (stands_at p) (map fact (take at xs)) (fact x ∷ []) ∙ rw (none, other) refl
+
+-- none of all stands there
+pub none_there : (zs : List Fact) (p : Position) → list_any (stands_at p) zs ≡ false → IsFound p zs None
+none_there zs p none f i e = clash (stands_at p f) (stands_there p f e) (none-any (stands_at p) zs none f i)
+
+-- whether something was found
+pub is_found : (zs : List Fact) (p : Position) (o : Option Fact) → IsFound p zs o → is_some o ≡ list_any (stands_at p) zs
+is_found zs p None f = sym (is_false (list_any (stands_at p) zs) (λ t. let r = any-In (stands_at p) zs t in absurd (f r.0 r.1 (at_there p r.0 r.2))))
+is_found zs p (Some x) f = sym (In-any (stands_at p) x zs f.0 (stands_there p x f.1))
 
 -- ---- the end
 

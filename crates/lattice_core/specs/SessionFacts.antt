@@ -7,8 +7,8 @@ use Rattle.pcrf_values.specs.Places as places
 use Rattle.pcrf_values.specs.Values.{Value, Number, Text}
 use Rattle.pcrf_values.specs.Values as values
 use Rattle.pcrf_values.specs.Facts.{Fact, Field}
-use Rattle.lattice_core.specs.declared.session_value.SessionValue.{SessionValue}
-use Rattle.lattice_core.specs.declared.session_value.SessionValue.TheVariants.{Address, Apn, Subscribers, Host, Realm, Last, Prefix}
+use Rattle.lattice_core.specs.declared.fact.SessionValue.{SessionValue}
+use Rattle.lattice_core.specs.declared.fact.SessionValue.TheVariants.{Address, Apn, Subscribers, Host, Realm, Last, Prefix}
 
 -- an address as its octets
 abbrev pub address_value : Ipv4Addr → Value

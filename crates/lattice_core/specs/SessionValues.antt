@@ -4,8 +4,8 @@ use Rattle.pcrf_values.specs.declared.tag.Tag.{Tag}
 use Rattle.pcrf_values.specs.Values.{Value, Number, Text, Entry}
 use Rattle.pcrf_values.specs.Values as values
 use Rattle.lattice_core.specs.SessionFacts.{address_value}
-use Rattle.lattice_core.specs.declared.session_value.SessionValue.{SessionValue}
-use Rattle.lattice_core.specs.declared.session_value.SessionValue.TheVariants.{Address, Apn, Subscribers, Host, Realm, Last, Prefix}
+use Rattle.lattice_core.specs.declared.fact.SessionValue.{SessionValue}
+use Rattle.lattice_core.specs.declared.fact.SessionValue.TheVariants.{Address, Apn, Subscribers, Host, Realm, Last, Prefix}
 
 -- the value
 abbrev pub session_value : SessionValue ℕ → Value

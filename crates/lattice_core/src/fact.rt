@@ -1,15 +1,24 @@
-//! Facts of one kind of session, by their types.
+//! Facts of one kind of session, by their types; and what facts say of sessions of both kinds: where each of these facts stands,
+//! and how two of one field compare.
 ghost use Rattle.std.specs.Prelude.{◌≡◌, [], IfOk};
 ghost use Rattle.std.specs.Option.{option_cmp};
+ghost use Rattle.std.specs.Ordering.{is_eq};
 ghost use Rattle.pcrf_values.specs.Places.{Component, Flow, position_cmp, removed_position};
-ghost use Rattle.pcrf_values.specs.Values.{entry_cmp};
+ghost use Rattle.pcrf_values.specs.Values.{entry_cmp, value_cmp};
 ghost use Rattle.pcrf_values.specs.Facts.{Fact, End, Aborted, position, entry, fact_cmp};
 ghost use Rattle.lattice_core.specs.Beneath.{beneath_of};
 ghost use Rattle.lattice_core.specs.Orders.{is_field, parts_cmp, fields_cmp};
+ghost use Rattle.pcrf_values.specs.declared.tag.Tag.{Tag};
+ghost use Rattle.lattice_core.specs.SessionFacts.{session_fact};
+ghost use Rattle.lattice_core.specs.SessionValues.{session_number, session_value};
 
+use pcrf_values::{
+    Apn, DiameterIdentity, Enumerated, Enumeration, Ipv6Prefix, Ranked, Subscribers,
+};
 use std::alloc::AllocError;
 use std::cmp::Ordering;
 use std::marker::Model;
+use std::net::Ipv4Addr;
 
 /// The kinds of facts, in the order in which they stand.
 const END: u8 = 1;
@@ -56,6 +65,17 @@ impl<'a> Position<'a> {
             Ordering::Less => Ordering::Less,
             Ordering::Greater => Ordering::Greater,
         }
+    }
+
+    /// Both are one position. What tells most positions apart is looked at first.
+    pub(crate) fn is(&self, other: &Position<'_>) -> bool
+        ensures { result ≡ is_eq (position_cmp self.now other.now) }
+    {
+        self.field == other.field
+            && self.code == other.code
+            && self.component == other.component
+            && self.flow == other.flow
+            && (self.name.is_empty() && other.name.is_empty() || self.name.cmp(other.name).is_eq())
     }
 
     /// Positions of one kind of facts, the same way.
@@ -199,5 +219,90 @@ pub(crate) fn compare<F: TypedFact>(one: &F, other: &F) -> Ordering
         Ordering::Equal => one.compare_entry(other),
         Ordering::Less => Ordering::Less,
         Ordering::Greater => Ordering::Greater,
+    }
+}
+
+/// What a fact says of a session. `L` is the number of the type of its last request.
+#[derive(Debug, Drop)]
+pub enum SessionValue<L> {
+    /// Framed-IP-Address (RFC 7155, 4.4.10.5.1).
+    Address(Ipv4Addr),
+    /// Called-Station-Id (RFC 7155, 4.2.5).
+    Apn(Apn),
+    /// Subscription-Id (RFC 8506, 8.46).
+    Subscribers(Subscribers),
+    /// Origin-Host of the client (RFC 6733, 6.3).
+    Host(DiameterIdentity),
+    /// Origin-Realm of the client (RFC 6733, 6.4).
+    Realm(DiameterIdentity),
+    /// CC-Request-Type of the last request (RFC 8506, 8.3), 0 for Rx.
+    Last(L),
+    /// Framed-IPv6-Prefix (RFC 7155, 4.4.10.5.6).
+    Prefix(Ipv6Prefix),
+}
+
+impl<L: Ranked> SessionValue<L> {
+    /// An equal value.
+    pub fn try_copy(&self) -> Result<SessionValue<L>, AllocError>
+        ensures { IfOk result (λ r. r ≡ self.now) }
+    {
+        match self {
+            SessionValue::Address(address) => Ok(SessionValue::Address(*address)),
+            SessionValue::Apn(apn) => Ok(SessionValue::Apn(apn.try_copy()?)),
+            SessionValue::Subscribers(ids) => Ok(SessionValue::Subscribers(ids.try_copy()?)),
+            SessionValue::Host(host) => Ok(SessionValue::Host(host.try_copy()?)),
+            SessionValue::Realm(realm) => Ok(SessionValue::Realm(realm.try_copy()?)),
+            SessionValue::Last(last) => Ok(SessionValue::Last(last.try_copy()?)),
+            SessionValue::Prefix(prefix) => Ok(SessionValue::Prefix(*prefix)),
+        }
+    }
+}
+
+/// The number of the field.
+fn number_of<E: Enumeration>(value: &SessionValue<Enumerated<E>>) -> u8
+    ensures { result ≡ session_number value.now }
+{
+    match value {
+        SessionValue::Address(_) => 1,
+        SessionValue::Apn(_) => 2,
+        SessionValue::Subscribers(_) => 3,
+        SessionValue::Host(_) => 4,
+        SessionValue::Realm(_) => 5,
+        SessionValue::Last(_) => 6,
+        SessionValue::Prefix(_) => 7,
+    }
+}
+
+/// Where the field of that number stands.
+pub fn position_of_field<'a>(field: u8) -> Position<'a>
+    ensures { result ≡ (2, (0, (0, (field, [])))) }
+{
+    Position::of(SESSION_FIELD, 0, 0, field)
+}
+
+/// Where a field of a session stands.
+pub fn session_position<'a, E: Enumeration>(value: &SessionValue<Enumerated<E>>) -> Position<'a>
+    ensures { (t : Tag) → result ≡ position (session_fact t value.now) }
+{
+    position_of_field(number_of(value))
+}
+
+/// How two values of one field compare.
+pub fn compare_values<E: Enumeration>(
+    one: &SessionValue<Enumerated<E>>,
+    other: &SessionValue<Enumerated<E>>,
+) -> Ordering
+    requires { session_number one.now ≡ session_number other.now }
+    ensures { result ≡ value_cmp (session_value one.now) (session_value other.now) }
+{
+    match (one, other) {
+        (SessionValue::Address(one), SessionValue::Address(other)) => one.cmp(other),
+        (SessionValue::Apn(one), SessionValue::Apn(other)) => one.cmp(other),
+        (SessionValue::Subscribers(one), SessionValue::Subscribers(other)) => one.cmp(other),
+        (SessionValue::Host(one), SessionValue::Host(other)) => one.cmp(other),
+        (SessionValue::Realm(one), SessionValue::Realm(other)) => one.cmp(other),
+        (SessionValue::Last(one), SessionValue::Last(other)) => one.cmp(other),
+        (SessionValue::Prefix(one), SessionValue::Prefix(other)) => one.cmp(other),
+        _ => Ordering::Equal,
     }
 }

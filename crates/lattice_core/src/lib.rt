@@ -14,13 +14,14 @@ mod map;
 mod placing;
 mod record;
 mod reg;
-mod search;
-mod session_value;
 mod tombed;
 mod tree;
 
 pub use entries::Entries;
-pub use fact::{Beneath, COMPONENT_FIELD, FLOW_FIELD, Position, RULE_NAME, TypedFact};
+pub use fact::{
+    Beneath, COMPONENT_FIELD, FLOW_FIELD, Position, RULE_NAME, SessionValue, TypedFact,
+    compare_values, position_of_field, session_position,
+};
 pub use fact_set::{FactSet, same_facts};
 pub use join::Join;
 pub use keeping::are_kept;
@@ -28,6 +29,5 @@ pub use map::JoinMap;
 pub use pcrf_values::{Delta, Ranked, Rule, Tag};
 pub use record::{Record, copy_facts};
 pub use reg::Reg;
-pub use session_value::{SessionValue, compare_values, position_of_field, session_position};
 pub use tombed::Tombed;
 pub use tree::JoinTree;

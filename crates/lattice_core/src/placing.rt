@@ -9,7 +9,7 @@ ghost use Rattle.lattice_core.specs.Beneath.{stands_at};
 ghost use Rattle.lattice_core.specs.Orders.{AreThere, IsGap, is_field};
 
 use crate::fact::TypedFact;
-use crate::search::{has_at, is_removed, seek};
+use crate::keeping::{has_at, is_removed, seek};
 use std::alloc::AllocError;
 
 /// Each of the facts is a field.

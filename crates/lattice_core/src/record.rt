@@ -13,9 +13,9 @@ ghost use Rattle.lattice_core.specs.Sets.{facts_subset};
 use crate::fact::{Position, TypedFact, compare};
 use crate::fact_set::FactSet;
 use crate::join::Join;
+use crate::keeping;
 use crate::keeping::{adds_nothing, are_kept, merge, merge_of};
 use crate::placing::{are_fields, make_room, put_all};
-use crate::search;
 use std::alloc::{AllocError, Global};
 use std::cmp::Ordering;
 use std::collections::VecDeque;
@@ -141,21 +141,21 @@ impl<F: TypedFact> Record<F> {
         ensures shown { (p : Place) → sought.now ≡ place_position p
             → entry_found (option_map F.fact (option_copied result)) ≡ entry_shown self.now p }
     {
-        search::find(self.items.as_slice(), sought)
+        keeping::find(self.items.as_slice(), sought)
     }
 
     /// The session is ended.
     pub fn ended(&self) -> bool
         ensures { result ≡ is_ended self.now }
     {
-        search::is_ended(self.items.as_slice())
+        keeping::is_ended(self.items.as_slice())
     }
 
     /// The session was asked to abort.
     pub fn aborted(&self) -> bool
         ensures { result ≡ is_aborted self.now }
     {
-        search::has_at(self.items.as_slice(), &Position::of_abort())
+        keeping::has_at(self.items.as_slice(), &Position::of_abort())
     }
 }
 

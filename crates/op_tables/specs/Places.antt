@@ -1,11 +1,10 @@
 -- The keys of the operator tables, place by place, in the order in which they are judged (this project's profile).
 use Rattle.std.specs.Prelude.{ℕ}
 use Rattle.pcrf_values.specs.Limits.{apn_limit, filters_limit, operator_rule_name_limit}
-use Rattle.op_tables.specs.declared.apns.TheConstants.{MOST_APNS}
+use Rattle.op_tables.specs.declared.apns.TheConstants.{MOST_APNS, MOST_RULES}
 use Rattle.op_tables.specs.declared.media.TheConstants.{MOST_MEDIA}
 use Rattle.op_tables.specs.declared.place.TableKey.{TableKey}
 use Rattle.op_tables.specs.declared.place.TableKey.TheVariants as key
-use Rattle.op_tables.specs.declared.rules.TheConstants.{MOST_RULES}
 
 infixr 5 ◌▸◌
 mutual

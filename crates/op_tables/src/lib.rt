@@ -11,15 +11,11 @@ mod media;
 mod place;
 mod quality;
 mod reading;
-mod rules;
 mod tables;
 mod texts;
-mod word;
 
-pub use apns::AccessPoint;
+pub use apns::{AccessPoint, OperatorRule, OperatorRuleName, Word};
 pub use class::Class;
 pub use fault::{PlacedFault, TableFault};
 pub use place::{Place, Step, TableKey};
-pub use rules::{OperatorRule, OperatorRuleName};
 pub use tables::{Tables, read_placed, read_tables};
-pub use word::Word;

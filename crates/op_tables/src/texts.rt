@@ -9,10 +9,10 @@ ghost use Rattle.op_tables.specs.Judgement.{shape_fault, key_fault, bad_unless, 
 ghost use Rattle.op_tables.specs.Values.{filter as filter_in, filters as filters_among, all_of, text_in, data_at};
 ghost use Rattle.op_tables.specs.Meaning.{filters_in};
 
+use crate::apns::Word;
 use crate::fault::{PlacedFault, TableFault};
 use crate::place::TableKey;
 use crate::reading::{list, required_at};
-use crate::word::Word;
 use pcrf_values::{Apn, BoundedList, PermitFilter, PermitFilters};
 use std::alloc::Global;
 use toml::{Table, Value};

@@ -11,7 +11,7 @@ use Rattle.pcrf_model.specs.Tables.{Tables}
 use Rattle.pcrf_model.specs.Flows.{FlowId}
 use Rattle.pcrf_model.specs.Rules.{rule_of}
 use Rattle.bind_index.specs.Beside.{beside}
-use Rattle.pcc_rules.specs.declared.flow.Flow.{Flow}
+use Rattle.pcc_rules.specs.declared.derivation.Flow.{Flow}
 
 -- what is read of an AF session of these facts, alone
 abbrev pub alone : List Fact → View

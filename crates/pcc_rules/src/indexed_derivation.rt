@@ -14,8 +14,7 @@ ghost use Rattle.pcc_rules.specs.Listing.{keyed};
 ghost use Rattle.pcc_rules.specs.Listed.{AddsCalled, AddsRules, records_of};
 ghost use Rattle.pcc_rules.specs.Calls.{AddsBound, all_ids, has_address, without_address};
 
-use crate::derivation::{add_flows, in_order};
-use crate::operator::operator_rules;
+use crate::derivation::{add_flows, in_order, operator_rules};
 use bind_index::{Index, SessionIds, network_of, spans_networks};
 use gx_records::GxRec;
 use op_tables::Tables;

@@ -5,16 +5,12 @@
 
 mod cached;
 mod derivation;
-mod flow;
 mod indexed_derivation;
 mod many;
-mod naming;
-mod operator;
 mod renewing;
 
 pub use cached::Rules;
-pub use derivation::{add_flows, derive, in_order};
+pub use derivation::{add_flows, derive, in_order, operator_rules};
 pub use indexed_derivation::derive_by;
 pub use many::{derive_many, derive_many_by};
-pub use operator::operator_rules;
 pub use renewing::renew;

@@ -1,8 +1,8 @@
 -- What is read of a view, and what a site does, is the same on the kept facts.
 use Rattle.std.proofs.Common.{◌≡◌, ℕ, Bool, false, List, [], Option, refl, ap}
 use Rattle.pcrf_values.specs.Sets.{Same}
-use Rattle.pcrf_values.specs.declared.request_kind.RequestKind.{RequestKind}
-use Rattle.pcrf_values.specs.declared.request_kind.RequestKind.TheVariants.{Initial, Update, Termination}
+use Rattle.pcrf_values.specs.declared.numbers.RequestKind.{RequestKind}
+use Rattle.pcrf_values.specs.declared.numbers.RequestKind.TheVariants.{Initial, Update, Termination}
 use Rattle.pcrf_values.specs.Places.{Place}
 use Rattle.pcrf_values.specs.Values.{Entry}
 use Rattle.pcrf_model.specs.Holdings.{SessionFact, kept_facts, under, Holding, kept_of}

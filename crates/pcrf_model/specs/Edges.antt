@@ -1,7 +1,7 @@
 -- Scenes at the edges of the definitions: several due sessions, the last counter, removed flows, ended sessions, full letters.
 use Rattle.std.specs.Prelude.{ℕ, List, [], ◌∷◌, Option, Some, None, Ok, Err, codes, replicate}
 use Rattle.std.proofs.Common.{option_map}
-use Rattle.pcrf_values.specs.declared.request_kind.RequestKind.TheVariants.{Initial, Update}
+use Rattle.pcrf_values.specs.declared.numbers.RequestKind.TheVariants.{Initial, Update}
 use Rattle.pcrf_values.specs.Places.{OfRuleName}
 use Rattle.pcrf_values.specs.Values.{Value}
 use Rattle.pcrf_values.specs.Facts.{Field}

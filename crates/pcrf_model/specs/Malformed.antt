@@ -1,7 +1,7 @@
 -- What is not of the form: one sample for each thing that the form asks.
 use Rattle.std.specs.Prelude.{ℕ, List, [], ◌∷◌, map, Some, None, codes}
 use Rattle.pcrf_values.specs.declared.tag.Tag.{Tag}
-use Rattle.pcrf_values.specs.declared.request_kind.RequestKind.TheVariants.{Update}
+use Rattle.pcrf_values.specs.declared.numbers.RequestKind.TheVariants.{Update}
 use Rattle.pcrf_values.specs.Places.{MediaType, OfComponent, OfRuleName, address}
 use Rattle.pcrf_values.specs.Values.{Subscriber, Number, Address, Told}
 use Rattle.pcrf_values.specs.Facts.{Fact, End, Field}

@@ -1,6 +1,6 @@
 -- Sessions of users that are reached by IPv6 prefixes, for the worked examples.
 use Rattle.std.specs.Prelude.{ℕ, List, [], ◌∷◌, Option, Some, None, codes}
-use Rattle.pcrf_values.specs.declared.request_kind.RequestKind.TheVariants.{Initial, Update}
+use Rattle.pcrf_values.specs.declared.numbers.RequestKind.TheVariants.{Initial, Update}
 use Rattle.pcrf_values.specs.Prefixes.{Ipv6Prefix}
 use Rattle.pcrf_model.specs.Requests.{UserValue, RequestValue}
 use Rattle.pcrf_model.specs.Replies.{ReplyValue}

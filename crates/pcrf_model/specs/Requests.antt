@@ -1,6 +1,6 @@
 -- The requests that a site serves, as read: plain values without memory.
 use Rattle.std.specs.Prelude.{ℕ, Bool, ◌&&◌, is_none, List, Option}
-use Rattle.pcrf_values.specs.declared.request_kind.RequestKind.{RequestKind}
+use Rattle.pcrf_values.specs.declared.numbers.RequestKind.{RequestKind}
 use Rattle.pcrf_values.specs.Prefixes.{Ipv6Prefix}
 use Rattle.pcrf_values.specs.Values.{Subscriber}
 

@@ -4,8 +4,8 @@ use Rattle.std.proofs.Common.{option_map, unwrap_or}
 use Rattle.pcrf_values.specs.RuleValues.{DeltaValue}
 use Rattle.pcrf_values.specs.Results.{success}
 use Rattle.pcrf_values.specs.declared.refusal.Refusal.{Refusal}
-use Rattle.pcrf_values.specs.declared.request_kind.RequestKind.{RequestKind}
-use Rattle.pcrf_values.specs.declared.request_kind.RequestKind.TheVariants.{Initial, Update, Termination}
+use Rattle.pcrf_values.specs.declared.numbers.RequestKind.{RequestKind}
+use Rattle.pcrf_values.specs.declared.numbers.RequestKind.TheVariants.{Initial, Update, Termination}
 use Rattle.pcrf_model.specs.Sessions.{Session, gx, af}
 use Rattle.pcrf_model.specs.Holdings.{Holding, under}
 use Rattle.pcrf_model.specs.Operations.{Operation, with_operation}

@@ -2,7 +2,7 @@
 use Rattle.std.specs.Prelude.{ℕ, Bool, false, ◌&&◌, if◌then◌else◌, List, Option, Some, None}
 use Rattle.std.proofs.Common.{option_map, option_and_then}
 use Rattle.std.specs.List.{filter_map}
-use Rattle.pcrf_values.specs.declared.request_kind.RequestKind.TheVariants.{Update}
+use Rattle.pcrf_values.specs.declared.numbers.RequestKind.TheVariants.{Update}
 use Rattle.pcrf_values.specs.Facts.{Fact}
 use Rattle.pcrf_values.specs.FlowWords.{value_at}
 use Rattle.pcrf_values.specs.Held.{entry_shown}

@@ -45,7 +45,7 @@ fn exchanged<T: Threads + Wait + Sync, A: SharedSite, P: Pushes, S: Read + Write
         gateways,
         gate,
     };
-    let mut letters = Letters::start(alloc, site.edition(), stream);
+    let mut letters = Letters::start(alloc, site.edition(), site.seed(), stream);
     match role {
         Role::Dial => send_letters(rt, &link, seat, cursors, &mut letters, turns),
         Role::Listen => take_letters(rt, alloc, &link, seat, cursors, &mut letters, turns),

@@ -1,6 +1,7 @@
 //! Letters on a stream.
 use crate::end::LinkEnd;
-use peer_exchange::{Ack, Letter, LetterAssembler, read_letter, write_letter};
+use pcrf_values::HashSeed;
+use peer_exchange::{Ack, Letter, LetterAssembler, read_letter_seeded, write_letter};
 use std::alloc::Global;
 use std::io::{Read, Write};
 
@@ -16,16 +17,18 @@ pub(crate) struct Letters<S> {
     stream: S,
     pending: LetterAssembler,
     edition: u32,
+    seed: HashSeed,
     alloc: Global,
 }
 
 impl<S: Read + Write> Letters<S> {
-    /// A stream of which nothing was read.
-    pub(crate) fn start(alloc: Global, edition: u32, stream: S) -> Letters<S> {
+    /// A stream of which nothing was read. Hashes of whole states that are read begin with this seed.
+    pub(crate) fn start(alloc: Global, edition: u32, seed: HashSeed, stream: S) -> Letters<S> {
         Letters {
             stream,
             pending: LetterAssembler::start(alloc),
             edition,
+            seed,
             alloc,
         }
     }
@@ -35,7 +38,13 @@ impl<S: Read + Write> Letters<S> {
         let mut piece = [0u8; PIECE_BYTES];
         for _read in 0..READ_LIMIT {
             if let Some(frame) = self.pending.next()? {
-                return Ok(read_letter(self.alloc, frame.as_slice(), self.edition)?);
+                let letter = read_letter_seeded(
+                    self.alloc,
+                    self.seed,
+                    frame.as_slice(),
+                    self.edition,
+                );
+                return Ok(letter?);
             }
             self.feed(&mut piece)?;
         }

@@ -1,13 +1,13 @@
 -- The numbers by which the standards name the values of an enumeration, and numbers within a range.
 use Rattle.std.specs.Prelude.{ℕ, Option, Some, None, if◌then◌else◌, ◌&&◌, ◌==◌, nat_le}
-use Rattle.pcrf_values.specs.declared.request_kind.RequestKind.{RequestKind}
-use Rattle.pcrf_values.specs.declared.request_kind.RequestKind.TheVariants as request
-use Rattle.pcrf_values.specs.declared.subscriber.SubscriptionType.{SubscriptionType}
-use Rattle.pcrf_values.specs.declared.subscriber.SubscriptionType.TheVariants as subscription
+use Rattle.pcrf_values.specs.declared.numbers.RequestKind.{RequestKind}
+use Rattle.pcrf_values.specs.declared.numbers.RequestKind.TheVariants as request
+use Rattle.pcrf_values.specs.declared.subscribers.SubscriptionType.{SubscriptionType}
+use Rattle.pcrf_values.specs.declared.subscribers.SubscriptionType.TheVariants as subscription
 use Rattle.pcrf_values.specs.declared.rule.FlowStatus.{FlowStatus}
 use Rattle.pcrf_values.specs.declared.rule.FlowStatus.TheVariants as flow
-use Rattle.pcrf_values.specs.declared.flow_usage.FlowUsage.{FlowUsage}
-use Rattle.pcrf_values.specs.declared.flow_usage.FlowUsage.TheVariants as usage
+use Rattle.pcrf_values.specs.declared.numbers.FlowUsage.{FlowUsage}
+use Rattle.pcrf_values.specs.declared.numbers.FlowUsage.TheVariants as usage
 use Rattle.pcrf_values.specs.declared.rule.Preemption.{Preemption}
 use Rattle.pcrf_values.specs.declared.rule.Preemption.TheVariants as preemption
 

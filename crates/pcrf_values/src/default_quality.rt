@@ -1,5 +1,5 @@
 //! Default qualities of service.
-use crate::bounded_number::BoundedNumber;
+use crate::numbers::BoundedNumber;
 use crate::rule::RetentionPriority;
 
 /// The quality of service class of a default bearer, which has no guaranteed bit rate (TS 23.203, 6.1.7).

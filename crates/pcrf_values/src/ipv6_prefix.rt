@@ -2,11 +2,11 @@
 ghost use Rattle.std.specs.Prelude.{◌≡◌, ◌≤◌, length, take, refl};
 ghost use Rattle.pcrf_values.specs.Prefixes.{address_bits, address_octets, covers, first_bits, first_of_byte, octets_for, prefix_cmp, prefix_from};
 
-use crate::bytes::compare_bytes;
-use crate::order::Ranked;
+use crate::order::{Ranked, compare_bytes};
 use std::alloc::AllocError;
 use std::cmp::Ordering;
 use std::fmt::{self, Display, Formatter, Write};
+use std::hash::{Hash, Hasher};
 use std::marker::Model;
 
 /// The bits of an IPv6 address.
@@ -159,6 +159,21 @@ impl Eq for Ipv6Prefix {
     ghost use Rattle.pcrf_values.specs.laws.Values.{prefix_total};
 
     ghost laws = { eq_by_cmp_equiv prefix_total };
+}
+
+impl Hash for Ipv6Prefix {
+    ghost use Rattle.std.specs.Prelude.{[], ◌∷◌};
+    ghost use Rattle.pcrf_values.specs.laws.Exact.{input_alike};
+    ghost use Rattle.pcrf_values.specs.laws.Values.{prefix_same};
+
+    ghost hash_input = { λ p. p.1 ∷ [] };
+
+    ghost respects_eq = { input_alike prefix_same (λ p. p.1 ∷ []) };
+
+    /// By the octets alone: few prefixes have the same and other lengths.
+    fn hash<H: Hasher>(&self, state: &mut H) {
+        state.write(&self.octets);
+    }
 }
 
 impl PartialOrd for Ipv6Prefix {

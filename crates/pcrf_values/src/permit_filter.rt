@@ -3,11 +3,10 @@ ghost use Rattle.std.specs.Prelude.{◌≡◌, true, false, IfOk, IfSome, IfNone
 ghost use Rattle.std.specs.List.{list_all};
 ghost use Rattle.pcrf_values.specs.Filters.{begins_as_filter, filter_of, is_filter, is_printable};
 
-use crate::bounded_list::{BoundedList, Filters};
-use crate::bounded_text::FilterText;
 use crate::limits::{FILTER_LIMIT, FILTERS_LIMIT};
+use crate::lists::{BoundedList, Filters};
 use crate::order::Ranked;
-use crate::text::Text;
+use crate::text::{FilterText, Text};
 use std::alloc::{AllocError, Global};
 use std::fmt::{self, Debug, Formatter, Write};
 use std::marker::Model;

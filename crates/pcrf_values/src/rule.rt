@@ -1,14 +1,13 @@
-//! PCC rules and differences of rules.
-ghost use Rattle.std.specs.Prelude.{◌≡◌, ◌<◌, ◌≤◌, IfOk, IfSome, IfNone};
+//! PCC rules, and differences between the rules that a gateway was told and those that it is to have.
+ghost use Rattle.std.specs.Prelude.{◌≡◌, ◌<◌, ◌≤◌, IfOk, IfSome, IfNone, ◌-◌, take, length};
 ghost use Rattle.pcrf_values.specs.Numbers.{flow_status_number, preemption_number};
 ghost use Rattle.pcrf_values.specs.RuleValues.{rule_cmp};
 ghost use Rattle.pcrf_values.specs.RuleViews.{rule_value, numbers_of};
 
-use crate::bounded_list::Filters;
-use crate::bounded_number::{PriorityLevel, QosClass};
-use crate::bounded_text::RuleName;
-use crate::enumerated::Enumeration;
+use crate::lists::{Filters, Listed};
+use crate::numbers::{Enumeration, PriorityLevel, QosClass};
 use crate::order::Ranked;
+use crate::text::RuleName;
 use std::alloc::{AllocError, Global};
 use std::cmp::Ordering;
 use std::marker::Model;
@@ -317,6 +316,84 @@ impl Ranked for Rule {
     fn try_copy(&self) -> Result<Rule, AllocError> {
         Ok(Rule {
             definition: self.definition.clone()?,
+        })
+    }
+}
+
+/// What a gateway is to remove, by name, and what it is to install (Charging-Rule-Remove and Charging-Rule-Install,
+/// TS 29.212, 5.3.3 and 5.3.2). Contracts see it as a `DeltaValue`.
+#[derive(Debug, Drop, PartialEq, Eq, PartialOrd, Ord)]
+pub struct Delta {
+    removed: Listed<RuleName>,
+    installed: Listed<Rule>,
+}
+
+impl Model for Delta {
+    ghost use Rattle.pcrf_values.specs.RuleValues.{DeltaValue};
+
+    ghost Value = { DeltaValue };
+
+    ghost view = { λ d. record { removed = d.removed; installed = d.installed } };
+
+    ghost inverse = { λ d. record { removed = d.removed; installed = d.installed } };
+}
+
+impl Delta {
+    /// The difference that removes and installs these.
+    pub fn of(removed: Vec<RuleName>, installed: Vec<Rule>) -> Delta
+        ensures removed { result.removed ≡ removed.items }
+        ensures installed { result.installed ≡ installed.items }
+    {
+        Delta {
+            removed: Listed::of(removed),
+            installed: Listed::of(installed),
+        }
+    }
+
+    /// The names of the rules to be removed.
+    pub fn removed(&self) -> &[RuleName]
+        ensures { result.now ≡ self.now.removed }
+    {
+        self.removed.as_slice()
+    }
+
+    /// The rules to be installed.
+    pub fn installed(&self) -> &[Rule]
+        ensures { result.now ≡ self.now.installed }
+    {
+        self.installed.as_slice()
+    }
+
+    /// Its first entries, so many of them at most: the removed names come before the installed rules.
+    pub fn first(self, most: usize) -> Delta
+        ensures removed { result.removed ≡ take most self.removed }
+        ensures installed { result.installed ≡ take (most - length self.removed) self.installed }
+    {
+        let (mut removed, mut installed) = self.into_parts();
+        let left = most.saturating_sub(removed.len());
+        removed.truncate(most);
+        installed.truncate(left);
+        Delta::of(removed, installed)
+    }
+
+    /// Both lists.
+    pub fn into_parts(self) -> (Vec<RuleName>, Vec<Rule>)
+        ensures removed { result.0.items ≡ self.removed }
+        ensures installed { result.1.items ≡ self.installed }
+    {
+        (self.removed.into_vec(), self.installed.into_vec())
+    }
+}
+
+impl Ranked for Delta {
+    ghost use Rattle.pcrf_values.specs.laws.Values.{delta_same};
+
+    ghost same = { delta_same };
+
+    fn try_copy(&self) -> Result<Delta, AllocError> {
+        Ok(Delta {
+            removed: self.removed.try_copy()?,
+            installed: self.installed.try_copy()?,
         })
     }
 }

@@ -2,9 +2,8 @@
 ghost use Rattle.std.specs.Prelude.{◌≡◌, ◌<◌, ◌≤◌, length, refl};
 ghost use Rattle.pcrf_values.specs.Limits.{session_id_limit};
 
-use crate::bounded_text::SessionId;
-use crate::bytes::{compare_bytes, equal_bytes};
-use crate::order::Ranked;
+use crate::order::{Ranked, compare_bytes, equal_bytes};
+use crate::text::SessionId;
 use std::alloc::AllocError;
 use std::cmp::Ordering;
 use std::fmt::{self, Debug, Formatter, Write};

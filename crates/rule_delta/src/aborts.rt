@@ -3,9 +3,7 @@
 
 mod aborting;
 mod asked;
-mod waiters;
 mod waiting;
 
 pub use aborting::{first_abort, next_abort};
-pub use waiters::{gather, wait_at, wait_in, wait_one};
-pub use waiting::WaitingCalls;
+pub use waiting::{WaitingCalls, gather, wait_at, wait_in, wait_one};

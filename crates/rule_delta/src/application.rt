@@ -3,7 +3,7 @@ ghost use Rattle.std.specs.Prelude.{◌≡◌, ◌++◌, map, IfOk, OnOk};
 ghost use Rattle.std.specs.List.{filter, list_any};
 ghost use Rattle.pcrf_model.specs.Differences.{apply, as_told, has_name, last_of_names, stays};
 
-use crate::names::{names_of, set_of};
+use crate::differences::{names_of, set_of};
 use gx_records::Told;
 use pcrf_values::{Delta, Ranked, Rule, RuleName, ascending_of};
 use std::alloc::{AllocError, Global};

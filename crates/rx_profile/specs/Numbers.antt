@@ -2,7 +2,7 @@
 use Rattle.std.specs.Prelude.{ℕ, List, [], ◌∷◌}
 use Rattle.pcrf_values.specs.Numbers.{flow_status_number, flow_usage_number}
 use Rattle.pcrf_values.specs.declared.rule.FlowStatus.TheVariants.{EnabledUplink}
-use Rattle.pcrf_values.specs.declared.flow_usage.FlowUsage.TheVariants.{NoInformation, AfSignalling}
+use Rattle.pcrf_values.specs.declared.numbers.FlowUsage.TheVariants.{NoInformation, AfSignalling}
 use Rattle.dia_base.specs.Rows.{Row, optional, enumerated, unsigned32}
 use Rattle.rx_profile.specs.Avps.{flow_status, flow_usage, max_requested_bandwidth_ul, max_requested_bandwidth_dl}
 use Rattle.rx_profile.specs.declared.media.MediaStatus.{MediaStatus}

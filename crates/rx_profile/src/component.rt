@@ -1,19 +1,96 @@
-//! Media components and flows as a request describes them (TS 29.214, 5.3.16 and 5.3.18).
-ghost use Rattle.std.specs.Prelude.{◌≡◌, ◌↔◌, ◌≤◌, false, length, None, OnOk, IfOk, IfErr, IsTrue, option_copied};
-ghost use Rattle.dia_base.specs.Rows.{IsFaultOf};
+//! Media components and flows as a request describes them (TS 29.214, 5.3.16 and 5.3.18): numbers that have to tell things apart,
+//! values that are judged and made of what was read, each by itself, and the filters that application functions may give
+//! (Flow-Description, 5.3.8).
+ghost use Rattle.std.specs.Prelude.{◌≡◌, ℕ, ◌==◌, map, Option, None, OnOk, IfOk, IfErr, ◌↔◌, ◌≤◌, false, length, IsTrue, option_copied};
+ghost use Rattle.std.specs.List.{list_any};
+ghost use Rattle.rx_profile.specs.Services.{repeats, flow_numbers, numbers_refusal, services_refusal};
+ghost use Rattle.pcrf_values.specs.declared.refusal.Refusal.{Refusal};
+ghost use Rattle.dia_base.specs.Rows.{IsFaultOf, refusal_among};
 ghost use Rattle.pcrf_values.specs.Limits.{components_limit, flows_limit};
-ghost use Rattle.rx_profile.specs.Services.{flow_numbers, numbers_refusal, repeats, services_refusal};
 ghost use Rattle.rx_profile.specs.Values.{component_value, flow_value};
 
-use crate::judging::{FromRaw, each_from};
-use crate::media::{ComponentParts, FlowParts, same_status, same_usage};
-use crate::numbers::repeats;
-use crate::raw::{RawComponent, RawFlow};
-use dia_base::codes::results::INVALID_SERVICE_INFORMATION;
+use crate::media::{ComponentParts, FlowParts, RawComponent, RawFlow, same_status, same_usage};
+use dia_base::codes::results::{FILTER_RESTRICTIONS, INVALID_SERVICE_INFORMATION};
 use dia_base::{ReadFault, Refusal};
 use pcrf_values::{Exact, PermitFilter, PermitFilters, Ranked, Text, same, same_items};
 use std::alloc::{AllocError, Global};
 use std::marker::Model;
+
+/// What has a number.
+pub trait Numbered {
+    ghost number_of: { Self → ℕ };
+
+    /// The number.
+    fn number(&self) -> u32
+        ensures { result ≡ number_of self.now };
+}
+
+/// Whether one of the items has this number.
+fn has_number<T: Numbered>(items: &[T], number: u32) -> bool
+    ensures { result ≡ list_any (λ m. m == number) (map T.number_of items.now) }
+{
+    for item in items {
+        if item.number() == number {
+            return true;
+        }
+    }
+    false
+}
+
+/// Whether some number comes twice.
+pub fn repeats<T: Numbered>(items: &[T]) -> bool
+    ensures { result ≡ repeats (map T.number_of items.now) }
+{
+    let mut rest = items;
+    while let Some((first, others)) = rest.split_first() {
+        if has_number(others, first.number()) {
+            return true;
+        }
+        rest = others;
+    }
+    false
+}
+
+/// What is made of a raw value, if it isn't refused.
+pub trait FromRaw<R: Drop>: Sized + Drop {
+    ghost refusal_of: { R → Option Refusal };
+
+    ghost of_raw: { R → Self };
+
+    /// Judges a raw value, and makes a value of it.
+    fn from_raw(alloc: Global, raw: R) -> Result<Self, ReadFault>
+        ensures accepted { OnOk result (refusal_of raw ≡ None) }
+        ensures made { IfOk result (λ made. made ≡ of_raw raw) }
+        ensures refused { IfErr result (IsFaultOf (refusal_of raw)) };
+}
+
+/// Judges raw values one after the other, and makes a value of each.
+pub fn each_from<R: Drop, X: FromRaw<R>>(alloc: Global, raws: Vec<R>) -> Result<Vec<X>, ReadFault>
+    ensures accepted { OnOk result (refusal_among X.refusal_of raws.items ≡ None) }
+    ensures made { IfOk result (λ each. each.items ≡ map X.of_raw raws.items) }
+    ensures refused { IfErr result (IsFaultOf (refusal_among X.refusal_of raws.items)) }
+{
+    let mut each = Vec::with_capacity(alloc, raws.len())?;
+    for raw in raws {
+        each.push(X::from_raw(alloc, raw)?)?;
+    }
+    Ok(each)
+}
+
+impl FromRaw<Text> for PermitFilter {
+    ghost use Rattle.rx_profile.specs.Services.{filter_refusal};
+
+    ghost refusal_of = { filter_refusal };
+
+    ghost of_raw = { λ text. text };
+
+    fn from_raw(_alloc: Global, raw: Text) -> Result<PermitFilter, ReadFault> {
+        let Some(filter) = PermitFilter::of(raw) else {
+            return Err(ReadFault::Refused(Refusal::experimental(FILTER_RESTRICTIONS)));
+        };
+        Ok(filter)
+    }
+}
 
 /// A flow (Media-Sub-Component, TS 29.214, 5.3.18), which contracts see as a `FlowValue`.
 #[derive(Debug, Drop)]

@@ -8,11 +8,7 @@ mod asa;
 mod codes;
 mod component;
 pub mod examples;
-mod filter;
-mod judging;
 mod media;
-mod numbers;
-mod raw;
 mod request;
 mod termination;
 

@@ -11,7 +11,7 @@ ghost use Rattle.rx_profile.specs.Requests.{aar_of, aar_refusal, aar_rows, aar_v
 
 use crate::codes::avps::MEDIA_COMPONENT_DESCRIPTION;
 use crate::component::Components;
-use crate::raw::RawComponent;
+use crate::media::RawComponent;
 use dia_base::codes::avps::{CALLED_STATION_ID, FRAMED_IP_ADDRESS, FRAMED_IPV6_PREFIX, SESSION_ID};
 use dia_base::{
     Origin, ReadFault, base_key, optional_address, optional_apn, optional_prefix, read_each,

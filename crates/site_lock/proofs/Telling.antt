@@ -2,8 +2,8 @@
 use Rattle.std.proofs.Common.{◌≡◌, ℕ, ◌<◌, leb, Bool, true, false, cond, not, ◌&&◌, List, length, Option, Some, None, option_map, unwrap_or, Result, Ok, Err, IfOk, refl, sym, subst}
 use Rattle.std.proofs.lemmas.Bool.{leb-false}
 use Rattle.pcrf_values.specs.declared.refusal.Refusal.{Refusal}
-use Rattle.pcrf_values.specs.declared.request_kind.RequestKind.{RequestKind}
-use Rattle.pcrf_values.specs.declared.request_kind.RequestKind.TheVariants.{Initial, Update, Termination}
+use Rattle.pcrf_values.specs.declared.numbers.RequestKind.{RequestKind}
+use Rattle.pcrf_values.specs.declared.numbers.RequestKind.TheVariants.{Initial, Update, Termination}
 use Rattle.pcrf_values.specs.Limits.{delta_limit}
 use Rattle.pcrf_model.specs.Tables.{Tables}
 use Rattle.pcrf_model.specs.Holdings.{Holding}

@@ -2,7 +2,7 @@
 use crate::living::{Dated, Grown, LivingSite, Roll, Seat};
 use crate::shared::SharedSite;
 use dia_base::Identity;
-use pcrf_values::DiameterIdentity;
+use pcrf_values::{DiameterIdentity, HashSeed};
 use site_machine::{Event, Reply, StepFault};
 use std::sync::Wait;
 use std::thread::Threads;
@@ -29,6 +29,10 @@ impl<L: Roll> SharedSite for LivingSite<L> {
 
     fn edition(&self) -> u32 {
         self.edition()
+    }
+
+    fn seed(&self) -> HashSeed {
+        self.seed()
     }
 
     fn number(&self) -> u8 {

@@ -9,7 +9,7 @@ ghost use Rattle.site_lock.specs.Calls.{GainsReceipt, TellsPast};
 ghost use Rattle.site_lock.specs.Locked.{beside};
 
 use dia_base::Identity;
-use pcrf_values::Ranked;
+use pcrf_values::{HashSeed, Ranked};
 use site_book::{Seat, Settled, SiteBook, Unsettled};
 use site_machine::{Event, Reply, Site, StepFault};
 use std::alloc::{AllocError, Global};
@@ -28,6 +28,7 @@ pub struct LockedSite<L: Ledger> {
     identity: Identity,
     edition: u32,
     number: u8,
+    seed: HashSeed,
 }
 
 impl<L: Ledger> Model for LockedSite<L> {
@@ -93,6 +94,7 @@ impl<L: Ledger> LockedSite<L> {
         };
         let edition = site.tables().edition();
         let number = site.number();
+        let seed = site.seed();
         let (book, chairs) = SiteBook::start(alloc, blank, site, seats, limit)?;
         let locked = LockedSite {
             book: Mutex::new(book),
@@ -100,6 +102,7 @@ impl<L: Ledger> LockedSite<L> {
             identity,
             edition,
             number,
+            seed,
         };
         Ok((locked, chairs))
     }
@@ -114,12 +117,14 @@ impl<L: Ledger> LockedSite<L> {
         };
         let edition = book.site().tables().edition();
         let number = book.site().number();
+        let seed = book.site().seed();
         Ok(LockedSite {
             book: Mutex::new(book),
             grown: Condvar::new(),
             identity,
             edition,
             number,
+            seed,
         })
     }
 
@@ -135,6 +140,11 @@ impl<L: Ledger> LockedSite<L> {
         ensures { result ≡ self.now.edition }
     {
         self.edition
+    }
+
+    /// What hashes begin with at the site. It waits for nobody.
+    pub fn seed(&self) -> HashSeed {
+        self.seed
     }
 
     /// The site's number. It waits for nobody.

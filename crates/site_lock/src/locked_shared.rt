@@ -3,7 +3,7 @@ use crate::living::{Dated, Grown};
 use crate::locked::LockedSite;
 use crate::shared::SharedSite;
 use dia_base::Identity;
-use pcrf_values::DiameterIdentity;
+use pcrf_values::{DiameterIdentity, HashSeed};
 use site_book::Seat;
 use site_machine::{Event, Reply, StepFault};
 use std::sync::Wait;
@@ -31,6 +31,10 @@ impl<L: Ledger> SharedSite for LockedSite<L> {
 
     fn edition(&self) -> u32 {
         self.edition()
+    }
+
+    fn seed(&self) -> HashSeed {
+        self.seed()
     }
 
     fn number(&self) -> u8 {

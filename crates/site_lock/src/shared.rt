@@ -11,7 +11,7 @@ ghost use Rattle.site_lock.specs.Locked.{LockedValue};
 
 use crate::living::{Dated, Grown};
 use dia_base::Identity;
-use pcrf_values::DiameterIdentity;
+use pcrf_values::{DiameterIdentity, HashSeed};
 use site_machine::{Event, Reply, StepFault};
 use std::sync::Wait;
 use std::thread::Threads;
@@ -44,6 +44,9 @@ pub trait SharedSite {
     /// The edition of the site's operator tables. It waits for nobody.
     fn edition(&self) -> u32
         ensures { result ≡ (beside self.now).edition };
+
+    /// What hashes begin with at the site. It waits for nobody.
+    fn seed(&self) -> HashSeed;
 
     /// The site's number. It waits for nobody.
     fn number(&self) -> u8

@@ -3,7 +3,7 @@ ghost use Rattle.std.specs.Prelude.{◌≡◌};
 
 use crate::meters::Meters;
 use dia_base::Identity;
-use pcrf_values::DiameterIdentity;
+use pcrf_values::{DiameterIdentity, HashSeed};
 use site_lock::{Dated, Event, Grown, Reply, SharedSite, StepFault};
 use std::sync::Wait;
 use std::thread::Threads;
@@ -91,6 +91,10 @@ impl<S: SharedSite, C: Clock> SharedSite for MeteredSite<'_, S, C> {
 
     fn edition(&self) -> u32 {
         self.site.edition()
+    }
+
+    fn seed(&self) -> HashSeed {
+        self.site.seed()
     }
 
     fn number(&self) -> u8 {

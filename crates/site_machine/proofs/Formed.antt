@@ -9,8 +9,8 @@ use Rattle.pcrf_values.proofs.Plain.{both, clash}
 use Rattle.pcrf_values.specs.Limits.{session_id_limit, rule_name_limit, last_counter, site_limit, delta_limit}
 use Rattle.pcrf_values.specs.Numbers.{request_kind_number}
 use Rattle.pcrf_values.specs.RuleValues.{RuleValue, DeltaValue}
-use Rattle.pcrf_values.specs.declared.request_kind.RequestKind.{RequestKind}
-use Rattle.pcrf_values.specs.declared.request_kind.RequestKind.TheVariants.{Initial, Update, Termination}
+use Rattle.pcrf_values.specs.declared.numbers.RequestKind.{RequestKind}
+use Rattle.pcrf_values.specs.declared.numbers.RequestKind.TheVariants.{Initial, Update, Termination}
 use Rattle.pcrf_values.specs.Facts.{Fact, End, Aborted, fact_cmp}
 use Rattle.pcrf_values.specs.Places.{RequestType}
 use Rattle.pcrf_values.specs.Values.{Number}

@@ -6,8 +6,8 @@ use Rattle.pcrf_values.specs.Sets.{Distinct}
 use Rattle.pcrf_values.proofs.Plain.{clash, not_true, none_some}
 use Rattle.pcrf_values.specs.Results.{unknown_session_id}
 use Rattle.pcrf_values.specs.declared.refusal.Refusal.{Refusal}
-use Rattle.pcrf_values.specs.declared.request_kind.RequestKind.{RequestKind}
-use Rattle.pcrf_values.specs.declared.request_kind.RequestKind.TheVariants.{Initial, Update, Termination}
+use Rattle.pcrf_values.specs.declared.numbers.RequestKind.{RequestKind}
+use Rattle.pcrf_values.specs.declared.numbers.RequestKind.TheVariants.{Initial, Update, Termination}
 use Rattle.pcrf_values.specs.Facts.{Fact}
 use Rattle.pcrf_values.specs.Limits.{delta_limit}
 use Rattle.pcrf_model.specs.Sessions.{Session, gx}

@@ -7,8 +7,8 @@ use Rattle.pcrf_values.proofs.Plain.{clash}
 use Rattle.pcrf_values.specs.RuleValues.{DeltaValue}
 use Rattle.pcrf_values.specs.Results.{unknown_session_id, initial_parameters, authorization_rejected, unable_to_comply}
 use Rattle.pcrf_values.specs.declared.refusal.Refusal.{Refusal}
-use Rattle.pcrf_values.specs.declared.request_kind.RequestKind.{RequestKind}
-use Rattle.pcrf_values.specs.declared.request_kind.RequestKind.TheVariants.{Initial, Update, Termination}
+use Rattle.pcrf_values.specs.declared.numbers.RequestKind.{RequestKind}
+use Rattle.pcrf_values.specs.declared.numbers.RequestKind.TheVariants.{Initial, Update, Termination}
 use Rattle.pcrf_values.specs.Facts.{Fact, Field, fact_cmp}
 use Rattle.pcrf_values.specs.Held.{is_ended, entry_shown}
 use Rattle.pcrf_values.specs.Live.{gx_is_live}

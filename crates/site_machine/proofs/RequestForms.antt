@@ -6,8 +6,8 @@ use Rattle.pcrf_values.specs.Results.{invalid_service_information}
 use Rattle.pcrf_values.specs.Numbers.{flow_status_number, flow_usage_number}
 use Rattle.pcrf_values.specs.declared.rule.FlowStatus.{FlowStatus}
 use Rattle.pcrf_values.specs.declared.rule.FlowStatus.TheVariants as flow_status
-use Rattle.pcrf_values.specs.declared.flow_usage.FlowUsage.{FlowUsage}
-use Rattle.pcrf_values.specs.declared.flow_usage.FlowUsage.TheVariants as usage
+use Rattle.pcrf_values.specs.declared.numbers.FlowUsage.{FlowUsage}
+use Rattle.pcrf_values.specs.declared.numbers.FlowUsage.TheVariants as usage
 use Rattle.pcrf_model.specs.Requests.{FlowValue, ComponentValue}
 use Rattle.pcrf_model.specs.Forms.{is_within, is_unsigned, is_none_or, are_filters, is_usage, is_flow, are_apart, is_component}
 use Rattle.rx_profile.specs.Numbers.{media_status_number}

@@ -5,7 +5,7 @@ use Rattle.pcrf_values.specs.Places as places
 use Rattle.pcrf_values.specs.Values as values
 use Rattle.pcrf_values.specs.Facts.{Fact}
 use Rattle.pcrf_values.specs.Facts as facts
-use Rattle.lattice_core.specs.declared.session_value.SessionValue.TheVariants.{Address, Apn, Subscribers, Host, Realm, Last, Prefix}
+use Rattle.lattice_core.specs.declared.fact.SessionValue.TheVariants.{Address, Apn, Subscribers, Host, Realm, Last, Prefix}
 use Rattle.gx_records.specs.declared.fact.GxFact.{GxFact}
 use Rattle.gx_records.specs.declared.fact.GxFact.TheVariants as gx
 use Rattle.gx_records.specs.GxFacts as gx_facts

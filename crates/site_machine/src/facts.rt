@@ -8,9 +8,7 @@ mod flow;
 mod forms;
 mod gateway;
 mod session;
-mod told;
 
 pub use call::{call_of, end_facts, ended_call};
 pub use forms::{note_aar, note_ccr, note_str};
-pub use gateway::{ended_gateway, facts_made};
-pub use told::{note_entries, put_told, put_told_away};
+pub use gateway::{ended_gateway, facts_made, note_entries, put_told, put_told_away};

@@ -11,7 +11,6 @@ mod fault;
 mod granting;
 mod lookup;
 mod operations;
-mod refreshing;
 mod refusals;
 mod renewing;
 mod request;

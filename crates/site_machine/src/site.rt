@@ -3,7 +3,7 @@ ghost use Rattle.std.specs.Prelude.{◌≡◌, ◌≢◌, ◌<◌, ◌≤◌, �
 ghost use Rattle.std.specs.Option.{option_copied};
 ghost use Rattle.pcrf_values.specs.Sets.{Distinct};
 ghost use Rattle.pcrf_values.specs.Results.{unable_to_comply};
-ghost use Rattle.pcrf_values.specs.declared.request_kind.RequestKind.TheVariants.{Termination};
+ghost use Rattle.pcrf_values.specs.declared.numbers.RequestKind.TheVariants.{Termination};
 ghost use Rattle.pcrf_values.specs.Held.{kept_list, join_of};
 ghost use Rattle.pcrf_values.specs.Limits.{delta_limit, last_counter, site_limit};
 ghost use Rattle.pcrf_model.specs.Holdings.{facts_on, kept_of, with_facts_of};
@@ -34,7 +34,7 @@ ghost use Rattle.site_machine.specs.Values.{reply_value, request_value};
 use crate::event::Reply;
 use crate::facts::{ended_gateway, facts_made, note_ccr, note_entries, put_told};
 use crate::fault::StepFault;
-use crate::refreshing::quality_by;
+use crate::granting::quality_by;
 use crate::refusals::{has_ended, is_live, lacks, row_refusal};
 use crate::request::Request;
 use crate::witness::{Witness, shown, shown_plain, shown_to_gateway};

@@ -9,7 +9,7 @@ ghost use Rattle.pcrf_model.specs.Refusals.{base_refusal, is_common};
 ghost use Rattle.dia_base.specs.NeighbourAnswers.{address_value, base_answer, base_avps, capabilities_avps, kind_avps, node_avps, supported_application, supported_avps};
 ghost use Rattle.dia_base.specs.NeighbourRequests.{base_view, kind_view, number_of};
 
-use crate::answer::{answer_header, put_origin, put_result};
+use crate::answer::{AvpWriter, answer_header, put_origin, put_result};
 use crate::codes::avps::{AUTH_APPLICATION_ID, VENDOR_ID};
 use crate::codes::{GX, RX, TGPP};
 use crate::identity::Identity;
@@ -19,7 +19,6 @@ use crate::neighbours::codes::avps::{
 };
 use crate::neighbours::codes::{NO_COMMON_APPLICATION, RELAY};
 use crate::neighbours::request::{BaseKind, BaseRequest};
-use crate::writer::AvpWriter;
 use dia_codec::Header;
 use pcrf_values::Refusal;
 use std::alloc::{AllocError, Global};

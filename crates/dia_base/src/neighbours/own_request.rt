@@ -8,11 +8,10 @@ ghost use Rattle.dia_base.specs.Answers.{origin_avps};
 ghost use Rattle.dia_base.specs.NeighbourAvps.{device_watchdog_command};
 ghost use Rattle.dia_base.specs.NeighbourOwnRequests.{dwr, neighbour_header};
 
-use crate::answer::put_origin;
+use crate::answer::{AvpWriter, put_origin};
 use crate::identity::Identity;
 use crate::neighbours::codes::BASE;
 use crate::neighbours::codes::commands::DEVICE_WATCHDOG;
-use crate::writer::AvpWriter;
 use dia_codec::{Flags, Header};
 use std::alloc::{AllocError, Global};
 

@@ -7,8 +7,8 @@ ghost use Rattle.dia_base.specs.NeighbourRequests.{base_of, base_rows, base_view
 
 use crate::neighbours::applications::{ApplicationId, read_applications, same_applications};
 use crate::neighbours::codes::commands::{CAPABILITIES_EXCHANGE, DEVICE_WATCHDOG, DISCONNECT_PEER};
-use crate::origin::{Origin, read_origin};
 use crate::read_fault::ReadFault;
+use crate::rows::{Origin, read_origin};
 use dia_codec::{Avp, Message};
 use pcrf_values::Exact;
 use std::alloc::{AllocError, Global};

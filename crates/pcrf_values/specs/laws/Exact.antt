@@ -2,7 +2,7 @@
 use Rattle.std.specs.Prelude.{◌≡◌, ℕ, List, Some, None, [], ◌∷◌, refl, true, IsTrue, nat_eq}
 use Rattle.std.specs.declared.cmp.Ordering.{Ordering}
 use Rattle.std.specs.declared.cmp.Ordering.TheVariants.{Less, Equal, Greater}
-use Rattle.std.specs.Ordering.{nat_cmp, ordering_then}
+use Rattle.std.specs.Ordering.{nat_cmp, ordering_then, is_eq, eq_by_cmp}
 use Rattle.std.specs.Option.{option_cmp}
 use Rattle.std.specs.Cmp.Lexicographic.{slice_cmp, pointwise}
 use Rattle.std.proofs.Common.{ap, arith}
@@ -48,6 +48,16 @@ text_equal (x ∷ xs) (y ∷ ys) e =
 -- so they are hashed the same
 pub same_input : (x y : List ℕ) → IsTrue (pointwise nat_eq x y) → x ∷ [] ≡ y ∷ []
 same_input x y e = ap (λ s. s ∷ []) (text_equal x y (grind (arith, nat_tests)))
+
+-- a comparison that answers `Equal`
+is_equal : (o : Ordering) → is_eq o ≡ true → o ≡ Equal
+is_equal Less h = absurd (cc)
+is_equal Equal h = refl
+is_equal Greater h = absurd (cc)
+
+-- so are values that an order doesn't tell apart
+pub input_alike : {V : Type 0} {R : V → V → Ordering} → IsExact R → (f : V → List (List ℕ)) → (x y : V) → IsTrue (eq_by_cmp R x y) → f x ≡ f y
+input_alike {V} {R} s f x y e = ap f (s x y (is_equal (R x y) e))
 
 -- so are options
 pub option_same : {K : Type 0} {R : K → K → Ordering} → IsExact R → IsExact (option_cmp R)

@@ -2,8 +2,8 @@
 use Rattle.std.specs.Prelude.{◌≡◌, refl}
 use Rattle.pcrf_values.specs.declared.rule.FlowStatus.{FlowStatus}
 use Rattle.pcrf_values.specs.declared.rule.FlowStatus.TheVariants as flow
-use Rattle.pcrf_values.specs.declared.flow_usage.FlowUsage.{FlowUsage}
-use Rattle.pcrf_values.specs.declared.flow_usage.FlowUsage.TheVariants as usage
+use Rattle.pcrf_values.specs.declared.numbers.FlowUsage.{FlowUsage}
+use Rattle.pcrf_values.specs.declared.numbers.FlowUsage.TheVariants as usage
 use Rattle.pcrf_values.specs.Numbers.{flow_status_number, flow_status_of, flow_usage_number, flow_usage_of}
 
 -- of a Flow-Status

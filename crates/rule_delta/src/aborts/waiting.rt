@@ -1,14 +1,19 @@
-//! Application functions' sessions that wait to be looked at for an abort.
-ghost use Rattle.std.specs.Prelude.{◌≡◌, ℕ, List, true, false};
+//! Application functions' sessions that wait to be looked at for an abort, and who waits after something changed.
+ghost use Rattle.std.specs.Prelude.{◌≡◌, ℕ, List, true, false, IfOk, OnOk};
 ghost use Rattle.pcrf_values.specs.Orders.{text_cmp};
 ghost use Rattle.pcrf_values.specs.Ascending.{Rises};
 ghost use Rattle.bind_index.specs.Lists.{first_of, ids_at, without_first};
-ghost use Rattle.rule_delta.specs.Waits.{Keeps, WaitsUnder, is_waiting, waiting_of};
+ghost use Rattle.rule_delta.specs.Waits.{Keeps, WaitsUnder, is_waiting, waiting_of, WaitsIfDue};
+ghost use Rattle.pcrf_model.specs.Sessions.{af};
+ghost use Rattle.pcrf_model.specs.Views.{view};
+ghost use Rattle.rule_delta.specs.Abandoned.{AbandonedWait, EachCallWaits, EachListedCallWaits, ListedCallsWait, NetworkCallsWait};
 
-use bind_index::SessionLists;
-use pcrf_values::{AfSid, DiameterIdentity};
-use std::alloc::Global;
+use bind_index::{Index, SessionIds, SessionLists};
+use pcrf_values::{AfSid, DiameterIdentity, HashSeed, Ipv6Prefix};
+use site_join::State;
+use std::alloc::{AllocError, Global};
 use std::marker::Model;
+use std::net::Ipv4Addr;
 
 /// Sessions by the host of their application function. Where memory was refused for one, all wait.
 #[derive(Drop)]
@@ -26,24 +31,29 @@ impl Model for WaitingCalls {
 }
 
 impl WaitingCalls {
-    /// All sessions wait.
-    pub fn start(alloc: Global) -> WaitingCalls
+    /// All sessions wait. Hashes of hosts begin with this seed.
+    pub fn seeded(alloc: Global, seed: HashSeed) -> WaitingCalls
         ensures { result.all ≡ true }
     {
         WaitingCalls {
-            lists: SessionLists::start(alloc),
+            lists: SessionLists::seeded(alloc, seed),
             all: true,
         }
     }
 
-    /// No session waits.
-    pub fn none(alloc: Global) -> WaitingCalls
+    /// No session waits. Hashes of hosts begin with this seed.
+    pub fn none(alloc: Global, seed: HashSeed) -> WaitingCalls
         ensures { result.all ≡ false }
     {
         WaitingCalls {
-            lists: SessionLists::start(alloc),
+            lists: SessionLists::seeded(alloc, seed),
             all: false,
         }
+    }
+
+    /// What hashes begin with here.
+    pub fn seed(&self) -> HashSeed {
+        self.lists.seed()
     }
 
     /// All sessions wait.
@@ -86,4 +96,85 @@ impl WaitingCalls {
     {
         self.lists.take_first(host)
     }
+}
+
+/// Has an application function's session wait, where it may be abandoned.
+pub fn wait_one(state: &State, waiting: &mut WaitingCalls, id: &AfSid)
+    ensures keeps { Keeps waiting.old waiting.new }
+    ensures waits { WaitsIfDue (view state.now.facts) waiting.new (af id.now) }
+{
+    let Some(known) = state.af(id) else {
+        return;
+    };
+    let Some((_, host)) = known.host() else {
+        return;
+    };
+    waiting.add(host, id);
+}
+
+/// Has the application functions' sessions wait that are listed under an address: those that may lose the gateway's session to
+/// which they were bound, where that showed the address.
+pub fn wait_at(state: &State, index: &Index, waiting: &mut WaitingCalls, address: Option<Ipv4Addr>)
+    ensures keeps { Keeps waiting.old waiting.new }
+    ensures waits { ListedCallsWait (view state.now.facts) index.now waiting.new address }
+{
+    let Some(address) = address else {
+        return;
+    };
+    let Some(ids) = index.calls_at(address) else {
+        return;
+    };
+    wait_each(state, waiting, ids);
+}
+
+/// Has the application functions' sessions wait that are listed under a network: those that may lose the gateway's session to
+/// which they were bound, where its prefix was of the network.
+pub fn wait_in(state: &State, index: &Index, waiting: &mut WaitingCalls, network: &Ipv6Prefix)
+    ensures keeps { Keeps waiting.old waiting.new }
+    ensures waits { NetworkCallsWait (view state.now.facts) index.now waiting.new network.now }
+{
+    let Some(ids) = index.calls_in(network) else {
+        return;
+    };
+    wait_each(state, waiting, ids);
+}
+
+/// Has these application functions' sessions wait.
+fn wait_each(state: &State, waiting: &mut WaitingCalls, ids: &SessionIds<AfSid>)
+    ensures keeps { Keeps waiting.old waiting.new }
+    ensures waits { EachListedCallWaits (view state.now.facts) waiting.new ids.now }
+{
+    for id in ids.iter() {
+        wait_one(state, waiting, id);
+    }
+}
+
+/// Each session of an application function waits under its host; a refusal has none.
+fn all_waiting(alloc: Global, seed: HashSeed, state: &State) -> Result<WaitingCalls, AllocError>
+    ensures some { IfOk result (λ waiting. waiting.all ≡ false) }
+    ensures all { IfOk result (λ waiting. EachCallWaits (view state.now.facts) waiting) }
+{
+    let mut waiting = WaitingCalls::none(alloc, seed);
+    for (id, _) in state.all_af() {
+        wait_one(state, &mut waiting, id);
+    }
+    if waiting.all_wait() {
+        return Err(AllocError);
+    }
+    Ok(waiting)
+}
+
+/// Has not all wait, but each session of an application function under its host, where all did; a refusal has all that are
+/// abandoned go on waiting. Its time grows with the number of application functions' sessions where all waited.
+pub fn gather(alloc: Global, state: &State, waiting: &mut WaitingCalls) -> Result<(), AllocError>
+    ensures some { OnOk result (waiting.new.all ≡ false) }
+    ensures abandoned { (i : ℕ) → AbandonedWait i (view state.now.facts) waiting.old
+        → AbandonedWait i (view state.now.facts) waiting.new }
+{
+    if !waiting.all_wait() {
+        return Ok(());
+    }
+    let gathered = all_waiting(alloc, waiting.seed(), state)?;
+    *waiting = gathered;
+    Ok(())
 }

@@ -23,7 +23,7 @@ use crate::living::roll::{Roll, Roster};
 use crate::living::seat::Seat;
 use crate::notes::Original;
 use dia_base::Identity;
-use pcrf_values::DiameterIdentity;
+use pcrf_values::{DiameterIdentity, HashSeed};
 use site_machine::{Event, Reply, Site, StepFault};
 use std::alloc::{AllocError, Global};
 use std::marker::Model;
@@ -41,6 +41,7 @@ pub struct LivingSite<L: Roll> {
     identity: Identity,
     edition: u32,
     number: u8,
+    seed: HashSeed,
 }
 
 impl<L: Roll> Model for LivingSite<L> {
@@ -91,6 +92,7 @@ impl<L: Roll> LivingSite<L> {
         };
         let edition = site.tables().edition();
         let number = site.number();
+        let seed = site.seed();
         let (chronicle, seats, keeper) = Chronicle::start(alloc, roster, site)?;
         let living = LivingSite {
             chronicle: Mutex::new(chronicle),
@@ -98,6 +100,7 @@ impl<L: Roll> LivingSite<L> {
             identity,
             edition,
             number,
+            seed,
         };
         Ok((living, seats, keeper))
     }
@@ -114,6 +117,11 @@ impl<L: Roll> LivingSite<L> {
         ensures { result ≡ self.now.edition }
     {
         self.edition
+    }
+
+    /// What hashes begin with at the site. It waits for nobody.
+    pub fn seed(&self) -> HashSeed {
+        self.seed
     }
 
     /// The site's number. It waits for nobody.

@@ -1,6 +1,6 @@
 //! What a request of either interface says of its session.
 ghost use Rattle.std.specs.Prelude.{◌≡◌, ◌++◌, IfOk, OnOk, option_map, option_to_list};
-ghost use Rattle.lattice_core.specs.declared.session_value.SessionValue.TheVariants as value;
+ghost use Rattle.lattice_core.specs.declared.fact.SessionValue.TheVariants as value;
 ghost use Rattle.site_machine.specs.Given.{values_given};
 
 use dia_base::Origin;

@@ -1,5 +1,5 @@
 use Rattle.std.proofs.Common.{List, ap, sym, ◌∙◌}
-use Rattle.pcrf_values.specs.declared.request_kind.RequestKind.{RequestKind}
+use Rattle.pcrf_values.specs.declared.numbers.RequestKind.{RequestKind}
 use Rattle.pcrf_values.specs.Facts.{Fact}
 use Rattle.pcrf_values.specs.Held.{kept_list, join_of}
 use Rattle.pcrf_model.specs.Holdings.{facts_on}

@@ -26,3 +26,8 @@ returns-clause-settles g c = λ count once. (
     let done : c.loop-seat.yielded ≡ c.args.seats.items = grind (arith, common_steps) in
     let all : All (IsAccountOf n history) c.args.seats.items = subst (All (IsAccountOf n history)) done c.loop-seat.invariant.accounts in
     accounts_settle n g.L.Roll.opening c.args.self c.args.seats.items of all count once)
+
+pub returns-clause-accounts : goal.returns-clause-accounts
+returns-clause-accounts g c =
+    let done : c.loop-seat.yielded ≡ c.args.seats.items = grind (arith, common_steps) in
+    subst (All (IsAccountOf g.L.Roll.seats c.args.self.history)) done c.loop-seat.invariant.accounts
