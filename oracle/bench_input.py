@@ -213,6 +213,15 @@ def streams_of(measure, sessions, timed, attach, ask):
         (termination, sessions // 2, step, "termination")])
 
 
+def grown(sessions, called_first=1000):
+    """Sessions with calls, and then each of so many in all attaches alone: the slowest has a table grow."""
+    called(called_first)
+    for place in range(called_first, sessions):
+        asked(initial, [place], f"grown: initial request of session {place}")
+        if place % 100 == 99 or place == sessions - 1:
+            print("print grown: sessions")
+
+
 def come_and_go(sessions, pool=1000):
     """So many sessions in all come and go, as many at once as there are addresses and subscribers."""
     print("site")
@@ -407,7 +416,7 @@ def points(count):
 
 
 MEASURES = {made.__name__: made for made in (
-    streams, streams_called, streams_prefixed, come_and_go, pushes, whole, whole_state_kept, whole_site_kept, whole_passed, states, states_kept, renew,
+    streams, streams_called, streams_prefixed, grown, come_and_go, pushes, whole, whole_state_kept, whole_site_kept, whole_passed, states, states_kept, renew,
     records, records_kept, rx, rx_kept, book, book_updates_kept, book_bare_kept, book_pushes_kept, living, living_idle, tables, points)} | {"letters": carried} | {
     f"whole_{deed}_{kind}": functools.partial(whole_passed, passes=[(deed, kind)], rounds=1) for deed, kind in PASSES}
 
@@ -415,6 +424,7 @@ MEASURES = {made.__name__: made for made in (
 def every_measure():
     """Each verb, at a small size."""
     streams_called(8, timed=2)
+    grown(4, called_first=2)
     come_and_go(6, pool=2)
     pushes(2, vain=3, due=2)
     whole(2)

@@ -241,8 +241,8 @@ class RandomScript:
                 return
 
     def newest(self):
-        """The letter that was made last."""
-        return str(len(self.world.letters) - 1)
+        """The letter that was made last, or the number of the first where none was."""
+        return str(max(len(self.world.letters), 1) - 1)
 
     def exchange(self):
         """A site tells another what it made, which is mostly acknowledged."""
@@ -263,8 +263,8 @@ class RandomScript:
             self.attach(site, ADDRESSES[0], gateway)
             self.msg(self.draw.one_flow(call, ADDRESSES[0], 1, ()).octets(), site)
             self.letter(site)
-            letters.append(len(self.world.letters) - 1)
-        self.merge(site, str(letters[0]))
+            letters.append(self.newest())
+        self.merge(site, letters[0])
         self.show(site)
         self.push(site)
 
@@ -314,7 +314,7 @@ class RandomScript:
             self.restart(str(site))
             self.attach(str(site), ADDRESSES[0], gateway)
             self.letter(str(site))
-        self.merge(str(one), str(len(self.world.letters) - 1))
+        self.merge(str(one), self.newest())
         self.merge(str(one), str(max(0, len(self.world.letters) - 2)))
         self.msg(self.draw.one_flow(self.draw.one(AF_SESSIONS), ADDRESSES[0], 1, ()).octets(), str(one))
         self.show(str(one))

@@ -67,7 +67,7 @@ def main(program, rounds="5", folder=None):
                     name = f"{title} | {found[1]}"
                     figures[name].append(float(found[2]))
                     units[name] = found[3] + found[4]
-                else:
+                elif not line.endswith(": requests"):
                     title = f"{measure[0]} {line}"
     for name, values in figures.items():
         print(f"{name}: {statistics.median(values):g} ({min(values):g}) {units[name]}")
