@@ -40,9 +40,9 @@ pub refusal_among_push : {X : Type 0} (judge : X → Option Refusal) (xs : List 
 refusal_among_push judge xs x none granted = refusal_among-append judge xs (x ∷ []) none ∙ ap (λ first. or_else first None) granted
 
 -- an AVP with the key whose value is refused, behind values that aren't
-pub refused_at : (key : AvpKey) (judge : List ℕ → Option Refusal) (avps : List Avp) (i : ℕ) (a : Avp) (refusal : Refusal) → i < length avps → a ≡ get_or avps i a → same_key (key_of (avp_view a)) key ≡ true → refusal_among judge (values_of key (avp_views (take i avps))) ≡ None → judge a.value.items ≡ Some refusal → refusal_among judge (values_of key (avp_views avps)) ≡ Some refusal
+pub refused_at : (key : AvpKey) (judge : List ℕ → Option Refusal) (avps : List Avp) (i : ℕ) (a : Avp) (refusal : Refusal) → i < length avps → a ≡ get_or avps i a → same_key (key_of (avp_view a)) key ≡ true → refusal_among judge (values_of key (avp_views (take i avps))) ≡ None → judge a.value.now ≡ Some refusal → refusal_among judge (values_of key (avp_views avps)) ≡ Some refusal
 refused_at key judge avps i a refusal lt is keyed none refused =
-    ap (refusal_among judge) (values_around key avps i a lt is keyed) ∙ refusal_among-append judge (values_of key (avp_views (take i avps))) (a.value.items ∷ values_of key (avp_views (drop (i + 1) avps))) none ∙ ap (λ first. or_else first (refusal_among judge (values_of key (avp_views (drop (i + 1) avps))))) refused
+    ap (refusal_among judge) (values_around key avps i a lt is keyed) ∙ refusal_among-append judge (values_of key (avp_views (take i avps))) (a.value.now ∷ values_of key (avp_views (drop (i + 1) avps))) none ∙ ap (λ first. or_else first (refusal_among judge (values_of key (avp_views (drop (i + 1) avps))))) refused
 
 -- a row of an AVP that stands too often
 pub row_too_often : (row : Row) (avps : List AvpValue) → is_too_often row.most (length (values_of row.key avps)) ≡ true → RefusesWith row avps avp_occurs_too_many_times
@@ -57,7 +57,7 @@ row_judged row avps enough above =
     rw (above, below) refl
 
 -- a row that stands often enough and not too often is refused as the first of its values that is
-pub row_refused_at : (row : Row) (avps : List Avp) (i : ℕ) (a : Avp) (fault : ReadFault) → row.least ≤ length (values_of row.key (avp_views avps)) → is_too_often row.most (length (values_of row.key (avp_views avps))) ≡ false → i < length avps → a ≡ get_or avps i a → same_key (key_of (avp_view a)) row.key ≡ true → refusal_among row.kind (values_of row.key (avp_views (take i avps))) ≡ None → IsFaultOf (row.kind a.value.items) fault → FaultsWith row (avp_views avps) fault
+pub row_refused_at : (row : Row) (avps : List Avp) (i : ℕ) (a : Avp) (fault : ReadFault) → row.least ≤ length (values_of row.key (avp_views avps)) → is_too_often row.most (length (values_of row.key (avp_views avps))) ≡ false → i < length avps → a ≡ get_or avps i a → same_key (key_of (avp_view a)) row.key ≡ true → refusal_among row.kind (values_of row.key (avp_views (take i avps))) ≡ None → IsFaultOf (row.kind a.value.now) fault → FaultsWith row (avp_views avps) fault
 row_refused_at row avps i a NoMemory enough within lt is keyed none refused = tt
 row_refused_at row avps i a (Refused refusal) enough within lt is keyed none refused =
     row_judged row (avp_views avps) enough within ∙ refused_at row.key row.kind avps i a refusal lt is keyed none refused

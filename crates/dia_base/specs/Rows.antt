@@ -51,7 +51,7 @@ first_at key avps = find (has_key key) avps
 
 -- the value of an AVP, if one was found
 abbrev pub value_in : Option Avp → Option (List ℕ)
-value_in found = option_map (λ (avp : Avp). avp.value.items) found
+value_in found = option_map (λ (avp : Avp). avp.value.now) found
 
 -- what was found, if anything was, is all that has the key
 abbrev pub IsOnlyAt : AvpKey → List AvpValue → Option Avp → Type 0
@@ -175,7 +175,7 @@ RefusesAnyKind key avps refusal = (kind : Kind) → RefusesWith (required key ki
 abbrev pub AcceptsAll : List Row → List AvpValue → Type 0
 AcceptsAll rows avps = rows_refusal rows avps ≡ None
 
--- ---- why a request isn't read
+-- ---- why a message isn't read
 
 -- A fault says this refusal, unless memory ran out.
 abbrev pub IsFaultOf : Option Refusal → ReadFault → Type 0

@@ -1,4 +1,4 @@
-//! Why a request could not be read.
+//! Why a message could not be read.
 ghost use Rattle.std.specs.Prelude.{◌≡◌};
 ghost use Rattle.dia_base.specs.declared.read_fault.ReadFault.TheVariants as faults;
 
@@ -6,13 +6,13 @@ use pcrf_values::Refusal;
 use std::alloc::{AllocError, AllocFailed};
 use thiserror::Error;
 
-/// Why a request could not be read.
+/// Why a message could not be read.
 #[derive(Clone, Copy, Debug, PartialEq, Eq, Error)]
 pub enum ReadFault {
-    /// The request is answered by this refusal.
+    /// A request is answered by this refusal. An answer that has such a fault is passed over.
     #[error("the request is refused with {0}")]
     Refused(Refusal),
-    /// Memory ran out; nothing is known of the request.
+    /// Memory ran out; nothing is known of the message.
     #[error("no memory")]
     NoMemory,
 }

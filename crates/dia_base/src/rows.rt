@@ -1,6 +1,7 @@
-//! AVPs of a request, judged row by row. Each reader judges one row of a table and gives what stands there: one AVP, groups of
+//! AVPs of a message, judged row by row. Each reader judges one row of a table and gives what stands there: one AVP, groups of
 //! AVPs, AVPs that may stand several times, who sent the request, and the subscribers that it names (Subscription-Id, RFC 8506,
-//! 8.46).
+//! 8.46). Else it gives the first refusal of the row (RFC 6733, 7.1.5): 5009 where the AVP stands too often, 5005 where it is
+//! missing, then 5014 or 5004 of a value, or, of a group, what its own rows refuse.
 ghost use Rattle.std.specs.Prelude.{◌≡◌, ◌<◌, ◌≤◌, length, OnOk, OnErr, IfOk, IfErr, IfSome, Some, option_map, option_copied, ℕ, List, None, map, ◌↔◌, IsTrue};
 ghost use Rattle.std.specs.Net.Addr.{ipv4_octets};
 ghost use Rattle.pcrf_values.specs.Limits.{apn_limit};
@@ -31,14 +32,14 @@ use pcrf_values::{
 use std::alloc::{AllocError, Global};
 use std::net::Ipv4Addr;
 
-/// The name of an AVP of RFC 6733 or another document of the IETF.
+/// The key of an AVP of RFC 6733 or another document of the IETF.
 pub const fn base_key(code: u32) -> AvpKey
     ensures { result ≡ base_key code }
 {
     AvpKey { code, vendor: None }
 }
 
-/// The name of an AVP of 3GPP.
+/// The key of an AVP of 3GPP, vendor 10415.
 pub const fn tgpp_key(code: u32) -> AvpKey
     ensures { result ≡ tgpp_key code }
 {
@@ -49,7 +50,7 @@ pub const fn tgpp_key(code: u32) -> AvpKey
 }
 
 /// How many AVPs have a key.
-pub fn count_of(avps: &[Avp], key: AvpKey) -> usize
+pub fn count_of(avps: &[Avp<'_>], key: AvpKey) -> usize
     ensures { result ≡ length (values_of key (avp_views avps.now)) }
 {
     let mut count = 0;
@@ -62,7 +63,7 @@ pub fn count_of(avps: &[Avp], key: AvpKey) -> usize
 }
 
 /// The first AVP with a key, if there is one.
-pub fn first_with(avps: &[Avp], key: AvpKey) -> Option<&Avp>
+pub fn first_with<'a, 'f>(avps: &'a [Avp<'f>], key: AvpKey) -> Option<&'a Avp<'f>>
     ensures avp { option_map avp_view (option_copied result) ≡ first_at key (avp_views avps.now) }
     ensures value { value_in (option_copied result) ≡ value_of key (avp_views avps.now) }
 {
@@ -75,12 +76,12 @@ pub fn first_with(avps: &[Avp], key: AvpKey) -> Option<&Avp>
 }
 
 /// The AVP with a key, which may stand once at most.
-fn at_most_once(avps: &[Avp], key: AvpKey) -> Result<Option<&Avp>, Refusal>
+fn at_most_once<'a, 'f>(avps: &'a [Avp<'f>], key: AvpKey) -> Result<Option<&'a Avp<'f>>, Refusal>
     ensures found { IfOk result (λ avp. IsOnlyAt key (avp_views avps.now) (option_copied avp)) }
     ensures refused { IfErr result (λ refusal. refusal ≡ avp_occurs_too_many_times) }
     ensures repeated { OnErr result (1 < length (values_of key (avp_views avps.now))) }
 {
-    let mut found: Option<&Avp> = None;
+    let mut found: Option<&'a Avp<'f>> = None;
     for avp in avps {
         if avp.key() == key {
             if found.is_some() {
@@ -94,7 +95,7 @@ fn at_most_once(avps: &[Avp], key: AvpKey) -> Result<Option<&Avp>, Refusal>
 
 /// The AVP with a key, which stands exactly once.
 #[tactic(auto, unfolding(crate::specs::Rows::row_refusal))]
-fn exactly_once(avps: &[Avp], key: AvpKey) -> Result<&Avp, Refusal>
+fn exactly_once<'a, 'f>(avps: &'a [Avp<'f>], key: AvpKey) -> Result<&'a Avp<'f>, Refusal>
     ensures found { IfOk result (λ avp. IsOnlyAt key (avp_views avps.now) (Some avp.now)) }
     ensures refused { IfErr result (RefusesAnyKind key (avp_views avps.now)) }
 {
@@ -109,7 +110,7 @@ fn exactly_once(avps: &[Avp], key: AvpKey) -> Result<&Avp, Refusal>
 #[tactic(auto, unfolding(crate::specs::Rows::row_refusal))]
 pub fn required_text<const MOST: usize>(
     alloc: Global,
-    avps: &[Avp],
+    avps: &[Avp<'_>],
     key: AvpKey,
 ) -> Result<BoundedText<MOST>, ReadFault>
     ensures accepted { OnOk result (Accepts (required key (text_to MOST)) (avp_views avps.now)) }
@@ -125,7 +126,7 @@ pub fn required_text<const MOST: usize>(
 
 /// Reads a number, which stands exactly once.
 #[tactic(auto, unfolding(crate::specs::Rows::row_refusal))]
-pub fn required_number(avps: &[Avp], key: AvpKey) -> Result<u32, Refusal>
+pub fn required_number(avps: &[Avp<'_>], key: AvpKey) -> Result<u32, Refusal>
     ensures accepted { OnOk result (Accepts (required key unsigned32) (avp_views avps.now)) }
     ensures number { IfOk result (λ number. number_at key (avp_views avps.now) ≡ Some number) }
     ensures refused { IfErr result (RefusesWith (required key unsigned32) (avp_views avps.now)) }
@@ -140,7 +141,7 @@ pub fn required_number(avps: &[Avp], key: AvpKey) -> Result<u32, Refusal>
 /// Reads a number within a range, which stands exactly once.
 #[tactic(auto, unfolding(crate::specs::Rows::row_refusal))]
 pub fn required_number_within(
-    avps: &[Avp],
+    avps: &[Avp<'_>],
     key: AvpKey,
     least: u32,
     most: u32,
@@ -165,7 +166,7 @@ pub fn required_number_within(
 
 /// Reads a number, which may stand once.
 #[tactic(auto, unfolding(crate::specs::Rows::row_refusal))]
-pub fn optional_number(avps: &[Avp], key: AvpKey) -> Result<Option<u32>, Refusal>
+pub fn optional_number(avps: &[Avp<'_>], key: AvpKey) -> Result<Option<u32>, Refusal>
     ensures accepted { OnOk result (Accepts (optional key unsigned32) (avp_views avps.now)) }
     ensures number { IfOk result (λ number. number ≡ number_at key (avp_views avps.now)) }
     ensures refused { IfErr result (RefusesWith (optional key unsigned32) (avp_views avps.now)) }
@@ -183,7 +184,7 @@ pub fn optional_number(avps: &[Avp], key: AvpKey) -> Result<Option<u32>, Refusal
 /// Reads a number within a range, which may stand once.
 #[tactic(auto, unfolding(crate::specs::Rows::row_refusal))]
 pub fn optional_number_within(
-    avps: &[Avp],
+    avps: &[Avp<'_>],
     key: AvpKey,
     least: u32,
     most: u32,
@@ -211,7 +212,7 @@ pub fn optional_number_within(
 
 /// Reads an IPv4 address, which may stand once.
 #[tactic(auto, unfolding(crate::specs::Rows::row_refusal))]
-pub fn optional_address(avps: &[Avp], key: AvpKey) -> Result<Option<Ipv4Addr>, Refusal>
+pub fn optional_address(avps: &[Avp<'_>], key: AvpKey) -> Result<Option<Ipv4Addr>, Refusal>
     ensures accepted { OnOk result (Accepts (optional key ipv4_address) (avp_views avps.now)) }
     ensures address { IfOk result (λ address.
         option_map ipv4_octets address ≡ value_of key (avp_views avps.now)) }
@@ -236,9 +237,9 @@ fn prefix_in(value: &[u8]) -> Option<Ipv6Prefix>
     Ipv6Prefix::of(*bits, bytes)
 }
 
-/// Reads an IPv6 prefix, which may stand once.
+/// Reads an IPv6 prefix, which may stand once (RFC 3162, 2.3; bits past its length are dropped).
 #[tactic(auto, unfolding(crate::specs::Rows::row_refusal))]
-pub fn optional_prefix(avps: &[Avp], key: AvpKey) -> Result<Option<Ipv6Prefix>, Refusal>
+pub fn optional_prefix(avps: &[Avp<'_>], key: AvpKey) -> Result<Option<Ipv6Prefix>, Refusal>
     ensures accepted { OnOk result (Accepts (optional key ipv6_prefix) (avp_views avps.now)) }
     ensures prefix { IfOk result (λ prefix. prefix ≡ prefix_at key (avp_views avps.now)) }
     ensures refused { IfErr result (RefusesWith (optional key ipv6_prefix) (avp_views avps.now)) }
@@ -255,7 +256,7 @@ pub fn optional_prefix(avps: &[Avp], key: AvpKey) -> Result<Option<Ipv6Prefix>, 
 
 /// Reads an access point name, which may stand once. Its ASCII capitals are folded to small letters.
 #[tactic(auto, unfolding(crate::specs::Rows::row_refusal))]
-pub fn optional_apn(alloc: Global, avps: &[Avp], key: AvpKey) -> Result<Option<Apn>, ReadFault>
+pub fn optional_apn(alloc: Global, avps: &[Avp<'_>], key: AvpKey) -> Result<Option<Apn>, ReadFault>
     ensures accepted { OnOk result
         (Accepts (optional key (text_to apn_limit)) (avp_views avps.now)) }
     ensures apn { IfOk result (λ apn. apn
@@ -274,7 +275,7 @@ pub fn optional_apn(alloc: Global, avps: &[Avp], key: AvpKey) -> Result<Option<A
 }
 
 /// Reads the AVPs of a group (Grouped, RFC 6733, 4.4).
-pub fn read_avps(alloc: Global, value: &[u8]) -> Result<Vec<Avp>, ReadFault>
+pub fn read_avps(alloc: Global, value: &[u8]) -> Result<Vec<Avp<'_>>, ReadFault>
     ensures avps { IfOk result (λ avps. avps_of value.now ≡ Some (avp_views avps.items)) }
     ensures refused { IfErr result (IsFaultOfAnyGroup value.now) }
 {
@@ -312,7 +313,7 @@ fn is_too_often(count: usize, most: Option<usize>) -> bool
 /// judged wholly before the next.
 pub fn read_each<V: FromValue>(
     alloc: Global,
-    avps: &[Avp],
+    avps: &[Avp<'_>],
     key: AvpKey,
     most: Option<usize>,
 ) -> Result<Vec<V>, ReadFault>
@@ -373,7 +374,7 @@ impl Exact for Origin {
 }
 
 /// Reads Origin-Host, and then Origin-Realm.
-pub fn read_origin(alloc: Global, avps: &[Avp]) -> Result<Origin, ReadFault>
+pub fn read_origin(alloc: Global, avps: &[Avp<'_>]) -> Result<Origin, ReadFault>
     ensures accepted { OnOk result (AcceptsAll origin_rows (avp_views avps.now)) }
     ensures host { IfOk result (λ o. value_of origin_host (avp_views avps.now) ≡ Some o.host) }
     ensures realm { IfOk result (λ o. value_of origin_realm (avp_views avps.now) ≡ Some o.realm) }
@@ -385,7 +386,7 @@ pub fn read_origin(alloc: Global, avps: &[Avp]) -> Result<Origin, ReadFault>
 }
 
 /// Reads the Subscription-Id-Type.
-fn read_subscription_type(avps: &[Avp]) -> Result<SubscriptionType, Refusal>
+fn read_subscription_type(avps: &[Avp<'_>]) -> Result<SubscriptionType, Refusal>
     ensures accepted { OnOk result (Accepts subscription_type_row (avp_views avps.now)) }
     ensures number { IfOk result (λ kind.
         number_at subscription_id_type (avp_views avps.now) ≡ Some (subscription_number kind)) }
@@ -424,7 +425,7 @@ impl FromValue for Subscriber {
 }
 
 /// Reads the subscribers that a request names, each once; None where it names none.
-pub fn read_subscribers(alloc: Global, avps: &[Avp]) -> Result<Option<Subscribers>, ReadFault>
+pub fn read_subscribers(alloc: Global, avps: &[Avp<'_>]) -> Result<Option<Subscribers>, ReadFault>
     ensures accepted { OnOk result (Accepts subscription_row (avp_views avps.now)) }
     ensures subscribers { IfOk result (λ subscribers.
         subscribers ≡ subscribers_of (avp_views avps.now)) }

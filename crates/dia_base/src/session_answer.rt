@@ -55,7 +55,7 @@ impl FromValue for ExperimentalResult {
 }
 
 /// Reads the Experimental-Result-Code, which an Experimental-Result holds that may stand once.
-fn read_experimental(alloc: Global, avps: &[Avp]) -> Result<Option<u32>, ReadFault>
+fn read_experimental(alloc: Global, avps: &[Avp<'_>]) -> Result<Option<u32>, ReadFault>
     ensures accepted { OnOk result (Accepts experimental_row (avp_views avps.now)) }
     ensures code { IfOk result (λ code. code ≡ experimental_at (avp_views avps.now)) }
     ensures refused { IfErr result (FaultsWith experimental_row (avp_views avps.now)) }
@@ -73,7 +73,7 @@ fn read_experimental(alloc: Global, avps: &[Avp]) -> Result<Option<u32>, ReadFau
 }
 
 /// Reads an answer to a request on a session, or gives the first refusal of what breaks its table.
-pub fn read_session_answer(alloc: Global, message: &Message) -> Result<SessionAnswer, ReadFault>
+pub fn read_session_answer(alloc: Global, message: &Message<'_>) -> Result<SessionAnswer, ReadFault>
     ensures accepted { OnOk result
         (AcceptsAll session_answer_rows (avp_views message.now.avps.items)) }
     ensures answer { IfOk result (λ answer.

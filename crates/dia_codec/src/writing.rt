@@ -37,8 +37,8 @@ fn flag_byte(flags: Flags) -> u8
 }
 
 /// How many bytes an AVP has without its padding, as its length field says.
-fn own_len(avp: &Avp) -> usize
-    requires { length avp.now.value.items ≤ longest_message }
+fn own_len(avp: &Avp<'_>) -> usize
+    requires { length avp.now.value.now ≤ longest_message }
     ensures { result ≡ own_len (avp_view avp.now) }
 {
     let head = if avp.vendor.is_some() {
@@ -50,7 +50,7 @@ fn own_len(avp: &Avp) -> usize
 }
 
 /// How many bytes the AVPs have with their padding, None above the most that a message may have.
-fn avps_len(avps: &[Avp]) -> Option<usize>
+fn avps_len(avps: &[Avp<'_>]) -> Option<usize>
     ensures length { IfSome result (λ n. n ≡ sum_by padded_len (avp_views avps.now)) }
     ensures fits { IfSome result (λ n. n ≤ longest_message) }
     ensures too_long { IfNone result (longest_message < sum_by padded_len (avp_views avps.now)) }
@@ -70,7 +70,7 @@ fn avps_len(avps: &[Avp]) -> Option<usize>
 }
 
 /// How many bytes the message has, None above the most.
-fn written_len(message: &Message) -> Option<usize>
+fn written_len(message: &Message<'_>) -> Option<usize>
     ensures length { IfSome result (λ n. n ≡ written_len (message_view message.now)) }
     ensures fits { IfSome result (λ n. n ≤ longest_message) }
     ensures too_long { IfNone result (longest_message < written_len (message_view message.now)) }
@@ -141,7 +141,7 @@ fn put_vendor(out: &mut Vec<u8>, vendor: Option<u32>) -> Result<(), AllocError>
 }
 
 /// An AVP's fifth byte, with zeros for the reserved bits.
-fn avp_flag_byte(avp: &Avp) -> u8
+fn avp_flag_byte(avp: &Avp<'_>) -> u8
     ensures { result ≡ avp_flag_byte (avp_view avp.now) }
 {
     bit_if(avp.vendor.is_some(), VENDOR_BIT)
@@ -150,8 +150,8 @@ fn avp_flag_byte(avp: &Avp) -> u8
 }
 
 /// Adds an AVP and its padding.
-fn put_avp(out: &mut Vec<u8>, avp: &Avp) -> Result<(), AllocError>
-    requires { length avp.now.value.items ≤ longest_message }
+fn put_avp(out: &mut Vec<u8>, avp: &Avp<'_>) -> Result<(), AllocError>
+    requires { length avp.now.value.now ≤ longest_message }
     ensures written { OnOk result
         (out.new.items ≡ out.old.items ++ written_avp (avp_view avp.now)) }
     ensures fits { OnOk result (FitsAvp (avp_view avp.now)) }
@@ -161,13 +161,13 @@ fn put_avp(out: &mut Vec<u8>, avp: &Avp) -> Result<(), AllocError>
     out.push(avp_flag_byte(avp))?;
     put_three(out, length as u32)?;
     put_vendor(out, avp.vendor)?;
-    out.extend_from_slice(&avp.value)?;
+    out.extend_from_slice(avp.value)?;
     out.extend_from_slice(&[0; 4][..padding(length)])?;
     Ok(())
 }
 
 /// Adds the AVPs, each with its padding.
-fn put_avps(out: &mut Vec<u8>, avps: &[Avp]) -> Result<(), AllocError>
+fn put_avps(out: &mut Vec<u8>, avps: &[Avp<'_>]) -> Result<(), AllocError>
     requires { sum_by padded_len (avp_views avps.now) ≤ longest_message }
     ensures written { OnOk result
         (out.new.items ≡ out.old.items ++ flat_map written_avp (avp_views avps.now)) }
@@ -180,7 +180,7 @@ fn put_avps(out: &mut Vec<u8>, avps: &[Avp]) -> Result<(), AllocError>
 }
 
 /// The value of a group of these AVPs, each with its padding. What is longer than the longest message is refused.
-pub fn write_group(alloc: Global, avps: &[Avp]) -> Result<Vec<u8>, WriteFault>
+pub fn write_group(alloc: Global, avps: &[Avp<'_>]) -> Result<Vec<u8>, WriteFault>
     ensures written { IfOk result (λ v. v.items ≡ flat_map written_avp (avp_views avps.now)) }
     ensures too_long { IsErrOf result WriteFault.TooLong
         ↔ (longest_message < sum_by padded_len (avp_views avps.now)) }
@@ -196,7 +196,7 @@ pub fn write_group(alloc: Global, avps: &[Avp]) -> Result<Vec<u8>, WriteFault>
 /// The written spelling of a message: with all padding, and with zeros where its bits and bytes are free.
 ///
 /// A command has three bytes, and no request has the error flag (RFC 6733, section 3).
-pub fn write_message(alloc: Global, message: &Message) -> Result<Vec<u8>, WriteFault>
+pub fn write_message(alloc: Global, message: &Message<'_>) -> Result<Vec<u8>, WriteFault>
     requires command { message.now.header.command < command_bound }
     requires flags { (message.now.header.flags.request && message.now.header.flags.error)
         ≡ false }

@@ -90,7 +90,7 @@ struct Access {
 }
 
 /// Reads the CC-Request-Type.
-fn read_kind(avps: &[Avp]) -> Result<RequestKind, Refusal>
+fn read_kind(avps: &[Avp<'_>]) -> Result<RequestKind, Refusal>
     ensures accepted { OnOk result (Accepts request_type_row (avp_views avps.now)) }
     ensures kind { IfOk result (λ kind. kind ≡ kind_at (avp_views avps.now)) }
     ensures refused { IfErr result (RefusesWith request_type_row (avp_views avps.now)) }
@@ -105,7 +105,7 @@ fn read_kind(avps: &[Avp]) -> Result<RequestKind, Refusal>
 }
 
 /// Reads the Subscription-Ids, the Framed-IP-Address, the Framed-IPv6-Prefix and the Called-Station-Id.
-fn read_access(alloc: Global, avps: &[Avp]) -> Result<Access, ReadFault>
+fn read_access(alloc: Global, avps: &[Avp<'_>]) -> Result<Access, ReadFault>
     ensures accepted { OnOk result (AcceptsAll access_rows (avp_views avps.now)) }
     ensures subscribers { IfOk result (λ access.
         access.subscribers ≡ subscribers_of (avp_views avps.now)) }
@@ -130,7 +130,7 @@ fn read_access(alloc: Global, avps: &[Avp]) -> Result<Access, ReadFault>
 }
 
 /// Reads a credit control request, or gives the first refusal of what breaks its table.
-pub fn read_ccr(alloc: Global, message: &Message) -> Result<Ccr, ReadFault>
+pub fn read_ccr(alloc: Global, message: &Message<'_>) -> Result<Ccr, ReadFault>
     ensures accepted { OnOk result (AcceptsAll ccr_rows (avp_views message.now.avps.items)) }
     ensures request { IfOk result (λ ccr.
         ccr_view ccr ≡ ccr_of (avp_views message.now.avps.items)) }

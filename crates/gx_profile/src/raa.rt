@@ -22,7 +22,7 @@ pub struct Raa {
 }
 
 /// Reads a re-authorisation answer, or gives the first refusal of what breaks its table.
-pub fn read_raa(alloc: Global, message: &Message) -> Result<Raa, ReadFault>
+pub fn read_raa(alloc: Global, message: &Message<'_>) -> Result<Raa, ReadFault>
     ensures accepted { OnOk result
         (AcceptsAll session_answer_rows (avp_views message.now.avps.items)) }
     ensures answer { IfOk result (λ raa.

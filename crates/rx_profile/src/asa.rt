@@ -22,7 +22,7 @@ pub struct Asa {
 }
 
 /// Reads an abort session answer, or gives the first refusal of what breaks its table.
-pub fn read_asa(alloc: Global, message: &Message) -> Result<Asa, ReadFault>
+pub fn read_asa(alloc: Global, message: &Message<'_>) -> Result<Asa, ReadFault>
     ensures accepted { OnOk result
         (AcceptsAll session_answer_rows (avp_views message.now.avps.items)) }
     ensures answer { IfOk result (λ asa.

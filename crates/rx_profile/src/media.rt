@@ -127,7 +127,7 @@ pub struct ComponentParts {
 }
 
 /// Reads the Flow-Status.
-pub fn read_status(avps: &[Avp]) -> Result<Option<MediaStatus>, Refusal>
+pub fn read_status(avps: &[Avp<'_>]) -> Result<Option<MediaStatus>, Refusal>
     ensures accepted { OnOk result (Accepts status_row (avp_views avps.now)) }
     ensures status { IfOk result (λ status.
         option_map media_status_number status ≡ number_at flow_status (avp_views avps.now)) }
@@ -146,7 +146,7 @@ pub fn read_status(avps: &[Avp]) -> Result<Option<MediaStatus>, Refusal>
 }
 
 /// Reads the Flow-Usage.
-pub fn read_usage(avps: &[Avp]) -> Result<Option<FlowUsage>, Refusal>
+pub fn read_usage(avps: &[Avp<'_>]) -> Result<Option<FlowUsage>, Refusal>
     ensures accepted { OnOk result (Accepts usage_row (avp_views avps.now)) }
     ensures usage { IfOk result (λ usage.
         option_map flow_usage_number usage ≡ number_at flow_usage (avp_views avps.now)) }
@@ -164,8 +164,8 @@ pub fn read_usage(avps: &[Avp]) -> Result<Option<FlowUsage>, Refusal>
     Ok(Some(usage))
 }
 
-/// Reads the bit rates, the one up first.
-pub fn read_rates(avps: &[Avp]) -> Result<Rates, Refusal>
+/// Reads Max-Requested-Bandwidth-UL and then -DL, in bit/s, each none where it doesn't stand.
+pub fn read_rates(avps: &[Avp<'_>]) -> Result<Rates, Refusal>
     ensures accepted { OnOk result (AcceptsAll rate_rows (avp_views avps.now)) }
     ensures up { IfOk result (λ rates.
         rates.up ≡ number_at max_requested_bandwidth_ul (avp_views avps.now)) }
@@ -237,7 +237,7 @@ impl Numbered for RawComponent {
 }
 
 /// Reads the AVPs of a flow.
-fn read_flow(alloc: Global, avps: &[Avp]) -> Result<RawFlow, ReadFault>
+fn read_flow(alloc: Global, avps: &[Avp<'_>]) -> Result<RawFlow, ReadFault>
     ensures accepted { OnOk result (AcceptsAll flow_rows (avp_views avps.now)) }
     ensures flow { IfOk result (λ flow. flow ≡ flow_in (avp_views avps.now)) }
     ensures refused { IfErr result (IsFaultOf (rows_refusal flow_rows (avp_views avps.now))) }
@@ -270,7 +270,7 @@ impl FromValue for RawFlow {
 }
 
 /// Reads what a component says besides its flows.
-fn read_component_parts(avps: &[Avp]) -> Result<ComponentParts, Refusal>
+fn read_component_parts(avps: &[Avp<'_>]) -> Result<ComponentParts, Refusal>
     ensures accepted { OnOk result (AcceptsAll component_head_rows (avp_views avps.now)) }
     ensures number { IfOk result (λ parts.
         number_at media_component_number (avp_views avps.now) ≡ Some parts.number) }
@@ -298,7 +298,7 @@ fn read_component_parts(avps: &[Avp]) -> Result<ComponentParts, Refusal>
 }
 
 /// Reads the AVPs of a component.
-fn read_component(alloc: Global, avps: &[Avp]) -> Result<RawComponent, ReadFault>
+fn read_component(alloc: Global, avps: &[Avp<'_>]) -> Result<RawComponent, ReadFault>
     ensures accepted { OnOk result (AcceptsAll component_rows (avp_views avps.now)) }
     ensures component { IfOk result (λ component.
         component ≡ component_in (avp_views avps.now)) }

@@ -96,7 +96,7 @@ struct RawAar {
 }
 
 /// Reads the Framed-IP-Address, the Framed-IPv6-Prefix, the Subscription-Ids and the Called-Station-Id.
-fn read_access(alloc: Global, avps: &[Avp]) -> Result<Access, ReadFault>
+fn read_access(alloc: Global, avps: &[Avp<'_>]) -> Result<Access, ReadFault>
     ensures accepted { OnOk result (AcceptsAll access_rows (avp_views avps.now)) }
     ensures address { IfOk result (λ access.
         option_map ipv4_octets access.address ≡ value_of framed_ip_address (avp_views avps.now)) }
@@ -121,7 +121,7 @@ fn read_access(alloc: Global, avps: &[Avp]) -> Result<Access, ReadFault>
 }
 
 /// Reads the rows of an AA request.
-fn read_rows(alloc: Global, avps: &[Avp]) -> Result<RawAar, ReadFault>
+fn read_rows(alloc: Global, avps: &[Avp<'_>]) -> Result<RawAar, ReadFault>
     ensures accepted { OnOk result (AcceptsAll aar_rows (avp_views avps.now)) }
     ensures request { IfOk result (λ raw. raw_view raw ≡ aar_of (avp_views avps.now)) }
     ensures within { IfOk result (λ raw. length raw.components.items ≤ components_limit) }
@@ -142,7 +142,7 @@ fn read_rows(alloc: Global, avps: &[Avp]) -> Result<RawAar, ReadFault>
 
 /// Reads an AA request, or gives its first refusal: by its table, and then by what its components have to keep among
 /// themselves.
-pub fn read_aar(alloc: Global, message: &Message) -> Result<Aar, ReadFault>
+pub fn read_aar(alloc: Global, message: &Message<'_>) -> Result<Aar, ReadFault>
     ensures accepted { OnOk result (aar_refusal (avp_views message.now.avps.items) ≡ None) }
     ensures request { IfOk result (λ aar.
         aar_view aar ≡ aar_of (avp_views message.now.avps.items)) }

@@ -38,7 +38,7 @@ impl Str {
 }
 
 /// Reads a session termination request, or gives the first refusal of what breaks its table.
-pub fn read_str(alloc: Global, message: &Message) -> Result<Str, ReadFault>
+pub fn read_str(alloc: Global, message: &Message<'_>) -> Result<Str, ReadFault>
     ensures accepted { OnOk result (AcceptsAll str_rows (avp_views message.now.avps.items)) }
     ensures request { IfOk result (λ termination.
         str_view termination ≡ str_of (avp_views message.now.avps.items)) }

@@ -7,7 +7,7 @@ use Rattle.pcrf_values.specs.declared.refusal.Refusal.{Refusal}
 use Rattle.dia_codec.specs.Fields.{AvpValue}
 use Rattle.dia_codec.specs.Limits.{longest_message}
 use Rattle.dia_codec.specs.Reading.{avps_of}
-use Rattle.dia_codec.specs.Spelling.{avp_view}
+use Rattle.dia_codec.specs.Spelling.{owned_view}
 use Rattle.dia_codec.specs.Written.{padded_len, written_avp}
 use Rattle.dia_base.specs.Answers.{text_avp}
 use Rattle.dia_base.specs.Rows.{has_key, values_of, first_of, is_too_often, rows_refusal}
@@ -24,7 +24,7 @@ pub record FaultValue : Type 0 where
   pub avp : Option AvpValue
 
 abbrev pub fault_view : Fault → FaultValue
-fault_view f = record { refusal = f.refusal; avp = option_map avp_view f.avp }
+fault_view f = record { refusal = f.refusal; avp = option_map owned_view f.avp }
 
 abbrev pub or_fault : Option FaultValue → Option FaultValue → Option FaultValue
 or_fault None second = second

@@ -2,7 +2,7 @@
 ghost use Rattle.std.specs.Prelude.{◌≡◌, ◌≤◌, length, drop, IfOk, option_map};
 ghost use Rattle.std.specs.Option.{option_copied};
 ghost use Rattle.dia_codec.specs.Limits.{header_bytes};
-ghost use Rattle.dia_codec.specs.Spelling.{avp_view, avp_views};
+ghost use Rattle.dia_codec.specs.Spelling.{avp_views, owned_view};
 ghost use Rattle.dia_base.specs.NeighbourRequests.{kind_view};
 ghost use Rattle.dia_base.specs.Besides.{readable};
 ghost use Rattle.site_core.specs.Asking.{asked_value};
@@ -17,7 +17,7 @@ use dia_base::codes::results::MISSING_AVP;
 use dia_base::{
     Answered, BaseKind, Identity, MessageForm, avps_besides, base_key, first_with, put_behind,
 };
-use dia_codec::{Avp, AvpKey, HEADER_BYTES, Header, MsgFault, read_group, read_header};
+use dia_codec::{Avp, AvpKey, HEADER_BYTES, Header, MsgFault, OwnedAvp, read_group, read_header};
 use pcrf_values::{Refusal, SessionId};
 use site_machine::Request;
 use std::alloc::{AllocError, Global};
@@ -136,7 +136,7 @@ fn code_answered(alloc: Global, plain: &[u8]) -> Result<Option<u32>, AllocError>
 }
 
 /// The number at a key, where what stands there first has four bytes.
-fn number_at(avps: &[Avp], key: AvpKey) -> Option<u32>
+fn number_at(avps: &[Avp<'_>], key: AvpKey) -> Option<u32>
     ensures { result ≡ readable key (avp_views avps.now) }
 {
     first_with(avps, key)?.number()
@@ -162,10 +162,10 @@ fn failed_by(
     header: &Header,
     frame: &[u8],
     code: Option<u32>,
-) -> Result<Option<Avp>, AllocError>
+) -> Result<Option<OwnedAvp>, AllocError>
     requires { header_bytes ≤ length frame.now }
     ensures { IfOk result (λ failed.
-        option_map avp_view failed ≡ failed_by header.now frame.now code) }
+        option_map owned_view failed ≡ failed_by header.now frame.now code) }
 {
     match code {
         Some(code) => failed_avp(alloc, header, code, frame),
@@ -174,14 +174,18 @@ fn failed_by(
 }
 
 /// An answer with this AVP behind its own, where there is room for it.
-fn with_failed(alloc: Global, failed: Option<Avp>, bytes: Vec<u8>) -> Result<Vec<u8>, AllocError>
+fn with_failed(
+    alloc: Global,
+    failed: Option<OwnedAvp>,
+    bytes: Vec<u8>,
+) -> Result<Vec<u8>, AllocError>
     ensures { IfOk result (λ both.
-        both.items ≡ with_failed (option_map avp_view failed) bytes.items) }
+        both.items ≡ with_failed (option_map owned_view failed) bytes.items) }
 {
     let Some(avp) = failed else {
         return Ok(bytes);
     };
-    let only = Vec::from_array(alloc, [avp])?;
+    let only = [avp];
     put_behind(alloc, &only, bytes)
 }
 

@@ -34,7 +34,7 @@ pub enum Asked {
 }
 
 /// The first Session-Id among AVPs, unless it is empty or too long.
-fn session_among(alloc: Global, avps: &[Avp]) -> Result<Option<SessionId>, AllocError>
+fn session_among(alloc: Global, avps: &[Avp<'_>]) -> Result<Option<SessionId>, AllocError>
     ensures { IfOk result (λ session. session ≡ session_among (avp_views avps.now)) }
 {
     let Some(avp) = first_with(avps, base_key(avps::SESSION_ID)) else {
@@ -104,7 +104,7 @@ fn command_of(header: &Header) -> Result<Command, Refusal>
 }
 
 /// The request that a message of a command asks to serve.
-fn read_as(alloc: Global, command: Command, message: &Message) -> Result<Request, ReadFault>
+fn read_as(alloc: Global, command: Command, message: &Message<'_>) -> Result<Request, ReadFault>
     ensures served { OnOk result (table_refusal command (message_view message.now) ≡ None) }
     ensures read { IfOk result (λ request.
         request_value request ≡ request_of command (message_view message.now)) }
@@ -122,7 +122,7 @@ fn read_as(alloc: Global, command: Command, message: &Message) -> Result<Request
 /// A message that is to be refused.
 pub(crate) fn refused(
     alloc: Global,
-    message: &Message,
+    message: &Message<'_>,
     refusal: Refusal,
 ) -> Result<Asked, AllocError>
     requires { message.now.header.command < command_bound }
@@ -135,7 +135,7 @@ pub(crate) fn refused(
 }
 
 /// What a message of a command asks for.
-fn asked_as(alloc: Global, command: Command, message: &Message) -> Result<Asked, AllocError>
+fn asked_as(alloc: Global, command: Command, message: &Message<'_>) -> Result<Asked, AllocError>
     requires { message.now.header.command < command_bound }
     ensures asked { IfOk result (λ asked. asked_value asked ≡ meaning_of_table command
         (message_view message.now) (table_refusal command (message_view message.now))) }
@@ -149,7 +149,7 @@ fn asked_as(alloc: Global, command: Command, message: &Message) -> Result<Asked,
 }
 
 /// What a message asks for.
-pub(crate) fn asked_by(alloc: Global, message: &Message) -> Result<Asked, AllocError>
+pub(crate) fn asked_by(alloc: Global, message: &Message<'_>) -> Result<Asked, AllocError>
     requires { message.now.header.command < command_bound }
     ensures asked { IfOk result (λ asked.
         asked_value asked ≡ meaning_of_request [] (Ok (message_view message.now))) }

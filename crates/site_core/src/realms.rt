@@ -24,7 +24,7 @@ const REALM_NOT_SERVED: u32 = 3003;
 const AVP_UNSUPPORTED: u32 = 5001;
 
 /// The Destination-Realm, unless it is empty or too long.
-fn realm_among(avps: &[Avp]) -> Option<&[u8]>
+fn realm_among<'f>(avps: &[Avp<'f>]) -> Option<&'f [u8]>
     ensures { option_copied result ≡ realm_among (avp_views avps.now) }
 {
     let realm = first_with(avps, base_key(avps::DESTINATION_REALM))?.text();
@@ -42,7 +42,7 @@ fn is_own_realm(identity: &Identity, realm: &[u8]) -> bool
 }
 
 /// Whether AVPs name a realm that isn't the node's own.
-fn is_other_realm(identity: &Identity, avps: &[Avp]) -> bool
+fn is_other_realm(identity: &Identity, avps: &[Avp<'_>]) -> bool
     ensures { result ≡ is_other_realm identity.now (realm_among (avp_views avps.now)) }
 {
     match realm_among(avps) {
@@ -52,7 +52,7 @@ fn is_other_realm(identity: &Identity, avps: &[Avp]) -> bool
 }
 
 /// Whether a request is for another realm, which a node looks at in the standards' form alone.
-fn is_for_another(identity: &Identity, message: &Message) -> bool
+fn is_for_another(identity: &Identity, message: &Message<'_>) -> bool
     ensures { result ≡ is_for_another identity.now (message_view message.now) }
 {
     match identity.form {
@@ -64,7 +64,11 @@ fn is_for_another(identity: &Identity, message: &Message) -> bool
 }
 
 /// Whether a node understands each AVP of a message that it has to, which it looks at in the standards' form alone.
-fn is_understood(alloc: Global, identity: &Identity, message: &Message) -> Result<bool, AllocError>
+fn is_understood(
+    alloc: Global,
+    identity: &Identity,
+    message: &Message<'_>,
+) -> Result<bool, AllocError>
     ensures { IfOk result (λ is_so. is_so ≡ is_understood identity.now (message_view message.now)) }
 {
     match identity.form {
@@ -74,7 +78,7 @@ fn is_understood(alloc: Global, identity: &Identity, message: &Message) -> Resul
 }
 
 /// Whether the Session-Id of a message isn't of its type, which a node looks at in the standards' form alone.
-fn is_ill_named(identity: &Identity, message: &Message) -> bool
+fn is_ill_named(identity: &Identity, message: &Message<'_>) -> bool
     ensures { result ≡ is_ill_named identity.now (message_view message.now) }
 {
     match identity.form {
@@ -84,7 +88,11 @@ fn is_ill_named(identity: &Identity, message: &Message) -> bool
 }
 
 /// What a message asks for that isn't for another realm.
-fn asked_here(alloc: Global, identity: &Identity, message: &Message) -> Result<Asked, AllocError>
+fn asked_here(
+    alloc: Global,
+    identity: &Identity,
+    message: &Message<'_>,
+) -> Result<Asked, AllocError>
     requires { message.now.header.command < command_bound }
     ensures asked { IfOk result (λ asked.
         asked_value asked ≡ meaning_here identity.now (message_view message.now)) }

@@ -70,7 +70,7 @@ impl FromValue for VendorApplications {
 }
 
 /// Reads the applications that stand by themselves.
-fn read_alone(alloc: Global, avps: &[Avp]) -> Result<Vec<ApplicationId>, ReadFault>
+fn read_alone(alloc: Global, avps: &[Avp<'_>]) -> Result<Vec<ApplicationId>, ReadFault>
     ensures accepted { OnOk result (AcceptsAll alone_rows (avp_views avps.now)) }
     ensures read { IfOk result (λ each. each.items ≡ applications_among (avp_views avps.now)) }
     ensures refused { IfErr result (IsFaultOf (rows_refusal alone_rows (avp_views avps.now))) }
@@ -104,7 +104,7 @@ fn add_groups(
 /// Reads the applications that are advertised: each by itself, and then those of each vendor.
 pub(crate) fn read_applications(
     alloc: Global,
-    avps: &[Avp],
+    avps: &[Avp<'_>],
 ) -> Result<Vec<ApplicationId>, ReadFault>
     ensures accepted { OnOk result (AcceptsAll application_rows (avp_views avps.now)) }
     ensures read { IfOk result (λ found. found.items ≡ applications_of (avp_views avps.now)) }

@@ -89,7 +89,7 @@ pub fn is_base_command(command: u32) -> bool
 }
 
 /// Reads what a command has besides the origin.
-fn read_kind(alloc: Global, command: u32, avps: &[Avp]) -> Result<BaseKind, ReadFault>
+fn read_kind(alloc: Global, command: u32, avps: &[Avp<'_>]) -> Result<BaseKind, ReadFault>
     ensures accepted { OnOk result (AcceptsAll (kind_rows command) (avp_views avps.now)) }
     ensures kind { IfOk result (λ kind. kind_view kind ≡ kind_of command (avp_views avps.now)) }
     ensures refused { IfErr result
@@ -107,7 +107,7 @@ fn read_kind(alloc: Global, command: u32, avps: &[Avp]) -> Result<BaseKind, Read
 
 /// Reads a request of the base protocol, or gives the first refusal of what breaks its command's table. A command that is
 /// neither a capabilities exchange nor a watchdog is read as the end of a connection.
-pub fn read_base(alloc: Global, message: &Message) -> Result<BaseRequest, ReadFault>
+pub fn read_base(alloc: Global, message: &Message<'_>) -> Result<BaseRequest, ReadFault>
     ensures accepted { OnOk result (AcceptsAll (base_rows message.now.header.command)
         (avp_views message.now.avps.items)) }
     ensures request { IfOk result (λ request. base_view request

@@ -1,11 +1,11 @@
 //! AVPs behind those of a message that is written.
 ghost use Rattle.std.specs.Prelude.{◌≡◌, ◌≤◌, ◌++◌, length, take, drop, IfOk};
 ghost use Rattle.dia_codec.specs.Limits.{length_field_end};
-ghost use Rattle.dia_codec.specs.Spelling.{avp_views};
+ghost use Rattle.dia_codec.specs.Spelling.{avp_views, owned_views};
 ghost use Rattle.dia_codec.specs.Written.{three_bytes};
 ghost use Rattle.dia_base.specs.Behind.{behind, with_more};
 
-use dia_codec::{Avp, WriteFault, write_group};
+use dia_codec::{Avp, OwnedAvp, WriteFault, write_group};
 use std::alloc::{AllocError, Global};
 
 /// The most bytes that a message has (this project's profile).
@@ -36,13 +36,25 @@ fn with_more(bytes: Vec<u8>, more: &[u8]) -> Result<Vec<u8>, AllocError>
     Ok(both)
 }
 
+/// AVPs with their values borrowed.
+fn lent(alloc: Global, avps: &[OwnedAvp]) -> Result<Vec<Avp<'_>>, AllocError>
+    ensures { IfOk result (λ lent. avp_views lent.items ≡ owned_views avps.now) }
+{
+    let mut lent = Vec::with_capacity(alloc, avps.len())?;
+    for avp in avps {
+        lent.push(avp.as_avp())?;
+    }
+    Ok(lent)
+}
+
 /// A written message with these AVPs behind its own, where it then is no longer than a message may be; else it stays as it was. What
 /// has no length field is no message, and stays so too.
 #[tactic(auto, unfolding(crate::specs::Behind::behind))]
-pub fn put_behind(alloc: Global, avps: &[Avp], bytes: Vec<u8>) -> Result<Vec<u8>, AllocError>
-    ensures { IfOk result (λ both. both.items ≡ behind (avp_views avps.now) bytes.items) }
+pub fn put_behind(alloc: Global, avps: &[OwnedAvp], bytes: Vec<u8>) -> Result<Vec<u8>, AllocError>
+    ensures { IfOk result (λ both. both.items ≡ behind (owned_views avps.now) bytes.items) }
 {
-    let more = match write_group(alloc, avps) {
+    let lent = lent(alloc, avps)?;
+    let more = match write_group(alloc, &lent) {
         Ok(more) => more,
         Err(WriteFault::TooLong) => return Ok(bytes),
         Err(WriteFault::NoMemory) => return Err(AllocError),

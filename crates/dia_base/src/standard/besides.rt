@@ -1,7 +1,7 @@
 //! What an answer has besides its own AVPs.
 ghost use Rattle.std.specs.Prelude.{◌≡◌, ◌≤◌, ◌++◌, length, IfOk, OnOk};
 ghost use Rattle.dia_codec.specs.Limits.{header_bytes};
-ghost use Rattle.dia_codec.specs.Spelling.{avp_view, avp_views};
+ghost use Rattle.dia_codec.specs.Spelling.{avp_views, owned_views};
 ghost use Rattle.dia_base.specs.Besides.{avps_in, besides, is_cer, kind_avps, mark_avps, proxies, readable, request_number, request_type, type_of_number, unread_avps};
 ghost use Rattle.dia_base.specs.Stated.{state_avps_of};
 
@@ -12,7 +12,7 @@ use crate::standard::answered::Answered;
 use crate::standard::listed::{NEEDED, number_avp};
 use crate::standard::node::{node_avps, whole_node_avps};
 use crate::standard::stating::state_avps_of;
-use dia_codec::{Avp, AvpKey, HEADER_BYTES, Header, MsgFault, read_group};
+use dia_codec::{Avp, AvpKey, HEADER_BYTES, Header, MsgFault, OwnedAvp, read_group};
 use std::alloc::{AllocError, Global};
 
 /// Proxy-Info (RFC 6733, 6.7.2).
@@ -34,7 +34,7 @@ const UPDATE: u32 = 2;
 const EVENT: u32 = 4;
 
 /// The AVPs of a frame; none where they can't be cut.
-fn avps_in(alloc: Global, frame: &[u8]) -> Result<Vec<Avp>, AllocError>
+fn avps_in(alloc: Global, frame: &[u8]) -> Result<Vec<Avp<'_>>, AllocError>
     requires { header_bytes ≤ length frame.now }
     ensures { IfOk result (λ avps. avp_views avps.items ≡ avps_in frame.now) }
 {
@@ -49,14 +49,14 @@ fn avps_in(alloc: Global, frame: &[u8]) -> Result<Vec<Avp>, AllocError>
 }
 
 /// The number at a key, where what stands there first has four bytes.
-fn readable(avps: &[Avp], key: AvpKey) -> Option<u32>
+fn readable(avps: &[Avp<'_>], key: AvpKey) -> Option<u32>
     ensures { result ≡ readable key (avp_views avps.now) }
 {
     first_with(avps, key)?.number()
 }
 
 /// CC-Request-Number, 0 where none can be read.
-fn request_number(avps: &[Avp]) -> u32
+fn request_number(avps: &[Avp<'_>]) -> u32
     ensures { result ≡ request_number (avp_views avps.now) }
 {
     readable(avps, base_key(avps::CC_REQUEST_NUMBER)).unwrap_or(0)
@@ -80,8 +80,8 @@ fn request_type(given: Option<u32>, number: u32) -> u32
 }
 
 /// The CC-Request-Type and CC-Request-Number of a credit control request.
-fn mark_avps(alloc: Global, avps: &[Avp]) -> Result<Vec<Avp>, AllocError>
-    ensures { IfOk result (λ marks. avp_views marks.items ≡ mark_avps (avp_views avps.now)) }
+fn mark_avps(alloc: Global, avps: &[Avp<'_>]) -> Result<Vec<OwnedAvp>, AllocError>
+    ensures { IfOk result (λ marks. owned_views marks.items ≡ mark_avps (avp_views avps.now)) }
 {
     let number = request_number(avps);
     let given = readable(avps, base_key(avps::CC_REQUEST_TYPE));
@@ -104,10 +104,10 @@ fn unread_avps(
     alloc: Global,
     identity: &Identity,
     header: &Header,
-    avps: &[Avp],
-) -> Result<Vec<Avp>, AllocError>
+    avps: &[Avp<'_>],
+) -> Result<Vec<OwnedAvp>, AllocError>
     ensures { IfOk result (λ kind.
-        avp_views kind.items ≡ unread_avps identity.now header.now (avp_views avps.now)) }
+        owned_views kind.items ≡ unread_avps identity.now header.now (avp_views avps.now)) }
 {
     if header.command == commands::CREDIT_CONTROL && header.application == GX {
         return mark_avps(alloc, avps);
@@ -124,9 +124,9 @@ fn kind_avps(
     identity: &Identity,
     answered: Answered,
     header: &Header,
-    avps: &[Avp],
-) -> Result<Vec<Avp>, AllocError>
-    ensures { IfOk result (λ kind. avp_views kind.items
+    avps: &[Avp<'_>],
+) -> Result<Vec<OwnedAvp>, AllocError>
+    ensures { IfOk result (λ kind. owned_views kind.items
         ≡ kind_avps identity.now answered header.now (avp_views avps.now)) }
 {
     match answered {
@@ -136,27 +136,14 @@ fn kind_avps(
     }
 }
 
-/// An AVP that says the same.
-fn copied(alloc: Global, avp: &Avp) -> Result<Avp, AllocError>
-    ensures { IfOk result (λ copy. avp_view copy ≡ avp_view avp.now) }
-{
-    Ok(Avp {
-        code: avp.code,
-        vendor: avp.vendor,
-        mandatory: avp.mandatory,
-        protected: avp.protected,
-        value: Vec::from_slice(alloc, avp.text())?,
-    })
-}
-
 /// Adds each Proxy-Info of a request as it came, in their order.
-fn put_proxies(alloc: Global, out: &mut Vec<Avp>, avps: &[Avp]) -> Result<(), AllocError>
-    ensures { OnOk result (avp_views out.new.items
-        ≡ avp_views out.old.items ++ proxies (avp_views avps.now)) }
+fn put_proxies(alloc: Global, out: &mut Vec<OwnedAvp>, avps: &[Avp<'_>]) -> Result<(), AllocError>
+    ensures { OnOk result (owned_views out.new.items
+        ≡ owned_views out.old.items ++ proxies (avp_views avps.now)) }
 {
     for avp in avps {
         if avp.key() == base_key(PROXY_INFO) {
-            out.push(copied(alloc, avp)?)?;
+            out.push(avp.owned(alloc)?)?;
         }
     }
     Ok(())
@@ -165,12 +152,12 @@ fn put_proxies(alloc: Global, out: &mut Vec<Avp>, avps: &[Avp]) -> Result<(), Al
 /// Adds a node's Origin-State-Id, where it tells one in answers to requests of this header.
 fn put_state(
     alloc: Global,
-    out: &mut Vec<Avp>,
+    out: &mut Vec<OwnedAvp>,
     identity: &Identity,
     header: &Header,
 ) -> Result<(), AllocError>
-    ensures { OnOk result (avp_views out.new.items
-        ≡ avp_views out.old.items ++ state_avps_of identity.now header.now) }
+    ensures { OnOk result (owned_views out.new.items
+        ≡ owned_views out.old.items ++ state_avps_of identity.now header.now) }
 {
     let mut state = state_avps_of(alloc, identity, header)?;
     out.append(&mut state)
@@ -187,10 +174,10 @@ pub fn avps_besides(
     answered: Answered,
     header: &Header,
     frame: &[u8],
-) -> Result<Vec<Avp>, AllocError>
+) -> Result<Vec<OwnedAvp>, AllocError>
     requires { header_bytes ≤ length frame.now }
     ensures { IfOk result (λ avps.
-        avp_views avps.items ≡ besides identity.now answered header.now frame.now) }
+        owned_views avps.items ≡ besides identity.now answered header.now frame.now) }
 {
     let avps = avps_in(alloc, frame)?;
     let mut all = kind_avps(alloc, identity, answered, header, &avps)?;

@@ -2,10 +2,10 @@
 ghost use Rattle.std.specs.Prelude.{◌≡◌, IfOk};
 ghost use Rattle.dia_base.specs.Avps.{base_key};
 ghost use Rattle.dia_codec.specs.Drafts.{keyed_avp};
-ghost use Rattle.dia_codec.specs.Spelling.{avp_view};
+ghost use Rattle.dia_codec.specs.Spelling.{owned_view};
 ghost use Rattle.dia_codec.specs.Written.{word_bytes};
 
-use dia_codec::Avp;
+use dia_codec::OwnedAvp;
 use std::alloc::{AllocError, Global};
 
 /// The M bit where a receiver has to understand the AVP.
@@ -15,10 +15,10 @@ pub(crate) const NEEDED: bool = true;
 pub(crate) const OPTIONAL: bool = false;
 
 /// An AVP with this value, with the M bit or without it.
-pub(crate) fn base_avp(code: u32, mandatory: bool, value: Vec<u8>) -> Avp
-    ensures { avp_view result ≡ keyed_avp (base_key code) mandatory value.items }
+pub(crate) fn base_avp(code: u32, mandatory: bool, value: Vec<u8>) -> OwnedAvp
+    ensures { owned_view result ≡ keyed_avp (base_key code) mandatory value.items }
 {
-    Avp {
+    OwnedAvp {
         code,
         vendor: None,
         mandatory,
@@ -33,8 +33,8 @@ pub(crate) fn text_avp(
     code: u32,
     mandatory: bool,
     bytes: &[u8],
-) -> Result<Avp, AllocError>
-    ensures { IfOk result (λ avp. avp_view avp
+) -> Result<OwnedAvp, AllocError>
+    ensures { IfOk result (λ avp. owned_view avp
         ≡ keyed_avp (base_key code) mandatory bytes.now) }
 {
     let value = Vec::from_slice(alloc, bytes)?;
@@ -48,8 +48,8 @@ pub(crate) fn number_avp(
     code: u32,
     mandatory: bool,
     number: u32,
-) -> Result<Avp, AllocError>
-    ensures { IfOk result (λ avp. avp_view avp
+) -> Result<OwnedAvp, AllocError>
+    ensures { IfOk result (λ avp. owned_view avp
         ≡ keyed_avp (base_key code) mandatory (word_bytes number)) }
 {
     text_avp(alloc, code, mandatory, &number.to_be_bytes())

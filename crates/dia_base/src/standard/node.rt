@@ -1,14 +1,14 @@
 //! What the PCRF says of itself in an exchange of capabilities (RFC 6733, 5.3.2).
 ghost use Rattle.std.specs.Prelude.{◌≡◌, IfOk};
 ghost use Rattle.dia_base.specs.NeighbourAnswers.{address_value};
-ghost use Rattle.dia_codec.specs.Spelling.{avp_views};
+ghost use Rattle.dia_codec.specs.Spelling.{owned_views};
 ghost use Rattle.dia_base.specs.Besides.{node_avps, whole_node_avps};
 
 use crate::codes::TGPP;
 use crate::codes::avps::VENDOR_ID;
 use crate::identity::Identity;
 use crate::standard::listed::{NEEDED, OPTIONAL, base_avp, number_avp, text_avp};
-use dia_codec::Avp;
+use dia_codec::OwnedAvp;
 use std::alloc::{AllocError, Global};
 
 /// Host-IP-Address (RFC 6733, 5.3.5).
@@ -39,8 +39,8 @@ fn address_value(alloc: Global, identity: &Identity) -> Result<Vec<u8>, AllocErr
 }
 
 /// What a granted exchange's answer lacks of what the PCRF is: whose AVPs it understands, and its revision.
-pub(crate) fn node_avps(alloc: Global) -> Result<Vec<Avp>, AllocError>
-    ensures { IfOk result (λ node. avp_views node.items ≡ node_avps) }
+pub(crate) fn node_avps(alloc: Global) -> Result<Vec<OwnedAvp>, AllocError>
+    ensures { IfOk result (λ node. owned_views node.items ≡ node_avps) }
 {
     let mut node = Vec::with_capacity(alloc, 2)?;
     node.push(number_avp(alloc, SUPPORTED_VENDOR_ID, NEEDED, TGPP)?)?;
@@ -49,8 +49,11 @@ pub(crate) fn node_avps(alloc: Global) -> Result<Vec<Avp>, AllocError>
 }
 
 /// All that the PCRF is: its address, that it is of no vendor, its name, and what `node_avps` says.
-pub(crate) fn whole_node_avps(alloc: Global, identity: &Identity) -> Result<Vec<Avp>, AllocError>
-    ensures { IfOk result (λ node. avp_views node.items ≡ whole_node_avps identity.now) }
+pub(crate) fn whole_node_avps(
+    alloc: Global,
+    identity: &Identity,
+) -> Result<Vec<OwnedAvp>, AllocError>
+    ensures { IfOk result (λ node. owned_views node.items ≡ whole_node_avps identity.now) }
 {
     let address = address_value(alloc, identity)?;
     let mut whole = Vec::with_capacity(alloc, 5)?;

@@ -1,13 +1,13 @@
 //! What a node tells of its state: Origin-State-Id (RFC 6733, 8.16).
 ghost use Rattle.std.specs.Prelude.{◌≡◌, IfOk};
-ghost use Rattle.dia_codec.specs.Spelling.{avp_views};
+ghost use Rattle.dia_codec.specs.Spelling.{owned_views};
 ghost use Rattle.dia_base.specs.Stated.{may_tell_state, started_at, state_at_start, state_avps, state_avps_of, stated};
 
 use crate::form::MessageForm;
 use crate::identity::Identity;
 use crate::standard::behind::put_behind;
 use crate::standard::listed::{NEEDED, number_avp};
-use dia_codec::{Avp, Header};
+use dia_codec::{Header, OwnedAvp};
 use std::alloc::{AllocError, Global};
 
 /// Origin-State-Id.
@@ -23,8 +23,8 @@ const BASE: u32 = 0;
 const STATES: u64 = 1 << 32;
 
 /// A state, where one is told.
-fn state_avps(alloc: Global, state: Option<u32>) -> Result<Vec<Avp>, AllocError>
-    ensures { IfOk result (λ avps. avp_views avps.items ≡ state_avps state) }
+fn state_avps(alloc: Global, state: Option<u32>) -> Result<Vec<OwnedAvp>, AllocError>
+    ensures { IfOk result (λ avps. owned_views avps.items ≡ state_avps state) }
 {
     let mut avps = Vec::new(alloc);
     if let Some(state) = state {
@@ -45,9 +45,9 @@ pub(crate) fn state_avps_of(
     alloc: Global,
     identity: &Identity,
     header: &Header,
-) -> Result<Vec<Avp>, AllocError>
+) -> Result<Vec<OwnedAvp>, AllocError>
     ensures { IfOk result (λ avps.
-        avp_views avps.items ≡ state_avps_of identity.now header.now) }
+        owned_views avps.items ≡ state_avps_of identity.now header.now) }
 {
     if !may_tell_state(header) {
         return Ok(Vec::new(alloc));

@@ -7,7 +7,8 @@ ghost use Rattle.gx_profile.specs.Downlinks.{as_downlink, as_given, direction_of
 pub fn ends_are_exchanged()
     ensures plain { as_downlink (codes "permit in ip from any to 192.0.2.9")
         ≡ codes "permit out ip from 192.0.2.9 to any" }
-    ensures ports { as_downlink (codes "permit in 17 from 10.0.0.1 5004 to 192.0.2.9 7000,7002-7009")
+    ensures ports { as_downlink
+        (codes "permit in 17 from 10.0.0.1 5004 to 192.0.2.9 7000,7002-7009")
         ≡ codes "permit out 17 from 192.0.2.9 7000,7002-7009 to 10.0.0.1 5004" }
     ensures source { as_downlink (codes "permit in 6 from 10.0.0.1/32 80 to any")
         ≡ codes "permit out 6 from any to 10.0.0.1/32 80" }

@@ -6,12 +6,12 @@ use std::alloc::AllocGlobal;
 use std::process::Abort;
 
 /// The AVPs of a group.
-fn group_of(rt: &(impl AllocGlobal + Abort), bytes: &[u8]) -> Vec<Avp> {
+fn group_of<'a>(rt: &(impl AllocGlobal + Abort), bytes: &'a [u8]) -> Vec<Avp<'a>> {
     read_group(rt.alloc(), bytes).expect(rt, "a group")
 }
 
 /// The group is the subscription, which is written with all padding.
-fn is_subscription(rt: &(impl AllocGlobal + Abort), avps: &[Avp]) {
+fn is_subscription(rt: &(impl AllocGlobal + Abort), avps: &[Avp<'_>]) {
     assert_eq!(rt; avps.len(), 2);
     assert_eq!(rt; avps[1].text(), b"7".as_slice());
     let again = write_group(rt.alloc(), avps).expect(rt, "memory");
@@ -36,7 +36,7 @@ fn a_length_past_the_end_of_a_group_is_refused(rt: HostRuntime) {
 }
 
 /// The first names no vendor, the second 3GPP.
-fn have_vendors(rt: &impl Abort, avps: &[Avp]) {
+fn have_vendors(rt: &impl Abort, avps: &[Avp<'_>]) {
     assert_eq!(rt; avps.len(), 2);
     assert!(rt; avps[0].vendor == Some(0));
     let unnamed = AvpKey {
@@ -59,14 +59,14 @@ fn a_vendor_id_of_zero_names_no_vendor(rt: HostRuntime) {
 }
 
 /// The subscriber by its type and its digits.
-fn is_subscriber(rt: &impl Abort, parts: &[Avp]) {
+fn is_subscriber(rt: &impl Abort, parts: &[Avp<'_>]) {
     assert_eq!(rt; parts.len(), 2);
     assert!(rt; parts[0].number() == Some(1));
     assert_eq!(rt; parts[1].text(), b"001010000000001".as_slice());
 }
 
 /// An AVP is a group of that.
-fn holds_subscriber(rt: &(impl AllocGlobal + Abort), avp: &Avp) {
+fn holds_subscriber(rt: &(impl AllocGlobal + Abort), avp: &Avp<'_>) {
     let parts = group_of(rt, avp.text());
     is_subscriber(rt, parts.as_slice());
     drop(parts);

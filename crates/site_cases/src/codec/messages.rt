@@ -11,12 +11,12 @@ use std::net::Ipv4Addr;
 use std::process::Abort;
 
 /// The message of these bytes.
-pub fn message_of(rt: &(impl AllocGlobal + Abort), bytes: &[u8]) -> Message {
+pub fn message_of<'a>(rt: &(impl AllocGlobal + Abort), bytes: &'a [u8]) -> Message<'a> {
     read_message(rt.alloc(), bytes).expect(rt, "a message")
 }
 
 /// These bytes are read as a message.
-fn is_read_as(rt: &(impl AllocGlobal + Abort), bytes: &[u8], message: &Message) {
+fn is_read_as(rt: &(impl AllocGlobal + Abort), bytes: &[u8], message: &Message<'_>) {
     let read = message_of(rt, bytes);
     let is_same = read == *message;
     drop(read);
@@ -66,7 +66,7 @@ const INITIAL: Header = Header {
 };
 
 /// The AVPs of the initial request say what was sent.
-fn has_what_was_sent(rt: &impl Abort, message: &Message) {
+fn has_what_was_sent(rt: &impl Abort, message: &Message<'_>) {
     assert_eq!(rt; message.avps.len(), 9);
     for (at, code, text, number, address) in [
         (0, 263, b"gw;1;1".as_slice(), None, None),
@@ -140,23 +140,24 @@ fn the_first_fault_is_told(rt: HostRuntime) {
     }
 }
 
-/// A Session-Id of so many bytes.
-fn long_avp(rt: &(impl AllocGlobal + Abort), bytes: usize) -> Avp {
+/// A Session-Id with this value.
+fn session_avp(value: &[u8]) -> Avp<'_> {
     Avp {
         code: 263,
         vendor: None,
         mandatory: true,
         protected: false,
-        value: vec![in rt.alloc(); 0; bytes].expect(rt, "memory"),
+        value,
     }
 }
 
-/// How many bytes a message is written as that has this alone, or why it isn't written.
+/// How many bytes a message is written as that has a Session-Id of so many bytes alone, or why it isn't written.
 fn written_bytes(rt: &(impl AllocGlobal + Abort), bytes: usize) -> Result<usize, WriteFault> {
+    let value = vec![in rt.alloc(); 0; bytes].expect(rt, "memory");
     let read = read_message(rt.alloc(), &DEVICE_WATCHDOG_REQUEST);
     let mut message = read.expect(rt, "a message");
     message.avps.clear();
-    message.avps.push(long_avp(rt, bytes)).expect(rt, "memory");
+    message.avps.push(session_avp(&value)).expect(rt, "memory");
     let written = write_message(rt.alloc(), &message).map(|written| written.len());
     drop(message);
     written

@@ -12,7 +12,7 @@ use crate::failed_avps::vectors::{
     SECOND_SESSION, SESSION_BEYOND_ASCII, SUBSCRIBER_WITHOUT_DATA, UNCUT_SUBSCRIBER,
     UNKNOWN_SESSION, WATCHDOG_WITH_A_SESSION, WATCHDOG_WITHOUT_A_REALM,
 };
-use dia_codec::{Avp, Flags, HEADER_BYTES, Header, read_group, write_group};
+use dia_codec::{Flags, HEADER_BYTES, Header, OwnedAvp, read_group, write_group};
 use site_core::{failed_avp, has_ill_formed_session, has_unsupported};
 use std::alloc::AllocGlobal;
 use std::process::Abort;
@@ -34,7 +34,7 @@ fn header_of(refused: &Refused) -> Header {
 }
 
 /// The Failed-AVP of the answer to a request, if there is one.
-fn failed_of(rt: &(impl AllocGlobal + Abort), refused: &Refused) -> Option<Avp> {
+fn failed_of(rt: &(impl AllocGlobal + Abort), refused: &Refused) -> Option<OwnedAvp> {
     let mut frame = Vec::from_slice(rt.alloc(), &[0; HEADER_BYTES]).expect(rt, "memory");
     frame.extend_from_slice(refused.avps).expect(rt, "memory");
     let header = header_of(refused);
@@ -47,9 +47,8 @@ fn is_told(rt: &(impl AllocGlobal + Abort), refused: &Refused) {
         assert!(rt; refused.failed.is_empty());
         return;
     };
-    let only = Vec::from_array(rt.alloc(), [failed]).expect(rt, "memory");
-    let bytes = write_group(rt.alloc(), &only).expect(rt, "memory");
-    drop(only);
+    let bytes = write_group(rt.alloc(), &[failed.as_avp()]).expect(rt, "memory");
+    drop(failed);
     assert_eq!(rt; bytes.as_slice(), refused.failed);
 }
 

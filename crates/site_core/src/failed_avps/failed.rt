@@ -1,7 +1,7 @@
 //! The Failed-AVP of an answer.
 ghost use Rattle.std.specs.Prelude.{◌≡◌, ◌≤◌, length, IfOk, option_map};
 ghost use Rattle.dia_codec.specs.Limits.{header_bytes};
-ghost use Rattle.dia_codec.specs.Spelling.{avp_view, avp_views};
+ghost use Rattle.dia_codec.specs.Spelling.{avp_views, owned_view};
 ghost use Rattle.site_core.specs.Failed.{among, at_fault, failed_avp, failed_with, first_fault, lacking, told_by};
 ghost use Rattle.site_core.specs.Grammars.{grammar_of};
 ghost use Rattle.site_core.specs.Faults.{fault_view};
@@ -16,12 +16,14 @@ use crate::failed_avps::uncut::{headed, uncut};
 use crate::failed_avps::unsupported::unsupported_within;
 use dia_base::codes::results::{INVALID_AVP_LENGTH, MISSING_AVP};
 use dia_base::codes::{RX, commands};
-use dia_codec::{Avp, HEADER_BYTES, Header, MsgFault, WriteFault, read_group, write_group};
+use dia_codec::{
+    Avp, HEADER_BYTES, Header, MsgFault, OwnedAvp, WriteFault, read_group, write_group,
+};
 use std::alloc::{AllocError, Global};
 
 /// What an AA request that its grammar grants lacks, where it is refused by this code.
-fn lacking(alloc: Global, header: &Header, code: u32) -> Result<Option<Avp>, AllocError>
-    ensures { IfOk result (λ avp. option_map avp_view avp ≡ lacking header.now code) }
+fn lacking(alloc: Global, header: &Header, code: u32) -> Result<Option<OwnedAvp>, AllocError>
+    ensures { IfOk result (λ avp. option_map owned_view avp ≡ lacking header.now code) }
 {
     let is_aar = header.command == commands::AUTHORIZATION && header.application == RX;
     if !is_aar || code != MISSING_AVP {
@@ -36,8 +38,8 @@ fn told_by(
     header: &Header,
     code: u32,
     fault: Option<Fault>,
-) -> Result<Option<Avp>, AllocError>
-    ensures { IfOk result (λ avp. option_map avp_view avp
+) -> Result<Option<OwnedAvp>, AllocError>
+    ensures { IfOk result (λ avp. option_map owned_view avp
         ≡ told_by header.now code (option_map fault_view fault)) }
 {
     match fault {
@@ -48,7 +50,11 @@ fn told_by(
 }
 
 /// What breaks a grammar first: a Session-Id that isn't UTF-8 before all rows, since its own is the first.
-fn first_fault(alloc: Global, grammar: Grammar, avps: &[Avp]) -> Result<Option<Fault>, AllocError>
+fn first_fault(
+    alloc: Global,
+    grammar: Grammar,
+    avps: &[Avp<'_>],
+) -> Result<Option<Fault>, AllocError>
     ensures { IfOk result (λ fault. option_map fault_view fault
         ≡ first_fault grammar (avp_views avps.now)) }
 {
@@ -59,8 +65,13 @@ fn first_fault(alloc: Global, grammar: Grammar, avps: &[Avp]) -> Result<Option<F
 }
 
 /// What is at fault among the AVPs of a request.
-fn among(alloc: Global, header: &Header, code: u32, avps: &[Avp]) -> Result<Option<Avp>, AllocError>
-    ensures { IfOk result (λ avp. option_map avp_view avp
+fn among(
+    alloc: Global,
+    header: &Header,
+    code: u32,
+    avps: &[Avp<'_>],
+) -> Result<Option<OwnedAvp>, AllocError>
+    ensures { IfOk result (λ avp. option_map owned_view avp
         ≡ among header.now code (avp_views avps.now) (grammar_of header.now)) }
 {
     let Some(grammar) = grammar_of(header) else {
@@ -83,9 +94,9 @@ fn at_fault(
     header: &Header,
     code: u32,
     frame: &[u8],
-) -> Result<Option<Avp>, AllocError>
+) -> Result<Option<OwnedAvp>, AllocError>
     requires { header_bytes ≤ length frame.now }
-    ensures { IfOk result (λ avp. option_map avp_view avp
+    ensures { IfOk result (λ avp. option_map owned_view avp
         ≡ at_fault header.now code frame.now) }
 {
     let Some((_, bytes)) = frame.split_first_chunk::<HEADER_BYTES>() else {
@@ -102,12 +113,11 @@ fn at_fault(
 }
 
 /// The Failed-AVP with this AVP, unless that is longer than any message.
-fn failed_with(alloc: Global, avp: Avp) -> Result<Option<Avp>, AllocError>
-    ensures { IfOk result (λ failed. option_map avp_view failed ≡ failed_with (avp_view avp)) }
+fn failed_with(alloc: Global, avp: OwnedAvp) -> Result<Option<OwnedAvp>, AllocError>
+    ensures { IfOk result (λ failed. option_map owned_view failed ≡ failed_with (owned_view avp)) }
 {
-    let only = Vec::from_array(alloc, [avp])?;
-    match write_group(alloc, &only) {
-        Ok(value) => Ok(Some(Avp {
+    match write_group(alloc, &[avp.as_avp()]) {
+        Ok(value) => Ok(Some(OwnedAvp {
             code: FAILED_AVP,
             vendor: None,
             mandatory: true,
@@ -127,9 +137,9 @@ pub fn failed_avp(
     header: &Header,
     code: u32,
     frame: &[u8],
-) -> Result<Option<Avp>, AllocError>
+) -> Result<Option<OwnedAvp>, AllocError>
     requires { header_bytes ≤ length frame.now }
-    ensures { IfOk result (λ failed. option_map avp_view failed
+    ensures { IfOk result (λ failed. option_map owned_view failed
         ≡ failed_avp header.now code frame.now) }
 {
     match at_fault(alloc, header, code, frame)? {

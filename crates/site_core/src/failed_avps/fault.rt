@@ -3,7 +3,7 @@ ghost use Rattle.std.specs.Prelude.{◌≡◌, if◌then◌else◌, IfOk, is_som
 ghost use Rattle.std.specs.List.{filter};
 ghost use Rattle.pcrf_values.specs.Results.{base_result};
 ghost use Rattle.dia_codec.specs.Reading.{avps_of};
-ghost use Rattle.dia_codec.specs.Spelling.{avp_view, avp_views};
+ghost use Rattle.dia_codec.specs.Spelling.{avp_view, avp_views, owned_view};
 ghost use Rattle.dia_base.specs.Rows.{enumerated, has_key, is_too_often, prefix_in};
 ghost use Rattle.site_core.specs.Faults.{around, as_it_came, enclosed, example, fault_among, fault_view, fault_within, group_fault, one_too_many, row_fault, rows_fault, value_fault, with_value};
 ghost use Rattle.site_core.specs.Grammars.{plain_kind};
@@ -14,7 +14,7 @@ use dia_base::codes::results::{
     AVP_OCCURS_TOO_MANY_TIMES, INVALID_AVP_LENGTH, INVALID_AVP_VALUE, MISSING_AVP,
 };
 use dia_base::{Refusal, count_of};
-use dia_codec::{Avp, MsgFault, WriteFault, read_group, write_group};
+use dia_codec::{Avp, MsgFault, OwnedAvp, WriteFault, read_group, write_group};
 use pcrf_values::Ipv6Prefix;
 use std::alloc::{AllocError, Global};
 
@@ -22,14 +22,14 @@ use std::alloc::{AllocError, Global};
 #[derive(Drop)]
 pub struct Fault {
     pub refusal: Refusal,
-    pub avp: Option<Avp>,
+    pub avp: Option<OwnedAvp>,
 }
 
 /// An AVP that says the same, with another value.
-fn with_value(avp: &Avp, value: Vec<u8>) -> Avp
-    ensures { avp_view result ≡ with_value (avp_view avp.now) value.items }
+fn with_value(avp: &Avp<'_>, value: Vec<u8>) -> OwnedAvp
+    ensures { owned_view result ≡ with_value (avp_view avp.now) value.items }
 {
-    Avp {
+    OwnedAvp {
         code: avp.code,
         vendor: avp.vendor,
         mandatory: avp.mandatory,
@@ -39,21 +39,18 @@ fn with_value(avp: &Avp, value: Vec<u8>) -> Avp
 }
 
 /// An AVP is at fault as it came.
-pub fn as_it_came(alloc: Global, avp: &Avp, refusal: Refusal) -> Result<Fault, AllocError>
+pub fn as_it_came(alloc: Global, avp: &Avp<'_>, refusal: Refusal) -> Result<Fault, AllocError>
     ensures { IfOk result (λ fault. fault_view fault ≡ as_it_came (avp_view avp.now) refusal) }
 {
-    let value = Vec::from_slice(alloc, avp.text())?;
-    Ok(Fault {
-        refusal,
-        avp: Some(with_value(avp, value)),
-    })
+    let avp = Some(avp.owned(alloc)?);
+    Ok(Fault { refusal, avp })
 }
 
 /// An AVP, with zeros of its type's least length.
-pub fn example(alloc: Global, row: &GrammarRow) -> Result<Avp, AllocError>
-    ensures { IfOk result (λ avp. avp_view avp ≡ example row.now) }
+pub fn example(alloc: Global, row: &GrammarRow) -> Result<OwnedAvp, AllocError>
+    ensures { IfOk result (λ avp. owned_view avp ≡ example row.now) }
 {
-    Ok(Avp {
+    Ok(OwnedAvp {
         code: row.key.code,
         vendor: row.key.vendor,
         mandatory: true,
@@ -63,16 +60,19 @@ pub fn example(alloc: Global, row: &GrammarRow) -> Result<Avp, AllocError>
 }
 
 /// The first AVP with the key of a row that is one too many.
-fn one_too_many(alloc: Global, row: &GrammarRow, avps: &[Avp]) -> Result<Option<Avp>, AllocError>
-    ensures { IfOk result (λ avp. option_map avp_view avp
+fn one_too_many(
+    alloc: Global,
+    row: &GrammarRow,
+    avps: &[Avp<'_>],
+) -> Result<Option<OwnedAvp>, AllocError>
+    ensures { IfOk result (λ avp. option_map owned_view avp
         ≡ one_too_many row.now (avp_views avps.now)) }
 {
     let mut left = row.most.unwrap_or(0);
     for avp in avps {
         if avp.key() == row.key {
             if left == 0 {
-                let value = Vec::from_slice(alloc, avp.text())?;
-                return Ok(Some(with_value(avp, value)));
+                return Ok(Some(avp.owned(alloc)?));
             }
             left -= 1;
         }
@@ -104,7 +104,7 @@ fn unless(holds: bool, code: u32) -> Option<Refusal>
 }
 
 /// The refusal of a number outside a range.
-fn enumerated(least: u32, most: u32, avp: &Avp) -> Option<Refusal>
+fn enumerated(least: u32, most: u32, avp: &Avp<'_>) -> Option<Refusal>
     ensures { result ≡ enumerated least most (avp_view avp.now).value }
 {
     let Some(number) = avp.number() else {
@@ -114,7 +114,7 @@ fn enumerated(least: u32, most: u32, avp: &Avp) -> Option<Refusal>
 }
 
 /// The refusal of a value that isn't of its type, but for groups.
-fn plain_refusal(kind: AvpType, avp: &Avp) -> Option<Refusal>
+fn plain_refusal(kind: AvpType, avp: &Avp<'_>) -> Option<Refusal>
     ensures { result ≡ plain_kind kind (avp_view avp.now).value }
 {
     let value = avp.text();
@@ -131,12 +131,11 @@ fn plain_refusal(kind: AvpType, avp: &Avp) -> Option<Refusal>
 }
 
 /// A group with this AVP alone in it, unless that is longer than any message.
-fn around(alloc: Global, group: &Avp, avp: Avp) -> Result<Option<Avp>, AllocError>
-    ensures { IfOk result (λ both. option_map avp_view both
-        ≡ around (avp_view group.now) (avp_view avp)) }
+fn around(alloc: Global, group: &Avp<'_>, avp: OwnedAvp) -> Result<Option<OwnedAvp>, AllocError>
+    ensures { IfOk result (λ both. option_map owned_view both
+        ≡ around (avp_view group.now) (owned_view avp)) }
 {
-    let only = Vec::from_array(alloc, [avp])?;
-    match write_group(alloc, &only) {
+    match write_group(alloc, &[avp.as_avp()]) {
         Ok(value) => Ok(Some(with_value(group, value))),
         Err(WriteFault::TooLong) => Ok(None),
         Err(WriteFault::NoMemory) => Err(AllocError),
@@ -144,7 +143,7 @@ fn around(alloc: Global, group: &Avp, avp: Avp) -> Result<Option<Avp>, AllocErro
 }
 
 /// What is at fault in a group, with the group around it.
-pub fn enclosed(alloc: Global, group: &Avp, fault: Fault) -> Result<Fault, AllocError>
+pub fn enclosed(alloc: Global, group: &Avp<'_>, fault: Fault) -> Result<Fault, AllocError>
     ensures { IfOk result (λ both. fault_view both
         ≡ enclosed (avp_view group.now) (fault_view fault)) }
 {
@@ -162,7 +161,7 @@ fn group_fault(
     alloc: Global,
     depth: u32,
     grammar: Grammar,
-    group: &Avp,
+    group: &Avp<'_>,
 ) -> Result<Option<Fault>, AllocError>
     ensures { IfOk result (λ fault. option_map fault_view fault
         ≡ group_fault (fault_within depth grammar) (avp_view group.now)
@@ -190,7 +189,7 @@ fn value_fault(
     alloc: Global,
     depth: u32,
     kind: AvpType,
-    avp: &Avp,
+    avp: &Avp<'_>,
 ) -> Result<Option<Fault>, AllocError>
     ensures { IfOk result (λ fault. option_map fault_view fault
         ≡ value_fault (fault_within depth) kind (avp_view avp.now)) }
@@ -210,7 +209,7 @@ fn first_at_fault(
     alloc: Global,
     depth: u32,
     row: &GrammarRow,
-    avps: &[Avp],
+    avps: &[Avp<'_>],
 ) -> Result<Option<Fault>, AllocError>
     ensures { IfOk result (λ fault. option_map fault_view fault
         ≡ fault_among (value_fault (fault_within depth) row.now.kind)
@@ -243,7 +242,7 @@ fn row_fault(
     alloc: Global,
     depth: u32,
     row: &GrammarRow,
-    avps: &[Avp],
+    avps: &[Avp<'_>],
 ) -> Result<Option<Fault>, AllocError>
     ensures { IfOk result (λ fault. option_map fault_view fault
         ≡ row_fault (fault_within depth) row.now (avp_views avps.now)) }
@@ -270,7 +269,7 @@ fn rows_fault(
     alloc: Global,
     depth: u32,
     rows: &[GrammarRow],
-    avps: &[Avp],
+    avps: &[Avp<'_>],
 ) -> Result<Option<Fault>, AllocError>
     ensures { IfOk result (λ fault. option_map fault_view fault
         ≡ rows_fault (fault_within depth) rows.now (avp_views avps.now)) }
@@ -290,7 +289,7 @@ pub fn fault_within(
     alloc: Global,
     depth: u32,
     grammar: Grammar,
-    avps: &[Avp],
+    avps: &[Avp<'_>],
 ) -> Result<Option<Fault>, AllocError>
     ensures { IfOk result (λ fault. option_map fault_view fault
         ≡ fault_within depth grammar (avp_views avps.now)) }

@@ -25,7 +25,7 @@ fn names_session(grammar: Grammar) -> bool
 }
 
 /// The Session-Id of AVPs that have one alone.
-fn lone_session(avps: &[Avp]) -> Option<&Avp>
+fn lone_session<'a, 'f>(avps: &'a [Avp<'f>]) -> Option<&'a Avp<'f>>
     ensures { option_map avp_view (option_copied result) ≡ lone_session (avp_views avps.now) }
 {
     if count_of(avps, base_key(SESSION_ID)) != 1 {
@@ -35,7 +35,7 @@ fn lone_session(avps: &[Avp]) -> Option<&Avp>
 }
 
 /// The Session-Id of a request with this grammar, where it isn't UTF-8.
-fn ill_formed_session(grammar: Grammar, avps: &[Avp]) -> Option<&Avp>
+fn ill_formed_session<'a, 'f>(grammar: Grammar, avps: &'a [Avp<'f>]) -> Option<&'a Avp<'f>>
     ensures { option_map avp_view (option_copied result)
         ≡ ill_formed_session grammar (avp_views avps.now) }
 {
@@ -53,7 +53,7 @@ fn ill_formed_session(grammar: Grammar, avps: &[Avp]) -> Option<&Avp>
 pub fn session_fault(
     alloc: Global,
     grammar: Grammar,
-    avps: &[Avp],
+    avps: &[Avp<'_>],
 ) -> Result<Option<Fault>, AllocError>
     ensures { IfOk result (λ fault. option_map fault_view fault
         ≡ session_fault grammar (avp_views avps.now)) }
@@ -68,7 +68,7 @@ pub fn session_fault(
 /// Whether a request of this header, if it is one that is served, has one Session-Id alone, and that isn't UTF-8 (RFC 6733, 4.3.1 and
 /// 8.8): it is to be refused with DIAMETER_INVALID_AVP_VALUE.
 #[tactic(auto, unfolding(crate::specs::SessionIds::has_ill_formed_session))]
-pub fn has_ill_formed_session(header: &Header, avps: &[Avp]) -> bool
+pub fn has_ill_formed_session(header: &Header, avps: &[Avp<'_>]) -> bool
     ensures { result ≡ has_ill_formed_session header.now (avp_views avps.now) }
 {
     match grammar_of(header) {

@@ -1,12 +1,12 @@
 //! AVPs whose lengths are wrong.
 ghost use Rattle.std.specs.Prelude.{◌≡◌, IfOk, option_copied};
-ghost use Rattle.dia_codec.specs.Spelling.{avp_view};
+ghost use Rattle.dia_codec.specs.Spelling.{owned_view};
 ghost use Rattle.site_core.specs.Uncut.{after_first, headed, least_at, uncut};
 
 use crate::failed_avps::bytes::{byte_at, first_word, length_field, vendor_word};
 use crate::failed_avps::grammar::Grammar;
 use crate::failed_avps::requests::rows_of;
-use dia_codec::{Avp, AvpKey};
+use dia_codec::{AvpKey, OwnedAvp};
 use std::alloc::{AllocError, Global};
 
 /// The bytes before an AVP's value where it has no Vendor-Id (RFC 6733, 4.1).
@@ -76,8 +76,8 @@ fn least_at(grammar: Grammar, key: AvpKey) -> usize
 /// The header of the AVP that begins with these bytes, with zeros for what there isn't, and zeros of its type's least length for
 /// its value.
 #[tactic(auto, unfolding(dia_codec::specs::Spelling::avp_value))]
-pub fn headed(alloc: Global, grammar: Option<Grammar>, bytes: &[u8]) -> Result<Avp, AllocError>
-    ensures { IfOk result (λ avp. avp_view avp ≡ headed grammar bytes.now) }
+pub fn headed(alloc: Global, grammar: Option<Grammar>, bytes: &[u8]) -> Result<OwnedAvp, AllocError>
+    ensures { IfOk result (λ avp. owned_view avp ≡ headed grammar bytes.now) }
 {
     let flags = byte_at(bytes, 4);
     let vendor = if flags & VENDOR_BIT != 0 {
@@ -85,7 +85,7 @@ pub fn headed(alloc: Global, grammar: Option<Grammar>, bytes: &[u8]) -> Result<A
     } else {
         None
     };
-    let mut avp = Avp {
+    let mut avp = OwnedAvp {
         code: first_word(bytes),
         vendor,
         mandatory: flags & MANDATORY_BIT != 0,
@@ -93,7 +93,7 @@ pub fn headed(alloc: Global, grammar: Option<Grammar>, bytes: &[u8]) -> Result<A
         value: Vec::new(alloc),
     };
     if let Some(grammar) = grammar {
-        avp.value = vec![in alloc; 0; least_at(grammar, avp.key())]?;
+        avp.value = vec![in alloc; 0; least_at(grammar, avp.as_avp().key())]?;
     }
     Ok(avp)
 }

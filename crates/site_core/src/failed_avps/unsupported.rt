@@ -15,7 +15,7 @@ use dia_codec::{Avp, AvpKey, Header, MsgFault, read_group};
 use std::alloc::{AllocError, Global};
 
 /// Whether who gets an AVP has to know it, and doesn't.
-fn is_unsupported(avp: &Avp) -> bool
+fn is_unsupported(avp: &Avp<'_>) -> bool
     ensures { result ≡ is_unsupported (avp_view avp.now) }
 {
     avp.mandatory && !is_recognized(avp.key())
@@ -49,7 +49,7 @@ fn first_in_group(
     alloc: Global,
     depth: u32,
     grammar: Grammar,
-    group: &Avp,
+    group: &Avp<'_>,
 ) -> Result<Option<Fault>, AllocError>
     ensures { IfOk result (λ fault. option_map fault_view fault
         ≡ first_in_group (unsupported_within depth grammar) (avp_view group.now)
@@ -72,7 +72,7 @@ fn first_inside(
     alloc: Global,
     depth: u32,
     grammar: Option<Grammar>,
-    avp: &Avp,
+    avp: &Avp<'_>,
 ) -> Result<Option<Fault>, AllocError>
     ensures { IfOk result (λ fault. option_map fault_view fault
         ≡ first_inside (unsupported_within depth) (avp_view avp.now) grammar) }
@@ -89,7 +89,7 @@ fn unsupported_at(
     alloc: Global,
     depth: u32,
     grammar: Grammar,
-    avp: &Avp,
+    avp: &Avp<'_>,
 ) -> Result<Option<Fault>, AllocError>
     ensures { IfOk result (λ fault. option_map fault_view fault
         ≡ unsupported_at (unsupported_within depth) grammar (avp_view avp.now)) }
@@ -107,7 +107,7 @@ fn first_unsupported(
     alloc: Global,
     depth: u32,
     grammar: Grammar,
-    avps: &[Avp],
+    avps: &[Avp<'_>],
 ) -> Result<Option<Fault>, AllocError>
     ensures { IfOk result (λ fault. option_map fault_view fault
         ≡ fault_among (unsupported_at (unsupported_within depth) grammar) (avp_views avps.now)) }
@@ -127,7 +127,7 @@ pub fn unsupported_within(
     alloc: Global,
     depth: u32,
     grammar: Grammar,
-    avps: &[Avp],
+    avps: &[Avp<'_>],
 ) -> Result<Option<Fault>, AllocError>
     ensures { IfOk result (λ fault. option_map fault_view fault
         ≡ unsupported_within depth grammar (avp_views avps.now)) }
@@ -141,7 +141,7 @@ pub fn unsupported_within(
 /// Whether a request of this header, if it is one that is served, has an AVP with M that isn't recognized, also in the groups that its
 /// grammar names (RFC 6733, 4.1): it is to be refused with DIAMETER_AVP_UNSUPPORTED.
 #[tactic(auto, unfolding(crate::specs::Unsupported::has_unsupported))]
-pub fn has_unsupported(alloc: Global, header: &Header, avps: &[Avp]) -> Result<bool, AllocError>
+pub fn has_unsupported(alloc: Global, header: &Header, avps: &[Avp<'_>]) -> Result<bool, AllocError>
     ensures { IfOk result (λ has. has ≡ has_unsupported header.now (avp_views avps.now)) }
 {
     match grammar_of(header) {
