@@ -1,21 +1,23 @@
 -- Values of one field are of one kind; what was told under names in order; which facts show where.
-use Rattle.std.proofs.Common.{◌≡◌, ℕ, Bool, true, false, cond, List, [], ◌∷◌, ◌++◌, map, Option, Some, None, is_some, refl, sym, ap, ◌∙◌}
+use Rattle.std.proofs.Common.{◌≡◌, ℕ, ◌<◌, nat_lt, Bool, true, false, cond, List, [], ◌∷◌, ◌++◌, length, get_or, map, arith, Option, Some, None, is_some, refl, sym, ap, ◌∙◌}
+use Rattle.std.proofs.lemmas.Bool.Decides.{nat_tests}
 use Rattle.std.specs.List.{filter_map, flat_map, cons_option}
 use Rattle.std.specs.Option.{option_cmp}
 use Rattle.pcrf_values.specs.declared.tag.Tag.{Tag}
 use Rattle.pcrf_values.specs.RuleValues.{RuleValue, rule_cmp}
-use Rattle.pcrf_values.specs.Places.{ComponentField, FlowField, Place, OfComponent, OfFlow}
+use Rattle.pcrf_values.specs.Places.{SessionField, ComponentField, FlowField, Place, OfSession, OfComponent, OfFlow, session_field_number}
 use Rattle.pcrf_values.specs.Values.{Value, Entry, value_cmp, entry_cmp}
-use Rattle.pcrf_values.specs.Facts.{Fact, entry}
+use Rattle.pcrf_values.specs.Facts.{Fact, position, entry}
 use Rattle.pcrf_values.specs.Held.{kept_list, is_gone, entry_at, entry_shown}
 use Rattle.pcrf_values.proofs.JoinedLaws.{held-Same}
 use Rattle.pcrf_values.specs.ToldWords.{told_entry, told_rule, ToldRule}
 use Rattle.pcrf_model.specs.Forms.{is_record}
 use Rattle.pcrf_model.specs.Sessions.{Gx}
 use Rattle.pcrf_model.proofs.RecordForms.{joined_record}
-use Rattle.pcrf_values.specs.Sets.{greatest}
+use Rattle.pcrf_values.specs.Sets.{In, greatest}
 use Rattle.pcrf_values.proofs.SetLaws.{Same-twice}
-use Rattle.lattice_core.specs.SessionValues.{entry_by, session_value}
+use Rattle.lattice_core.specs.SessionValues.{entry_by, session_number, session_value}
+use Rattle.lattice_core.proofs.FoundLaws.{In-made, shown_found}
 use Rattle.gx_records.specs.declared.fact.GxFact.{GxFact}
 use Rattle.gx_records.specs.declared.fact.GxFact.TheVariants.{End, Field, Told}
 use Rattle.lattice_core.specs.SessionFacts.{session_fact}
@@ -116,3 +118,22 @@ rules_listed (Field t (Last x) ∷ xs) = rules_listed xs
 rules_listed (Field t (Prefix x) ∷ xs) = rules_listed xs
 rules_listed (Told t name None ∷ xs) = rules_listed xs
 rules_listed (Told t name (Some r) ∷ xs) = ap (λ (l : List ToldRule). (name, r) ∷ l) (rules_listed xs)
+
+-- where the fact of a field stands
+pub field_position : (t : Tag) (x : SessionValue ℕ) → position (session_fact t x) ≡ (2, (0, (0, (session_number x, []))))
+field_position t (Address x) = refl
+field_position t (Apn x) = refl
+field_position t (Subscribers x) = refl
+field_position t (Host x) = refl
+field_position t (Realm x) = refl
+field_position t (Last x) = refl
+field_position t (Prefix x) = refl
+
+-- a kept field shows its value
+pub kept_shows : (zs : List Fact) (t : Tag) (x : SessionValue ℕ) (f : SessionField) → kept_list zs ≡ zs → In (session_fact t x) zs → session_field_number f ≡ session_number x
+    → Some (t, session_value x) ≡ entry_shown zs (OfSession f)
+kept_shows zs t x f k i e = entry_of_field t x ∙ shown_found zs (OfSession f) (Some (session_fact t x)) k (i, field_position t x ∙ ap (λ n. (2, (0, (0, (n, []))))) (sym e))
+
+-- the fact at a place is one of all
+pub In-at : (xs : List GxFact) (at : ℕ) (x : GxFact) → true ≡ nat_lt at (length xs) → x ≡ get_or xs at x → In (fact_of x) (map fact_of xs)
+In-at xs at x lt e = let within : at < length xs = grind (arith, nat_tests) in In-made fact_of xs at x within e

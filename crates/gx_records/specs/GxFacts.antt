@@ -9,7 +9,8 @@ use Rattle.lattice_core.specs.SessionFacts.{session_fact}
 use Rattle.gx_records.specs.declared.fact.GxFact.{GxFact}
 use Rattle.gx_records.specs.declared.fact.GxFact.TheVariants.{End, Field, Told}
 
--- the rule that the gateway was told, or that it was told to remove it
+-- the rule that the gateway was told, or that no rule counts as told under the name, by a removal or a
+-- retelling
 abbrev pub told_value : Option RuleValue → Value
 told_value None = Untold
 told_value (Some r) = values.Told r

@@ -19,7 +19,8 @@ pub enum GxFact {
     End,
     /// A field of the session.
     Field(Tag, SessionValue<Enumerated<OpenRequestType>>),
-    /// What the gateway was told under the name of a rule: the rule, or nothing where it was told to remove it.
+    /// What the gateway was told under the name of a rule: the rule, or none where no rule counts as told under it, by a removal
+    /// or a retelling.
     Told(Tag, RuleName, Option<Rule>),
 }
 
@@ -38,7 +39,7 @@ impl GxFact {
     }
 }
 
-/// How what was told under one name compares: nothing is below every rule.
+/// How what was told under one name compares: that no rule is told is below every rule.
 #[tactic(auto, using(crate::proofs::FieldLaws::told_order))]
 fn compare_told(one: &Option<Rule>, other: &Option<Rule>) -> Ordering
     ensures { result ≡ value_cmp (told_value one.now) (told_value other.now) }

@@ -1,5 +1,5 @@
 //! Records of Gx sessions, and the rules that a gateway was told.
-ghost use Rattle.std.specs.Prelude.{◌≡◌, ℕ, ◌++◌, IfOk, IfSome, OnOk, None, map, option_map, true};
+ghost use Rattle.std.specs.Prelude.{◌≡◌, ℕ, ◌++◌, IfOk, IfSome, OnOk, None, Some, map, option_map, true};
 ghost use Rattle.std.specs.List.{filter_map, flat_map};
 ghost use Rattle.pcrf_values.specs.Held.{kept_list, is_ended, entry_shown};
 ghost use Rattle.pcrf_values.specs.Live.{gx_is_live, home};
@@ -16,7 +16,9 @@ ghost use Rattle.gx_records.specs.GxFacts.{fact_of, rule_under, rules_told};
 
 use crate::fact::GxFact;
 use crate::open_request_type::OpenRequestType;
-use lattice_core::{FactSet, Join, Record, SessionValue, Tag, copy_facts, position_of_field};
+use lattice_core::{
+    FactSet, Join, Record, SessionValue, Tag, copy_facts, position_of_field, session_position,
+};
 use pcrf_values::{
     Apn, DiameterIdentity, Enumerated, Ipv6Prefix, Ranked, Rule, RuleName, Subscribers,
 };
@@ -133,7 +135,7 @@ impl FactSet for GxRec {
 }
 
 impl GxRec {
-    /// The record of these facts, which are those of operations, of one or of more.
+    /// The record of what is kept of these facts, which are those of operations, of one or of more.
     pub fn of_facts(alloc: Global, facts: &[GxFact]) -> Result<GxRec, AllocError>
         requires { is_record Gx (map fact_of facts.now) ≡ true }
         ensures { IfOk result (λ r. r ≡ kept_list (map fact_of facts.now)) }
@@ -141,7 +143,7 @@ impl GxRec {
         GxRec::of(copy_facts(alloc, facts)?)
     }
 
-    /// The same of facts that move into it.
+    /// The record of what is kept of these facts, which move into it.
     pub fn of(facts: Vec<GxFact>) -> Result<GxRec, AllocError>
         requires { is_record Gx (map fact_of facts.items) ≡ true }
         ensures { IfOk result (λ r. r ≡ kept_list (map fact_of facts.items)) }
@@ -201,11 +203,37 @@ impl GxRec {
             → session_entry (option_map (λ e. (e.0, e.1.now)) result)
             ≡ entry_shown self.now (OfSession f) }
     {
+        if let Some(found) = self.field_in_place(number) {
+            return Some(found);
+        }
         match self.facts.at(&position_of_field(number)) {
             None => None,
             Some(GxFact::Field(tag, value)) => Some((*tag, value)),
             Some(_) => None,
         }
+    }
+
+    /// The same, where the field stands at its number's place, as it does if none before it is missing.
+    fn field_in_place(
+        &self,
+        number: u8,
+    ) -> Option<(Tag, &SessionValue<Enumerated<OpenRequestType>>)>
+        ensures at { IfSome result (λ e. number ≡ session_number e.1.now) }
+        ensures shown { IfSome result (λ e. (f : SessionField) → session_field_number f ≡ number
+            → session_entry (Some (e.0, e.1.now)) ≡ entry_shown self.now (OfSession f)) }
+    {
+        self.facts.note_valid();
+        let place = usize::from(number).wrapping_sub(1);
+        let Some(fact) = self.facts.as_slice().get(place) else {
+            return None;
+        };
+        let GxFact::Field(tag, value) = fact else {
+            return None;
+        };
+        if session_position(value).field != number {
+            return None;
+        }
+        Some((*tag, value))
     }
 
     /// Does nothing: its contract tells a proof that no component and no flow shows anything.
