@@ -1,5 +1,5 @@
 -- Lists by key after the list at one key changed, and what a table by hashes has under a key.
-use Rattle.std.proofs.Common.{◌≡◌, Bool, true, false, cond, List, [], Option, Some, None, refl, sym, ap, ◌∙◌, Ordering, if◌then◌else◌}
+use Rattle.std.proofs.Common.{◌≡◌, Bool, true, false, cond, List, [], ◌∷◌, length, arith, Option, Some, None, refl, sym, ap, ◌∙◌, Ordering, if◌then◌else◌}
 use Rattle.std.specs.BTreeMap.{is_at}
 use Rattle.std.specs.Cmp.{IsTotalOrder}
 use Rattle.std.specs.Map.{lookup}
@@ -80,3 +80,8 @@ module _ {K A : Type 0} (cmp : K → K → Ordering) (total : IsTotalOrder cmp) 
       by : (b : Bool) → is_eq (cmp key k) ≡ b → ids_at cmp now k ≡ (if b then f (ids_at cmp now k) else ids_at cmp now k)
       by true t = none t ∙ sym (ap f (none t) ∙ nothing)
       by false t = refl
+
+-- where nothing is listed no key has a list
+pub none_listed : {K A : Type 0} (cmp : K → K → Ordering) (ls : List (K × List A)) → length ls ≡ 0 → (k : K) → ids_at cmp ls k ≡ []
+none_listed cmp [] e k = refl
+none_listed cmp (x ∷ xs) e k = absurd (omega (arith, e))

@@ -171,6 +171,13 @@ impl<K: Ranked + Hash, S: Ranked> SessionLists<K, S> {
         self.lists.get(key)
     }
 
+    /// Nothing is listed.
+    pub fn is_empty(&self) -> bool
+        ensures { result ≡ true → (k : K) → ids_at K.cmp self.now k ≡ [] }
+    {
+        self.lists.is_empty()
+    }
+
     /// The lists with their keys, in no order that means anything.
     pub fn iter(&self) -> Iter<'_, K, SessionIds<S>>
         ensures { result ≡ self.now }

@@ -144,8 +144,8 @@ module _ (own ts : List Fact) (each : (f : Fact) → In f ts → Refreshes own f
   goes_on p e h =
       let there = fact_there own p e h in
       let more = fact_gives_value (own ++ ts) p e.0 e.1 (In-left (Field p e.0 e.1) own ts there) in
-      let open_ = gone p ∙ (not_gone (is_gone own p) (held.value_at own p) e h).0 in
-      (more.0, ap (λ b. cond b None (held.value_at (own ++ ts) p)) open_ ∙ more.1)
+      let open_ = gone p ∙ (not_gone (is_gone own p) (held.greatest_entry own p) e h).0 in
+      (more.0, ap (λ b. cond b None (held.greatest_entry (own ++ ts) p)) open_ ∙ more.1)
 
   -- so does what is there
   there_on : (p : Place) → shows_at (entry_shown own) p ≡ true → shows_at (entry_shown (own ++ ts)) p ≡ true
@@ -168,8 +168,8 @@ module _ (own ts : List Fact) (each : (f : Fact) → In f ts → Refreshes own f
       let e = some_is (entry_shown own p) shown in
       let d = goes_on p e.0 e.1 in
       let was = ap (option_map (λ (x : Entry). x.1)) e.1 in
-      let ours = value_is_greatest own p e.0 (not_gone (is_gone own p) (held.value_at own p) e.0 e.1).1 in
-      let all = value_is_greatest (own ++ ts) p d.0 (not_gone (is_gone (own ++ ts) p) (held.value_at (own ++ ts) p) d.0 d.1).1 in
+      let ours = value_is_greatest own p e.0 (not_gone (is_gone own p) (held.greatest_entry own p) e.0 e.1).1 in
+      let all = value_is_greatest (own ++ ts) p d.0 (not_gone (is_gone (own ++ ts) p) (held.greatest_entry (own ++ ts) p) d.0 d.1).1 in
       let same : e.0.1 ≡ d.0.1 = elim (In-cases (Field p d.0.0 d.0.1) own ts all.there) [
         | inl i ↦ ap (λ (x : Entry). x.1) (both_top entry_cmp entry_ranked.total entry_ranked.same e.0 d.0 (ours.none_above d.0.0 d.0.1 i) (all.none_above e.0.0 e.0.1 (In-left (Field p e.0.0 e.0.1) own ts ours.there)))
         | inr i ↦ some_same e.0.1 d.0.1 (sym was ∙ says d.0.1 (each (Field p d.0.0 d.0.1) i))

@@ -1,7 +1,8 @@
 //! Calls that may be abandoned, and the abort of the first that is.
-ghost use Rattle.std.specs.Prelude.{◌≡◌, Some, None, true, false, IfOk, option_map};
+ghost use Rattle.std.specs.Prelude.{◌≡◌, ℕ, List, Some, None, true, false, IfOk, option_map};
 ghost use Rattle.std.specs.Option.{option_copied};
 ghost use Rattle.pcrf_model.specs.Aborting.{abandoned_session, abort_of};
+ghost use Rattle.pcrf_model.specs.Pushing.{due_session};
 ghost use Rattle.pcrf_model.specs.Sessions.{is_gx};
 ghost use Rattle.pcrf_model.specs.Views.{view};
 ghost use Rattle.pcrf_values.specs.Prefixes.{Ipv6Prefix};
@@ -53,6 +54,16 @@ impl IndexedState {
             (view self.now.holding.facts) (Some host.now) ≡ None }
     {
         self.site != site || self.aborts.is_waiting(host)
+    }
+
+    /// No push may be due at a site for any host, nor an abort: no session waits. It is a look alone.
+    pub fn is_quiet(&self, site: u8) -> bool
+        ensures pushes { result ≡ true → (host : List ℕ) → due_session self.now.tables site
+            (view self.now.holding.facts) (Some host) ≡ None }
+        ensures aborts { result ≡ true → (host : List ℕ) → abandoned_session site
+            (view self.now.holding.facts) (Some host) ≡ None }
+    {
+        self.site == site && self.waiting.is_empty() && self.aborts.is_empty()
     }
 
     /// The abort that is due at a site for this host.

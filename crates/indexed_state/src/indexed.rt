@@ -453,7 +453,7 @@ impl IndexedState {
         self.state.clock()
     }
 
-    /// The index of the sessions, where it is whole.
+    /// The index of the sessions, where it covers what is held.
     pub fn index(&self) -> Option<&Index>
         ensures { IfSome result (λ index. Covers (view self.now.holding.facts) index.now) }
     {

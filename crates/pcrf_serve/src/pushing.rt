@@ -258,6 +258,9 @@ fn push_demand<R: Threads + Wait + Sync, S: SharedSite, W: Write + Drop>(
 {
     let host = &gateway.host;
     let half = &gateway.half;
+    if !is_wanted(rt, site, seat, host, demand) {
+        return Ok(Pushed::All);
+    }
     let event = event_to(host, demand)?;
     let pushed = push_each(rt, alloc, site, seat, host, demand, &event, half, outgoing);
     drop(event);
@@ -329,8 +332,9 @@ fn conclude<R: Threads + Wait + Sync, S: SharedSite, W: Write + Drop, O: Observe
 }
 
 /// Pushes to every host that can be reached, one after another, until nothing is due to any and no session of any is to be
-/// aborted. A full history or clock ends it; a host to which nothing can be written is reached no more. What was gathered is
-/// written before the first request, so that an answer comes before what it led to.
+/// aborted; none is asked where the site says that nothing is due to anybody. A full history or clock ends it; a host to which
+/// nothing can be written is reached no more. What was gathered is written before the first request, so that an answer comes
+/// before what it led to.
 pub fn push_all<R: Threads + Wait + Sync, S: SharedSite, W: Write + Drop, O: Observer>(
     rt: &R,
     alloc: Global,
@@ -341,6 +345,9 @@ pub fn push_all<R: Threads + Wait + Sync, S: SharedSite, W: Write + Drop, O: Obs
 ) -> Result<(), AllocError>
     ensures { Adds IsPushToHost (S.seen seat.old) (S.seen seat.new) }
 {
+    if site.is_quiet(rt, seat) {
+        return Ok(());
+    }
     let mut last: Option<DiameterIdentity> = None;
     for _ in rt.forever() {
         let Some(gateway) = gateways.behind(rt, last.as_ref())? else {

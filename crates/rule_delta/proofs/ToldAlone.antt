@@ -14,7 +14,7 @@ use Rattle.pcrf_values.specs.RuleValues.{rule_cmp}
 use Rattle.pcrf_values.specs.Places.{Place, OfSession, OfComponent, OfFlow, OfRuleName}
 use Rattle.pcrf_values.specs.Values.{Number, Text, Address, Subscribers, Filters, Untold, Told, Prefix, Entry, entry_cmp}
 use Rattle.pcrf_values.specs.Facts.{Fact, End, Removed, Field, Aborted, fact_cmp, is_shaded_by}
-use Rattle.pcrf_values.specs.Held.{kept_set, kept_list, blocks, is_gone, value_at, entry_shown}
+use Rattle.pcrf_values.specs.Held.{kept_set, kept_list, blocks, is_gone, greatest_entry, entry_shown}
 use Rattle.pcrf_values.specs.ToldWords.{ToldEntry, ToldRule, told_entry, told_entries, told_rule}
 use Rattle.pcrf_values.specs.ToldWords as words
 use Rattle.pcrf_values.proofs.FactLaws.{place_ranked, entry_ranked, fact_ranked}
@@ -38,7 +38,7 @@ kept_shows facts p e i =
     let g = value_is_greatest facts p w.0 w.1 in
     let not_below : is_lt (entry_cmp e w.0) ≡ false = ap (λ b. b && is_lt (entry_cmp e w.0)) (sym (eq_itself place_ranked p)) ∙ k.1 (Field p w.0.0 w.0.1) g.there in
     let same : e ≡ w.0 = both_top entry_cmp entry_ranked.total entry_ranked.same e w.0 not_below (g.none_above e.0 e.1 k.0) in
-    ap (λ b. cond b None (value_at facts p)) open_ ∙ w.1 ∙ ap Some (sym same)
+    ap (λ b. cond b None (greatest_entry facts p)) open_ ∙ w.1 ∙ ap Some (sym same)
 
 -- what tells of a rule stands at its name
 entry_fact : (f : Fact) (a : ToldEntry) → told_entry f ≡ Some a → f ≡ Field (OfRuleName a.0) a.1.0 (told_value a.1.1)

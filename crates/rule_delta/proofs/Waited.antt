@@ -1,5 +1,5 @@
 -- Who goes on waiting, and when that is enough.
-use Rattle.std.proofs.Common.{◌≡◌, ℕ, ◌&&◌, true, false, List, Option, Some, None, refl, ap, option_map, unwrap_or}
+use Rattle.std.proofs.Common.{◌≡◌, ℕ, Bool, ◌&&◌, ◌||◌, true, false, List, [], Option, Some, None, refl, ap, ◌∙◌, option_map, unwrap_or, is_some}
 use Rattle.std.specs.Cmp.{first_so, second_so}
 use Rattle.std.specs.Ordering.{is_eq}
 use Rattle.std.specs.declared.net.ipv4_addr.Ipv4Addr.{Ipv4Addr}
@@ -15,7 +15,14 @@ use Rattle.pcrf_model.specs.Views.{View, text}
 use Rattle.pcrf_model.specs.Waiting.{MayWait}
 use Rattle.pcrf_model.proofs.WaitingLaws.{all_enough}
 use Rattle.bind_index.specs.Index.{IndexValue}
-use Rattle.rule_delta.specs.Waits.{WaitingValue, waiting_of, DueWait, Keeps, WaitsIfDue, EachWaits, ListedWait}
+use Rattle.bind_index.specs.Lists.{first_of, ids_at}
+use Rattle.rule_delta.specs.Waits.{WaitingValue, is_waiting, waiting_of, DueWait, Keeps, WaitsIfDue, EachWaits, ListedWait}
+
+-- where nobody is listed, and not all wait, nobody waits under any host
+pub nobody_waits : (w : WaitingValue) → w.all ≡ false → ((name : List ℕ) → ids_at text_cmp w.lists name ≡ []) → (name : List ℕ) → is_waiting w name ≡ false
+nobody_waits w some none name =
+    ap (λ (b : Bool). b || is_some (first_of (waiting_of w name))) some
+    ∙ ap (λ (ids : List (List ℕ)). is_some (first_of ids)) (none name)
 
 -- what waits keeps waiting
 pub keeps_itself : (w : WaitingValue) → Keeps w w

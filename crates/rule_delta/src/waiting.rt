@@ -76,6 +76,14 @@ impl Waiting {
         ids.iter().next().is_some()
     }
 
+    /// No gateway's session waits under any host.
+    #[tactic(auto, using(crate::proofs::Waited::nobody_waits))]
+    pub fn is_empty(&self) -> bool
+        ensures { result ≡ true → (k : List ℕ) → is_waiting self.now k ≡ false }
+    {
+        !self.all && self.lists.is_empty()
+    }
+
     /// Has a session wait under a host.
     pub fn add(&mut self, host: &DiameterIdentity, id: &GxSid)
         ensures keeps { Keeps self.old self.new }

@@ -2,7 +2,7 @@
 use Rattle.std.specs.Prelude.{◌≡◌, ◌<◌, ℕ, List}
 use Rattle.pcrf_model.specs.Replies.{ReplyValue, Own, Copy}
 use Rattle.pcrf_model.specs.Steps.{SiteEvent}
-use Rattle.site_machine.specs.Sites.{AbandonsNone, OwesNothing, SiteValue}
+use Rattle.site_machine.specs.Sites.{NoneAbandoned, OwesNothing, SiteValue}
 use Rattle.site_book.specs.Books.{SeatValue, with_receipt}
 
 -- one more receipt, of that event and that reply, at the place of some entry
@@ -21,4 +21,4 @@ FindsNothingDue Found seat host = (site : SiteValue) × Found seat site × OwesN
 
 -- and that no session of the host is to be asked to abort
 abbrev pub FindsNoneAbandoned : (SeatValue → SiteValue → Type 0) → SeatValue → List ℕ → Type 0
-FindsNoneAbandoned Found seat host = (site : SiteValue) × Found seat site × AbandonsNone site host
+FindsNoneAbandoned Found seat host = (site : SiteValue) × Found seat site × NoneAbandoned site host

@@ -59,6 +59,10 @@ impl<L: Roll> SharedSite for LivingSite<L> {
         self.is_aborting(rt, seat, host)
     }
 
+    fn is_quiet<R: Wait>(&self, rt: &R, seat: &mut Seat<L>) -> bool {
+        self.is_quiet(rt, seat)
+    }
+
     fn call<R: Threads + Wait + Sync>(
         &self,
         rt: &R,

@@ -65,6 +65,10 @@ impl<L: Ledger> SharedSite for LockedSite<L> {
         true
     }
 
+    fn is_quiet<R: Wait>(&self, _rt: &R, _seat: &mut Seat<L>) -> bool {
+        false
+    }
+
     fn call<R: Threads + Wait + Sync>(
         &self,
         rt: &R,

@@ -1,5 +1,5 @@
 //! A site that threads share.
-ghost use Rattle.std.specs.Prelude.{◌≡◌, ◌≢◌, ℕ, false, length, IfOk, OnErr};
+ghost use Rattle.std.specs.Prelude.{◌≡◌, ◌≢◌, ℕ, List, true, false, length, IfOk, OnErr};
 ghost use Rattle.std.specs.Thread.{IsSync};
 ghost use Rattle.site_machine.specs.Sites.{SiteValue};
 ghost use Rattle.site_machine.specs.Values.{event_value, reply_value};
@@ -76,6 +76,13 @@ pub trait SharedSite {
     /// asked to abort, and made no call of it. A site whose history is kept when the program runs wants each, as with pushes.
     fn wants_abort<R: Wait>(&self, rt: &R, seat: &mut Self::Seat, host: &DiameterIdentity) -> bool
         ensures none { result ≡ false → FindsNoneAbandoned found (seen seat.old) host.now }
+        ensures same { seat.new ≡ seat.old };
+
+    /// No push is to be asked for, nor an abort, whichever the host: the seat found that nothing was due to any, and made no call
+    /// of it. A site whose history is kept when the program runs is never quiet, since it has each of them there.
+    fn is_quiet<R: Wait>(&self, rt: &R, seat: &mut Self::Seat) -> bool
+        ensures pushes { result ≡ true → (host : List ℕ) → FindsNothingDue found (seen seat.old) host }
+        ensures aborts { result ≡ true → (host : List ℕ) → FindsNoneAbandoned found (seen seat.old) host }
         ensures same { seat.new ≡ seat.old };
 
     /// Makes an event happen, as a call of a seat, once the lock is free. The seat gains the receipt of this event with the

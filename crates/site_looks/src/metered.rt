@@ -121,6 +121,10 @@ impl<S: SharedSite, C: Clock> SharedSite for MeteredSite<'_, S, C> {
         self.site.wants_abort(rt, seat, host)
     }
 
+    fn is_quiet<R: Wait>(&self, rt: &R, seat: &mut S::Seat) -> bool {
+        self.site.is_quiet(rt, seat)
+    }
+
     fn call<R: Threads + Wait + Sync>(
         &self,
         rt: &R,

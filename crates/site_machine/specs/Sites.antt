@@ -59,13 +59,13 @@ abort_outcome_at s name = abort s.number s.state.holding name
 abbrev pub retell_outcome_at : SiteValue → List ℕ → Outcome
 retell_outcome_at s session = retell s.number s.state.holding session
 
--- nothing is due to the gateways of a host
+-- nothing is due to the gateways of a host by sessions whose home the site is
 abbrev pub OwesNothing : SiteValue → List ℕ → Type 0
 OwesNothing s name = due_session s.tables s.number (view s.state.holding.facts) (Some name) ≡ None
 
--- no session of the host is to be asked to abort
-abbrev pub AbandonsNone : SiteValue → List ℕ → Type 0
-AbandonsNone s name = abandoned_session s.number (view s.state.holding.facts) (Some name) ≡ None
+-- no application function of the host is to be asked to abort a session whose home the site is
+abbrev pub NoneAbandoned : SiteValue → List ℕ → Type 0
+NoneAbandoned s name = abandoned_session s.number (view s.state.holding.facts) (Some name) ≡ None
 
 -- with one operation: what is kept of it is held
 abbrev pub with_one : SiteValue → Operation → SiteValue

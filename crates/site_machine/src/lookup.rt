@@ -1,5 +1,5 @@
 //! What is looked up at a site: sessions, and whether one may be due.
-ghost use Rattle.std.specs.Prelude.{◌≡◌, Some, false, IfOk, IfSome};
+ghost use Rattle.std.specs.Prelude.{◌≡◌, ℕ, List, Some, true, false, IfOk, IfSome};
 ghost use Rattle.indexed_state.specs.Listings.{sessions_of};
 ghost use Rattle.indexed_state.specs.Index.{Covers};
 ghost use Rattle.pcrf_model.specs.Pushing.{lacks_counter, nothing_pushed};
@@ -11,9 +11,9 @@ use pcrf_values::{DiameterIdentity, GxSid, Subscriber};
 use std::alloc::AllocError;
 
 impl Site {
-    ghost use Rattle.site_machine.specs.Sites.{AbandonsNone, OwesNothing, push_outcome_at};
+    ghost use Rattle.site_machine.specs.Sites.{NoneAbandoned, OwesNothing, push_outcome_at};
 
-    /// The index of its sessions, where it is whole.
+    /// The index of its sessions, where it covers what is held.
     pub fn index(&self) -> Option<&Index>
         ensures { IfSome result (λ index.
             Covers (view self.now.state.holding.facts) index.now) }
@@ -43,14 +43,25 @@ impl Site {
     {
         self.held.is_waiting(self.number, host)
     }
-    /// Whether a session of a host may be to be asked to abort. Where it answers false none is: an abort that is asked for the
-    /// host asks nothing, is never refused for want of a counter, and changes nothing. It answers true as long as a session of
-    /// the host waits to be looked at, as each does that may have lost the gateway's session to which it was bound; and of every
-    /// host while all sessions wait, as they do until the first abort for a host after the site began, was emptied, took a whole
-    /// state, had a gateway's session with a prefix change, or was refused memory for one that waits. It is a look-up.
+
+    /// Whether an application function of a host may have to be asked to abort a session whose home this site is. Where it
+    /// answers false none has to be: an abort that is asked for the host asks nothing, is never refused for want of a counter,
+    /// and changes nothing. It answers true as long as a session of the host waits to be looked at, as each does that may have
+    /// lost the gateway's session to which it was bound; and of every host while all sessions wait, as they do until the first
+    /// abort for a host after the site began, was emptied, took a whole state, had a gateway's session change whose prefix is
+    /// shorter than a network's 64 bits, or was refused memory for one that waits. It is a look-up.
     pub fn is_aborting(&self, host: &DiameterIdentity) -> bool
-        ensures { result ≡ false → AbandonsNone self.now host.now }
+        ensures { result ≡ false → NoneAbandoned self.now host.now }
     {
         self.held.is_aborting(self.number, host)
+    }
+
+    /// Nothing is due to the gateways of any host, and no session of any is to be asked to abort. Where it answers false there may
+    /// be something: a session waits to be looked at, or all do. It is a look alone.
+    pub fn is_quiet(&self) -> bool
+        ensures pushes { result ≡ true → (host : List ℕ) → OwesNothing self.now host }
+        ensures aborts { result ≡ true → (host : List ℕ) → NoneAbandoned self.now host }
+    {
+        self.held.is_quiet(self.number)
     }
 }

@@ -161,7 +161,8 @@ impl Site {
         self.held.bindings()
     }
 
-    /// The PCC rules of a gateway's session, by precedence and name; none where it isn't live (TS 23.203, 6.3.1).
+    /// The PCC rules of a gateway's session, by precedence and name, and no two of one name; none where it isn't live (TS 23.203,
+    /// 6.3.1).
     pub fn rules_of(&self, session: &GxSid) -> Result<Vec<Rule>, AllocError>
         ensures rules { IfOk result (λ made. made.items
             ≡ rules self.now.tables (view self.now.state.holding.facts) (gx session.now)) }
@@ -178,8 +179,8 @@ impl Site {
         value(self.alloc, self.held.tables(), self.held.state())
     }
 
-    /// The operations that the site made itself from a position on, the first 100 if there are more, and how many it made in
-    /// all.
+    /// The operations that the site made itself from a position on, the first 100 if there are more, and how many it made since
+    /// it last began.
     pub fn own_since(&self, from: u64) -> Result<(Vec<Operation>, u64), AllocError>
         ensures operations { IfOk result (λ r. r.0.items ≡ own_from self.now.state.log from) }
         ensures length { IfOk result (λ r. r.1 ≡ length self.now.state.log) }
@@ -188,21 +189,21 @@ impl Site {
         Ok((copies, self.log.len() as u64))
     }
 
-    /// All operations that the site made itself, in order.
+    /// All operations that the site made itself since it last began, in order.
     pub fn log_copy(&self) -> Result<Vec<Operation>, AllocError>
         ensures { IfOk result (λ copies. copies.items ≡ self.now.state.log) }
     {
         copy_all(self.alloc, self.log.as_slice())
     }
 
-    /// How many operations the site made itself.
+    /// How many operations the site made itself since it last began.
     pub fn logged(&self) -> u64
         ensures { result ≡ length self.now.state.log }
     {
         self.log.len() as u64
     }
 
-    /// A copy of all that the site holds, and how many operations it made itself.
+    /// A copy of all that the site holds, and how many operations it made itself since it last began.
     pub fn whole(&self) -> Result<(State, u64), AllocError>
         ensures state { IfOk result (λ r. r.0 ≡ self.now.state.holding) }
         ensures kept { IfOk result (λ r. r.0 ≡ kept_of self.now.state.holding) }

@@ -16,6 +16,7 @@ pub enum Told {
     /// So many rules are installed by a push.
     Pushed(usize),
     NothingPushed,
+    NothingAborted,
     /// So many of the site's own operations, of how many.
     Own(usize, u64),
     /// That the site has begun anew so often.
@@ -31,6 +32,7 @@ pub fn told_by(reply: &Result<Reply, StepFault>) -> Told {
         Ok(Reply::Taken(count)) => Told::Taken(*count),
         Ok(Reply::Pushed(Some(push))) => Told::Pushed(push.delta.installed().len()),
         Ok(Reply::Pushed(None)) => Told::NothingPushed,
+        Ok(Reply::Aborted(None)) => Told::NothingAborted,
         Ok(Reply::Own(operations, made)) => Told::Own(operations.len(), *made),
         Ok(_) => Told::Other,
         Err(fault) => Told::Fault(*fault),

@@ -110,3 +110,8 @@ pub fn host(rt: &impl Abort, alloc: Global, name: &[u8]) -> DiameterIdentity {
 pub fn push(rt: &impl Abort, alloc: Global) -> Event {
     Event::Push(Some(host(rt, alloc, b"gw")))
 }
+
+/// An application function's client is to be asked to abort what lost its gateway's session.
+pub fn abort(rt: &impl Abort, alloc: Global, name: &[u8]) -> Event {
+    Event::Abort(Some(host(rt, alloc, name)))
+}

@@ -4,7 +4,7 @@ ghost use Rattle.site_lock.specs.Sound.{AreNames};
 
 use crate::living::calling::{Told, happens, is_replied, numbers_of};
 use crate::living::checks::check_same;
-use crate::living::events::{attach, describe, detach, host, push, update};
+use crate::living::events::{abort, attach, describe, detach, host, push, update};
 use crate::living::sites::{living, locked, new_roster, new_site};
 use pcrf_values::DiameterIdentity;
 use site_lock::living::Seat;
@@ -117,6 +117,83 @@ fn is_found<L: Roll, R: Threads + Wait + Abort + Sync>(
 }
 
 #[test]
+fn a_site_is_quiet_where_none_waits(rt: HostRuntime) {
+    let alloc = rt.alloc();
+    found_quiet::<Brand, _>(&rt, alloc, new_roster(&rt, alloc, 1), new_site(&rt, alloc));
+}
+
+/// A seat finds whether nothing may be due to anybody, and makes no call of it.
+fn may_be_quiet<L: Roll, R: Threads + Wait + Abort + Sync>(
+    rt: &R,
+    site: &LivingSite<L>,
+    seat: &mut Seat<L>,
+    wanted: bool,
+) {
+    let before = numbers_of(site, seat);
+    check_same(rt, site.is_quiet(rt, seat), wanted);
+    check_same(rt, SharedSite::is_quiet(site, rt, seat), wanted);
+    check_same(rt, numbers_of(site, seat), before);
+}
+
+/// At a site that lives.
+fn found_quiet<L: Roll, R: Threads + Wait + Abort + Sync>(
+    rt: &R,
+    alloc: Global,
+    roster: Roster,
+    site: Site,
+)
+    requires names { AreNames L.name_of L.seats roster.seats }
+    requires keeper { roster.keeper ≡ L.keeper }
+    requires opening { site.state ≡ L.opening }
+{
+    let (site, mut seats, mut keeper) = living::<L>(rt, alloc, roster, site);
+    let seat = seats.get_mut(0).expect(rt, "a seat");
+    becomes_quiet(rt, alloc, &site, seat);
+    site.begin_anew(rt, &mut keeper).expect(rt, "memory");
+    may_be_quiet(rt, &site, seat, false);
+}
+
+/// All wait until the first push and the first abort; afterwards a gateway's session waits that was set up, and one whose rules a
+/// call changed, as the call does for its own host, until each of them was looked at.
+fn becomes_quiet<L: Roll, R: Threads + Wait + Abort + Sync>(
+    rt: &R,
+    alloc: Global,
+    site: &LivingSite<L>,
+    seat: &mut Seat<L>,
+) {
+    may_be_quiet(rt, site, seat, false);
+    happens(rt, site, seat, push(rt, alloc), Told::NothingPushed);
+    may_be_quiet(rt, site, seat, false);
+    happens(
+        rt,
+        site,
+        seat,
+        abort(rt, alloc, b"gw"),
+        Told::NothingAborted,
+    );
+    may_be_quiet(rt, site, seat, true);
+    is_replied(rt, site, seat, attach(rt, alloc, 1));
+    may_be_quiet(rt, site, seat, false);
+    happens(rt, site, seat, push(rt, alloc), Told::NothingPushed);
+    may_be_quiet(rt, site, seat, true);
+    happens(rt, site, seat, describe(rt, alloc, 1), Told::Taken(1));
+    may_be_quiet(rt, site, seat, false);
+    happens(rt, site, seat, push(rt, alloc), Told::Pushed(1));
+    happens(rt, site, seat, push(rt, alloc), Told::NothingPushed);
+    may_be_quiet(rt, site, seat, false);
+    happens(
+        rt,
+        site,
+        seat,
+        abort(rt, alloc, b"af"),
+        Told::NothingAborted,
+    );
+    may_be_quiet(rt, site, seat, true);
+    is_replied(rt, site, seat, update(rt, alloc, 1, 1));
+    may_be_quiet(rt, site, seat, true);
+}
+
+#[test]
 fn a_history_that_is_kept_has_each_push(rt: HostRuntime) {
     let alloc = rt.alloc();
     found_locked::<Brand, _>(&rt, alloc, Blank::new(1), new_site(&rt, alloc));
@@ -157,4 +234,5 @@ fn wants_both<L: Ledger, R: Threads + Wait + Abort + Sync>(
         site.wants_push(rt, seat, &hosts.stranger),
     );
     check_same(rt, wants, (true, true));
+    check_same(rt, site.is_quiet(rt, seat), false);
 }

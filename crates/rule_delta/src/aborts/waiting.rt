@@ -76,6 +76,14 @@ impl WaitingCalls {
         ids.iter().next().is_some()
     }
 
+    /// No application function's session waits under any host.
+    #[tactic(auto, using(crate::proofs::Waited::nobody_waits))]
+    pub fn is_empty(&self) -> bool
+        ensures { result ≡ true → (k : List ℕ) → is_waiting self.now k ≡ false }
+    {
+        !self.all && self.lists.is_empty()
+    }
+
     /// Has a session wait under a host.
     pub fn add(&mut self, host: &DiameterIdentity, id: &AfSid)
         ensures keeps { Keeps self.old self.new }

@@ -245,9 +245,9 @@ impl<L: Roll> Chronicle<L> {
     }
 
     /// Forgets which operations the site made itself; all that it holds stays, and its next epoch begins. It is a deed of the
-    /// history, and the keeper has it. In the last epoch, and where memory is refused, nothing changes. It takes a copy of all
-    /// that is held, which takes the site's place: so the site takes twice its memory for a moment, and derives rules anew that
-    /// it kept.
+    /// history, and the keeper's note gains it. In the last epoch (`EpochFull`), and where memory is refused (`NoMemory`),
+    /// nothing changes. It takes a copy of all that is held, which takes the site's place: so the site takes twice its memory for
+    /// a moment, and derives rules anew that it kept.
     pub fn begin_anew(&mut self, keeper: &mut Keeper<L>) -> Result<(), BeginFault>
         ensures deed { OnOk result (self.new ≡ with_beginning self.old) }
         ensures keeper { OnOk result (GainsBeginning keeper.old keeper.new) }

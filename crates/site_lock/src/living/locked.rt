@@ -1,5 +1,5 @@
 //! A site under one lock, whose history stands in the proofs alone.
-ghost use Rattle.std.specs.Prelude.{◌≡◌, ◌≢◌, false, [], length, All, Err, IfOk, IfErr, OnOk, OnErr};
+ghost use Rattle.std.specs.Prelude.{◌≡◌, ◌≢◌, ℕ, List, true, false, [], length, All, Err, IfOk, IfErr, OnOk, OnErr};
 ghost use Rattle.pcrf_values.specs.Limits.{last_epoch};
 ghost use Rattle.site_machine.specs.Values.{event_value, reply_value};
 ghost use Rattle.site_book.specs.Books.{new_seats};
@@ -144,9 +144,9 @@ impl<L: Roll> LivingSite<L> {
         chronicle.site().is_waiting(host)
     }
 
-    /// Whether a session of a host may be to be asked to abort, once the lock is free. Where it answers false none was at the site
-    /// that a history had led to in which the seat has just a receipt for each of its entries: so after all that the seat did.
-    /// It makes no entry, and wakes nobody.
+    /// Whether an application function of a host may have to be asked to abort a session whose home this site is, once the lock
+    /// is free. Where it answers false none had to be at the site that a history had led to in which the seat has just a receipt
+    /// for each of its entries: so after all that the seat did. It makes no entry, and wakes nobody.
     pub fn is_aborting<R: Wait>(&self, rt: &R, seat: &mut Seat<L>, host: &DiameterIdentity) -> bool
         ensures none { result ≡ false
             → FindsNoneAbandoned (IsFound L.seats L.opening) seat.old host.now }
@@ -155,6 +155,20 @@ impl<L: Roll> LivingSite<L> {
         let mut chronicle = self.chronicle.lock(rt);
         chronicle.audit(seat);
         chronicle.site().is_aborting(host)
+    }
+
+    /// Nothing is due to the gateways of any host, and no session of any may have to be asked to abort, once the lock is free: as
+    /// `is_waiting` and `is_aborting` would answer of each. It makes no entry, and wakes nobody.
+    pub fn is_quiet<R: Wait>(&self, rt: &R, seat: &mut Seat<L>) -> bool
+        ensures pushes { result ≡ true → (host : List ℕ)
+            → FindsNothingDue (IsFound L.seats L.opening) seat.old host }
+        ensures aborts { result ≡ true → (host : List ℕ)
+            → FindsNoneAbandoned (IsFound L.seats L.opening) seat.old host }
+        ensures same { seat.new ≡ seat.old }
+    {
+        let mut chronicle = self.chronicle.lock(rt);
+        chronicle.audit(seat);
+        chronicle.site().is_quiet()
     }
 
     /// Lets someone see the site as it is, once the lock is free, and nobody else until that one has: what is seen is a site that
@@ -293,9 +307,9 @@ impl<L: Roll> LivingSite<L> {
     }
 
     /// Has the site begin anew, once the lock is free: it forgets which operations it made itself, all that it holds stays, and its
-    /// next epoch begins. The keeper has that it happened. In the last epoch, and where memory is refused, nothing changes.
-    /// `Chronicle::begin_anew` says what it costs. Whoever waits for the site to grow is woken: in `call_grown_since` for being told
-    /// so, in `call_grown` for waiting on, for as many operations as before.
+    /// next epoch begins. The keeper's note gains it. In the last epoch (`EpochFull`), and where memory is refused (`NoMemory`),
+    /// nothing changes. `Chronicle::begin_anew` says what it costs. Whoever waits for the site to grow is woken: in
+    /// `call_grown_since` for being told so, in `call_grown` for waiting on, for as many operations as before.
     pub fn begin_anew<R: Wait>(&self, rt: &R, keeper: &mut Keeper<L>) -> Result<(), BeginFault>
         ensures keeper { OnOk result (GainsBeginning keeper.old keeper.new) }
         ensures full { IfErr result (λ fault. fault ≡ BeginFault.EpochFull
