@@ -21,7 +21,6 @@ pub(crate) fn status_at(bytes: &[u8]) -> Result<(FlowStatus, &[u8]), Unread>
     let Some(status) = FlowStatus::from_number(u32::from(number)) else {
         return Err(Unread::BadShape);
     };
-    let _known = status.number();
     Ok((status, rest))
 }
 
@@ -36,7 +35,6 @@ pub(crate) fn preemption_at(bytes: &[u8]) -> Result<(Preemption, &[u8]), Unread>
     let Some(preemption) = Preemption::from_number(u32::from(number)) else {
         return Err(Unread::BadShape);
     };
-    let _known = preemption.number();
     Ok((preemption, rest))
 }
 
@@ -51,7 +49,6 @@ pub(crate) fn subscription_type_at(bytes: &[u8]) -> Result<(SubscriptionType, &[
     let Some(kind) = SubscriptionType::from_number(u32::from(number)) else {
         return Err(Unread::BadShape);
     };
-    let _known = kind.number();
     Ok((kind, rest))
 }
 

@@ -10,8 +10,8 @@ ghost use Rattle.pcrf_world.specs.Values.{event_value, answer_value, events_valu
 
 use crate::site::Member;
 use op_tables::Tables;
-use pcrf_model::{GxReply, PushOut};
-use pcrf_values::{DefaultQuality, DiameterIdentity, GxSid};
+use pcrf_model::PushOut;
+use pcrf_values::{DiameterIdentity, GxSid};
 use peer_exchange::{Cursors, Letter};
 use rx_profile::AbortOut;
 use site_machine::{Reply, Request, Site, StepFault};
@@ -369,8 +369,6 @@ impl World {
     {
         let mut world = World::start(alloc, tables, n)?;
         let mut answers = Vec::with_capacity(alloc, events.len())?;
-        // What an answer is made of: without a variable of these types the check of the loop does not find them.
-        let _parts: Option<(Reply, GxReply, PushOut, DefaultQuality)> = None;
         for event in events {
             let answer = world.step(event);
             answers.push(answer).unwrap();

@@ -88,7 +88,6 @@ impl Cursors {
     pub(crate) fn saying(&self, edition: u32, said: Body) -> Option<Letter>
         ensures { result ≡ if_placed (letter_saying self.now edition (body_value said)) }
     {
-        let _ = &self.epoch;
         Letter::of(edition, self.site, self.epoch, said)
     }
 

@@ -7,7 +7,7 @@ ghost use Rattle.lattice_core.specs.SessionFacts.{session_fact};
 ghost use Rattle.af_records.specs.RecordFacts.{fact_of};
 ghost use Rattle.af_records.specs.declared.fact.AfFact.TheVariants.{Component, Flow};
 ghost use Rattle.pcrf_model.specs.Sessions.{Gx, Af};
-ghost use Rattle.pcrf_model.specs.Forms.{fits, is_unsigned};
+ghost use Rattle.pcrf_model.specs.Forms.{fits};
 
 use af_records::{AfRequestType, ComponentValue, FlowValue, SessionValue};
 use gx_records::OpenRequestType;
@@ -15,13 +15,6 @@ use pcrf_model::ranges::{
     note_address, note_apn, note_filters, note_prefix, note_subscribers, note_text,
 };
 use pcrf_values::Enumerated;
-
-/// A number has 32 bits.
-pub(crate) fn note_unsigned(number: u32)
-    ensures { is_unsigned number ≡ true }
-{
-    let _ = number;
-}
 
 /// A value of a gateway's session fits its field.
 pub(crate) fn note_gx_value(value: &SessionValue<Enumerated<OpenRequestType>>)

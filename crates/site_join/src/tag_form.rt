@@ -3,7 +3,6 @@ ghost use Rattle.std.specs.Prelude.{◌≡◌};
 ghost use Rattle.site_join.specs.TagForms.{admits, number_by};
 
 use crate::form::is_stamp;
-use crate::ranges::note_unsigned;
 use lattice_core::Tag;
 use pcrf_values::limits::SITE_LIMIT;
 
@@ -33,7 +32,6 @@ impl TagForm {
     pub(crate) fn admits(self, tag: &Tag, number: u32) -> bool
         ensures { result ≡ admits self number tag.now }
     {
-        note_unsigned(tag.number);
         match self {
             TagForm::Made(made) => {
                 let made = Tag {
