@@ -107,7 +107,7 @@ impl FactSet for AfRec {
 }
 
 impl AfRec {
-    /// The record of these facts, which are those of operations, of one or of more.
+    /// The record of what is kept of these facts, which are those of operations, of one or of more.
     pub fn of_facts(alloc: Global, facts: &[AfFact]) -> Result<AfRec, AllocError>
         requires { is_record Af (map fact_of facts.now) ≡ true }
         ensures { IfOk result (λ r. r ≡ kept_list (map fact_of facts.now)) }
@@ -115,7 +115,7 @@ impl AfRec {
         AfRec::of(copy_facts(alloc, facts)?)
     }
 
-    /// The same of facts that move into it.
+    /// The record of what is kept of these facts, which move into it.
     pub fn of(facts: Vec<AfFact>) -> Result<AfRec, AllocError>
         requires { is_record Af (map fact_of facts.items) ≡ true }
         ensures { IfOk result (λ r. r ≡ kept_list (map fact_of facts.items)) }

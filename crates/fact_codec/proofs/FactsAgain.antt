@@ -17,7 +17,7 @@ use Rattle.pcrf_model.specs.Sessions.{Kind, Gx, Af}
 use Rattle.pcrf_model.specs.Forms.{is_text, is_rule, is_unsigned, fits, is_tagged, fits_session_field, fits_component_field, fits_flow_field, fits_rule_name}
 use Rattle.fact_codec.specs.Spelling.{word_bytes, text_bytes, value_bytes, rule_bytes, fact_bytes, facts_bytes}
 use Rattle.fact_codec.specs.Reading.{Reader, byte}
-use Rattle.fact_codec.specs.Said.{has_field, has_fact, session_value, session_said, component_said, flow_said, rule, told_value, told_said, stamped, gx_fact, af_fact, facts}
+use Rattle.fact_codec.specs.Said.{has_field, has_fact, session_value, session_said, component_said, flow_said, rule, told_value, told_said, tag_of_stamp, gx_fact, af_fact, facts}
 use Rattle.fact_codec.proofs.NumberLaws.{word_again}
 use Rattle.fact_codec.proofs.ValuesAgain.{many_again, word_within_again, unsigned_again, text_again, apn_again, octets_again, prefix_again, subscribers_again, filters_again, rule_again}
 
@@ -110,7 +110,7 @@ is_made k counter site number f = fits k f && is_tagged k counter site number f
 
 module _ (v counter site number : ℕ) where
   -- of a gateway's session
-  pub gx_fact_again : (f : Fact) (rest : List ℕ) → has_fact v f ≡ true → is_made Gx counter site number f ≡ true → gx_fact v (stamped number counter site) (stamped 0 counter site) (fact_bytes f ++ rest) ≡ Some (f, rest)
+  pub gx_fact_again : (f : Fact) (rest : List ℕ) → has_fact v f ≡ true → is_made Gx counter site number f ≡ true → gx_fact v (tag_of_stamp number counter site) (tag_of_stamp 0 counter site) (fact_bytes f ++ rest) ≡ Some (f, rest)
   unfolding gx_fact byte fact_bytes
   gx_fact_again End rest o h = refl
   gx_fact_again (Field (OfSession f) t x) rest o h =
@@ -121,7 +121,7 @@ module _ (v counter site number : ℕ) where
   gx_fact_again f rest o h = absurd cc
 
   -- of an application function's session
-  pub af_fact_again : (f : Fact) (rest : List ℕ) → has_fact v f ≡ true → is_made Af counter site number f ≡ true → af_fact v (stamped 0 counter site) (fact_bytes f ++ rest) ≡ Some (f, rest)
+  pub af_fact_again : (f : Fact) (rest : List ℕ) → has_fact v f ≡ true → is_made Af counter site number f ≡ true → af_fact v (tag_of_stamp 0 counter site) (fact_bytes f ++ rest) ≡ Some (f, rest)
   unfolding af_fact byte fact_bytes
   af_fact_again End rest o h = refl
   af_fact_again Aborted rest o h = rw o refl
@@ -166,9 +166,9 @@ facts_again fact ok each fs rest low all =
     rw (append_assoc (word_bytes (length fs)) (flat_map fact_bytes fs) rest, word_again (length fs) (flat_map fact_bytes fs ++ rest) low, many_again fact fact_bytes ok each fs rest all) refl
 
 -- those of an operation on a gateway's session
-pub gx_facts_again : (v counter site number : ℕ) (fs : List Fact) (rest : List ℕ) → length fs < 2 ^ 32 → list_all (is_made Gx counter site number) fs ≡ true → list_all (has_fact v) fs ≡ true → facts (gx_fact v (stamped number counter site) (stamped 0 counter site)) (facts_bytes fs ++ rest) ≡ Some (fs, rest)
-gx_facts_again v counter site number fs rest low made had = facts_again (gx_fact v (stamped number counter site) (stamped 0 counter site)) (λ f. has_fact v f && is_made Gx counter site number f) (λ f more h. gx_fact_again v counter site number f more (first_so (has_fact v f) _ h) (second_so (has_fact v f) _ h)) fs rest low (all_both (has_fact v) (is_made Gx counter site number) fs had made)
+pub gx_facts_again : (v counter site number : ℕ) (fs : List Fact) (rest : List ℕ) → length fs < 2 ^ 32 → list_all (is_made Gx counter site number) fs ≡ true → list_all (has_fact v) fs ≡ true → facts (gx_fact v (tag_of_stamp number counter site) (tag_of_stamp 0 counter site)) (facts_bytes fs ++ rest) ≡ Some (fs, rest)
+gx_facts_again v counter site number fs rest low made had = facts_again (gx_fact v (tag_of_stamp number counter site) (tag_of_stamp 0 counter site)) (λ f. has_fact v f && is_made Gx counter site number f) (λ f more h. gx_fact_again v counter site number f more (first_so (has_fact v f) _ h) (second_so (has_fact v f) _ h)) fs rest low (all_both (has_fact v) (is_made Gx counter site number) fs had made)
 
 -- and on an application function's
-pub af_facts_again : (v counter site number : ℕ) (fs : List Fact) (rest : List ℕ) → length fs < 2 ^ 32 → list_all (is_made Af counter site number) fs ≡ true → list_all (has_fact v) fs ≡ true → facts (af_fact v (stamped 0 counter site)) (facts_bytes fs ++ rest) ≡ Some (fs, rest)
-af_facts_again v counter site number fs rest low made had = facts_again (af_fact v (stamped 0 counter site)) (λ f. has_fact v f && is_made Af counter site number f) (λ f more h. af_fact_again v counter site number f more (first_so (has_fact v f) _ h) (second_so (has_fact v f) _ h)) fs rest low (all_both (has_fact v) (is_made Af counter site number) fs had made)
+pub af_facts_again : (v counter site number : ℕ) (fs : List Fact) (rest : List ℕ) → length fs < 2 ^ 32 → list_all (is_made Af counter site number) fs ≡ true → list_all (has_fact v) fs ≡ true → facts (af_fact v (tag_of_stamp 0 counter site)) (facts_bytes fs ++ rest) ≡ Some (fs, rest)
+af_facts_again v counter site number fs rest low made had = facts_again (af_fact v (tag_of_stamp 0 counter site)) (λ f. has_fact v f && is_made Af counter site number f) (λ f more h. af_fact_again v counter site number f more (first_so (has_fact v f) _ h) (second_so (has_fact v f) _ h)) fs rest low (all_both (has_fact v) (is_made Af counter site number) fs had made)

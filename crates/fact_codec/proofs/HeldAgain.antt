@@ -15,7 +15,7 @@ use Rattle.pcrf_model.specs.Forms.{fits, is_counted, is_stamp, is_unsigned, is_t
 use Rattle.pcrf_model.proofs.FormLaws.{within_most}
 use Rattle.fact_codec.specs.Spelling.{word_bytes, long_bytes, fact_bytes, tag_bytes, held_fact_bytes, held_facts_bytes}
 use Rattle.fact_codec.specs.Reading.{byte}
-use Rattle.fact_codec.specs.Said.{has_fact, stamped, gx_fact, af_fact, facts, tag, untagged, held_gx_fact, held_af_fact}
+use Rattle.fact_codec.specs.Said.{has_fact, tag_of_stamp, gx_fact, af_fact, facts, tag, untagged, held_gx_fact, held_af_fact}
 use Rattle.fact_codec.proofs.NumberLaws.{word_again, long_again}
 use Rattle.fact_codec.proofs.ValuesAgain.{many_again}
 use Rattle.fact_codec.proofs.FactsAgain.{all_both, gx_fact_again, af_fact_again}

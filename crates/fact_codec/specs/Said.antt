@@ -275,8 +275,8 @@ flow_fact tag = do
   give (Field (OfFlow c n x.0) tag x.1)
 
 -- the tag of a fact of an operation with that stamp, made by the request of that number
-abbrev pub stamped : ℕ → ℕ → ℕ → Tag
-stamped number counter site = record { number = number; counter = counter; site = site }
+abbrev pub tag_of_stamp : ℕ → ℕ → ℕ → Tag
+tag_of_stamp number counter site = record { number = number; counter = counter; site = site }
 
 -- a fact of that kind of a gateway's session, in a letter of version v
 abbrev pub gx_fact_of : ℕ → Tag → Tag → ℕ → Reader Fact
@@ -322,11 +322,11 @@ tag = do
   number ← word
   counter ← long
   site ← byte
-  give (stamped number counter site)
+  give (tag_of_stamp number counter site)
 
 -- the tag of a fact whose own follows it
 abbrev pub untagged : Tag
-untagged = stamped 0 0 0
+untagged = tag_of_stamp 0 0 0
 
 -- the fact under its own tag, which follows a value
 abbrev pub with_tag : Fact → Reader Fact

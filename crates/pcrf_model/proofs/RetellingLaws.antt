@@ -14,7 +14,7 @@ use Rattle.pcrf_values.specs.RuleValues.{RuleValue, DeltaValue}
 use Rattle.pcrf_values.specs.Places.{Place, OfRuleName}
 use Rattle.pcrf_values.specs.Values.{Untold, Told, Entry, entry_cmp}
 use Rattle.pcrf_values.specs.Facts.{Fact, Field}
-use Rattle.pcrf_values.specs.Held.{ends, is_ended, blocks, is_gone, entry_at, value_at, entry_shown}
+use Rattle.pcrf_values.specs.Held.{ends, is_ended, blocks, is_gone, entry_at, greatest_entry, entry_shown}
 use Rattle.pcrf_values.specs.ToldWords.{ToldRule}
 use Rattle.pcrf_values.proofs.FactLaws.{entry_ranked}
 use Rattle.pcrf_values.proofs.JoinedLaws.{sorted-In}
@@ -214,7 +214,7 @@ shows_or_exceeds facts n x i = elim (split (is_gone facts (OfRuleName n))) [
       let here : In x es = In-filter_map (entry_at p) (Field p x.0 x.1) x facts i (field_entry p x) in
       let c = greatest_some entry_cmp entry_ranked es x here in
       let top = greatest_is entry_cmp entry_ranked es c.0 c.1 in
-      inr (c.0, ap (λ b. cond b None (value_at facts p)) open_ ∙ c.1, top.1 x here)
+      inr (c.0, ap (λ b. cond b None (greatest_entry facts p)) open_ ∙ c.1, top.1 x here)
 ]
 
 -- every site counts the names as not told

@@ -14,7 +14,7 @@ use Rattle.pcrf_values.specs.RuleValues.{RuleValue, DeltaValue}
 use Rattle.pcrf_values.specs.Places.{Place, OfSession, OfComponent, OfFlow, OfRuleName}
 use Rattle.pcrf_values.specs.Values.{Value, Untold, Told, value_cmp, Entry, entry_cmp}
 use Rattle.pcrf_values.specs.Facts.{Fact, Field}
-use Rattle.pcrf_values.specs.Held.{ends, is_ended, blocks, is_gone, entry_at, value_at, entry_shown}
+use Rattle.pcrf_values.specs.Held.{ends, is_ended, blocks, is_gone, entry_at, greatest_entry, entry_shown}
 use Rattle.pcrf_values.proofs.FactLaws.{place_ranked, entry_ranked}
 use Rattle.pcrf_values.proofs.ShownLaws.{field_entry, entry_field}
 use Rattle.pcrf_model.specs.Differences.{rule_name_of}
@@ -76,7 +76,7 @@ module _ (xs ts : List Fact) (tells : (f : Fact) → In f ts → Tells f) where
         ],
       )
 
-      values : value_at (xs ++ ts) p ≡ value_at xs p
+      values : greatest_entry (xs ++ ts) p ≡ greatest_entry xs p
       values = greatest-Same entry_cmp entry_ranked.total entry_ranked.same (filter_map (entry_at p) xs) (filter_map (entry_at p) (xs ++ ts)) same
 
   -- of a place that is no rule's name they say nothing
@@ -151,7 +151,7 @@ module _ (xs : List Fact) (g : Tag) (d : DeltaValue) where
               clash _ (ap is_lt (ap (λ o. ordering_then o (value_cmp c.0.1 x)) l)) (top.1 (g, x) here)
           | inr j ↦ from_new c.0 (subst (λ (f : Fact). In f ts) is j)
         ] in
-        ap (λ b. cond b None (value_at (xs ++ ts) p)) (gone_same xs ts (told-tells g d) p ∙ open_ n) ∙ c.1 ∙ ap Some same
+        ap (λ b. cond b None (greatest_entry (xs ++ ts) p)) (gone_same xs ts (told-tells g d) p ∙ open_ n) ∙ c.1 ∙ ap Some same
       where
         from_new : (c : Entry) → In (Field (OfRuleName n) c.0 c.1) ts → c ≡ (g, x)
         from_new c j =

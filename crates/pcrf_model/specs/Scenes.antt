@@ -100,7 +100,7 @@ call_pushed = pushed 0 with_call
 abbrev pub disabled : SiteState
 disabled = serves 0 call_pushed (call None (status_only 3 ∷ []))
 
--- the component is removed, that is pushed, and it is described again
+-- the component is removed
 abbrev pub component_removed : SiteState
 component_removed = serves 0 call_pushed (call None (status_only 4 ∷ []))
 
@@ -147,7 +147,7 @@ overshadowed = serves 0 (serves 0 one (update 5 None)) (update 4 None)
 
 -- ---- two sites
 
--- site 1 took what the first session made, and serves an update of it
+-- site 1 took what the first session made
 abbrev pub other : SiteState
 other = taking empty_site one.log
 
@@ -167,7 +167,7 @@ ended_and_told = taking ended_there other_updated.log
 abbrev pub moved : SiteState
 moved = serves 1 other (update 1 None)
 
--- the call ends at site 0, and each takes what the other made
+-- the call ends at site 0
 abbrev pub hung_up : SiteState
 hung_up = serves 0 call_pushed hang_up
 
@@ -183,7 +183,7 @@ other_after_hang_up = taking moved hung_up.log
 abbrev pub call_elsewhere : SiteState
 call_elsewhere = serves 1 other (call (Some (host_address 1)) (audio ∷ []))
 
--- site 2 takes the call first, and the session later
+-- site 2 took the call, and not its session
 abbrev pub call_alone : SiteState
 call_alone = taking empty_site call_elsewhere.log
 

@@ -83,7 +83,7 @@ pub fn one_common_application_is_enough()
     ensures relay { answers 0 empty_site (capabilities (relay_application ∷ [])) ≡ OnBase success }
 {}
 
-/// Under equal tags a rule that was told stands above that none is told.
+/// A rule that was told ranks above none under equal tags.
 pub fn told_rule_stands_above_none_under_equal_tags()
     ensures first { value (view (told_as (Told sip_rule) ∷ told_as Untold ∷ [])) first_session
         (OfRuleName sip_rule.name)

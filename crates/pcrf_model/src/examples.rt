@@ -120,7 +120,7 @@ pub fn calls_are_refused_in_order()
     ensures no_address { answers 0 one (call None (other_media 2 ∷ [])) ≡ Refused missing_avp }
 {}
 
-/// Of two sessions with the call's address the one whose address was told later has it, and when that ends the other.
+/// Of two sessions with the call's address the one whose address came later has it, and when that ends the other.
 pub fn later_session_has_the_call_until_it_ends()
     ensures later { bind (seen bound_to_second) call_session ≡ Some second_session }
     ensures ended { bind (seen second_ended) call_session ≡ Some first_session }

@@ -40,7 +40,7 @@ pub fn push_of_no_entry_makes_no_operation_of_the_form()
 {}
 
 /// A request or tables with a value out of its range, out of order, or given twice have not the form.
-pub fn malformed_requests_and_tables_are_told()
+pub fn malformed_requests_and_tables_have_not_the_form()
     ensures capitals { is_request in_capitals ≡ false }
     ensures order { is_request out_of_order ≡ false }
     ensures twice { is_request one_component_twice ≡ false }
@@ -50,7 +50,7 @@ pub fn malformed_requests_and_tables_are_told()
 
 /// An operation without facts, with facts that overshadow each other, at the wrong place or under the wrong tag has
 /// not the form.
-pub fn malformed_operations_are_told()
+pub fn malformed_operations_have_not_the_form()
     ensures empty { is_operation without_facts ≡ false }
     ensures more { is_operation end_and_more ≡ false }
     ensures twice { is_operation two_at_one_place ≡ false }
@@ -62,7 +62,7 @@ pub fn malformed_operations_are_told()
 {}
 
 /// A holding has its facts in order, each once, with no counter past its clock.
-pub fn malformed_holdings_are_told()
+pub fn malformed_holdings_have_not_the_form()
     ensures form { is_holding (holding_with (End ∷ addressed ∷ []) 1) ≡ true }
     ensures clock { is_holding (holding_with (addressed ∷ []) 0) ≡ false }
     ensures order { is_holding (holding_with (addressed ∷ End ∷ []) 1) ≡ false }

@@ -64,8 +64,8 @@ pub fn calls_bind_to_prefixes_that_cover_theirs()
     ensures neither { answers 0 by_prefix (call_at None None) ≡ Refused missing_avp }
 {}
 
-/// Of two sessions whose prefixes cover the call's the one that was told later has it, however short
-/// its prefix; an address that is told later counts as well.
+/// Of two sessions whose prefixes cover the call's the one whose prefix came later has it, however short
+/// the prefix is; an address that came later counts as well.
 pub fn later_of_two_prefixes_has_the_call()
     ensures wider { bind (seen wider_session) call_session ≡ Some second_session }
     ensures address { bind (seen and_address) call_session ≡ Some first_session }

@@ -24,9 +24,12 @@ pub fn each_name_is_told_as_none()
       site = 0;
       number = 0;
       session = first_session;
-      facts = Field (OfRuleName (codes "af/af;1/1/1")) (record { number = 0; counter = 4; site = 0 }) Untold
-          ∷ Field (OfRuleName (codes "af/af;1/1/2")) (record { number = 0; counter = 4; site = 0 }) Untold
-          ∷ Field (OfRuleName (codes "op/sip")) (record { number = 0; counter = 4; site = 0 }) Untold
+      facts = Field (OfRuleName (codes "af/af;1/1/1"))
+          (record { number = 0; counter = 4; site = 0 }) Untold
+          ∷ Field (OfRuleName (codes "af/af;1/1/2"))
+          (record { number = 0; counter = 4; site = 0 }) Untold
+          ∷ Field (OfRuleName (codes "op/sip"))
+          (record { number = 0; counter = 4; site = 0 }) Untold
           ∷ [];
     }) }
     ensures none_told { told_rules_of (seen call_retold) first_session ≡ [] }
@@ -67,7 +70,8 @@ pub fn any_site_may_retell()
     ensures reply { retells 1 other first_session ≡ Retold true }
     ensures not_home { pushes 1 retold_elsewhere ≡ no_push }
     ensures home_before { pushes 0 one ≡ no_push }
-    ensures home_then { pushes 0 (taking one retold_elsewhere.log) ≡ push_of (delta [] (sip_rule ∷ [])) }
+    ensures home_then { pushes 0 (taking one retold_elsewhere.log)
+        ≡ push_of (delta [] (sip_rule ∷ [])) }
 {}
 
 /// At the last counter nothing is done; with nothing told none is wanted.

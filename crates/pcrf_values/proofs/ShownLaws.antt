@@ -11,7 +11,7 @@ use Rattle.pcrf_values.specs.Facts.{Fact, End, Removed, Field, Aborted, is_shade
 use Rattle.pcrf_values.specs.FactLaws.{ShowTheSame, IsGreatestAt}
 use Rattle.pcrf_values.specs.declared.tag.Tag.{Tag}
 use Rattle.pcrf_values.proofs.Greatest.{greatest_is, greatest_some}
-use Rattle.pcrf_values.specs.Held.{kept_set, kept_list, removal, ends, is_ended, blocks, is_gone, entry_at, value_at, entry_shown, aborts}
+use Rattle.pcrf_values.specs.Held.{kept_set, kept_list, removal, ends, is_ended, blocks, is_gone, entry_at, greatest_entry, entry_shown, aborts}
 use Rattle.pcrf_values.proofs.SetLaws.{In-any, any-In, any-Same, top_of, any-maximal, greatest_reached, greatest-Same, In-filter_map, filter_map-In, filter_map-Same}
 use Rattle.pcrf_values.proofs.OrderLaws.{eq_is, eq_itself}
 use Rattle.pcrf_values.proofs.FactLaws.{place_ranked, entry_ranked, covers_more, same_place, shaded_irr, shaded_trans}
@@ -57,12 +57,12 @@ pub is_ended-Same : (xs ys : List Fact) → Same xs ys → is_ended xs ≡ is_en
 is_ended-Same = any-Same ends
 
 -- the value depends on the members alone
-pub value_at-Same : (xs ys : List Fact) (p : Place) → Same xs ys → value_at xs p ≡ value_at ys p
-value_at-Same xs ys p s = sym (greatest-Same entry_cmp entry_ranked.total entry_ranked.same (filter_map (entry_at p) xs) (filter_map (entry_at p) ys) (filter_map-Same (entry_at p) xs ys s))
+pub greatest_entry-Same : (xs ys : List Fact) (p : Place) → Same xs ys → greatest_entry xs p ≡ greatest_entry ys p
+greatest_entry-Same xs ys p s = sym (greatest-Same entry_cmp entry_ranked.total entry_ranked.same (filter_map (entry_at p) xs) (filter_map (entry_at p) ys) (filter_map-Same (entry_at p) xs ys s))
 
 -- and so does what shows
 pub shown-Same : (xs ys : List Fact) (p : Place) → Same xs ys → entry_shown xs p ≡ entry_shown ys p
-shown-Same xs ys p s = λ i. cond (any-Same (blocks p) xs ys s i) None (value_at-Same xs ys p s i)
+shown-Same xs ys p s = λ i. cond (any-Same (blocks p) xs ys s i) None (greatest_entry-Same xs ys p s i)
 
 -- an entry at a place is that of a field there
 some_entry : (b : Bool) (x e : Entry) → cond b (Some x) None ≡ Some e → (b ≡ true) × (x ≡ e)
@@ -97,8 +97,8 @@ module _ (facts : List Fact) (p : Place) (open_ : is_gone facts p ≡ false) whe
       (r.0, In-filter_map (entry_at p) m r.0 (kept_set facts) j (ap (entry_at p) r.1 ∙ field_entry p r.0), inr r.2)
 
   -- the value is that of what is kept
-  value_at-kept : value_at (kept_set facts) p ≡ value_at facts p
-  value_at-kept = greatest_reached entry_cmp entry_ranked.total entry_ranked.same _ _
+  greatest_entry-kept : greatest_entry (kept_set facts) p ≡ greatest_entry facts p
+  greatest_entry-kept = greatest_reached entry_cmp entry_ranked.total entry_ranked.same _ _
       (λ e i. let r = filter_map-In (entry_at p) e (kept_set facts) i in In-filter_map (entry_at p) r.0 e facts (kept-In r.0 facts r.1).0 r.2)
       (λ e i.
       let r = filter_map-In (entry_at p) e facts i in
@@ -108,10 +108,10 @@ module _ (facts : List Fact) (p : Place) (open_ : is_gone facts p ≡ false) whe
 -- what shows is the same on what is kept
 pub shown-kept : (facts : List Fact) (p : Place) → entry_shown (kept_set facts) p ≡ entry_shown facts p
 shown-kept facts p =
-    ap (λ b. cond b None (value_at (kept_set facts) p)) (is_gone-kept facts p)
-    ∙ (elim (is_gone facts p) as (λ b. is_gone facts p ≡ b → cond b None (value_at (kept_set facts) p) ≡ cond b None (value_at facts p)) [
+    ap (λ b. cond b None (greatest_entry (kept_set facts) p)) (is_gone-kept facts p)
+    ∙ (elim (is_gone facts p) as (λ b. is_gone facts p ≡ b → cond b None (greatest_entry (kept_set facts) p) ≡ cond b None (greatest_entry facts p)) [
       | true ↦ λ _. refl
-      | false ↦ λ f. value_at-kept facts p f
+      | false ↦ λ f. greatest_entry-kept facts p f
     ]) refl
 
 -- and on that in order
@@ -151,11 +151,11 @@ pub shown_alone : (facts : List Fact) (p : Place) (o : Option Entry) → Same fa
 shown_alone facts p (Some e) s a =
     let here = a.stands e refl in
     let open_ : is_gone facts p ≡ false = is_false (is_gone facts p) (λ t. let r = any-In (blocks p) facts t in clash (is_shaded_by (Field p e.0 e.1) r.0) (field_blocked p e r.0 r.2) ((kept-In (Field p e.0 e.1) facts ((s (Field p e.0 e.1)).0 here)).1 r.0 r.1)) in
-    ap (λ b. cond b None (value_at facts p)) open_
+    ap (λ b. cond b None (greatest_entry facts p)) open_
     ∙ greatest_one (filter_map (entry_at p) facts) e (In-filter_map (entry_at p) (Field p e.0 e.1) e facts here (field_entry p e))
     (λ d i. let r = filter_map-In (entry_at p) d facts i in some_same d e (sym (a.alone d (subst (λ (f : Fact). In f facts) (entry_field p r.0 d r.2) r.1))))
 shown_alone facts p None s a =
-    let none : value_at facts p ≡ None = greatest_none (filter_map (entry_at p) facts) (λ d i. let r = filter_map-In (entry_at p) d facts i in none_some d (a.alone d (subst (λ (f : Fact). In f facts) (entry_field p r.0 d r.2) r.1))) in
+    let none : greatest_entry facts p ≡ None = greatest_none (filter_map (entry_at p) facts) (λ d i. let r = filter_map-In (entry_at p) d facts i in none_some d (a.alone d (subst (λ (f : Fact). In f facts) (entry_field p r.0 d r.2) r.1))) in
     ap (cond (is_gone facts p) None) none ∙ either_way (is_gone facts p)
 
 -- ---- all that is read of one session
@@ -179,7 +179,7 @@ held_shows_the_same facts = record {
 }
 
 -- the value is of a fact, and none is above it
-pub value_is_greatest : (facts : List Fact) (p : Place) (e : Entry) → value_at facts p ≡ Some e → IsGreatestAt facts p e
+pub value_is_greatest : (facts : List Fact) (p : Place) (e : Entry) → greatest_entry facts p ≡ Some e → IsGreatestAt facts p e
 value_is_greatest facts p e h =
     let g = greatest_is entry_cmp entry_ranked (filter_map (entry_at p) facts) e h in
     let r = filter_map-In (entry_at p) e facts g.0 in
@@ -189,7 +189,7 @@ value_is_greatest facts p e h =
     }
 
 -- a fact gives one
-pub fact_gives_value : (facts : List Fact) (p : Place) (t : Tag) (x : Value) → In (Field p t x) facts → (e : Entry) × (value_at facts p ≡ Some e)
+pub fact_gives_value : (facts : List Fact) (p : Place) (t : Tag) (x : Value) → In (Field p t x) facts → (e : Entry) × (greatest_entry facts p ≡ Some e)
 fact_gives_value facts p t x i = greatest_some entry_cmp entry_ranked (filter_map (entry_at p) facts) (t, x) (In-filter_map (entry_at p) (Field p t x) (t, x) facts i (field_entry p (t, x)))
 
 -- what shows is a value
@@ -199,4 +199,4 @@ not_gone false x e h = (refl, h)
 
 -- where a place shows, a fact stands
 pub fact_there : (facts : List Fact) (p : Place) (e : Entry) → entry_shown facts p ≡ Some e → In (Field p e.0 e.1) facts
-fact_there facts p e h = (value_is_greatest facts p e (not_gone (is_gone facts p) (value_at facts p) e h).1).there
+fact_there facts p e h = (value_is_greatest facts p e (not_gone (is_gone facts p) (greatest_entry facts p) e h).1).there

@@ -10,7 +10,7 @@ use Rattle.pcrf_values.specs.Places.{Place, ComponentField, FlowField}
 use Rattle.pcrf_values.specs.ToldWords.{told_entries}
 use Rattle.pcrf_values.specs.Values.{Value, Entry, entry_cmp}
 use Rattle.pcrf_values.specs.Facts.{Fact, Field}
-use Rattle.pcrf_values.specs.Held.{kept_list, join_of, is_ended, value_at, entry_shown, removed_parts, aborts, is_aborted}
+use Rattle.pcrf_values.specs.Held.{kept_list, join_of, is_ended, greatest_entry, entry_shown, removed_parts, aborts, is_aborted}
 
 -- What is kept of a union: in either order, of three either way, of a union with itself, and of parts that were kept before.
 pub record JoinsHeld : Type 0 where
@@ -43,11 +43,11 @@ pub record IsGreatestAt (facts : List Fact) (p : Place) (e : Entry) : Type 0 whe
 
 -- so it is
 abbrev pub ValueIsTheGreatest : Type 0
-ValueIsTheGreatest = (facts : List Fact) (p : Place) (e : Entry) → value_at facts p ≡ Some e → IsGreatestAt facts p e
+ValueIsTheGreatest = (facts : List Fact) (p : Place) (e : Entry) → greatest_entry facts p ≡ Some e → IsGreatestAt facts p e
 
 -- there is one where there is a fact
 abbrev pub FactGivesAValue : Type 0
-FactGivesAValue = (facts : List Fact) (p : Place) (t : Tag) (x : Value) → In (Field p t x) facts → (e : Entry) × (value_at facts p ≡ Some e)
+FactGivesAValue = (facts : List Fact) (p : Place) (t : Tag) (x : Value) → In (Field p t x) facts → (e : Entry) × (greatest_entry facts p ≡ Some e)
 
 -- the session was asked to abort where one of its facts says so, until it ends
 abbrev pub AbortedUntilTheEnd : Type 0

@@ -45,12 +45,12 @@ entry_at p (Field q t v) = if is_eq (place_cmp p q) then Some (t, v) else None
 entry_at p f = None
 
 -- the greatest tag and value at the place, none where there is no fact
-abbrev pub value_at : List Fact → Place → Option Entry
-value_at facts p = greatest entry_cmp (filter_map (entry_at p) facts)
+abbrev pub greatest_entry : List Fact → Place → Option Entry
+greatest_entry facts p = greatest entry_cmp (filter_map (entry_at p) facts)
 
 -- what the place shows, with its tag
 abbrev pub entry_shown : List Fact → Place → Option Entry
-entry_shown facts p = if is_gone facts p then None else value_at facts p
+entry_shown facts p = if is_gone facts p then None else greatest_entry facts p
 
 -- what the fact says is removed
 abbrev pub removal : Fact → Option Removable

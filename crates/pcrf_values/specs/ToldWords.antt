@@ -9,7 +9,8 @@ use Rattle.pcrf_values.specs.Values.{Value, Untold, Told}
 use Rattle.pcrf_values.specs.Facts.{Fact, Field}
 use Rattle.pcrf_values.specs.Held.{kept_list}
 
--- the rule that the value is, or nothing where the gateway was told to remove it
+-- the rule that the value is, or nothing where no rule counts as told under the name, by a removal
+-- or a retelling
 abbrev pub as_told : Value → Option (Option RuleValue)
 as_told Untold = Some None
 as_told (Told r) = Some (Some r)

@@ -15,8 +15,9 @@ abbrev pub Subscriber : Type 0
 Subscriber = ℕ × List ℕ
 
 -- A number; a text as its bytes; an IPv4 address as its four octets; the ascending list of
--- subscribers; the filters of a flow (Flow-Description, TS 29.214, 5.3.8); of a rule name, that the
--- gateway was told to remove it, or the rule that it was told; an IPv6 prefix.
+-- subscribers; the filters of a flow (Flow-Description, TS 29.214, 5.3.8); of a rule name, that no
+-- rule counts as told under it, by a removal or a retelling, or the rule that the gateway was told;
+-- an IPv6 prefix.
 pub data Value : Type 0 where
   Number : ℕ → Value
   Text : List ℕ → Value
@@ -44,15 +45,15 @@ value_key Untold = inr (inr (inr (inr (inr (inl 0)))))
 value_key (Told r) = inr (inr (inr (inr (inr (inr (inl r))))))
 value_key (Prefix p) = inr (inr (inr (inr (inr (inr (inr p))))))
 
--- Numbers by size, texts and addresses by bytes, lists member by member with a prefix first; nothing
--- told is below every rule; rules field by field; IPv6 prefixes by length, and then by bytes.
+-- Numbers by size, texts and addresses by bytes, lists member by member with a prefix first; that no
+-- rule is told is below every rule; rules field by field; IPv6 prefixes by length, and then by bytes.
 abbrev pub value_cmp : Value → Value → Ordering
 value_cmp = on value_key
     (either_cmp nat_cmp (either_cmp text_cmp (either_cmp text_cmp
     (either_cmp (slice_cmp subscriber_cmp) (either_cmp (slice_cmp text_cmp)
     (either_cmp nat_cmp (either_cmp rule_cmp prefix_cmp)))))))
 
--- what a fact says of its path: a value under a tag
+-- what a fact says of its place: a value under a tag
 abbrev pub Entry : Type 0
 Entry = Tag × Value
 

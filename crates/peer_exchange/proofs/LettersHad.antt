@@ -9,7 +9,7 @@ use Rattle.pcrf_model.specs.Sessions.{Session, gx, af}
 use Rattle.pcrf_model.specs.Operations.{Operation}
 use Rattle.pcrf_model.specs.Letters.{LetterBody, Range, Snapshot, Acknowledgement, LetterValue}
 use Rattle.fact_codec.specs.Reading.{Reader, given, many, byte, short, word, long}
-use Rattle.fact_codec.specs.Said.{has_fact, text, stamped, gx_fact, af_fact, held_gx_fact, held_af_fact, facts}
+use Rattle.fact_codec.specs.Said.{has_fact, text, tag_of_stamp, gx_fact, af_fact, held_gx_fact, held_af_fact, facts}
 use Rattle.fact_codec.proofs.HadLaws.{steps, gives, either_reads, many_had, facts_had, gx_fact_had, af_fact_had, held_gx_fact_had, held_af_fact_had}
 use Rattle.site_join.specs.Formed.{if_formed}
 use Rattle.site_join.specs.Groups.{Group, held_in, are_groups}
@@ -37,8 +37,8 @@ module _ (v : ℕ) where
   group_had counter site number bytes y h =
       let k = steps (byte bytes) _ y h in
       let rest = k.0.1 in
-      let field_tag = stamped number counter site in
-      let told_tag = stamped 0 counter site in
+      let field_tag = tag_of_stamp number counter site in
+      let told_tag = tag_of_stamp 0 counter site in
       elim (either_reads (k.0.0 == 1) _ _ rest y k.2) [
         | inl i ↦ (let a = steps (text session_id_limit rest) _ y i in
             let b = steps (facts (gx_fact v field_tag told_tag) a.0.1) _ y a.2 in

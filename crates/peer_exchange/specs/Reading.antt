@@ -8,7 +8,7 @@ use Rattle.pcrf_model.specs.Forms.{is_within}
 use Rattle.pcrf_model.specs.Operations.{Operation}
 use Rattle.pcrf_model.specs.Letters.{LetterBody, Range, Snapshot, Acknowledgement, LetterValue}
 use Rattle.fact_codec.specs.Reading.{Reader, ◌>>=◌, give, refuse, given, many, byte, short, word, long}
-use Rattle.fact_codec.specs.Said.{text, stamped, gx_fact, af_fact, held_gx_fact, held_af_fact, facts}
+use Rattle.fact_codec.specs.Said.{text, tag_of_stamp, gx_fact, af_fact, held_gx_fact, held_af_fact, facts}
 use Rattle.site_join.specs.Formed.{if_formed}
 use Rattle.site_join.specs.Groups.{Group, held_in, are_groups}
 use Rattle.peer_exchange.specs.declared.fault.LetterFault.{LetterFault}
@@ -20,13 +20,13 @@ use Rattle.peer_exchange.specs.Form.{if_addressed}
 abbrev pub gx_group : ℕ → ℕ → ℕ → ℕ → Reader (Session × List Fact)
 gx_group v counter site number = do
   id ← text session_id_limit
-  fs ← facts (gx_fact v (stamped number counter site) (stamped 0 counter site))
+  fs ← facts (gx_fact v (tag_of_stamp number counter site) (tag_of_stamp 0 counter site))
   give (gx id, fs)
 
 abbrev pub af_group : ℕ → ℕ → ℕ → Reader (Session × List Fact)
 af_group v counter site = do
   id ← text session_id_limit
-  fs ← facts (af_fact v (stamped 0 counter site))
+  fs ← facts (af_fact v (tag_of_stamp 0 counter site))
   give (af id, fs)
 
 -- of the kind that stands before them

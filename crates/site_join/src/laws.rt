@@ -6,7 +6,8 @@ ghost use Rattle.pcrf_model.specs.Holdings.{Holding, union, kept_of};
 ghost use Rattle.site_join.specs.States.{merge_of};
 
 /// What merging gives depends neither on the order of two states nor on how three are put together, and a state merged with itself
-/// stays; each state holds what is kept of it, as `State::note_kept` says.
+/// stays; each state holds what is kept of it, as `State::note_kept` says. What was merged is kept, and merging with what is kept
+/// of a state gives what is kept of the union.
 pub fn merging_is_a_join()
     ensures commutative { (h k : Holding) → merge_of h k ≡ merge_of k h }
     ensures associative { (h k l : Holding) → merge_of (merge_of h k) l

@@ -240,8 +240,8 @@ impl State {
     }
 
     /// Puts a record, or none, in the place of that of a gateway's session, sets the clock, which no tag's counter may then be
-    /// above, and hands back the record that stood. Only a record at a session that has none is refused, which changes
-    /// nothing.
+    /// above, and hands back the record that stood. Memory can be refused only where a record comes to a session that has none;
+    /// nothing changes then.
     pub fn put_gx(
         &mut self,
         id: &GxSid,
