@@ -81,8 +81,10 @@ pub trait SharedSite {
     /// No push is to be asked for, nor an abort, whichever the host: the seat found that nothing was due to any, and made no call
     /// of it. A site whose history is kept when the program runs is never quiet, since it has each of them there.
     fn is_quiet<R: Wait>(&self, rt: &R, seat: &mut Self::Seat) -> bool
-        ensures pushes { result ≡ true → (host : List ℕ) → FindsNothingDue found (seen seat.old) host }
-        ensures aborts { result ≡ true → (host : List ℕ) → FindsNoneAbandoned found (seen seat.old) host }
+        ensures pushes { result ≡ true → (host : List ℕ)
+            → FindsNothingDue found (seen seat.old) host }
+        ensures aborts { result ≡ true → (host : List ℕ)
+            → FindsNoneAbandoned found (seen seat.old) host }
         ensures same { seat.new ≡ seat.old };
 
     /// Makes an event happen, as a call of a seat, once the lock is free. The seat gains the receipt of this event with the
