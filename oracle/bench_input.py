@@ -1,7 +1,7 @@
 #!/usr/bin/env python3
-"""Writes what `pcrf_bench` obeys, by a measure's name and sizes: `bench_input.py NAME SIZE..` (docs/PERFORMANCE.md).
+"""Writes what the measures of `pcrf_checks` obey, by a measure's name and sizes: `bench_input.py NAME SIZE..` (docs/PERFORMANCE.md).
 
-The lines are messages and letters, in hexadecimal digits, and what is done with them (crates/pcrf_bench/src/main.rt), under the
+The lines are messages and letters, in hexadecimal digits, and what is done with them (crates/pcrf_checks/src/measures.rt), under the
 operator tables of examples/telephony.toml; for the measure `tables N` under those that `bench_input.py points N` writes. Without a
 name it writes each kind of measure at a small size, which the gate runs.
 """

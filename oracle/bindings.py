@@ -1,5 +1,5 @@
 #!/usr/bin/env python3
-"""Writes the cases of `cases` in which calls are bound among as many sessions of gateways, both drawn from a seed: 300 by their
+"""Writes the cases of `pcrf_checks` in which calls are bound among as many sessions of gateways, both drawn from a seed: 300 by their
 addresses, and 200 by addresses and prefixes.
 
 `bindings.py` prints the lines, with what the plain model says. Sessions have few counters, sites, addresses,

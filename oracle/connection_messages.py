@@ -6,19 +6,13 @@
 import sys
 
 import plain_answers
-from messages import BASE, GX, IN, OUT, RX, SIP, TGPP, X, aar, avp, base, cca, ccr, component, flow, ip, message, str_
-from plain_requests import read_header, read_request
+from messages import BASE, GX, IN, OUT, TGPP, X, aar, avp, base, ccr, component, flow, ip, message, str_
+from plain_requests import read_header
 
-TOO_BUSY = 3004
 HEAD = "//! Messages of a gateway and of an application function, and answers of a site. `oracle/connection_messages.py` writes them.\n"
 ORIGIN = [avp(264, "gw"), avp(296, "r")]
 NODE = [avp(257, b"\0\1" + ip("127.0.0.1")), avp(266, 0), avp(269, "gateway")]
 INITIAL = ccr(1, 0, "gw;1;1", "10.0.0.1", "IMS", (X,))
-
-
-def abort_answer(code):
-    """An answer to an abort session request of the call (TS 29.214, 5.6.8)."""
-    return message(0x40, 274, RX, [avp(263, "af;1"), avp(268, code), avp(264, "af"), avp(296, "r")])
 
 
 def push_answer(code):
@@ -35,17 +29,9 @@ MESSAGES = [
      plain_answers.base_answer(0, read_header(base(280)), 2001)),
     ("DISCONNECT", "A request for the end of the connection (5.4.1).", base(282)),
     ("INITIAL", "The initial request of the session `gw;1;1` at 10.0.0.1 (TS 29.212, 5.6.2).", INITIAL),
-    ("INITIAL_GRANTED", "The answer to it of a site `s0` with the tables of a network with calls, which installs `op/sip`.",
-     cca(0, 1, 0, rules=[SIP])),
-    ("INITIAL_TOO_BUSY", "The answer to it of a site `s0` whose history is full: 3004.",
-     plain_answers.cca(0, read_header(INITIAL), read_request(INITIAL).values, TOO_BUSY)),
     ("CALL", "The AA request of a call of 10.0.0.1, of a flow of audio (TS 29.214, 5.6.1).",
      aar("10.0.0.1", [component(1, [flow(1, [IN, OUT])], media=0, up=41000, down=80000)])),
     ("RELEASE", "The end of that call (5.6.4).", str_()),
-    ("TERMINATION", "The end of the session `gw;1;1` (TS 29.212, 5.6.2).", ccr(3, 1)),
-    ("TERMINATION_DONE", "The answer to it of a site `s0`: 2001.", cca(0, 3, 1)),
-    ("ABORT_DONE", "An answer to an abort session request of the call that was obeyed: 2001 (TS 29.214, 5.6.8).", abort_answer(2001)),
-    ("ABORT_REFUSED", "One for a failure: 5012.", abort_answer(5012)),
     ("PUSH_REFUSED", "An answer to a re-authorisation request of the session, for a failure: 5012 (TS 29.212, 5.6.5).",
      push_answer(5012)),
     ("PUSH_DONE", "An answer to one that was obeyed: 2001.", push_answer(2001)),

@@ -3,7 +3,7 @@ from messages import avp
 from plain_requests import (AAR, COMPONENT, FLOW, RX, SERVED, STRICT_TABLES, SUBSCRIBER_DATA, SUBSCRIBER_TYPE, AUTH_APPLICATION, TGPP, Refused,
                             number, read_header)
 
-FAILED_AVP, ADDRESS = 279, 8
+FAILED_AVP, SESSION_ID, ADDRESS = 279, 263, 8
 UNSUPPORTED, MISSING, TOO_OFTEN, BAD_LENGTH = 5001, 5005, 5009, 5014
 LONGEST = 65532
 MANDATORY = 0x40
@@ -106,6 +106,19 @@ def has_unsupported(request):
     """Whether a request that is served, and can be cut into AVPs, has an AVP with M that isn't recognized."""
     header = read_header(request)
     return header.command in SERVED.get(header.application, ()) and unsupported(STRICT_TABLES[header.command], cut(request[20:])[0]) is not None
+
+
+def is_ill_formed(request):
+    """Whether a request that is served, and has sessions, has one Session-Id alone, which isn't UTF-8."""
+    header, named = read_header(request), [one.value for one in cut(request[20:])[0] if one.key == (SESSION_ID, 0)]
+    served = header.command in SERVED.get(header.application, ())
+    if len(named) != 1 or not served or all(row.code != SESSION_ID for row in STRICT_TABLES[header.command]):
+        return False
+    try:
+        named[0].decode()
+    except UnicodeDecodeError:
+        return True
+    return False
 
 
 def uncut(request, left):

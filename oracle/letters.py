@@ -1,5 +1,5 @@
 """A plain reader and writer of letters, written from docs/LETTERS.md and sharing nothing with the product, and the cases
-that `cases` runs on it: `letters.py` prints the lines, each with what is said of it behind it.
+that `pcrf_checks` runs on it: `letters.py` prints the lines, each with what is said of it behind it.
 """
 
 EDITION = 7

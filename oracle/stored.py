@@ -1,7 +1,7 @@
 #!/usr/bin/env python3
-"""Compares what is stored for the program of cases with what the plain model and the generators give.
+"""Compares what is stored of the cases of `pcrf_checks` with what the plain model and the generators give.
 
-`stored.py CRATE` reads what the crate's folder has: the files of `data`, and `stdin`, which has the answers to its lines behind
+`stored.py CRATE` reads what the crate's folder has: the files of `data`, and the cases of `stdin`, which have the answers to lines behind
 them. It fails where a file that is drawn or put together by a program of this folder is another one, where a script, the
 scripts of a file of worlds or a stream print something else than the plain model says, where the lines on scripts, on letters, on
 prefixes or on drawn bindings are others or say something else, or where the answer that refuses a request of Rx has other bytes. With
@@ -14,6 +14,7 @@ import sys
 import tempfile
 
 import bindings
+import failed_avps
 import fixed_sites
 import fixed_streams
 import fixed_worlds
@@ -24,6 +25,7 @@ import random_streams
 import random_worlds
 import script_lines
 from messages import ip
+from parts import part, with_part
 from plain_facts import covers, read_tables
 from plain_letters import Whole
 from plain_run import letter_octets, mixed, run_lines, whole_octets
@@ -84,6 +86,8 @@ class Asked:
         if word == "sites":
             self.world = World(self.tables, int(words[0]))
             return line, [line]
+        if word == "failed":
+            return line, self.failed(*words)
         if word in ("post", "msg", "turns"):
             return self.given(word, words)
         return line, getattr(self, word)(*words) if word in QUESTIONS else self.world.obey(line)
@@ -106,6 +110,13 @@ class Asked:
         turned = (octets[:at] + bytes([byte]) + octets[at + 1:] for byte in range(256))
         prints = [printed for one in turned for printed in self.world.msg(int(site), one.hex())]
         return [mixed("".join(f"{printed}\n" for printed in prints).encode())]
+
+    def failed(self, code, digits):
+        """What is said of a request that is refused."""
+        request = bytes.fromhex(digits)
+        judged = (("unsupported ", failed_avps.has_unsupported(request)), ("ill-formed ", failed_avps.is_ill_formed(request)))
+        failed = failed_avps.failed_avp(request, int(code)).hex()
+        return ["".join(word for word, is_so in judged if is_so) + (failed or "none")]
 
     def bytes(self, number):
         """A letter as bytes."""
@@ -183,7 +194,7 @@ class Stored:
         self.crate, self.data, self.compared = crate, os.path.join(crate, "data"), 0
         self.tables = read_tables(os.path.join(self.data, TABLES))
         self.lines = []  # each with its answers
-        for line in read(crate, "stdin").split("\n")[:-1]:
+        for line in part(read(crate, "stdin"), "cases").split("\n")[:-1]:
             if line.startswith("> "):
                 self.lines[-1][1].append(line[2:])
             else:
@@ -248,8 +259,9 @@ class Stored:
                 file.write(text)
         lines = [one for line, answers in self.wanted() for one in [line, *(f"> {answer}" for answer in answers)]]
         for name in ("stdin", "stdout"):
+            text = with_part(read(self.crate, name), "cases", "\n".join(lines) + "\n")
             with open(os.path.join(self.crate, name), "w", encoding="utf-8") as file:
-                file.write("\n".join(lines) + "\n")
+                file.write(text)
 
 
 def main(crate, *options):

@@ -1,7 +1,7 @@
 #!/usr/bin/env python3
-"""What the program site_cases reads and has to print: scripts of worlds, messages and letters as bytes, and a line for each call that is tried.
+"""What the trials of `pcrf_checks` read and have to print: scripts of worlds, messages and letters as bytes, and a line for each call that is tried.
 
-`trials.py CRATE` fails where a file of the crate's folder is another one; with `--write` it writes them. What the scripts print, what is
+`trials.py CRATE` fails where a file of the crate's folder, or what `stdout` has of them, is another one; with `--write` it writes them. What the scripts print, what is
 answered and what is held comes from the plain model. A comment in a script says what its next lines try.
 """
 import pathlib
@@ -9,6 +9,7 @@ import sys
 
 import letters
 from messages import GX, NETWORK, TGPP, VOICE, WITHIN, X, aar, attach, avp, base, ccr, component, str_
+from parts import with_part
 from plain_answers import rar
 from plain_facts import read_tables
 from plain_letters import Range, Whole
@@ -210,19 +211,23 @@ def prints(tables):
 
 # ---- files
 
+def text_of(lines):
+    """The text of lines."""
+    return "".join(f"{line}\n" for line in lines)
+
+
 def files(crate):
     """Each file with its text."""
     tables = read_tables(crate / "data/telephony.toml")
     head = "# Scripts of worlds: each begins at its line `sites N`, and a comment says what its next lines try."
-    yield crate / "data/rows.scripts", [head] + [line for script in SCRIPTS for line in script]
-    yield crate / "data/trials.lines", [f"{word} {found.hex()}" for word, found in lines(tables)]
-    yield crate / "stdout", prints(tables)
+    yield crate / "data/rows.scripts", text_of([head] + [line for script in SCRIPTS for line in script])
+    yield crate / "data/trials.lines", text_of(f"{word} {found.hex()}" for word, found in lines(tables))
+    yield crate / "stdout", with_part((crate / "stdout").read_text(encoding="utf-8"), "trials", text_of(prints(tables)))
 
 
 def main(crate, *options):
     """Compares the files, or writes them."""
-    for path, found in files(pathlib.Path(crate)):
-        text = "".join(f"{line}\n" for line in found)
+    for path, text in files(pathlib.Path(crate)):
         if options:
             path.write_text(text, encoding="utf-8")
         elif path.read_text(encoding="utf-8") != text:

@@ -121,7 +121,7 @@ def svg():
             parts.append(f'<path data-from="{name_of(above)}" data-to="{name_of(target)}" d="{curve}" '
                          f'stroke="{colour[end]}" fill="none" stroke-width="1.3"/>')
     for name in names:
-        dashes = ' stroke-dasharray="4 3"' if re.search(r"_(cases|tests|trials|bench|messages)$", name) else ""
+        dashes = ' stroke-dasharray="4 3"' if re.search(r"_(checks|tests)$", name) else ""
         parts.append(f'<g data-crate="{name}"><rect x="{x[name] - BOX / 2:.0f}" y="{y[name] - TALL / 2:.0f}" '
                      f'width="{BOX}" height="{TALL}" rx="4" fill="#eef4fa" stroke="{colour[name]}"{dashes}/>'
                      f'<text x="{x[name]:.0f}" y="{y[name] + 4:.0f}" text-anchor="middle">{name}</text></g>')

@@ -4,7 +4,7 @@ least behind it.
 
 usage: measure.py PROGRAM [ROUNDS [FOLDER]]
 
-PROGRAM is `pcrf_bench` as the gate built it. Where `chrt -f` is allowed it runs at real-time priority, so that what runs beside it takes
+PROGRAM is `pcrf_checks` as the gate built it. Where `chrt -f` is allowed it runs at real-time priority, so that what runs beside it takes
 none of its time, though of its memory's. What each run printed is kept in FOLDER, as MEASURE.ROUND, which plot_costs.py reads.
 """
 import collections
@@ -48,7 +48,7 @@ def run(program, measure, is_timed=True):
     with tempfile.TemporaryFile() as input_file:
         input_file.write(made)
         input_file.seek(0)
-        words = first([program, TABLES, *["timed"] * is_timed])
+        words = first([program, "measures", TABLES, *["timed"] * is_timed])
         ran = subprocess.run(["/usr/bin/time", "-f", "%M", *words], stdin=input_file, capture_output=True, text=True, check=True)
     return ran.stdout, int(ran.stderr.split()[-1]) * 1024
 

@@ -3,7 +3,7 @@
 
 usage: plot_costs.py RUN.. > costs.svg
 
-Each RUN is a file with what `pcrf_bench` printed, with times, of the measure `streams_called 1000 10000 100000`, or of
+Each RUN is a file with what `pcrf_checks` printed, with times, of the measure `streams_called 1000 10000 100000`, or of
 `streams`. Of several runs each point is the median.
 """
 import math

@@ -6,7 +6,7 @@ use Rattle.std.specs.Map.{lookup}
 use Rattle.std.specs.Ordering.{is_eq}
 use Rattle.pcrf_values.specs.Exact.{IsExact}
 use Rattle.pcrf_values.proofs.OrderLaws.{eq_is}
-use Rattle.bind_index.specs.Lists.{ids_or_none, ids_at}
+use Rattle.bind_index.specs.Lists.{ids_or_none, ids_at, is_nothing_listed}
 
 -- lists of Session-Ids by key, as the entries of a tree
 abbrev pub Lists : Type 0 → Type 0 → Type 0
@@ -85,3 +85,10 @@ module _ {K A : Type 0} (cmp : K → K → Ordering) (total : IsTotalOrder cmp) 
 pub none_listed : {K A : Type 0} (cmp : K → K → Ordering) (ls : List (K × List A)) → length ls ≡ 0 → (k : K) → ids_at cmp ls k ≡ []
 none_listed cmp [] e k = refl
 none_listed cmp (x ∷ xs) e k = absurd (omega (arith, e))
+
+-- that is so just where the table has no entry
+pub listed_none : {K A : Type 0} (b : Bool) (ls : List (K × List A)) → (b ≡ true → length ls ≡ 0) → (length ls ≡ 0 → b ≡ true) → b ≡ is_nothing_listed ls
+listed_none true [] none back = refl
+listed_none true (x ∷ xs) none back = absurd (omega (arith, none refl))
+listed_none false [] none back = back refl
+listed_none false (x ∷ xs) none back = refl

@@ -1,5 +1,5 @@
 -- Lists of Session-Ids under keys.
-use Rattle.std.specs.Prelude.{◌≡◌, not, List, [], ◌∷◌, drop, Option, Some, None, if◌then◌else◌}
+use Rattle.std.specs.Prelude.{◌≡◌, Bool, true, false, not, List, [], ◌∷◌, drop, Option, Some, None, if◌then◌else◌}
 use Rattle.std.specs.declared.cmp.Ordering.{Ordering}
 use Rattle.std.specs.declared.cmp.Ordering.TheVariants.{Less, Greater}
 use Rattle.std.specs.List.{filter}
@@ -38,6 +38,11 @@ module _ {A : Type 0} (order : A → A → Ordering) where
   abbrev pub IsAboveFirst : A → List A → Type 0
   IsAboveFirst id [] = ⊥
   IsAboveFirst id (x ∷ xs) = order id x ≡ Greater
+
+-- no key has a list
+abbrev pub is_nothing_listed : {K A : Type 0} → List (K × List A) → Bool
+is_nothing_listed [] = true
+is_nothing_listed (l ∷ lists) = false
 
 module _ {K A : Type 0} (cmp : K → K → Ordering) where
   -- the Session-Ids that the lists have under a key

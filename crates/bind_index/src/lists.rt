@@ -1,7 +1,7 @@
 //! Session-Ids, each once; and Session-Ids listed under keys: each once and in order, found by its key.
 ghost use Rattle.std.specs.Prelude.{◌≡◌, [], ◌∷◌, Some, true, false, drop, IfSome, IfNone, OnOk, OnErr};
 ghost use Rattle.pcrf_values.specs.Ascending.{Rises, place};
-ghost use Rattle.bind_index.specs.Lists.{IsAboveFirst, IsBelowFirst, first_of, without, ids_at, ids_or_none, with_id, without_first, without_id};
+ghost use Rattle.bind_index.specs.Lists.{IsAboveFirst, IsBelowFirst, first_of, without, ids_at, ids_or_none, is_nothing_listed, with_id, without_first, without_id};
 ghost use Rattle.std.specs.Option.{option_copied};
 
 use crate::iter::Ids;
@@ -171,9 +171,10 @@ impl<K: Ranked + Hash, S: Ranked> SessionLists<K, S> {
         self.lists.get(key)
     }
 
-    /// Nothing is listed.
+    /// Nothing is listed: no key has a list.
     pub fn is_empty(&self) -> bool
-        ensures { result ≡ true → (k : K) → ids_at K.cmp self.now k ≡ [] }
+        ensures exact { result ≡ is_nothing_listed self.now }
+        ensures none { result ≡ true → (k : K) → ids_at K.cmp self.now k ≡ [] }
     {
         self.lists.is_empty()
     }

@@ -8,8 +8,6 @@ mod laws;
 mod listed;
 mod node;
 mod stating;
-#[cfg(test)]
-mod tests;
 
 pub use answered::Answered;
 pub use behind::put_behind;

@@ -1,7 +1,6 @@
 -- Sizes, limits and bits of messages (RFC 6733, sections 3 and 4.1). They stand apart from those of the code, so that
--- they are a check on it, but for the one that is this project's own.
+-- they are a check on it.
 use Rattle.std.specs.Prelude.{ℕ, ◌^◌}
-use Rattle.dia_codec.specs.declared.reading.TheConstants as limit
 
 -- ---- messages
 
@@ -19,7 +18,7 @@ length_field_end = 4
 
 -- the most bytes that a message may have: the greatest multiple of four below 2 ^ 16 (this project's profile)
 abbrev pub longest_message : ℕ
-longest_message = limit.MOST_BYTES
+longest_message = 65532
 
 -- ---- AVPs
 

@@ -1,7 +1,6 @@
--- Limits of scripts.
+-- Limits of scripts, as numbers of their own: the law `read_limit_is_the_profiles` says that the code's are these.
 use Rattle.std.specs.Prelude.{ℕ}
-use Rattle.dia_codec.specs.declared.lines.TheConstants as limit
 
--- how many reads a script may take: this project's own limit
+-- how many reads a script may take, 2 ^ 40: this project's own limit
 abbrev pub read_limit : ℕ
-read_limit = limit.READ_LIMIT
+read_limit = 1099511627776

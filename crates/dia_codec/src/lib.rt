@@ -24,8 +24,11 @@ mod writing;
 pub use counted::Counted;
 pub use fault::{FrameFault, MsgFault, WriteFault};
 pub use line_fault::LineFault;
-pub use lines::{Obey, ScriptEnd, run_lines};
+pub use lines::{Obey, ScriptEnd, read_limit_is_the_profiles, run_lines};
 pub use message::{Avp, AvpKey, Flags, Header, Message, OwnedAvp};
-pub use reading::{HEADER_BYTES, read_group, read_header, read_message, read_message_with};
+pub use reading::{
+    HEADER_BYTES, longest_message_is_the_profiles, read_group, read_header, read_message,
+    read_message_with,
+};
 pub use stream::{Assembler, FramedStream, StreamEnd, frames_of, one_cut};
 pub use writing::{Mark, MessageWriter, round_trip, write_group, write_message};

@@ -26,6 +26,11 @@ pub enum ScriptEnd {
 /// How many reads a script may take.
 const READ_LIMIT: u64 = 1 << 40;
 
+/// The code's limit is the profile's number.
+pub fn read_limit_is_the_profiles()
+    ensures { READ_LIMIT ≡ read_limit }
+{}
+
 /// How many bytes a line may have without its end.
 const LINE_LIMIT: usize = 200_000;
 

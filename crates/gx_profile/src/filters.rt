@@ -7,8 +7,6 @@ pub mod examples;
 pub mod laws;
 mod parts;
 mod reading;
-#[cfg(test)]
-mod tests;
 mod words;
 
 pub use direction::Direction;

@@ -1,5 +1,5 @@
 //! Calls that may be abandoned, and the abort of the first that is.
-ghost use Rattle.std.specs.Prelude.{◌≡◌, ℕ, List, Some, None, true, false, IfOk, option_map};
+ghost use Rattle.std.specs.Prelude.{◌≡◌, ◌==◌, ◌&&◌, ℕ, List, Some, None, true, false, IfOk, option_map};
 ghost use Rattle.std.specs.Option.{option_copied};
 ghost use Rattle.pcrf_model.specs.Aborting.{abandoned_session, abort_of};
 ghost use Rattle.pcrf_model.specs.Pushing.{due_session};
@@ -10,7 +10,7 @@ ghost use Rattle.bind_index.specs.Networks.{network_of};
 ghost use Rattle.indexed_state.specs.Indexed.{spans};
 ghost use Rattle.rx_profile.specs.Aborts.{abort_view};
 ghost use Rattle.site_join.specs.States.{session_of};
-ghost use Rattle.rule_delta.specs.Waits.{Keeps, WaitsIfDue};
+ghost use Rattle.rule_delta.specs.Waits.{Keeps, WaitsIfDue, is_nobody_listed, is_waiting};
 ghost use Rattle.rule_delta.specs.Abandoned.{ListedCallsWait, NetworkCallsWait};
 
 use crate::indexed::{IndexedState, make_whole, name_of, wait_for};
@@ -19,7 +19,7 @@ use crate::unsettling::spans;
 use bind_index::{Index, network_of};
 use pcrf_values::DiameterIdentity;
 use rule_delta::aborts::{gather, wait_at, wait_in, wait_one};
-use rule_delta::{WaitingCalls, first_abort, next_abort};
+use rule_delta::{Waiting, WaitingCalls, first_abort, next_abort};
 use rx_profile::AbortOut;
 use site_join::{SessionFacts, State};
 use std::alloc::{AllocError, Global};
@@ -56,14 +56,15 @@ impl IndexedState {
         self.site != site || self.aborts.is_waiting(host)
     }
 
-    /// No push may be due at a site for any host, nor an abort: no session waits. It is a look alone.
+    /// No push may be due at a site for any host, nor an abort: no session waits. It is a look alone. When it answers so, of what
+    /// waits unseen, `nobody_waits` says.
     pub fn is_quiet(&self, site: u8) -> bool
         ensures pushes { result ≡ true → (host : List ℕ) → due_session self.now.tables site
             (view self.now.holding.facts) (Some host) ≡ None }
         ensures aborts { result ≡ true → (host : List ℕ) → abandoned_session site
             (view self.now.holding.facts) (Some host) ≡ None }
     {
-        self.site == site && self.waiting.is_empty() && self.aborts.is_empty()
+        nobody_waits(self.site, &self.waiting, &self.aborts, site)
     }
 
     /// The abort that is due at a site for this host.
@@ -88,6 +89,18 @@ impl IndexedState {
         gather(self.alloc, &self.state, &mut self.aborts)?;
         next_abort(&self.state, &self.index, &mut self.aborts, self.site, host)
     }
+}
+
+/// Whether no session waits at a site, for a push or an abort, where those that wait may be due, or abandoned, at this one: all wait
+/// where it is another.
+fn nobody_waits(of: u8, waiting: &Waiting, aborts: &WaitingCalls, site: u8) -> bool
+    ensures exact { result ≡ (of == site
+        && is_nobody_listed waiting.now && is_nobody_listed aborts.now) }
+    ensures here { result ≡ true → of ≡ site }
+    ensures pushes { result ≡ true → (k : List ℕ) → is_waiting waiting.now k ≡ false }
+    ensures aborts { result ≡ true → (k : List ℕ) → is_waiting aborts.now k ≡ false }
+{
+    of == site && waiting.is_empty() && aborts.is_empty()
 }
 
 /// Has those calls wait that may be abandoned once the session of these facts changed, where it was reached so before: the

@@ -13,6 +13,7 @@ pub mod Ends
 pub mod Events
 pub mod Exchanging
 pub mod Going
+pub mod Granting
 pub mod Headings
 pub mod Lives
 pub mod LookLimits

@@ -135,7 +135,7 @@ fn serve_frame<
     if link.repeat(rt, frame)? {
         return Ok(false);
     }
-    link.prepare(rt, frame)?;
+    link.prepare(rt, at.site.identity(), frame)?;
     serve_anew(rt, alloc, at, link, frame)
 }
 

@@ -2,12 +2,14 @@
 use crate::end::LinkEnd;
 use crate::gate::Gate;
 use crate::gateways::Gateways;
+use crate::granting::initial_of;
 use crate::half::Half;
 use crate::observer::Observer;
 use crate::outgoing::Outgoing;
 use crate::repeats::{Repeats, Unrepeated};
+use dia_base::Identity;
 use dia_codec::read_header;
-use pcrf_values::DiameterIdentity;
+use pcrf_values::{DiameterIdentity, Ranked};
 use std::alloc::{AllocError, Global};
 use std::io::Write;
 use std::sync::{Arc, Wait};
@@ -37,6 +39,8 @@ pub(crate) struct Link<'a, W, O, G, K> {
     gate: &'a G,
     repeats: &'a K,
     half: &'a Arc<Half<W>>,
+    /// The host that exchanged capabilities on it last, if one did.
+    peer: Option<DiameterIdentity>,
     pub(crate) outgoing: Outgoing<'a, W>,
     /// How many messages were let in.
     entered: u64,
@@ -60,6 +64,7 @@ impl<'a, W: Write + Drop, O: Observer, G: Gate, K: Repeats> Link<'a, W, O, G, K>
             gate: server.gate,
             repeats: server.repeats,
             half,
+            peer: None,
             outgoing: Outgoing::by(server.alloc, half),
             entered: 0,
             answered: 0,
@@ -83,16 +88,18 @@ impl<'a, W: Write + Drop, O: Observer, G: Gate, K: Repeats> Link<'a, W, O, G, K>
         Ok(())
     }
 
-    /// Gathers the answer that is kept for a request, if it repeats one; whether it did.
+    /// Gathers the answer that is kept for a request, if it repeats one of the connection's host; whether it did.
     pub(crate) fn repeat(&mut self, rt: &impl Wait, frame: &[u8]) -> Result<bool, AllocError> {
-        let Some(head) = frame.first_chunk() else {
+        let (Some(head), Some(peer)) = (frame.first_chunk(), &self.peer) else {
             return Ok(false);
         };
         let header = read_header(head);
         if !header.flags.request || !header.flags.retransmitted {
             return Ok(false);
         }
-        let kept = self.repeats.answer_again(rt, self.alloc, &header, frame)?;
+        let kept = self
+            .repeats
+            .answer_again(rt, self.alloc, peer, &header, frame)?;
         let Some(answer) = kept else {
             return Ok(false);
         };
@@ -100,18 +107,34 @@ impl<'a, W: Write + Drop, O: Observer, G: Gate, K: Repeats> Link<'a, W, O, G, K>
         Ok(true)
     }
 
-    /// A message is about to be answered anew.
-    pub(crate) fn prepare(&self, rt: &impl Wait, frame: &[u8]) -> Result<(), AllocError> {
+    /// A message is about to be answered anew by the node of this identity: where it is an initial request that isn't refused for what it
+    /// says, what has to be is prepared.
+    pub(crate) fn prepare(
+        &self,
+        rt: &impl Wait,
+        identity: &Identity,
+        frame: &[u8],
+    ) -> Result<(), AllocError> {
         let Some(head) = frame.first_chunk() else {
             return Ok(());
         };
         let header = read_header(head);
-        self.repeats.prepare(rt, self.alloc, &header, frame)
+        if !self.repeats.may_prepare(&header, frame) {
+            return Ok(());
+        }
+        let Some(request) = initial_of(self.alloc, identity, frame)? else {
+            return Ok(());
+        };
+        if self.repeats.is_grantable(&request) {
+            return self.repeats.prepare(rt, &header, frame, &request);
+        }
+        Ok(())
     }
 
     /// A request was served, and is answered so.
     pub(crate) fn keep(&self, rt: &impl Wait, frame: &[u8], answer: &[u8]) {
-        self.repeats.keep(rt, self.alloc, frame, answer);
+        let peer = self.peer.as_ref();
+        self.repeats.keep(rt, self.alloc, peer, frame, answer);
     }
 
     /// Writes the answers that are gathered, and lets their messages leave.
@@ -128,12 +151,13 @@ impl<'a, W: Write + Drop, O: Observer, G: Gate, K: Repeats> Link<'a, W, O, G, K>
         Ok(())
     }
 
-    /// A host is reached by this connection from now on.
+    /// A host exchanged capabilities on this connection, and is reached by it from now on.
     pub(crate) fn register(
-        &self,
+        &mut self,
         rt: &impl Wait,
         host: DiameterIdentity,
     ) -> Result<(), AllocError> {
+        self.peer = Some(host.try_copy()?);
         self.gateways.register(rt, host, self.number, self.half)
     }
 

@@ -14,7 +14,7 @@ ghost use Rattle.rx_profile.specs.Aborts.{abort_view, asr};
 ghost use Rattle.dia_base.specs.Stated.{stated};
 
 use crate::demand::Demand;
-use crate::gateways::{Gateways, Reached};
+use crate::gateways::Gateways;
 use crate::half::Half;
 use crate::observer::Observer;
 use crate::outgoing::Outgoing;
@@ -248,16 +248,15 @@ fn push_demand<R: Threads + Wait + Sync, S: SharedSite, W: Write + Drop>(
     alloc: Global,
     site: &S,
     seat: &mut S::Seat,
-    gateway: &Reached<W>,
+    host: &DiameterIdentity,
+    half: &Half<W>,
     demand: Demand,
     outgoing: &mut Outgoing<'_, W>,
 ) -> Result<Pushed, AllocError>
-    ensures adds { Adds (IsPushTo gateway.now.host) (S.seen seat.old) (S.seen seat.new) }
+    ensures adds { Adds (IsPushTo host.now) (S.seen seat.old) (S.seen seat.new) }
     ensures settled { IfOk result (λ pushed. pushed ≡ Pushed.All
-        → NothingWasDue S.found demand gateway.now.host (S.seen seat.new)) }
+        → NothingWasDue S.found demand host.now (S.seen seat.new)) }
 {
-    let host = &gateway.host;
-    let half = &gateway.half;
     if !is_wanted(rt, site, seat, host, demand) {
         return Ok(Pushed::All);
     }
@@ -280,21 +279,22 @@ fn push_gateway<R: Threads + Wait + Sync, S: SharedSite, W: Write + Drop>(
     alloc: Global,
     site: &S,
     seat: &mut S::Seat,
-    gateway: &Reached<W>,
+    host: &DiameterIdentity,
+    half: &Half<W>,
     outgoing: &mut Outgoing<'_, W>,
 ) -> Result<Pushed, AllocError>
-    ensures adds { Adds (IsPushTo gateway.now.host) (S.seen seat.old) (S.seen seat.new) }
+    ensures adds { Adds (IsPushTo host.now) (S.seen seat.old) (S.seen seat.new) }
     ensures told { IfOk result (λ pushed. pushed ≡ Pushed.All → (between : SeatValue)
         × HasEarlier between (S.seen seat.new)
-        × NothingWasDue S.found demands.Rules gateway.now.host between) }
+        × NothingWasDue S.found demands.Rules host.now between) }
     ensures aborted { IfOk result (λ pushed. pushed ≡ Pushed.All
-        → NothingWasDue S.found demands.Abort gateway.now.host (S.seen seat.new)) }
+        → NothingWasDue S.found demands.Abort host.now (S.seen seat.new)) }
 {
-    let told = push_demand(rt, alloc, site, seat, gateway, Demand::Rules, outgoing)?;
+    let told = push_demand(rt, alloc, site, seat, host, half, Demand::Rules, outgoing)?;
     if !is_all(told) {
         return Ok(told);
     }
-    push_demand(rt, alloc, site, seat, gateway, Demand::Abort, outgoing)
+    push_demand(rt, alloc, site, seat, host, half, Demand::Abort, outgoing)
 }
 
 /// Tells an observer how many entries the history had when the seat made its last call.
@@ -331,6 +331,48 @@ fn conclude<R: Threads + Wait + Sync, S: SharedSite, W: Write + Drop, O: Observe
     }
 }
 
+/// Whether anything is to be asked of a host: where it answers false the seat found that nothing was due to the host's gateways, and
+/// that no session of the host was to be aborted.
+fn is_any_wanted<R: Wait, S: SharedSite>(
+    rt: &R,
+    site: &S,
+    seat: &mut S::Seat,
+    host: &DiameterIdentity,
+) -> bool
+    ensures rules { result ≡ false
+        → FindsNone S.found demands.Rules (S.seen seat.old) host.now }
+    ensures abort { result ≡ false
+        → FindsNone S.found demands.Abort (S.seen seat.new) host.now }
+    ensures same { seat.new ≡ seat.old }
+{
+    if is_wanted(rt, site, seat, host, Demand::Rules) {
+        return true;
+    }
+    is_wanted(rt, site, seat, host, Demand::Abort)
+}
+
+/// Pushes to a host, if anything is to be asked of it and it can still be reached. True if there may be pushes to others.
+fn push_host<R: Threads + Wait + Sync, S: SharedSite, W: Write + Drop, O: Observer>(
+    rt: &R,
+    alloc: Global,
+    site: &S,
+    seat: &mut S::Seat,
+    gateways: &Gateways<W, O>,
+    host: &DiameterIdentity,
+    outgoing: &mut Outgoing<'_, W>,
+) -> Result<bool, AllocError>
+    ensures { Adds (IsPushTo host.now) (S.seen seat.old) (S.seen seat.new) }
+{
+    if !is_any_wanted(rt, site, seat, host) {
+        return Ok(true);
+    }
+    let Some(half) = gateways.half_of(rt, host)? else {
+        return Ok(true);
+    };
+    let pushed = push_gateway(rt, alloc, site, seat, host, &half, outgoing)?;
+    Ok(conclude(rt, site, seat, gateways, host, pushed))
+}
+
 /// Pushes to every host that can be reached, one after another, until nothing is due to any and no session of any is to be
 /// aborted; none is asked where the site says that nothing is due to anybody. A full history or clock ends it; a host to which
 /// nothing can be written is reached no more. What was gathered is written before the first request, so that an answer comes
@@ -348,18 +390,14 @@ pub fn push_all<R: Threads + Wait + Sync, S: SharedSite, W: Write + Drop, O: Obs
     if site.is_quiet(rt, seat) {
         return Ok(());
     }
-    let mut last: Option<DiameterIdentity> = None;
-    for _ in rt.forever() {
-        let Some(gateway) = gateways.behind(rt, last.as_ref())? else {
-            return Ok(());
-        };
-        let pushed = push_gateway(rt, alloc, site, seat, &gateway, outgoing)?;
-        if !conclude(rt, site, seat, gateways, &gateway.host, pushed) {
+    let hosts = gateways.hosts(rt, alloc)?;
+    for host in hosts.iter() {
+        let goes_on = push_host(rt, alloc, site, seat, gateways, host, outgoing)?;
+        if !goes_on {
             return Ok(());
         }
-        last = Some(gateway.host);
     }
-    unreachable!()
+    Ok(())
 }
 
 impl<W: Write + Drop, O: Observer> Pushes for Gateways<W, O> {

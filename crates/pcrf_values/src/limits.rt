@@ -1,4 +1,6 @@
-//! The limits of this project's profile. Code and definitions take each from here.
+//! The limits of this project's profile, as the code has them. The definitions have the same as numbers of their own (`specs/Limits.antt`).
+ghost use Rattle.pcrf_values.specs.Limits as profile;
+ghost use Rattle.std.specs.Prelude.{◌≡◌};
 
 /// The most bytes of a Session-Id (RFC 6733, 8.8).
 pub const SESSION_ID_LIMIT: usize = 512;
@@ -47,3 +49,23 @@ pub const DELTA_LIMIT: usize = 40;
 
 /// How many operations one letter carries.
 pub const RANGE_LIMIT: usize = 100;
+
+/// Each limit of the code is the profile's number.
+pub fn limits_are_the_profiles()
+    ensures session_id { SESSION_ID_LIMIT ≡ profile.session_id_limit }
+    ensures identity { IDENTITY_LIMIT ≡ profile.identity_limit }
+    ensures apn { APN_LIMIT ≡ profile.apn_limit }
+    ensures subscription_data { SUBSCRIPTION_DATA_LIMIT ≡ profile.subscription_data_limit }
+    ensures subscribers { SUBSCRIBERS_LIMIT ≡ profile.subscribers_limit }
+    ensures components { COMPONENTS_LIMIT ≡ profile.components_limit }
+    ensures flows { FLOWS_LIMIT ≡ profile.flows_limit }
+    ensures filters { FILTERS_LIMIT ≡ profile.filters_limit }
+    ensures filter { FILTER_LIMIT ≡ profile.filter_limit }
+    ensures rule_name { RULE_NAME_LIMIT ≡ profile.rule_name_limit }
+    ensures operator_rule_name { OPERATOR_RULE_NAME_LIMIT ≡ profile.operator_rule_name_limit }
+    ensures site { SITE_LIMIT ≡ profile.site_limit }
+    ensures last_counter { LAST_COUNTER ≡ profile.last_counter }
+    ensures last_epoch { LAST_EPOCH ≡ profile.last_epoch }
+    ensures delta { DELTA_LIMIT ≡ profile.delta_limit }
+    ensures range { RANGE_LIMIT ≡ profile.range_limit }
+{}

@@ -24,5 +24,6 @@ pub use cursor::Cursor;
 pub use cursors::Cursors;
 pub use fault::{FrameFault, LetterFault};
 pub use letter::Letter;
+pub use limits::limits_are_the_profiles;
 pub use reading::{read_letter, read_letter_seeded};
 pub use writing::write_letter;

@@ -3,7 +3,9 @@ use Rattle.std.specs.Prelude.{◌≡◌, ℕ, List, [], ◌∷◌, ◌++◌}
 use Rattle.peer_lines.specs.Hmac.{block_of, code_under}
 use Rattle.peer_lines.specs.Records.{side_byte}
 use Rattle.peer_lines.specs.declared.sealed.proving.Greeting.{Greeting}
+use Rattle.peer_lines.specs.declared.sealed.proving.Greetings.{Greetings}
 use Rattle.peer_lines.specs.declared.sealed.course.Side.{Side}
+use Rattle.peer_lines.specs.declared.sealed.course.Side.TheVariants.{Dialler, Listener}
 
 -- what a greeting begins with: "pcr", and the version 1
 abbrev pub mark : List ℕ
@@ -24,3 +26,8 @@ proof_of secret side dialler listener = code_under secret (proved_bytes (side_by
 -- the key of the link's records, as a block
 abbrev pub link_key : List ℕ → Greeting → Greeting → List ℕ
 link_key secret dialler listener = block_of (code_under secret (proved_bytes 3 dialler listener))
+
+-- the site whose end is at the other side of a link, which proved that it has the secret
+abbrev pub site_beside : Side → Greetings → ℕ
+site_beside Dialler both = both.listener.site
+site_beside Listener both = both.dialler.site

@@ -28,4 +28,6 @@ impl<C: Clock> Read for Input<'_, C> {
 pub struct Ends<'r, C: Clock> {
     pub(crate) input: Input<'r, C>,
     pub(crate) output: Output,
+    /// The site whose proof opened it, if it is sealed.
+    pub(crate) proved: Option<u8>,
 }

@@ -1,4 +1,7 @@
 //! The heads of letters in a stream, judged as soon as they are there (docs/LETTERS.md, "The frame and the head").
+ghost use Rattle.std.specs.Prelude.{◌≡◌, IfOk, IfSome};
+ghost use Rattle.std.specs.Option.{ForSome};
+
 use crate::letters::{Head, head_of};
 use pcrf_values::limits::SITE_LIMIT;
 use std::alloc::Global;
@@ -33,6 +36,8 @@ pub enum HeadFault {
     OwnNumber,
     #[error("its letters are of more than one site")]
     OtherSite,
+    #[error("its letters are of another site than the one that proved that it has the secret")]
+    Unproved,
     #[error("it sent what is no notice")]
     NoNotice,
     #[error("memory ran out")]
@@ -60,8 +65,14 @@ fn length_of(head: &[u8; HEAD_BYTES]) -> usize {
     u32::from_be_bytes([head[0], head[1], head[2], head[3]]) as usize
 }
 
-/// Who sends the letter with that head.
-fn judge_head(head: &[u8; HEAD_BYTES], expected: Expected) -> Result<Sender, HeadFault> {
+/// Who sends the letter with that head: on a link that the proof of a site opened, that site.
+fn judge_head(
+    head: &[u8; HEAD_BYTES],
+    expected: Expected,
+    proved: Option<u8>,
+) -> Result<Sender, HeadFault>
+    ensures { IfOk result (λ sender. IfSome proved (λ site. sender.site ≡ site)) }
+{
     let length = length_of(head);
     if length < HEAD_BYTES - LENGTH_BYTES || length > MOST {
         return Err(HeadFault::NoLetter);
@@ -80,6 +91,11 @@ fn judge_head(head: &[u8; HEAD_BYTES], expected: Expected) -> Result<Sender, Hea
     if site >= SITE_LIMIT || epoch == 0 || kind == 0 || kind > LAST_KIND {
         return Err(HeadFault::NoLetter);
     }
+    if let Some(proved) = proved {
+        if site != proved {
+            return Err(HeadFault::Unproved);
+        }
+    }
     Ok(Sender { site, epoch })
 }
 
@@ -87,6 +103,8 @@ fn judge_head(head: &[u8; HEAD_BYTES], expected: Expected) -> Result<Sender, Hea
 #[derive(Drop)]
 pub struct Heads {
     expected: Expected,
+    /// The site whose proof opened the link, if it is sealed.
+    pub(crate) proved: Option<u8>,
     /// A head that isn't whole yet.
     begun: Vec<u8>,
     /// How many bytes of a letter's body come next.
@@ -95,6 +113,7 @@ pub struct Heads {
     sender: Option<Sender>,
     /// The heads of the letters that came and weren't counted yet.
     uncounted: Vec<Head>,
+    ghost of_proved: { ForSome sender (λ s. ForSome proved (λ site. s.site ≡ site)) },
 }
 
 /// So many bytes at most.
@@ -103,10 +122,13 @@ pub(crate) fn up_to(bytes: &[u8], most: usize) -> &[u8] {
 }
 
 impl Heads {
-    /// Before the first letter.
-    pub fn start(alloc: Global, expected: Expected) -> Heads {
+    /// Before the first letter of a link that the proof of that site opened, if one did.
+    pub fn start(alloc: Global, expected: Expected, proved: Option<u8>) -> Heads
+        ensures { result.proved ≡ proved }
+    {
         Heads {
             expected,
+            proved,
             begun: Vec::new(alloc),
             left: 0,
             sender: None,
@@ -115,7 +137,9 @@ impl Heads {
     }
 
     /// Who sent the letters so far.
-    pub fn sender(&self) -> Option<Sender> {
+    pub fn sender(&self) -> Option<Sender>
+        ensures { IfSome result (λ sender. IfSome self.now.proved (λ site. sender.site ≡ site)) }
+    {
         self.sender
     }
 
@@ -162,7 +186,7 @@ impl Heads {
         let Some(head) = self.begun.as_slice().first_chunk::<HEAD_BYTES>() else {
             return Ok(());
         };
-        let sender = judge_head(head, self.expected)?;
+        let sender = judge_head(head, self.expected, self.proved)?;
         if self.sender.is_some_and(|first| first.site != sender.site) {
             return Err(HeadFault::OtherSite);
         }

@@ -13,21 +13,22 @@ pub struct Hearing {
     hosts: Mutex<ReachedHosts>,
 }
 
-/// The time in milliseconds; the latest where there is no clock, by which nobody has been without a link for long.
-fn millis<C: Clock>(clock: &C) -> u64 {
-    match clock.monotonic() {
-        Ok(elapsed) => elapsed
-            .as_secs()
-            .saturating_mul(1_000)
-            .saturating_add(u64::from(elapsed.subsec_millis())),
-        Err(_) => u64::MAX,
-    }
+/// The time in milliseconds, where there is a clock.
+fn millis<C: Clock>(clock: &C) -> Option<u64> {
+    let elapsed = clock.monotonic().ok()?;
+    let seconds = elapsed.as_secs().saturating_mul(1_000);
+    Some(seconds.saturating_add(u64::from(elapsed.subsec_millis())))
+}
+
+/// From when on a site has no link that has none now: from the latest time where there is no clock.
+fn since_now<C: Clock>(clock: &C) -> u64 {
+    millis(clock).unwrap_or(u64::MAX)
 }
 
 impl Hearing {
     /// Of a site that starts now.
     pub fn start<C: Clock>(alloc: Global, clock: &C, own: u8) -> Result<Hearing, AllocError> {
-        let mut hosts = ReachedHosts::start(alloc, own, millis(clock))?;
+        let mut hosts = ReachedHosts::start(alloc, own, since_now(clock))?;
         hosts.link(own);
         Ok(Hearing {
             hosts: Mutex::new(hosts),
@@ -41,7 +42,7 @@ impl Hearing {
 
     /// A site has no link any more, and what it said is forgotten.
     pub fn unlink<R: Wait + Clock>(&self, rt: &R, site: u8) {
-        let now = millis(rt);
+        let now = since_now(rt);
         self.hosts.lock(rt).unlink(site, now);
     }
 
@@ -51,6 +52,11 @@ impl Hearing {
         match notice {
             Notice::All(all) => {
                 hosts.say_all(site, all);
+                Ok(())
+            }
+            // What a part tells is said with the last one.
+            Notice::Part(part) => {
+                drop(part);
                 Ok(())
             }
             Notice::Reached(host) => hosts.say_reached(site, host),
@@ -66,11 +72,8 @@ impl Hearing {
         self.hosts.lock(rt)
     }
 
-    /// Now, where it is borne for so many milliseconds that a site has no link.
+    /// Now, where it is borne for so many milliseconds that a site has no link. Without a clock no site counts as gone.
     pub fn moment<C: Clock>(clock: &C, patience: u64) -> Moment {
-        Moment {
-            now: millis(clock),
-            patience,
-        }
+        Moment::at(millis(clock), patience)
     }
 }

@@ -1,5 +1,5 @@
 //! Which hosts the sites say that they reach, each over its link to this one, and whether the home of a session is left by its host.
-ghost use Rattle.std.specs.Prelude.{◌≡◌, ◌<◌, IfOk, OnOk, OnErr, replicate, if◌then◌else◌};
+ghost use Rattle.std.specs.Prelude.{◌≡◌, ◌<◌, ℕ, List, false, IfOk, IfNone, IfSome, OnOk, OnErr, replicate, if◌then◌else◌};
 ghost use Rattle.peer_lines.specs.Hosts.{goes_over, hosts_at_first, is_said, with_said};
 ghost use Rattle.peer_lines.specs.Said.{NoLink, Silent, is_left, with_all, with_host, without_host};
 ghost use Rattle.pcrf_values.specs.Limits.{site_limit};
@@ -16,6 +16,23 @@ use std::marker::Model;
 pub struct Moment {
     pub now: u64,
     pub patience: u64,
+}
+
+impl Moment {
+    /// That time; or where it isn't known what time it is, one at which no site has been without a link for as long as is borne.
+    pub fn at(now: Option<u64>, patience: u64) -> Moment
+        ensures known { IfSome now (λ time. result ≡ record { now = time; patience = patience }) }
+        ensures unknown { IfNone now ((host : List ℕ) (since : ℕ) →
+            is_left result host (NoLink since) ≡ false) }
+    {
+        match now {
+            Some(now) => Moment { now, patience },
+            None => Moment {
+                now: 0,
+                patience: u64::MAX,
+            },
+        }
+    }
 }
 
 /// What is known of the hosts that each site reaches, this one too. It is what is so now, and is forgotten with a site's link.

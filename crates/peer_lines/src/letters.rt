@@ -89,7 +89,7 @@ impl LetterCounts {
     }
 
     /// A letter that begins so goes this way; what is no letter isn't counted.
-    pub(crate) fn count(&self, head: &Head) {
+    pub fn count(&self, head: &Head) {
         if let Some(kind) = LetterKind::of(head.kind) {
             let count = self.of(kind);
             count.letters.add();
@@ -121,7 +121,7 @@ impl LetterTraffic {
 
 /// What the front of a letter says of it: how many bytes come behind its length, and its kind.
 #[derive(Clone, Copy)]
-pub(crate) struct Head {
+pub struct Head {
     pub length: u32,
     pub kind: u8,
 }
@@ -130,7 +130,7 @@ pub(crate) struct Head {
 const KIND: usize = 12;
 
 /// What the front of a letter says of it, if that is whole.
-pub(crate) fn head_of(letter: &[u8]) -> Option<Head> {
+pub fn head_of(letter: &[u8]) -> Option<Head> {
     let four = letter.first_chunk::<4>()?;
     let kind = letter.get(KIND)?;
     Some(Head {

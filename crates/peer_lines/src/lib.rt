@@ -8,32 +8,32 @@ mod ends;
 mod heads;
 mod hearing;
 mod hosts;
+mod joining;
 mod letters;
 mod line;
 mod link;
 mod notice;
 mod opening;
-#[cfg(test)]
-mod reach_tests;
 mod said;
 pub mod sealed;
 mod sieve;
 mod teller;
-#[cfg(test)]
-mod tests;
 
 pub use board::{Board, Claim, Slot};
 pub use heads::{Expected, HeadFault, Sender};
 pub use hearing::Hearing;
 pub use hosts::{Moment, ReachedHosts};
-pub use letters::{LETTER_KINDS, LetterCount, LetterCounts, LetterKind, LetterTraffic};
+pub use letters::{
+    Head, LETTER_KINDS, LetterCount, LetterCounts, LetterKind, LetterTraffic, head_of,
+};
 pub use line::Line;
 pub use link::{Link, Unlinked};
-pub use notice::Notice;
+pub use notice::{Notice, put_all, put_change};
 pub use opening::Opening;
 pub use sealed::{
-    CHALLENGE_BYTES, CODE_BYTES, Course, GREETING_BYTES, Greeting, Greetings, HEAD_BYTES, Key,
-    MOST_PIECE, SealFault, SealedReader, SealedWriter, SecretFault, Side, are_same, hmac_sha256,
-    prove_dialling, prove_listening, secret_of,
+    CHALLENGE_BYTES, CODE_BYTES, Challenges, Course, GREETING_BYTES, Greeting, Greetings,
+    HEAD_BYTES, Key, MOST_PIECE, SealFault, SealedReader, SealedWriter, SecretFault, Side,
+    are_same, hmac_sha256, prove_dialling, prove_listening, secret_of,
 };
+pub use sieve::{Sieve, Sieved};
 pub use teller::Teller;

@@ -112,7 +112,11 @@ impl<'r, C: Clock> Link<'r, C> {
         line: Arc<Line>,
         expected: Expected,
     ) -> Result<Link<'r, C>, AllocError> {
-        let Ends { input, output } = ends;
+        let Ends {
+            input,
+            output,
+            proved,
+        } = ends;
         let teller = Arc::new(alloc, Teller::of(output))?;
         Ok(Link {
             alloc,
@@ -120,7 +124,7 @@ impl<'r, C: Clock> Link<'r, C> {
             input,
             teller,
             line,
-            sieve: Sieve::start(alloc, expected),
+            sieve: Sieve::beside(alloc, expected, proved),
             came: Sieved::nothing(alloc),
             given: 0,
             hearing: None,

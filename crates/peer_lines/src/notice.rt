@@ -15,6 +15,15 @@ pub(crate) const FRONT_BYTES: usize = 5;
 /// The most that the length of a notice says.
 const MOST: usize = 1 << 16;
 
+/// How many bytes of a notice that tells of many hosts come before them, of those that its length counts: the mark, the kind and a count.
+const COUNTED_BYTES: usize = 4;
+
+/// The most bytes of the hosts of one notice.
+const MOST_HOST_BYTES: usize = MOST - COUNTED_BYTES;
+
+/// How many bytes a host has beside its name.
+const HOST_HEAD_BYTES: usize = 2;
+
 /// The kinds of notices.
 const ALL: u8 = 1;
 
@@ -22,11 +31,15 @@ const REACHED: u8 = 2;
 
 const LEFT: u8 = 3;
 
+const PART: u8 = 4;
+
 /// What a site says of the hosts that it reaches.
 #[derive(Debug, Drop)]
 pub enum Notice {
     /// These, and no others.
     All(BTreeSet<DiameterIdentity>),
+    /// These, and others, of which the next notice tells.
+    Part(BTreeSet<DiameterIdentity>),
     /// One more.
     Reached(DiameterIdentity),
     /// One less.
@@ -51,25 +64,64 @@ fn put_notice(bytes: &mut Vec<u8>, kind: u8, said: &[u8]) -> Result<(), AllocErr
     bytes.extend_from_slice(said)
 }
 
-/// Writes that a site reaches these hosts, and no others.
-pub(crate) fn put_all(
+/// Hosts that one notice tells of.
+#[derive(Drop)]
+struct Told {
+    count: u16,
+    /// Their bytes.
+    hosts: Vec<u8>,
+}
+
+impl Told {
+    /// None yet.
+    fn nobody(alloc: Global) -> Told {
+        Told {
+            count: 0,
+            hosts: Vec::new(alloc),
+        }
+    }
+
+    /// Whether there is room for one more.
+    fn has_room(&self, host: &DiameterIdentity) -> bool {
+        let taken = self.hosts.len().saturating_add(HOST_HEAD_BYTES);
+        taken.saturating_add(host.as_slice().len()) <= MOST_HOST_BYTES
+    }
+
+    /// Tells of one more.
+    fn add(&mut self, host: &DiameterIdentity) -> Result<(), AllocError> {
+        put_host(&mut self.hosts, host)?;
+        self.count = self.count.saturating_add(1);
+        Ok(())
+    }
+
+    /// Writes the notice of that kind, which tells of them.
+    fn put(&self, alloc: Global, bytes: &mut Vec<u8>, kind: u8) -> Result<(), AllocError> {
+        let mut said = Vec::from_slice(alloc, &self.count.to_be_bytes())?;
+        said.extend_from_slice(self.hosts.as_slice())?;
+        put_notice(bytes, kind, said.as_slice())
+    }
+}
+
+/// Writes that a site reaches these hosts, and no others: by one notice, or where that has no room for all by several, each with as many
+/// as it has room for, of which the last alone says that there are no others.
+pub fn put_all(
     alloc: Global,
     bytes: &mut Vec<u8>,
     hosts: &BTreeSet<DiameterIdentity>,
 ) -> Result<(), AllocError> {
-    let mut said = Vec::new(alloc);
-    let Ok(count) = u16::try_from(hosts.len()) else {
-        return Err(AllocError);
-    };
-    said.extend_from_slice(&count.to_be_bytes())?;
+    let mut told = Told::nobody(alloc);
     for host in hosts.iter() {
-        put_host(&mut said, host)?;
+        if !told.has_room(host) {
+            told.put(alloc, bytes, PART)?;
+            told = Told::nobody(alloc);
+        }
+        told.add(host)?;
     }
-    put_notice(bytes, ALL, said.as_slice())
+    told.put(alloc, bytes, ALL)
 }
 
 /// Writes that it reaches one more, or one less.
-pub(crate) fn put_change(
+pub fn put_change(
     alloc: Global,
     bytes: &mut Vec<u8>,
     host: &DiameterIdentity,
@@ -138,6 +190,7 @@ impl Unread<'_> {
     fn notice(&mut self, alloc: Global, kind: u8) -> Result<Notice, HeadFault> {
         match kind {
             ALL => Ok(Notice::All(self.hosts(alloc)?)),
+            PART => Ok(Notice::Part(self.hosts(alloc)?)),
             REACHED => Ok(Notice::Reached(self.host(alloc)?)),
             LEFT => Ok(Notice::Left(self.host(alloc)?)),
             _ => Err(HeadFault::NoNotice),

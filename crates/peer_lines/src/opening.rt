@@ -4,8 +4,8 @@ use crate::heads::Expected;
 use crate::line::{Line, Outward, Timely};
 use crate::link::Link;
 use crate::sealed::{
-    CHALLENGE_BYTES, Course, Greeting, Key, SealFault, SealedReader, SealedWriter, Side,
-    prove_dialling, prove_listening,
+    Course, Greeting, Key, SealFault, SealedReader, SealedWriter, Side, prove_dialling,
+    prove_listening,
 };
 use crate::teller::Output;
 use std::alloc::Global;
@@ -24,18 +24,6 @@ pub struct Opening {
 }
 
 impl Opening {
-    /// What this end says first.
-    fn greeting<R: RandomSource>(&self, rt: &R) -> Result<Greeting, SealFault> {
-        let mut challenge = [0u8; CHALLENGE_BYTES];
-        if rt.fill_bytes(&mut challenge).is_err() {
-            return Err(SealFault::ReadFailed);
-        }
-        Ok(Greeting {
-            site: self.expected.number,
-            challenge,
-        })
-    }
-
     /// The two directions of a line under a secret, of which this end is that one.
     fn sealed<'r, R: Clock + RandomSource>(
         &self,
@@ -51,7 +39,7 @@ impl Opening {
         let mut writer = Outward {
             line: Arc::try_clone(line)?,
         };
-        let own = self.greeting(rt)?;
+        let own = Greeting::next(rt, self.expected.number)?;
         let both = match side {
             Side::Dialler => prove_dialling(&mut reader, &mut writer, secret, own)?,
             Side::Listener => prove_listening(&mut reader, &mut writer, secret, own)?,
@@ -62,6 +50,7 @@ impl Opening {
         Ok(Ends {
             input: Input::Sealed(input),
             output: Output::Sealed(output),
+            proved: Some(both.site_beside(side)),
         })
     }
 
@@ -77,6 +66,7 @@ impl Opening {
         Ok(Ends {
             input: Input::Plain(input),
             output: Output::Plain(output),
+            proved: None,
         })
     }
 

@@ -2,6 +2,7 @@
 //! one secret, and what is written is cut into records that carry codes, so that nobody between can add, drop, repeat or change a
 //! part.
 
+mod challenge;
 mod course;
 mod fault;
 mod hmac;
@@ -9,10 +10,9 @@ pub mod laws;
 mod proving;
 mod reading;
 mod secret;
-#[cfg(test)]
-mod tests;
 mod writing;
 
+pub use challenge::Challenges;
 pub use course::{Course, HEAD_BYTES, MOST_PIECE, Side};
 pub use fault::SealFault;
 pub use hmac::{CODE_BYTES, Key, are_same, hmac_sha256};

@@ -1,5 +1,8 @@
 //! Notices are taken out of what comes over a link, and letters handed on.
+ghost use Rattle.std.specs.Prelude.{◌≡◌, IfSome};
+
 use crate::heads::{Expected, HeadFault, Heads, Sender, up_to};
+use crate::joining::Joining;
 use crate::letters::Head;
 use crate::notice::{FRONT_BYTES, MARK, Notice, read_notice, said_bytes};
 use std::alloc::Global;
@@ -15,6 +18,8 @@ pub struct Sieve {
     awaited: Option<usize>,
     /// Those that came.
     said: Vec<u8>,
+    /// What notices told of which others are to tell more.
+    joining: Joining,
 }
 
 /// What came over a link.
@@ -22,7 +27,7 @@ pub struct Sieve {
 pub struct Sieved {
     /// The bytes of letters.
     pub letters: Vec<u8>,
-    /// The notices.
+    /// The notices, those joined that stand for one.
     pub notices: Vec<Notice>,
 }
 
@@ -39,22 +44,33 @@ impl Sieved {
 impl Sieve {
     /// Before the first letter.
     pub fn start(alloc: Global, expected: Expected) -> Sieve {
+        Sieve::beside(alloc, expected, None)
+    }
+
+    /// Before the first letter of a link that the proof of that site opened, if one did.
+    pub fn beside(alloc: Global, expected: Expected, proved: Option<u8>) -> Sieve
+        ensures { result.heads.proved ≡ proved }
+    {
         Sieve {
             alloc,
-            heads: Heads::start(alloc, expected),
+            heads: Heads::start(alloc, expected, proved),
             front: Vec::new(alloc),
             awaited: None,
             said: Vec::new(alloc),
+            joining: Joining::start(alloc),
         }
     }
 
     /// Who sent the letters so far.
-    pub fn sender(&self) -> Option<Sender> {
+    pub fn sender(&self) -> Option<Sender>
+        ensures { IfSome result (λ sender.
+            IfSome self.now.heads.proved (λ site. sender.site ≡ site)) }
+    {
         self.heads.sender()
     }
 
     /// The heads of the letters that came since this was asked last.
-    pub(crate) fn uncounted(&mut self) -> Vec<Head> {
+    pub fn uncounted(&mut self) -> Vec<Head> {
         self.heads.uncounted(self.alloc)
     }
 
@@ -123,6 +139,9 @@ impl Sieve {
         }
         self.awaited = None;
         let notice = read_notice(self.alloc, self.said.as_slice())?;
+        let Some(notice) = self.joining.join(notice)? else {
+            return Ok(piece.len());
+        };
         match sieved.notices.push(notice) {
             Ok(()) => Ok(piece.len()),
             Err(_) => Err(HeadFault::NoMemory),

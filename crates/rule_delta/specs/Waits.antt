@@ -1,5 +1,5 @@
 -- Who waits to be looked at for a push, where all may wait.
-use Rattle.std.specs.Prelude.{◌≡◌, ℕ, Bool, true, false, ◌||◌, List, Option, Some, is_some}
+use Rattle.std.specs.Prelude.{◌≡◌, ℕ, Bool, true, false, not, ◌&&◌, ◌||◌, List, Option, Some, is_some}
 use Rattle.std.specs.declared.net.ipv4_addr.Ipv4Addr.{Ipv4Addr}
 use Rattle.pcrf_values.specs.Orders.{text_cmp}
 use Rattle.pcrf_values.specs.Sets.{In}
@@ -8,7 +8,7 @@ use Rattle.pcrf_model.specs.Sessions.{Gx, Session, gx, is_gx}
 use Rattle.pcrf_model.specs.Tables.{Tables}
 use Rattle.pcrf_model.specs.Views.{View, text}
 use Rattle.pcrf_model.specs.Waiting.{Waiting, AllDueWait, Stay}
-use Rattle.bind_index.specs.Lists.{first_of, ids_at}
+use Rattle.bind_index.specs.Lists.{first_of, ids_at, is_nothing_listed}
 use Rattle.pcrf_values.specs.Prefixes.{Ipv6Prefix}
 use Rattle.bind_index.specs.Index.{IndexValue, listed_at, listed_in}
 
@@ -24,6 +24,10 @@ waiting_of w name = ids_at text_cmp w.lists name
 -- a session waits under the host, or all do
 abbrev pub is_waiting : WaitingValue → List ℕ → Bool
 is_waiting w name = w.all || is_some (first_of (waiting_of w name))
+
+-- no session is listed, and not all wait
+abbrev pub is_nobody_listed : WaitingValue → Bool
+is_nobody_listed w = not w.all && is_nothing_listed w.lists
 
 -- each session that is due waits
 pub record DueWait (t : Tables) (i : ℕ) (v : View) (w : WaitingValue) : Type 0 where

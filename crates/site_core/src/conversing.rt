@@ -18,6 +18,11 @@ use std::io::{Read, Write};
 /// How many reads a conversation may take.
 const READ_LIMIT: u64 = 1 << 40;
 
+/// The code's limit is the profile's number.
+pub fn read_limit_is_the_profiles()
+    ensures { READ_LIMIT ≡ most_reads }
+{}
+
 /// How many bytes are read at once.
 const PIECE_BYTES: usize = 4096;
 

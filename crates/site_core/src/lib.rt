@@ -24,7 +24,7 @@ mod writing;
 ghost use Rattle.site_core.specs.Tables.{GrammarsAreTables};
 
 pub use answering::{Answer, answer_frame};
-pub use conversing::converse;
+pub use conversing::{converse, read_limit_is_the_profiles};
 pub use ended::Ended;
 pub use failed_avps::{
     failed_avp, faults_are_refusals, has_ill_formed_session, has_unsupported, served_are_recognized,

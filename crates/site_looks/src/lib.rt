@@ -11,8 +11,6 @@ mod metered;
 mod meters;
 mod notes;
 mod shown;
-#[cfg(test)]
-mod tests;
 
 pub use counting::{CallCounts, CallPiece, GatewayCounts, GatewayPiece, PIECE};
 pub use found::{CallFound, GatewayFound, Unbound, call, gateway_session};

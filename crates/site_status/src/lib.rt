@@ -11,8 +11,6 @@ mod names;
 mod pages;
 mod parts;
 mod response;
-#[cfg(test)]
-mod tests;
 mod times;
 
 pub use codes::{CODE_LIMIT, CodeCounts};

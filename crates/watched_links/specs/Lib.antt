@@ -1,5 +1,6 @@
 pub mod Answers
 pub mod Kept
+pub mod Keys
 pub mod Limits
 pub mod LostRulesLimits
 pub mod Refusals

@@ -10,19 +10,13 @@ mod desk;
 mod frames;
 mod guests;
 mod hall;
-#[cfg(test)]
-mod kept_tests;
 mod kinds;
 pub mod laws;
-#[cfg(test)]
-mod lost_tests;
 mod measures;
 mod message;
 mod messages;
 mod origin_states;
 mod outbox;
-#[cfg(test)]
-mod outbox_tests;
 mod own;
 mod post;
 mod printable;
@@ -30,6 +24,7 @@ mod pushes;
 mod quiet;
 mod refused;
 mod renamed;
+mod shelf;
 mod stage;
 mod watching;
 
@@ -40,7 +35,7 @@ pub use desk::{Desk, desks};
 pub use guests::{Guests, HostStatus};
 pub use hall::{Arrived, Hall};
 pub use kinds::{KIND_COUNT, KINDS, MessageKind};
-pub use message::RecentMessage;
+pub use message::{MessageKey, RecentMessage};
 pub use messages::RecentMessages;
 pub use origin_states::OriginStates;
 pub use outbox::{Outbox, PutFault};

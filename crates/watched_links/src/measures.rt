@@ -1,12 +1,12 @@
-//! How a message that is kept is found, and how much room it takes.
-ghost use Rattle.std.specs.Prelude.{◌≡◌, ◌≤◌, ◌+◌};
-ghost use Rattle.watched_links.specs.Kept.{is_found, size_of};
-ghost use Rattle.watched_links.specs.Limits.{entry_bytes, longest_name, longest_kept};
+//! How much room a message that is kept takes.
+ghost use Rattle.std.specs.Prelude.{◌≡◌, ◌≤◌, ◌+◌, ◌*◌};
+ghost use Rattle.watched_links.specs.Kept.{size_of};
+ghost use Rattle.watched_links.specs.Limits.{entry_bytes, longest_key, longest_kept};
 
 use crate::message::RecentMessage;
 
-/// How many bytes a message takes beside its own and those of its name: more than its entry has.
-const ENTRY_BYTES: usize = 64;
+/// How many bytes a message takes beside its own and those of its key, of which there are two: more than its two entries have.
+const ENTRY_BYTES: usize = 256;
 
 impl RecentMessage {
     /// The message.
@@ -19,15 +19,10 @@ impl RecentMessage {
     /// How many bytes it takes.
     pub(crate) fn size(&self) -> usize
         ensures size { result ≡ size_of self.now }
-        ensures within { result ≤ entry_bytes + longest_name + longest_kept }
+        ensures within { result ≤ entry_bytes + 2 * longest_key + longest_kept }
     {
-        ENTRY_BYTES + self.name.len() + self.bytes.len()
-    }
-
-    /// Whether it is one of that number and that name, kept from a time behind that one.
-    pub(crate) fn is_found(&self, number: u32, name: &[u8], behind: u64) -> bool
-        ensures { result ≡ is_found number name.now behind self.now }
-    {
-        self.number == number && self.at > behind && self.name.as_slice() == name
+        let key = &self.key;
+        let names = key.session.len() + key.host.len() + key.peer.len();
+        ENTRY_BYTES + 2 * names + self.bytes.len()
     }
 }

@@ -1,10 +1,11 @@
 //! Re-authorisation requests that went out, kept for a while, so that an operator can be told which rules one was about that a gateway
 //! refused.
 use crate::avps::first_avp;
-use crate::message::RecentMessage;
+use crate::message::{MessageKey, RecentMessage};
 use crate::messages::RecentMessages;
 use crate::printable::Printable;
 use dia_codec::{HEADER_BYTES, read_header};
+use pcrf_values::HashSeed;
 use std::alloc::{AllocError, Global};
 use std::fmt::Write;
 use std::sync::{Mutex, Wait};
@@ -91,6 +92,17 @@ fn names_in(alloc: Global, request: &[u8]) -> Result<String, AllocError> {
     Ok(names)
 }
 
+/// What the request of a Hop-by-Hop Identifier is found by: the site gives each of its requests another one.
+fn key_of(alloc: Global, hop_id: u32) -> MessageKey {
+    MessageKey {
+        command: RE_AUTH,
+        number: hop_id,
+        session: Vec::new(alloc),
+        host: Vec::new(alloc),
+        peer: Vec::new(alloc),
+    }
+}
+
 /// A message as it is kept, if it is a re-authorisation request.
 fn kept_push(alloc: Global, message: &[u8]) -> Option<RecentMessage> {
     let header = read_header(message.first_chunk()?);
@@ -98,15 +110,16 @@ fn kept_push(alloc: Global, message: &[u8]) -> Option<RecentMessage> {
         return None;
     }
     let bytes = Vec::from_slice(alloc, message).ok()?;
-    RecentMessage::of(header.hop_id, Vec::new(alloc), EVER, bytes)
+    RecentMessage::of(key_of(alloc, header.hop_id), EVER, bytes)
 }
 
 impl SentPushes {
-    /// None yet.
+    /// None yet. No peer chooses what they are found by, so anybody may know what hashes begin with.
     pub fn start(alloc: Global) -> SentPushes {
+        let seed = HashSeed::of(0);
         SentPushes {
             alloc,
-            kept: Mutex::new(RecentMessages::with_room(alloc, ROOM)),
+            kept: Mutex::new(RecentMessages::with_room(alloc, ROOM, seed)),
         }
     }
 
@@ -120,7 +133,7 @@ impl SentPushes {
     /// The names of the rules that the request of a Hop-by-Hop Identifier told of, if it is kept still.
     pub fn names(&self, rt: &impl Wait, hop_id: u32) -> Option<String> {
         let kept = self.kept.lock(rt);
-        let request = kept.find(hop_id, &[], 0)?;
+        let request = kept.find(&key_of(self.alloc, hop_id), 0)?;
         names_in(self.alloc, request).ok()
     }
 }

@@ -1,5 +1,5 @@
 #!/usr/bin/env python3
-"""Wireshark's dissector reads what sites write by `--forms standard`: the answers that the scripts of `cases` bring, and all that .ci/strict-peers
+"""Wireshark's dissector reads what sites write by `--forms standard`: the answers that the scripts of `pcrf_checks` bring, and all that .ci/strict-peers
 has a server write, caught on the loopback device. It fails where tshark finds something malformed, or a command, an AVP, a value or a
 length that it doesn't know. Answers that repeat a peer's own fault are counted apart, and what tshark says of them is shown: those with a
 Failed-AVP, which has the AVP at fault as it came (RFC 6733, 7.5), and those whose command isn't served, which may be one that nobody knows.
@@ -33,7 +33,7 @@ FIELDS = ("frame.number", "diameter.cmd.code", "diameter.flags.request", "_ws.ex
 def answers_of(program, script):
     """The answers that a script brings."""
     ran = subprocess.run([program, "world", "--forms", "standard", TOP / "examples/telephony.toml"],
-                         input=(TOP / "crates/cases/data" / script).read_bytes(), capture_output=True, check=True)
+                         input=(TOP / "crates/pcrf_checks/data" / script).read_bytes(), capture_output=True, check=True)
     return [bytes.fromhex(digits) for digits in re.findall(r"^answer (\w+)$", ran.stdout.decode(), re.M)]
 
 

@@ -549,11 +549,12 @@ where
         figures: &premises.furniture.figures.site,
         losses: &premises.furniture.losses,
     };
-    let gateways = Gateways::observed(alloc, journal);
+    let gateways = Gateways::falling_back(alloc, journal);
     let repeats = Remembering {
-        kept: RecentAnswers::start(alloc, rt),
+        kept: RecentAnswers::start(alloc, rt, site.seed())?,
         losses: &premises.furniture.losses,
         site,
+        tables: &premises.tables,
         seat: Mutex::new(seats.retelling.take()),
     };
     let doors = Doors { chairs };

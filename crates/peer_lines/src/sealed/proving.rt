@@ -2,7 +2,7 @@
 ghost use Rattle.std.specs.Prelude.{◌≡◌, ◌≢◌, ◌++◌, IfOk, IfErr, OnOk};
 ghost use Rattle.std.specs.Io.KnownBytes.{Appends, Consumes};
 ghost use Rattle.peer_lines.specs.Hmac.{code_under};
-ghost use Rattle.peer_lines.specs.Proving.{greeting_bytes, link_key, proof_of, proved_bytes};
+ghost use Rattle.peer_lines.specs.Proving.{greeting_bytes, link_key, proof_of, proved_bytes, site_beside};
 ghost use Rattle.peer_lines.specs.declared.sealed.course.Side.TheVariants as sides;
 ghost use Rattle.peer_lines.specs.declared.sealed.fault.SealFault.TheVariants as faults;
 
@@ -71,6 +71,16 @@ impl Greetings {
         ensures { result ≡ proof_of secret.now.block side self.now.dialler self.now.listener }
     {
         self.code(secret, side.byte())
+    }
+
+    /// The site of the other end than that one.
+    pub fn site_beside(&self, side: Side) -> u8
+        ensures { result ≡ site_beside side self.now }
+    {
+        match side {
+            Side::Dialler => self.listener.site,
+            Side::Listener => self.dialler.site,
+        }
     }
 
     /// The key of the link's records.

@@ -3,7 +3,7 @@ ghost use Rattle.std.specs.Prelude.{◌≡◌, ℕ, List, true, false, IfOk, OnO
 ghost use Rattle.pcrf_values.specs.Orders.{text_cmp};
 ghost use Rattle.pcrf_values.specs.Ascending.{Rises};
 ghost use Rattle.bind_index.specs.Lists.{first_of, ids_at, without_first};
-ghost use Rattle.rule_delta.specs.Waits.{Keeps, WaitsUnder, is_waiting, waiting_of, WaitsIfDue};
+ghost use Rattle.rule_delta.specs.Waits.{Keeps, WaitsUnder, is_nobody_listed, is_waiting, waiting_of, WaitsIfDue};
 ghost use Rattle.pcrf_model.specs.Sessions.{af};
 ghost use Rattle.pcrf_model.specs.Views.{view};
 ghost use Rattle.rule_delta.specs.Abandoned.{AbandonedWait, EachCallWaits, EachListedCallWaits, ListedCallsWait, NetworkCallsWait};
@@ -79,7 +79,8 @@ impl WaitingCalls {
     /// No application function's session waits under any host.
     #[tactic(auto, using(crate::proofs::Waited::nobody_waits))]
     pub fn is_empty(&self) -> bool
-        ensures { result ≡ true → (k : List ℕ) → is_waiting self.now k ≡ false }
+        ensures exact { result ≡ is_nobody_listed self.now }
+        ensures none { result ≡ true → (k : List ℕ) → is_waiting self.now k ≡ false }
     {
         !self.all && self.lists.is_empty()
     }

@@ -1,5 +1,5 @@
 //! What is seen of a message at a glance, without its being read whole.
-use dia_base::codes::avps::{CC_REQUEST_TYPE, ORIGIN_HOST, SESSION_ID};
+use dia_base::codes::avps::{CC_REQUEST_TYPE, ORIGIN_HOST, RESULT_CODE, SESSION_ID};
 use dia_codec::HEADER_BYTES;
 use watched_links::{AvpBytes, first_avp};
 
@@ -20,6 +20,8 @@ pub struct Glance<'a> {
     pub kind: Option<u32>,
     /// Origin-State-Id.
     pub state: Option<u32>,
+    /// Result-Code.
+    pub code: Option<u32>,
     /// There is a Charging-Rule-Install.
     pub installs: bool,
 }
@@ -37,6 +39,7 @@ impl<'a> Glance<'a> {
             host: None,
             kind: None,
             state: None,
+            code: None,
             installs: false,
         }
     }
@@ -51,6 +54,7 @@ impl<'a> Glance<'a> {
             SESSION_ID => self.session = self.session.or(Some(avp.value)),
             ORIGIN_HOST => self.host = self.host.or(Some(avp.value)),
             CC_REQUEST_TYPE => self.kind = self.kind.or(number_in(avp.value)),
+            RESULT_CODE => self.code = self.code.or(number_in(avp.value)),
             ORIGIN_STATE_ID => self.state = self.state.or(number_in(avp.value)),
             _ => {}
         }

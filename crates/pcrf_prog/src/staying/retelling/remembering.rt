@@ -6,10 +6,12 @@ use crate::staying::retelling::retell;
 use dia_base::ReadFault;
 use dia_base::codes::GX;
 use dia_base::codes::commands::CREDIT_CONTROL;
+use dia_base::codes::results::SUCCESS;
 use dia_codec::{Header, MsgFault, read_header, read_message};
 use gx_profile::{Ccr, RequestKind, read_ccr};
-use pcrf_serve::{Repeats, SharedSite, StepFault};
-use pcrf_values::{DiameterIdentity, GxSid, SessionId};
+use op_tables::Tables;
+use pcrf_serve::{Repeats, SharedSite, StepFault, is_grantable};
+use pcrf_values::{DiameterIdentity, GxSid, Ranked, SessionId};
 use std::alloc::{AllocError, Global};
 use std::sync::{Mutex, Wait};
 use std::time::Clock;
@@ -23,14 +25,16 @@ const BASE: u32 = 0;
 const INITIAL: u32 = 1;
 
 /// Keeps answers for requests that are repeated. Where an initial request is repeated whose answer isn't kept, or its host may have started
-/// again since its session's last request, the gateway has lost what it was told: the session is told all its rules again, by the answer. A
-/// peer's letter may bring the session, and what its gateway was told there, just before the request is served: then the answer has no rule,
+/// again since its session's last request, the gateway has lost what it was told: unless the request is refused for what it says, the
+/// session is told all its rules again, by the answer. A peer's letter may bring the session, and what its gateway was told there, just before the request is served: then the answer has no rule,
 /// and the push behind it has all.
 #[derive(Drop)]
 pub struct Remembering<'s, 'r, S: SharedSite, M> {
     pub(crate) kept: RecentAnswers<'r, M>,
     pub(crate) losses: &'r Losses,
     pub(crate) site: &'s S,
+    /// By which requests are refused for what they say.
+    pub(crate) tables: &'r Tables,
     /// The seat at which sessions are told again, if there is one.
     pub(crate) seat: Mutex<Option<S::Seat>>,
 }
@@ -38,6 +42,11 @@ pub struct Remembering<'s, 'r, S: SharedSite, M> {
 /// Whether a request is one of credit control.
 fn is_credit_control(header: &Header) -> bool {
     header.flags.request && header.application == GX && header.command == CREDIT_CONTROL
+}
+
+/// Whether a request is an initial one of credit control, as it is seen at a glance.
+fn is_initial(header: &Header, request: &[u8]) -> bool {
+    is_credit_control(header) && Glance::of(request).kind == Some(INITIAL)
 }
 
 /// Whether it is for the exchange of capabilities.
@@ -94,22 +103,13 @@ impl<S: SharedSite, M> Remembering<'_, '_, S, M> {
     fn tell_lost<R: Wait>(
         &self,
         rt: &R,
-        alloc: Global,
         header: &Header,
         message: &[u8],
+        request: &Ccr,
     ) -> Result<(), AllocError> {
-        if !is_credit_control(header) {
-            return Ok(());
-        }
-        let seen = Glance::of(message);
-        if seen.kind != Some(INITIAL) {
-            return Ok(());
-        }
-        let Some(request) = read_initial(alloc, message)? else {
-            return Ok(());
-        };
-        if self.may_be_lost(rt, header.flags.retransmitted, seen.state, &request) {
-            return self.tell_again(rt, request.session);
+        let state = Glance::of(message).state;
+        if self.may_be_lost(rt, header.flags.retransmitted, state, request) {
+            return self.tell_again(rt, request.session.try_copy()?);
         }
         Ok(())
     }
@@ -126,10 +126,15 @@ impl<S: SharedSite, M> Remembering<'_, '_, S, M> {
             return Ok(());
         };
         let header = read_header(head);
-        if is_credit_control(&header) && !Glance::of(answer).installs {
-            return self.tell_lost(rt, alloc, &header, request);
+        if !is_initial(&header, request) || Glance::of(answer).installs {
+            return Ok(());
         }
-        Ok(())
+        match read_initial(alloc, request)? {
+            Some(initial) if is_grantable(self.tables, &initial) => {
+                self.tell_lost(rt, &header, request, &initial)
+            }
+            _ => Ok(()),
+        }
     }
 
     /// Notes in which state a host is that exchanged capabilities.
@@ -171,11 +176,20 @@ impl<S: SharedSite, M> Remembering<'_, '_, S, M> {
         }
     }
 
-    /// Notes what a request that was served says of its host.
-    fn remember<R: Wait>(&self, rt: &R, alloc: Global, request: &[u8]) -> Result<(), AllocError> {
+    /// Notes what a request that was granted says of its host. One that was refused told its gateway nothing.
+    fn remember<R: Wait>(
+        &self,
+        rt: &R,
+        alloc: Global,
+        request: &[u8],
+        answer: &[u8],
+    ) -> Result<(), AllocError> {
         let Some(head) = request.first_chunk() else {
             return Ok(());
         };
+        if Glance::of(answer).code != Some(SUCCESS) {
+            return Ok(());
+        }
         let header = read_header(head);
         if is_exchange(&header) {
             return self.remember_host(rt, alloc, Glance::of(request));
@@ -188,30 +202,52 @@ impl<S: SharedSite, M> Remembering<'_, '_, S, M> {
 }
 
 impl<S: SharedSite, M: Clock> Repeats for Remembering<'_, '_, S, M> {
+    ghost use Rattle.pcrf_serve.specs.Granting as granting;
+
+    ghost is_grantable = { λ r q. granting.is_grantable r.tables.now q };
+
     fn answer_again<R: Wait>(
         &self,
         rt: &R,
         alloc: Global,
+        peer: &DiameterIdentity,
         header: &Header,
         request: &[u8],
     ) -> Result<Option<Vec<u8>>, AllocError> {
-        self.kept.answer_again(rt, alloc, header, request)
+        self.kept.answer_again(rt, alloc, peer, header, request)
+    }
+
+    fn may_prepare(&self, header: &Header, message: &[u8]) -> bool {
+        is_initial(header, message)
+    }
+
+    fn is_grantable(&self, request: &Ccr) -> bool {
+        is_grantable(self.tables, request)
     }
 
     fn prepare<R: Wait>(
         &self,
         rt: &R,
-        alloc: Global,
         header: &Header,
         message: &[u8],
+        request: &Ccr,
     ) -> Result<(), AllocError> {
-        self.tell_lost(rt, alloc, header, message)
+        self.tell_lost(rt, header, message, request)
     }
 
     /// What isn't noted, for want of memory, is taken for lost later; what isn't told again stands as told.
-    fn keep<R: Wait>(&self, rt: &R, alloc: Global, request: &[u8], answer: &[u8]) {
+    fn keep<R: Wait>(
+        &self,
+        rt: &R,
+        alloc: Global,
+        peer: Option<&DiameterIdentity>,
+        request: &[u8],
+        answer: &[u8],
+    ) {
         let _ = self.tell_unheard(rt, alloc, request, answer);
-        let _ = self.remember(rt, alloc, request);
-        self.kept.keep(rt, alloc, request, answer);
+        let _ = self.remember(rt, alloc, request, answer);
+        if let Some(peer) = peer {
+            self.kept.keep(rt, alloc, peer, request, answer);
+        }
     }
 }

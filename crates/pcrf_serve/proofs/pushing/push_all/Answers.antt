@@ -10,14 +10,14 @@ pushed_then : (s t u : SeatValue) (host : List ℕ) → Adds IsPushToHost s t �
 pushed_then s t u host a b =
     gains_then (λ r. IsPushToHost r.event) s t u a (gains_weaker (λ r. IsPushTo host r.event) (λ r. IsPushToHost r.event) t u (λ r is. (host, is)) b)
 
-pub returns-in_err-pushed : goal.returns-in_err-pushed
-returns-in_err-pushed g c =
-    pushed_then (g.S.SharedSite.seen c.args.seat.now) (g.S.SharedSite.seen c.loop.seat) (g.S.SharedSite.seen c.push_gateway.new.seat) c.in-Some-2.gateway.host c.loop.invariant c.push_gateway.ensures.adds
+pub returns-in_err-goes_on : goal.returns-in_err-goes_on
+returns-in_err-goes_on g c =
+    pushed_then (g.S.SharedSite.seen c.args.seat.now) (g.S.SharedSite.seen c.loop-host.seat) (g.S.SharedSite.seen c.push_host.new.seat) c.in-Some.host.now c.loop-host.invariant c.push_host.ensures
 
-pub returns-then-not-conclude : goal.returns-then-not-conclude
-returns-then-not-conclude g c =
-    pushed_then (g.S.SharedSite.seen c.args.seat.now) (g.S.SharedSite.seen c.loop.seat) (g.S.SharedSite.seen c.push_gateway.new.seat) c.in-Some-2.gateway.host c.loop.invariant c.push_gateway.ensures.adds
+pub returns-then-not-goes_on : goal.returns-then-not-goes_on
+returns-then-not-goes_on g c =
+    pushed_then (g.S.SharedSite.seen c.args.seat.now) (g.S.SharedSite.seen c.loop-host.seat) (g.S.SharedSite.seen c.push_host.new.seat) c.in-Some.host.now c.loop-host.invariant c.push_host.ensures
 
-pub loop-preserved : goal.loop-preserved
-loop-preserved g c =
-    pushed_then (g.S.SharedSite.seen c.args.seat.now) (g.S.SharedSite.seen c.loop.seat) (g.S.SharedSite.seen c.push_gateway.new.seat) c.in-Some-2.gateway.host c.loop.invariant c.push_gateway.ensures.adds
+pub loop-host-preserved : goal.loop-host-preserved
+loop-host-preserved g c =
+    pushed_then (g.S.SharedSite.seen c.args.seat.now) (g.S.SharedSite.seen c.loop-host.seat) (g.S.SharedSite.seen c.push_host.new.seat) c.in-Some.host.now c.loop-host.invariant c.push_host.ensures

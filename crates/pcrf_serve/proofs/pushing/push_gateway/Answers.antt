@@ -10,7 +10,7 @@ returns-then-not-is_all-clause-aborted g c = λ e. clash c.is_all.result (c.is_a
 
 pub returns-clause-adds : goal.returns-clause-adds
 returns-clause-adds g c =
-    both_on c.args.gateway.now.host (g.S.SharedSite.seen c.args.seat.now) (g.S.SharedSite.seen c.push_demand.new.seat) (g.S.SharedSite.seen c.push_demand-2.new.seat)
+    both_on c.args.host.now (g.S.SharedSite.seen c.args.seat.now) (g.S.SharedSite.seen c.push_demand.new.seat) (g.S.SharedSite.seen c.push_demand-2.new.seat)
     c.push_demand.ensures.adds c.push_demand-2.ensures.adds
 
 pub returns-clause-told : goal.returns-clause-told

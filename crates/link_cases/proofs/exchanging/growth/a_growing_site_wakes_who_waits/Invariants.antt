@@ -1,4 +1,0 @@
-use Rattle.link_cases.proofs.exchanging.growth.a_growing_site_wakes_who_waits.Given as goal
-
-abbrev pub ghosts-growing : goal.ghosts-growing
-ghosts-growing g a = record { name = a.blank.name; parts = a.blank.parts }

@@ -1,4 +1,0 @@
-use Rattle.site_cases.proofs.locks.books.seat_left_out_does_not_settle.Given as goal
-
-abbrev pub ghosts-seat_left_out : goal.ghosts-seat_left_out
-ghosts-seat_left_out g a = record { name = a.blank.name; parts = a.blank.parts }
