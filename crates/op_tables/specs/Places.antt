@@ -1,8 +1,6 @@
 -- The keys of the operator tables, place by place, in the order in which they are judged (this project's profile).
 use Rattle.std.specs.Prelude.{ℕ}
 use Rattle.pcrf_values.specs.Limits.{apn_limit, filters_limit, operator_rule_name_limit}
-use Rattle.op_tables.specs.declared.apns.TheConstants.{MOST_APNS, MOST_RULES}
-use Rattle.op_tables.specs.declared.media.TheConstants.{MOST_MEDIA}
 use Rattle.op_tables.specs.declared.place.TableKey.{TableKey}
 use Rattle.op_tables.specs.declared.place.TableKey.TheVariants as key
 
@@ -32,19 +30,19 @@ mutual
     no_more : Keys
     ◌▸◌ : Key → Keys → Keys
 
--- ---- limits
+-- ---- limits, this project's own, as numbers: the law `limits_are_the_profiles` says that the code's are these
 
 -- how many kinds of media the tables may have
 abbrev pub media_limit : ℕ
-media_limit = MOST_MEDIA
+media_limit = 64
 
 -- how many access points
 abbrev pub apns_limit : ℕ
-apns_limit = MOST_APNS
+apns_limit = 1000
 
 -- how many rules an access point may have
 abbrev pub rules_limit : ℕ
-rules_limit = MOST_RULES
+rules_limit = 64
 
 -- ---- places
 

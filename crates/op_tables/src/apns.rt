@@ -16,6 +16,7 @@ ghost use Rattle.std.specs.BTreeMap.{insert_entry};
 use crate::class::{Class, read_class};
 use crate::copies::TryCopy;
 use crate::fault::{PlacedFault, TableFault};
+use crate::limits::{MOST_APNS, MOST_RULES};
 use crate::place::{Step, TableKey};
 use crate::quality::read_default;
 use crate::reading::{rows_at, status_at, table};
@@ -92,9 +93,6 @@ impl<const MOST: usize> Word<MOST> {
 
 /// The name that the operator gives a rule. Gateways know it with `op/` in front.
 pub type OperatorRuleName = Word<OPERATOR_RULE_NAME_LIMIT>;
-
-/// The most rules that an access point may have.
-const MOST_RULES: usize = 64;
 
 /// Which packets a rule picks, and the directions that are open to them.
 #[derive(Drop)]
@@ -265,9 +263,6 @@ pub fn rules_at(alloc: Global, point: &Table) -> Result<Vec<OperatorRule>, Place
 {
     read_rules(alloc, rows_at(point, TableKey::Rule, MOST_RULES)?)
 }
-
-/// The most access points that tables may have.
-const MOST_APNS: usize = 1000;
 
 /// What an access point has beside its name.
 #[derive(Drop)]

@@ -11,14 +11,12 @@ ghost use Rattle.op_tables.specs.Meaning.{media_of, media_type, row_class, is_me
 
 use crate::class::{Class, read_class};
 use crate::fault::{PlacedFault, TableFault};
+use crate::limits::MOST_MEDIA;
 use crate::place::{Step, TableKey};
 use crate::reading::{number_at, rows_at, table};
 use std::alloc::Global;
 use std::collections::BTreeMap;
 use toml::{Table, Value};
-
-/// The most kinds of media that tables may have.
-const MOST_MEDIA: usize = 64;
 
 /// Adds the class of one row to those above it.
 #[tactic(auto, using(crate::proofs::Faults::is_placed), unfolding(crate::specs::Judgement::row_judged))]

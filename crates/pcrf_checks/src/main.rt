@@ -92,14 +92,21 @@ fn obey_told(rt: &impl Host, check: &mut Check, line: &str) -> Result<(), Fault>
     obeyed
 }
 
+/// Obeys the lines.
+fn obey_all<R: Read + Drop>(rt: &impl Host, check: &mut Check, reader: R) -> Result<(), Fault> {
+    for line in BufReader::new(rt.alloc(), reader)?.lines(rt.alloc()) {
+        let line = line?;
+        obey_told(rt, check, line.as_str())?;
+    }
+    Ok(())
+}
+
 /// Does all that the words and the lines say.
 fn run<R: Read + Drop>(rt: &impl Host, words: &str, reader: R) -> Result<(), Fault> {
     let mut check = Check::begin(rt, words)?;
-    for line in BufReader::new(rt.alloc(), reader)?.lines(rt.alloc()) {
-        let line = line?;
-        obey_told(rt, &mut check, line.as_str())?;
-    }
-    Ok(())
+    let obeyed = obey_all(rt, &mut check, reader);
+    drop(check);
+    obeyed
 }
 
 fn main(rt: HostRuntime) -> ExitCode {

@@ -1,7 +1,6 @@
 -- Sizes of letters and of their frames, this project's own profile, as numbers of their own: the law `limits_are_the_profiles` says
 -- that the code's are these.
 use Rattle.std.specs.Prelude.{ℕ}
-use Rattle.fact_codec.specs.declared.version.TheConstants as version
 
 -- the bytes before a letter, which say how many it has
 abbrev pub length_bytes : ℕ
@@ -13,4 +12,4 @@ longest_letter = 1073741824
 
 -- the version of letters that is written, and the last of those that are read
 abbrev pub letter_version : ℕ
-letter_version = version.LETTER_VERSION
+letter_version = 3

@@ -1,5 +1,5 @@
 //! What lines are obeyed with: the operator tables, a site, a state, the block of messages or letters, and the figures.
-use crate::fault::Fault;
+use crate::fault::{Fault, Unmeasured};
 use crate::host::Host;
 use crate::makers::new_site;
 use crate::measures::book::{Load, measure_threads, time_steps};
@@ -218,7 +218,7 @@ impl Bench {
             "bare" => self.step_events(rt, events, rounds, name),
             "locked" => self.call_events(rt, events, load, name),
             "living" => self.live_events(rt, events, rounds, name),
-            _ => Err(Fault::Unmeasured("there is no such kind of site")),
+            _ => Err(Fault::Unmeasured(Unmeasured::NoSuchSite)),
         }
     }
 
@@ -281,7 +281,7 @@ impl Bench {
     /// Records of the facts of two operations are made and joined so often.
     fn record(&mut self, rt: &impl Host, rounds: u32, name: &str) -> Result<(), Fault> {
         let Some(frame) = self.block.first() else {
-            return Err(Fault::Unmeasured("a letter is missing"));
+            return Err(Fault::Unmeasured(Unmeasured::NoLetter));
         };
         let letter = letter_of(self.alloc, frame.as_slice(), self.edition())?;
         let measured = match operations_of(&letter) {
@@ -333,7 +333,7 @@ impl Bench {
             "records" => self.record(rt, count, words),
             "steps" => self.step(rt, count, words),
             "tables" => self.read_tables(rt, count, words),
-            _ => Err(Fault::Unmeasured("there is no such verb")),
+            _ => Err(Fault::Unmeasured(Unmeasured::NoSuchVerb)),
         }
     }
 

@@ -3,7 +3,7 @@
 ghost use Rattle.std.specs.Prelude.{◌≡◌, ◌≤◌};
 ghost use Rattle.site_book.specs.Limits.{most_seats};
 
-use crate::fault::Fault;
+use crate::fault::{Fault, Unmeasured};
 use crate::measures::figures::Figures;
 use site_book::{HISTORY_LIMIT, SEAT_LIMIT, Seat};
 use site_core::{Event, Site};
@@ -47,7 +47,7 @@ pub fn time_steps(
     if count == times_of(events, rounds) {
         Ok((count, time))
     } else {
-        Err(Fault::Unmeasured("a step failed"))
+        Err(Fault::Unmeasured(Unmeasured::StepFailed))
     }
 }
 
@@ -112,7 +112,7 @@ fn time_settling<L: Ledger>(
     if settled(site, seats) == Some(wanted) {
         Ok(start?.elapsed(rt)?)
     } else {
-        Err(Fault::Unmeasured("a call is missing"))
+        Err(Fault::Unmeasured(Unmeasured::NoCall))
     }
 }
 
@@ -173,7 +173,7 @@ pub fn measure_threads<R: AllocGlobal + Clock + Threads + Wait + Sync>(
 ) -> Result<(), Fault> {
     if load.threads == 0 || load.threads > SEAT_LIMIT {
         drop(site);
-        return Err(Fault::Unmeasured("1 to 64 threads"));
+        return Err(Fault::Unmeasured(Unmeasured::ThreadCount));
     }
     let blank = Blank::new(load.threads as u64);
     let (calls, settling) = time_locked::<Brand, _>(rt, blank, site, events, load)?;

@@ -1,6 +1,6 @@
 //! How many listings a site's index has of gateways' sessions that share addresses and subscribers, a few for many sessions
 //! that come and go: as many as the sessions that are there, whoever was there before.
-use crate::fault::Fault;
+use crate::fault::{Fault, Unmeasured};
 use crate::makers::subscriber_of;
 use bind_index::Index;
 use pcrf_values::{Subscriber, SubscriptionType};
@@ -19,7 +19,7 @@ fn subscriber(alloc: Global, place: u32) -> Result<Subscriber, Fault> {
     let digits = format!(in alloc; "00101{place:010}")?;
     match subscriber_of(alloc, SubscriptionType::EndUserImsi, digits.as_str())? {
         Some(subscriber) => Ok(subscriber),
-        None => Err(Fault::Unmeasured("a subscriber is too long")),
+        None => Err(Fault::Unmeasured(Unmeasured::SubscriberTooLong)),
     }
 }
 
@@ -42,7 +42,7 @@ fn count_at(index: &Index, place: u32, who: &Subscriber) -> usize {
 /// How many listings the index of a site has under so many addresses and subscribers.
 pub fn count_listings(alloc: Global, site: &Site, places: u32) -> Result<usize, Fault> {
     let Some(index) = site.index() else {
-        return Err(Fault::Unmeasured("the index isn't whole"));
+        return Err(Fault::Unmeasured(Unmeasured::IndexNotWhole));
     };
     let mut count = 0_usize;
     for place in 0..places {

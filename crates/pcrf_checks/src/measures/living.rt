@@ -2,7 +2,7 @@
 ghost use Rattle.std.specs.Prelude.{◌≡◌};
 ghost use Rattle.site_lock.specs.Sound.{AreNames};
 
-use crate::fault::Fault;
+use crate::fault::{Fault, Unmeasured};
 use crate::measures::book::times_of;
 use crate::measures::figures::Figures;
 use site_core::{Event, Site};
@@ -51,7 +51,7 @@ fn time_living<L: Roll, R: AllocGlobal + Clock + Threads + Wait + Sync>(
     };
     drop(keeper);
     let Some(seat) = seats.first_mut() else {
-        return Err(Fault::Unmeasured("a seat is missing"));
+        return Err(Fault::Unmeasured(Unmeasured::NoSeat));
     };
     let start = Instant::now(rt)?;
     let count = call_each(rt, &site, seat, events, rounds);
@@ -61,7 +61,7 @@ fn time_living<L: Roll, R: AllocGlobal + Clock + Threads + Wait + Sync>(
     if count == times_of(events, rounds) {
         Ok(time)
     } else {
-        Err(Fault::Unmeasured("a call failed"))
+        Err(Fault::Unmeasured(Unmeasured::CallFailed))
     }
 }
 

@@ -1,6 +1,6 @@
 //! Pushes of a site to one gateway, each of which is due, or none of which is; and the whole state of a site, which another
 //! takes before its first push.
-use crate::fault::Fault;
+use crate::fault::{Fault, Unmeasured};
 use crate::measures::figures::Figures;
 use site_core::Site;
 use site_join::State;
@@ -16,9 +16,9 @@ fn push_once(site: &mut Site, host: &str, is_due: bool) -> Result<(), Fault> {
     drop(pushed);
     match found {
         Some(found) if found == is_due => Ok(()),
-        Some(true) => Err(Fault::Unmeasured("something is due")),
-        Some(false) => Err(Fault::Unmeasured("nothing is due")),
-        None => Err(Fault::Unmeasured("a push failed")),
+        Some(true) => Err(Fault::Unmeasured(Unmeasured::SomethingDue)),
+        Some(false) => Err(Fault::Unmeasured(Unmeasured::NothingDue)),
+        None => Err(Fault::Unmeasured(Unmeasured::PushFailed)),
     }
 }
 

@@ -1,5 +1,5 @@
 //! Records of sessions (`gx_records`, `af_records`): made of the facts of an operation, and joined with that of another.
-use crate::fault::Fault;
+use crate::fault::{Fault, Unmeasured};
 use crate::measures::figures::Figures;
 use af_records::{AfFact, AfRec};
 use gx_records::{GxFact, GxRec};
@@ -92,7 +92,7 @@ pub fn measure(
     figures: &mut Figures,
 ) -> Result<(), Fault> {
     let [first, second] = operations else {
-        return Err(Fault::Unmeasured("a letter hasn't two operations"));
+        return Err(Fault::Unmeasured(Unmeasured::NoPair));
     };
     match (first.facts(), second.facts()) {
         (SessionFacts::Gx(_, ours), SessionFacts::Gx(_, theirs)) => {
@@ -115,6 +115,6 @@ pub fn measure(
                 figures,
             )
         }
-        _ => Err(Fault::Unmeasured("two operations are of two kinds")),
+        _ => Err(Fault::Unmeasured(Unmeasured::TwoKinds)),
     }
 }

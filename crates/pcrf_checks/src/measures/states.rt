@@ -1,5 +1,5 @@
 //! Letters' operations that a state or a site takes; a merge of two states; and a whole state as a letter.
-use crate::fault::Fault;
+use crate::fault::{Fault, Unmeasured};
 use crate::measures::figures::Figures;
 use peer_exchange::{Body, Letter, LetterFault, Snapshot, read_letter, write_letter};
 use site_core::Site;
@@ -35,7 +35,7 @@ impl Taker for Site {
 fn outcome<T: Drop>(made: Result<T, LetterFault>) -> Result<T, Fault> {
     match made {
         Ok(value) => Ok(value),
-        Err(_) => Err(Fault::Unmeasured("a letter is not carried")),
+        Err(_) => Err(Fault::Unmeasured(Unmeasured::NotCarried)),
     }
 }
 
@@ -48,7 +48,7 @@ pub fn letter_of(alloc: Global, frame: &[u8], edition: u32) -> Result<Letter, Fa
 pub fn operations_of(letter: &Letter) -> Result<&[Operation], Fault> {
     match letter.body() {
         Body::Range(range) => Ok(range.operations.as_slice()),
-        _ => Err(Fault::Unmeasured("a letter has no operations")),
+        _ => Err(Fault::Unmeasured(Unmeasured::NoOperations)),
     }
 }
 
@@ -145,7 +145,7 @@ fn snapshot_of(state: State, edition: u32) -> Result<Letter, Fault> {
     let body = Body::Snapshot(Snapshot { state, log_length });
     match Letter::of(edition, 0, 1, body) {
         Some(letter) => Ok(letter),
-        None => Err(Fault::Unmeasured("a letter is not addressed")),
+        None => Err(Fault::Unmeasured(Unmeasured::NotAddressed)),
     }
 }
 

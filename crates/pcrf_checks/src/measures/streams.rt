@@ -4,7 +4,7 @@ ghost use Rattle.std.specs.Prelude.{◌<◌, IfOk};
 ghost use Rattle.dia_codec.specs.Limits.{command_bound};
 ghost use Rattle.site_core.specs.Asking.{HeaderFits};
 
-use crate::fault::Fault;
+use crate::fault::{Fault, Unmeasured};
 use crate::makers::request_of;
 use crate::measures::figures::Figures;
 use dia_codec::{Counted, HEADER_BYTES, Header};
@@ -43,7 +43,7 @@ fn answer_stream(alloc: Global, site: &mut Site, stream: &[u8]) -> Result<(), Fa
     let mut writer = Counted::start(Discard);
     match converse(alloc, site, &mut reader, &mut writer) {
         Ended::Closed => Ok(()),
-        _ => Err(Fault::Unmeasured("a stream is not answered to its end")),
+        _ => Err(Fault::Unmeasured(Unmeasured::StreamLeft)),
     }
 }
 
@@ -64,7 +64,7 @@ fn asked_of(alloc: Global, message: &[u8]) -> Result<Asked, Fault>
     ensures { IfOk result HeaderFits }
 {
     if message.len() < HEADER_BYTES {
-        return Err(Fault::Unmeasured("a message has no header"));
+        return Err(Fault::Unmeasured(Unmeasured::NoHeader));
     }
     Ok(read_request(alloc, message)?)
 }
@@ -118,7 +118,7 @@ fn write(
     let bytes = write_reply(rt.alloc(), site.identity(), header, request, reply)?;
     times.writing = times.writing.saturating_add(start.elapsed(rt)?);
     if bytes.is_empty() || is_refused(reply) {
-        return Err(Fault::Unmeasured("a request is refused"));
+        return Err(Fault::Unmeasured(Unmeasured::RequestRefused));
     }
     Ok(())
 }
@@ -133,7 +133,7 @@ fn answer_asked(
     requires { HeaderFits asked.now }
 {
     let Asked::Request(header, request) = asked else {
-        return Err(Fault::Unmeasured("a message is no request"));
+        return Err(Fault::Unmeasured(Unmeasured::NoRequest));
     };
     let reply = serve(rt, site, request, times)?;
     let written = write(rt, site, header, request, &reply, times);
@@ -189,7 +189,7 @@ fn event_of(alloc: Global, message: &[u8]) -> Result<Event, Fault> {
     }
     match request_of(alloc, message)? {
         Some(request) => Ok(Event::Serve(request)),
-        None => Err(Fault::Unmeasured("a message is no request")),
+        None => Err(Fault::Unmeasured(Unmeasured::NoRequest)),
     }
 }
 

@@ -1,5 +1,5 @@
 //! Operator tables: their text read again and again, copies, and look-ups of access points.
-use crate::fault::Fault;
+use crate::fault::{Fault, Unmeasured};
 use op_tables::{Tables, read_tables};
 use pcrf_values::Apn;
 use std::alloc::{AllocError, AllocGlobal, Global};
@@ -35,7 +35,7 @@ pub fn time_copying(
 fn name_of(alloc: Global, word: &str) -> Result<Apn, Fault> {
     match Apn::folded(alloc, word.as_bytes())? {
         Some(name) => Ok(name),
-        None => Err(Fault::Unmeasured("a name is no access point name")),
+        None => Err(Fault::Unmeasured(Unmeasured::NoApn)),
     }
 }
 
@@ -69,7 +69,7 @@ fn time_names(
     let start = Instant::now(rt)?;
     for _ in 0..rounds {
         if count_found(tables, names) != names.len() {
-            return Err(Fault::Unmeasured("an access point is missing"));
+            return Err(Fault::Unmeasured(Unmeasured::NoAccessPoint));
         }
     }
     Ok(start.elapsed(rt)?)

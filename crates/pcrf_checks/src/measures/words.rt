@@ -1,11 +1,11 @@
 //! The words of a line.
-use crate::fault::Fault;
+use crate::fault::{Fault, Unmeasured};
 
 /// The first word, and those behind it.
 pub fn word_before(words: &str) -> Result<(&str, &str), Fault> {
     match words.split_once(' ') {
         Some(parted) => Ok(parted),
-        None => Err(Fault::Unmeasured("a word is missing")),
+        None => Err(Fault::Unmeasured(Unmeasured::NoWord)),
     }
 }
 
@@ -14,7 +14,7 @@ pub fn number_before(words: &str) -> Result<(u32, &str), Fault> {
     let (first, rest) = word_before(words)?;
     match first.parse::<u32>() {
         Ok(number) => Ok((number, rest)),
-        Err(_) => Err(Fault::Unmeasured("a number is missing")),
+        Err(_) => Err(Fault::Unmeasured(Unmeasured::NoNumber)),
     }
 }
 
@@ -23,6 +23,6 @@ pub fn choice_before<'a>(words: &'a str, one: &str, other: &str) -> Result<(bool
     match word_before(words)? {
         (word, rest) if word == one => Ok((true, rest)),
         (word, rest) if word == other => Ok((false, rest)),
-        _ => Err(Fault::Unmeasured("one of two words is missing")),
+        _ => Err(Fault::Unmeasured(Unmeasured::NeitherWord)),
     }
 }
