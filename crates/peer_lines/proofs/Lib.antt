@@ -1,4 +1,5 @@
 pub mod Bytes
+pub mod Notices
 pub mod Places
 pub mod RoundTrip
 pub mod Sealing

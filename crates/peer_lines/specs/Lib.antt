@@ -2,6 +2,9 @@ pub mod Hmac
 pub mod Hosts
 pub mod Laws
 pub mod Limits
+pub mod NoticeLaws
+pub mod NoticeReading
+pub mod Notices
 pub mod Proving
 pub mod Reading
 pub mod Records

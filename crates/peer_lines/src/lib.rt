@@ -13,6 +13,7 @@ mod letters;
 mod line;
 mod link;
 mod notice;
+pub mod notice_laws;
 mod opening;
 mod said;
 pub mod sealed;
