@@ -17,3 +17,4 @@ pub mod Refreshing
 pub mod SeenLaws
 pub mod Telling
 pub mod Unmatched
+pub mod Ending

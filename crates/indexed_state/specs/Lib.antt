@@ -1,10 +1,12 @@
 pub use Rattle.bind_index.specs.Asking
 pub use Rattle.bind_index.specs.Index
 pub use Rattle.bind_index.specs.Listings
+pub use Rattle.ended_sessions.specs.Forgotten
 pub use Rattle.pcc_rules.specs.Cached
 pub use Rattle.pcc_rules.specs.Many
 pub mod Alike
 pub mod ByRecord
+pub mod Ended
 pub mod Fields
 pub mod Indexed
 pub mod Opened

@@ -6,6 +6,7 @@ mod aborting;
 mod alike;
 mod binding;
 mod calls;
+mod ended;
 mod following;
 mod forgetting;
 mod gateways;
@@ -22,6 +23,7 @@ mod whole_view;
 
 pub use bind_index::Index;
 pub use binding::{bindings, bindings_by};
+pub use ended::AnySid;
 pub use indexed::IndexedState;
 pub use op_tables::Tables;
 pub use pcc_rules::Rules;

@@ -140,6 +140,7 @@ pub fn stay<M: Machine, G: Log + Sync, R: Input, W: Output>(
         over: stay.over,
         again: stay.again,
         log_limit: stay.log,
+        keep_ended: stay.keep_ended,
         epoch_file: stay.epoch_file,
         secret,
         status: stay.status,

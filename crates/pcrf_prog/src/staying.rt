@@ -4,6 +4,7 @@ mod accepting;
 mod answers;
 mod chairs;
 mod exchange;
+mod forgetting_ended;
 mod going_over;
 mod journal;
 pub mod keeping;

@@ -32,6 +32,13 @@ const AGAIN: u16 = 60;
 /// How many operations of its own a site makes in an epoch at most before it begins the next, where nobody says.
 const LOG: u64 = 1_000_000;
 
+/// How many seconds a session that ended is kept at least, where nobody says: as long as an End-to-End Identifier is not used again
+/// (RFC 6733, 3), so that no request of the session is on its way any more.
+const KEEP_ENDED: u32 = 240;
+
+/// One second more than it may be.
+const KEEPS: i64 = 86_401;
+
 /// The forms that may be asked for by name.
 const FORMS: &[&str] = &["standard"];
 
@@ -68,6 +75,8 @@ pub struct StayWords<'a> {
     pub again: u16,
     /// How many operations of its own it makes in an epoch at most before it begins the next.
     pub log: u64,
+    /// How many seconds a session that ended is kept at least.
+    pub keep_ended: u32,
     /// The file that says how often the site has started, in place of its epoch.
     pub epoch_file: Option<&'a str>,
     /// The file of the secret that all sites have.
@@ -204,6 +213,7 @@ fn with_stay<'a>(alloc: Global, serve: Command<'a>) -> Result<Command<'a>, Alloc
     let serve = with_over(alloc, serve)?;
     let serve = with_again(alloc, serve)?;
     let serve = with_log(alloc, serve)?;
+    let serve = with_keep_ended(alloc, serve)?;
     with_files(alloc, serve)
 }
 
@@ -241,6 +251,18 @@ fn with_log<'a>(alloc: Global, serve: Command<'a>) -> Result<Command<'a>, AllocE
     )
     .requires_arg("stay")?;
     serve.arg(log.value_parser(value_parser!(u64).range(1..)))
+}
+
+/// Adds the option of a server that stays which says how long it keeps sessions that ended.
+fn with_keep_ended<'a>(alloc: Global, serve: Command<'a>) -> Result<Command<'a>, AllocError> {
+    let keep = choice(
+        alloc,
+        "keep-ended",
+        "SECONDS",
+        "How many seconds a site without peers keeps a session that ended before it forgets it, 0 to 86400, with --stay; 240 by default",
+    )
+    .requires_arg("stay")?;
+    serve.arg(keep.value_parser(value_parser!(u32).range(..KEEPS)))
 }
 
 /// Adds the options of a server that stays which are files, and the address at which it can be asked.
@@ -350,6 +372,7 @@ fn stay_words<'a>(matches: &ArgMatches<'a>) -> Option<StayWords<'a>> {
         over: matches.get_one::<u16>("over").unwrap_or(OVER),
         again: matches.get_one::<u16>("again").unwrap_or(AGAIN),
         log: matches.get_one::<u64>("log").unwrap_or(LOG),
+        keep_ended: matches.get_one::<u32>("keep-ended").unwrap_or(KEEP_ENDED),
         epoch_file: matches.get_str("epoch-file"),
         secret: matches.get_str("secret"),
         status: matches.get_str("status"),

@@ -3,6 +3,7 @@
 
 mod counting;
 mod epochs;
+mod forgetting;
 mod growing;
 mod renewing;
 pub mod sites;

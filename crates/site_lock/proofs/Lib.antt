@@ -2,11 +2,12 @@ pub mod Beginning
 pub mod BookBack
 pub mod Counting
 pub mod Gains
+pub mod Forgetting
 pub mod Growing
+pub mod Leaving
 pub mod LivingTelling
 pub mod Opening
 pub mod Places
 pub mod Settling
-pub mod Taking
 pub mod Telling
 pub mod Tokens

@@ -8,7 +8,7 @@ use Rattle.pcrf_model.specs.Holdings.{kept_of}
 use Rattle.pcrf_model.specs.Steps.{SiteState}
 use Rattle.site_machine.specs.Sites.{SiteValue}
 use Rattle.site_book.specs.Books.{ReceiptValue}
-use Rattle.site_lock.specs.Deeds.{Deed, LeadsTo}
+use Rattle.site_lock.specs.Deeds.{Deed, KeptValue, LeadsTo}
 use Rattle.site_lock.specs.Sound.{AreBlank, IsBlank, AreNames, AreSeatNotes, IsSound}
 
 -- the notes of one seat more
@@ -60,7 +60,7 @@ named_notes name seats cs ds all names =
     blank_notes name cs ds all (λ k l. names.1 k (omega (arith, l, many.0)))
 
 -- a history that begins
-pub opened : (name : ℕ → ℕ) (seats keeper : ℕ) (opening : SiteState) (site : SiteValue) (h : Original (List Deed)) (b : Duplicate (List Deed)) (cs : List (Original (List ReceiptValue))) (ds : List (Duplicate (List ReceiptValue))) (o : Original (List ℕ)) (e : Duplicate (List ℕ))
+pub opened : (name : ℕ → ℕ) (seats keeper : ℕ) (opening : SiteState) (site : SiteValue) (h : Original (List Deed)) (b : Duplicate (List Deed)) (cs : List (Original (List ReceiptValue))) (ds : List (Duplicate (List ReceiptValue))) (o : Original KeptValue) (e : Duplicate KeptValue)
     → AreBlank cs ds → IsBlank o e → AreNames name seats (names_of cs) → o.name ≡ keeper → site.state ≡ opening → kept_of site.state.holding ≡ site.state.holding → h.note ≡ [] → b.name ≡ h.name
     → IsSound name seats keeper opening site 0 0 h b cs o
 opened name seats keeper opening site h b cs ds o e all one names is begins kept empty same =

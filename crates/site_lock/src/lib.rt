@@ -11,10 +11,11 @@ mod shared;
 
 pub use living::{
     BeginFault, Beginnings, Chronicle, Dated, Deeds, Grown, Keeper, LivingSite, Looker, Receipts,
-    Roll, Roster, cursors_count_across_beginnings, new_beginnings_keep_all,
+    Roll, Roster, cursors_count_across_beginnings, forgetting_leaves_the_rest,
+    new_beginnings_keep_all,
 };
 pub use locked::LockedSite;
 pub use notes::{Duplicate, Original, Turn};
 pub use shared::SharedSite;
 pub use site_book::{HISTORY_LIMIT, SEAT_LIMIT, Seat};
-pub use site_machine::{Event, Reply, Request, Rules, Site, StepFault};
+pub use site_machine::{AnySid, Event, Reply, Request, Rules, Site, StepFault};

@@ -18,7 +18,9 @@ pub use chronicle::Chronicle;
 pub use dated::{Dated, Grown};
 pub use fault::BeginFault;
 pub use keeper::Keeper;
-pub use laws::{cursors_count_across_beginnings, new_beginnings_keep_all};
+pub use laws::{
+    cursors_count_across_beginnings, forgetting_leaves_the_rest, new_beginnings_keep_all,
+};
 pub use locked::LivingSite;
 pub use looker::Looker;
 pub use notes::{Beginnings, Deeds, Receipts};

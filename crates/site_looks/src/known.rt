@@ -1,23 +1,16 @@
 //! The sessions that a site is known to know of.
-use crate::notes::{CALL, FRONT_BYTES, GATEWAY};
-use pcrf_values::{AfSid, GxSid, SessionId};
+use crate::notes::{Noted, ReadNotes, read_notes};
+use indexed_state::AnySid;
+use pcrf_values::{AfSid, GxSid};
 use std::alloc::{AllocError, Global};
 use std::collections::BTreeSet;
 
-/// The sessions that notes told of. No session is forgotten by its site, and none here.
+/// The sessions that notes told of, without those that the site forgot.
 #[derive(Drop)]
 pub struct KnownSessions {
     alloc: Global,
     gateways: BTreeSet<GxSid>,
     calls: BTreeSet<AfSid>,
-}
-
-/// The first note, as its kind and its Session-Id, and what stands behind it.
-fn first_note(notes: &[u8]) -> Option<(u8, &[u8], &[u8])> {
-    let front = notes.first_chunk::<FRONT_BYTES>()?;
-    let length = usize::from(u16::from_be_bytes([front[1], front[2]]));
-    let rest = notes.get(FRONT_BYTES..)?;
-    Some((front[0], rest.get(..length)?, rest.get(length..)?))
 }
 
 impl KnownSessions {
@@ -31,36 +24,32 @@ impl KnownSessions {
     }
 
     /// Notes a session.
-    fn add(&mut self, kind: u8, id: SessionId) -> Result<(), AllocError> {
-        match kind {
-            GATEWAY => {
-                if self.gateways.insert(GxSid::of(id)).is_err() {
-                    return Err(AllocError);
-                }
-            }
-            CALL => {
-                if self.calls.insert(AfSid::of(id)).is_err() {
-                    return Err(AllocError);
-                }
-            }
-            _ => {}
+    fn add(&mut self, session: AnySid) -> Result<(), AllocError> {
+        let added = match session {
+            AnySid::Gx(id) => self.gateways.insert(id).is_ok(),
+            AnySid::Af(id) => self.calls.insert(id).is_ok(),
+        };
+        match added {
+            true => Ok(()),
+            false => Err(AllocError),
         }
-        Ok(())
+    }
+
+    /// Takes a session out.
+    fn forget(&mut self, session: &AnySid) {
+        match session {
+            AnySid::Gx(id) => {
+                self.gateways.remove(id);
+            }
+            AnySid::Af(id) => {
+                self.calls.remove(id);
+            }
+        }
     }
 
     /// Reads notes.
     pub fn read(&mut self, notes: &[u8]) -> Result<(), AllocError> {
-        let mut rest = notes;
-        for _ in 0..notes.len() {
-            let Some((kind, id, behind)) = first_note(rest) else {
-                break;
-            };
-            if let Some(id) = SessionId::read(self.alloc, id)? {
-                self.add(kind, id)?;
-            }
-            rest = behind;
-        }
-        Ok(())
+        read_notes(self.alloc, notes, self)
     }
 
     /// Those of gateways.
@@ -71,5 +60,17 @@ impl KnownSessions {
     /// Those of application functions.
     pub fn calls(&self) -> &BTreeSet<AfSid> {
         &self.calls
+    }
+}
+
+impl ReadNotes for KnownSessions {
+    fn read_note(&mut self, noted: Noted, session: AnySid) -> Result<(), AllocError> {
+        match noted {
+            Noted::Known => self.add(session),
+            Noted::Forgotten => {
+                self.forget(&session);
+                Ok(())
+            }
+        }
     }
 }

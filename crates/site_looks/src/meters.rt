@@ -19,25 +19,36 @@ pub struct Meters {
     pub wholes: Counter,
     /// Which sessions the site came to know of, if somebody reads that.
     pub sessions: Option<SessionNotes>,
+    /// Which of them ended by a request, if somebody reads that.
+    pub ended: Option<SessionNotes>,
+}
+
+/// Notes that somebody reads, or none.
+fn notes_if(alloc: Global, is_read: bool) -> Result<Option<SessionNotes>, AllocError> {
+    match is_read {
+        true => Ok(Some(SessionNotes::start(alloc)?)),
+        false => Ok(None),
+    }
 }
 
 impl Meters {
-    /// None was made. Sessions are noted where somebody is to read that.
-    pub fn start(alloc: Global, notes_sessions: bool) -> Result<Meters, AllocError> {
+    /// None was made. Sessions are noted, and that they ended, where somebody is to read that.
+    pub fn start(
+        alloc: Global,
+        notes_sessions: bool,
+        notes_ends: bool,
+    ) -> Result<Meters, AllocError> {
         let mut taken = Vec::with_capacity(alloc, usize::from(SITE_LIMIT))?;
         for _ in 0..SITE_LIMIT {
             taken.push(Counter::start())?;
         }
         let times = Times::start(alloc)?;
-        let sessions = match notes_sessions {
-            true => Some(SessionNotes::start(alloc)?),
-            false => None,
-        };
         Ok(Meters {
             times,
             taken,
             wholes: Counter::start(),
-            sessions,
+            sessions: notes_if(alloc, notes_sessions)?,
+            ended: notes_if(alloc, notes_ends)?,
         })
     }
 
@@ -69,6 +80,29 @@ impl Meters {
         }
     }
 
+    /// The site granted a request by which a gateway's session ends.
+    fn end_gateway(&self, rt: &impl Wait, id: &GxSid) {
+        if let Some(ended) = &self.ended {
+            ended.add_gateway(rt, id);
+        }
+    }
+
+    /// The site accepted one by which an application function's session ends.
+    fn end_call(&self, rt: &impl Wait, id: &AfSid) {
+        if let Some(ended) = &self.ended {
+            ended.add_call(rt, id);
+        }
+    }
+
+    /// The site granted a credit control request of that kind.
+    fn add_granted(&self, rt: &impl Wait, kind: RequestKind, id: &GxSid) {
+        match kind {
+            RequestKind::Initial => self.add_gateway(rt, id),
+            RequestKind::Update => {}
+            RequestKind::Termination => self.end_gateway(rt, id),
+        }
+    }
+
     /// The site took all that another one holds.
     fn count_whole(&self, rt: &impl Wait, state: &State) {
         self.wholes.add();
@@ -87,12 +121,15 @@ impl Meters {
     pub(crate) fn note(&self, rt: &impl Wait, event: &Event, reply: &Reply) {
         match (event, reply) {
             (Event::Serve(Request::Ccr(ccr)), Reply::Gx(answer)) => {
-                if matches!(ccr.kind, RequestKind::Initial) && answer.refusal().is_none() {
-                    self.add_gateway(rt, &ccr.session);
+                if answer.refusal().is_none() {
+                    self.add_granted(rt, ccr.kind, &ccr.session);
                 }
             }
             (Event::Serve(Request::Aar(aar)), Reply::Done) => {
                 self.add_call(rt, &aar.session);
+            }
+            (Event::Serve(Request::Str(str)), Reply::Done) => {
+                self.end_call(rt, &str.session);
             }
             (Event::Ops(operations), Reply::Taken(count)) => {
                 for operation in operations.iter().take(*count) {

@@ -1,4 +1,6 @@
 pub use Rattle.indexed_state.specs.Cached
+pub use Rattle.indexed_state.specs.Ended
+pub use Rattle.indexed_state.specs.Forgotten
 pub use Rattle.indexed_state.specs.Many
 pub mod Call
 pub mod Calls

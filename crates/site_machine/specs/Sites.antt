@@ -14,6 +14,7 @@ use Rattle.pcrf_model.specs.Retelling.{retell}
 use Rattle.pcrf_model.specs.Steps.{SiteState, SiteEvent, MayReply, kept_state, state_after}
 use Rattle.pcrf_model.specs.Tables.{Tables}
 use Rattle.pcrf_model.specs.Views.{view}
+use Rattle.indexed_state.specs.Forgotten.{forgotten}
 use Rattle.dia_base.specs.declared.identity.Identity.{Identity}
 
 -- a site: the operator tables that it decides by, the names that it answers under, its number, what it holds, and what it made
@@ -99,3 +100,11 @@ emptied_site s = record s { state = new_state }
 -- with these facts in place of those of a session, under that clock
 abbrev pub with_record : SiteValue → Session → List Fact → ℕ → SiteValue
 with_record s session facts clock = record s { state = record { holding = with_facts_of s.state.holding session facts clock; log = s.state.log } }
+
+-- without the facts of a session
+abbrev pub site_without : SiteValue → Session → SiteValue
+site_without s session = record s { state = record { holding = forgotten s.state.holding session; log = s.state.log } }
+
+-- with all that it holds, and no operation that it made
+abbrev pub anew_site : SiteValue → SiteValue
+anew_site s = record s { state = record { holding = s.state.holding; log = [] } }

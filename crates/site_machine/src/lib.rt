@@ -8,6 +8,7 @@ mod calls;
 mod event;
 pub mod facts;
 mod fault;
+mod forgetting;
 mod granting;
 mod lookup;
 mod operations;
@@ -25,7 +26,7 @@ pub use facts::{
     note_str, put_told, put_told_away,
 };
 pub use fault::StepFault;
-pub use indexed_state::Rules;
+pub use indexed_state::{AnySid, Rules};
 pub use request::Request;
 pub use site::Site;
 pub use witness::Witness;

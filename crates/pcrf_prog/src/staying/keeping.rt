@@ -1,15 +1,17 @@
 //! What is looked at once a second at a site that stays: it begins its next epoch in place, where the log of its own operations has become too
 //! long, so that doesn't grow for ever; it is told which hosts are away while something may wait for them; and sessions are told again whose
-//! gateways refused a push.
+//! gateways refused a push; and sessions that ended are forgotten.
 ghost use Rattle.std.specs.Prelude.{◌≡◌, []};
 
 use crate::kept_files::FileFault;
 use crate::socket_server::SiteEpoch;
+use crate::staying::forgetting_ended::{FORGOTTEN_AT_ONCE, Forgetting, forget_ended};
 use crate::staying::journal::{tell_begun_anew, tell_missed, tell_not_begun};
 use crate::staying::machine::Machine;
 use crate::staying::own_log::log_length;
 use crate::staying::retelling::tell_refused_again;
 use crate::staying::working::Shared;
+use indexed_state::AnySid;
 use log::Log;
 use pcrf_serve::SharedSite;
 use pcrf_values::DiameterIdentity;
@@ -44,11 +46,15 @@ pub enum Unbegun {
     NoMemory,
 }
 
-/// Who has a site of that kind begin its next epoch, in a thread of its own.
+/// Who has a site of that kind begin its next epoch, and forget sessions, in a thread of its own.
 pub trait Housekeeper<S>: Drop {
     /// Has the site begin its next epoch, and answers which that is. All that the site holds stays, and the log of its own operations is
     /// empty then. Where there is a fault the site is in the epoch in which it was, also where a file says the next one already.
     fn begin_next<M: Machine>(&mut self, rt: &M, site: &S) -> Result<u16, Unbegun>;
+
+    /// Has the site forget those of these sessions that have ended, and answers how many these are: none where they are too many to be
+    /// forgotten at once.
+    fn forget<M: Machine>(&mut self, rt: &M, site: &S, sessions: &[AnySid]) -> usize;
 }
 
 /// The keeper of a site that lives, and the file that says its epoch, if one does.
@@ -79,7 +85,8 @@ impl<'r, L: Roll> EpochKeeper<'r, L> {
 
 impl<L: Roll + Send + Sync, C: Clock> Housekeeper<MeteredSite<'_, LivingSite<L>, C>>
     for EpochKeeper<'_, L> {
-    /// The file says the epoch before the site begins it.
+    /// The file says the epoch before the site begins it. Then all sessions wait anew for a push: a session stays listed as waiting until
+    /// its host asks, and hosts of other sites never ask here, so that their lists would grow for ever.
     fn begin_next<M: Machine>(
         &mut self,
         rt: &M,
@@ -96,10 +103,24 @@ impl<L: Roll + Send + Sync, C: Clock> Housekeeper<MeteredSite<'_, LivingSite<L>,
             }
         }
         match site.site().begin_anew(rt, &mut self.keeper) {
-            Ok(()) => Ok(epoch),
+            Ok(()) => {
+                site.site().wait_anew(rt);
+                Ok(epoch)
+            }
             Err(BeginFault::EpochFull) => Err(Unbegun::LastEpoch),
-            Err(BeginFault::NoMemory) => Err(Unbegun::NoMemory),
         }
+    }
+
+    fn forget<M: Machine>(
+        &mut self,
+        rt: &M,
+        site: &MeteredSite<'_, LivingSite<L>, C>,
+        sessions: &[AnySid],
+    ) -> usize {
+        if sessions.len() > FORGOTTEN_AT_ONCE {
+            return 0;
+        }
+        site.site().forget(rt, &mut self.keeper, sessions)
     }
 }
 
@@ -188,22 +209,49 @@ fn see_all_waiting<'s, 'r, S: SharedSite, M: Machine, G: Log>(
     }
 }
 
-/// Looks again and again how long the log is, who is away, and which sessions are to be told again, as long as the server runs: the site
-/// begins its next epoch behind so many operations.
+/// What who keeps a site has.
+#[derive(Drop)]
+pub struct Keeping<E: Drop, K: Drop> {
+    pub seat: E,
+    /// How many operations the site makes in an epoch at most before it begins the next.
+    pub limit: u64,
+    pub keeper: K,
+    pub forgetting: Forgetting,
+}
+
+/// Looks once how long the log is, who is away, which sessions are to be told again, and which are to be forgotten.
+fn look_around<'s, 'r, S: SharedSite, M: Machine, G: Log, K: Housekeeper<S>>(
+    rt: &'s M,
+    all: &'s Shared<'s, 'r, S, M, G>,
+    keeping: &mut Keeping<S::Seat, K>,
+    unbegun: &mut Quiet,
+) {
+    let limit = keeping.limit;
+    tell_all_missed(rt, all, &mut keeping.seat);
+    see_all_waiting(rt, all, &mut keeping.seat);
+    tell_refused_again(rt, all, &mut keeping.seat);
+    keep_log_short(
+        rt,
+        all,
+        &mut keeping.seat,
+        limit,
+        &mut keeping.keeper,
+        unbegun,
+    );
+    forget_ended(rt, all, &mut keeping.keeper, &mut keeping.forgetting);
+}
+
+/// Looks again and again how long the log is, who is away, which sessions are to be told again, and which are to be forgotten, as long as
+/// the server runs.
 pub fn keep_house<'s, 'r, S: SharedSite, M: Machine, G: Log, K: Housekeeper<S>>(
     rt: &'s M,
     all: &'s Shared<'s, 'r, S, M, G>,
-    seat: S::Seat,
-    limit: u64,
-    keeper: K,
+    keeping: Keeping<S::Seat, K>,
 ) {
-    let (mut seat, mut keeper) = (seat, keeper);
+    let mut keeping = keeping;
     let mut unbegun = Quiet::of(UNBEGUN_SECONDS);
     for _ in rt.forever() {
         thread::sleep(rt, Duration::from_secs(LOOK_SECONDS));
-        tell_all_missed(rt, all, &mut seat);
-        see_all_waiting(rt, all, &mut seat);
-        tell_refused_again(rt, all, &mut seat);
-        keep_log_short(rt, all, &mut seat, limit, &mut keeper, &mut unbegun);
+        look_around(rt, all, &mut keeping, &mut unbegun);
     }
 }

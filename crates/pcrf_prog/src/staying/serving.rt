@@ -8,11 +8,12 @@ use crate::staying::accepting::accept_all;
 use crate::staying::answers::RecentAnswers;
 use crate::staying::chairs::{Doors, chairs};
 use crate::staying::exchange::{Exchange, accept_links, dial_on, take_links};
+use crate::staying::forgetting_ended::Forgetting;
 use crate::staying::going_over::look_for_moved;
 use crate::staying::journal::{
     Journal, tell_no_taking_over, tell_uncounted, tell_unkept, tell_unlinked_peer, tell_unstaffed,
 };
-use crate::staying::keeping::{EpochKeeper, Housekeeper, keep_house};
+use crate::staying::keeping::{EpochKeeper, Housekeeper, Keeping, keep_house};
 use crate::staying::machine::Machine;
 use crate::staying::retelling::{Losses, Remembering};
 use crate::staying::showing::{Console, Input, Output, show_on};
@@ -55,6 +56,8 @@ pub struct StaySettings<'a> {
     pub again: u16,
     /// How many operations of its own it makes in an epoch at most before it begins the next.
     pub log_limit: u64,
+    /// How many seconds a session that ended is kept at least.
+    pub keep_ended: u32,
     /// The file that says its epoch, if one does.
     pub epoch_file: Option<&'a str>,
     /// The secret that all sites have, if they have one.
@@ -367,15 +370,22 @@ fn keep_all<
     scope: &Scope<'s, E>,
     all: &'s Shared<'s, 'r, S, M, G>,
     keeping: Option<S::Seat>,
-    limit: u64,
+    premises: &Premises,
     keeper: K,
 )
 where
     S::Seat: Send,
 {
+    let alloc = premises.furniture.alloc;
     match keeping {
         Some(seat) => {
-            let begun = scope.spawn(move || keep_house(rt, all, seat, limit, keeper));
+            let kept = Keeping {
+                seat,
+                limit: premises.log_limit,
+                keeper,
+                forgetting: Forgetting::start(alloc, premises.keep_ended),
+            };
+            let begun = scope.spawn(move || keep_house(rt, all, kept));
             if begun.is_err() {
                 tell_unkept(all.log);
             }
@@ -463,7 +473,7 @@ where
     } = seats;
     answer_all(rt, scope, all, premises.sockets.asking.as_ref());
     show_all(rt, scope, all, showing, &premises.tables, console);
-    keep_all(rt, scope, all, keeping, premises.log_limit, keeper);
+    keep_all(rt, scope, all, keeping, premises, keeper);
     go_over_all(rt, scope, all, going);
     staff_all(rt, scope, all, serving);
     send_all(rt, scope, all, sending, asking);
@@ -480,6 +490,7 @@ struct Premises {
     tables: Tables,
     wait: u16,
     log_limit: u64,
+    keep_ended: u32,
 }
 
 /// Serves with what all workers share.
@@ -667,6 +678,7 @@ pub fn run_staying<M: Machine, G: Log + Sync, R: Input, W: Output>(
         tables: shown,
         wait: settings.wait,
         log_limit: settings.log_limit,
+        keep_ended: settings.keep_ended,
     };
     let site = Site::seeded(alloc, tables, identity, settings.place.number, seed);
     let others = seats.saturating_add(OTHER_SEATS);

@@ -69,7 +69,7 @@ fn grows_and_begins_anew<L: Roll, R: Threads + Wait + Abort + Sync>(
 ) {
     is_replied(rt, site, seat, attach(rt, alloc, 1));
     is_replied(rt, site, seat, attach(rt, alloc, 2));
-    site.begin_anew(rt, keeper).expect(rt, "memory");
+    site.begin_anew(rt, keeper).expect(rt, "an epoch");
 }
 
 /// Waits for more than five operations of the site's first epoch.

@@ -75,7 +75,9 @@ fn found_waiting<L: Roll, R: Threads + Wait + Abort + Sync>(
     let seat = seats.get_mut(0).expect(rt, "a seat");
     let hosts = both_hosts(rt, alloc);
     is_found(rt, alloc, &site, seat, &hosts);
-    site.begin_anew(rt, &mut keeper).expect(rt, "memory");
+    site.begin_anew(rt, &mut keeper).expect(rt, "an epoch");
+    may_be_due(rt, &site, seat, &hosts, (false, false, true));
+    site.wait_anew(rt);
     may_be_due(rt, &site, seat, &hosts, (true, true, false));
     drop(hosts);
 }

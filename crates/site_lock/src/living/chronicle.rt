@@ -1,31 +1,32 @@
 //! A site with a history that stands in the proofs alone.
-ghost use Rattle.std.specs.Prelude.{◌≡◌, ◌≢◌, ◌≤◌, ◌<◌, ◌==◌, ◌&&◌, length, true, [], Err, IfOk, IfErr, OnOk, OnErr, All, vec_capacity, leb};
+ghost use Rattle.std.specs.Prelude.{◌≡◌, ◌≢◌, ◌≤◌, ◌<◌, ◌==◌, ◌&&◌, length, map, true, false, [], ◌∷◌, Err, IfOk, IfErr, OnOk, OnErr, All, vec_capacity, leb};
 ghost use Rattle.pcrf_values.specs.Limits.{last_epoch};
 ghost use Rattle.pcrf_model.specs.Views.{view};
 ghost use Rattle.site_machine.specs.Cached.{AreCached};
 ghost use Rattle.site_machine.specs.Many.{AreFresh};
+ghost use Rattle.site_machine.specs.Ended.{session_named};
+ghost use Rattle.site_machine.specs.Forgotten.{has_ended};
 ghost use Rattle.site_machine.specs.Sites.{SiteMayReply};
 ghost use Rattle.site_machine.specs.Values.{event_value, reply_value, event_lacks_counter};
 ghost use Rattle.site_book.specs.Books.{new_seats, with_receipt};
-ghost use Rattle.site_book.specs.Gains.{HoldsAll};
 ghost use Rattle.site_book.specs.Settling.{EachOnce, Settles};
 ghost use Rattle.site_lock.specs.LivingCalls.{GainsBeginning};
-ghost use Rattle.site_lock.specs.Deeds.{ChronicleValue, LeadsTo, OfSeats, IsAccountOf, as_book, beginnings, calls, counted_to, epoch_of, new_chronicle, times_begun, with_call, with_beginning};
+ghost use Rattle.site_lock.specs.Deeds.{ChronicleValue, LeadsTo, OfSeats, IsAccountOf, as_book, beginnings, calls, counted_to, epoch_of, forgettable, forgot_more, forgotten_in, new_chronicle, times_begun, with_all_forgotten, with_call, with_beginning, with_forgotten};
 ghost use Rattle.site_lock.specs.Epochs.{HasBegun, IsAnswered};
+ghost use Rattle.site_lock.specs.Left.{HoldsWhatIsLeft};
 ghost use Rattle.site_lock.specs.Sound.{AreNames, AreSeatNotes};
 
-use crate::living::anew::begun_anew;
 use crate::living::dated::Dated;
 use crate::living::fault::BeginFault;
 use crate::living::keeper::Keeper;
 use crate::living::notes::{
-    Begin, Beginning, Beginnings, Call, Deeds, Enter, Receipts, Receive, Stay,
+    Begin, Beginning, Beginnings, Call, Deeds, Enter, Forget, Forgetting, Receipts, Receive, Stay,
 };
 use crate::living::roll::{Roll, Roster};
 use crate::living::seat::Seat;
 use crate::notes::{Duplicate, Original};
 use pcrf_values::limits::LAST_EPOCH;
-use site_machine::{Event, Reply, Rules, Site, StepFault};
+use site_machine::{AnySid, Event, Reply, Rules, Site, StepFault};
 use std::alloc::{AllocError, Global};
 use std::marker::{Model, PhantomData};
 use std::snapshot::Snapshot;
@@ -38,7 +39,6 @@ const FIRST_EPOCH: u16 = 1;
 /// keeper have, how many entries the history has, and how often the site began anew.
 #[derive(Drop)]
 pub struct Chronicle<L: Roll> {
-    alloc: Global,
     site: Site,
     entries: u64,
     history: Original<Deeds>,
@@ -67,11 +67,12 @@ impl<L: Roll> Chronicle<L> {
     ghost use Rattle.site_lock.specs.contracts.living.chronicle.Chronicle.{the_row};
 
     /// The site as the history has left it: the history leads from the opening to what it holds, each reply being one that a
-    /// single site may give there. It holds what is kept of the opening and of all that the entries added.
+    /// single site may give there. It holds what is kept of the opening and of all that the entries added, without what was gathered
+    /// of a session until the site forgot it; each such session had ended by then.
     pub fn site(&self) -> &Site
         ensures site { result.now ≡ self.now.site }
         ensures replays { LeadsTo L.opening self.now.history self.now.site }
-        ensures holds { HoldsAll (as_book L.seats L.opening self.now) }
+        ensures holds { HoldsWhatIsLeft L.opening self.now }
     {
         &self.site
     }
@@ -88,6 +89,7 @@ impl<L: Roll> Chronicle<L> {
         ensures chronicle { IfOk result (λ r. r.0 ≡ new_chronicle site) }
         ensures seats { IfOk result (λ r. r.1.items ≡ new_seats L.seats) }
         ensures keeper { IfOk result (λ r. r.2.beginnings ≡ []) }
+        ensures none { IfOk result (λ r. r.2.forgot ≡ []) }
         ensures first { IfOk result (λ r. r.2.first ≡ 1) }
         ensures roster { IfErr result (λ r. r.1 ≡ roster) }
         ensures site { IfErr result (λ r. r.2 ≡ site) }
@@ -111,7 +113,6 @@ impl<L: Roll> Chronicle<L> {
             of: PhantomData,
         };
         let chronicle = Chronicle {
-            alloc,
             site,
             entries: 0,
             history,
@@ -244,15 +245,13 @@ impl<L: Roll> Chronicle<L> {
         Ok(Dated { reply, begun })
     }
 
-    /// Forgets which operations the site made itself; all that it holds stays, and its next epoch begins. It is a deed of the
-    /// history, and the keeper's note gains it. In the last epoch (`EpochFull`), and where memory is refused (`NoMemory`),
-    /// nothing changes. It takes a copy of all that is held, which takes the site's place: so the site takes twice its memory for
-    /// a moment, and derives rules anew that it kept.
+    /// Forgets which operations the site made itself; all that it holds stays, with its index, the rules that are kept and those
+    /// that wait, and its next epoch begins. It is a deed of the history, and the keeper's note gains it. Only in the last epoch it
+    /// fails (`EpochFull`), and nothing changes. It takes no memory, and no time but to free the operations.
     pub fn begin_anew(&mut self, keeper: &mut Keeper<L>) -> Result<(), BeginFault>
         ensures deed { OnOk result (self.new ≡ with_beginning self.old) }
         ensures keeper { OnOk result (GainsBeginning keeper.old keeper.new) }
-        ensures full { IfErr result (λ fault. fault ≡ BeginFault.EpochFull
-            → epoch_of keeper.old ≡ last_epoch) }
+        ensures full { OnErr result (epoch_of keeper.old ≡ last_epoch) }
         ensures last { epoch_of keeper.old ≡ last_epoch → result ≡ Err BeginFault.EpochFull }
         ensures err { OnErr result (self.new ≡ self.old) }
         ensures err_keeper { OnErr result (keeper.new ≡ keeper.old) }
@@ -260,7 +259,7 @@ impl<L: Roll> Chronicle<L> {
         if keeper.epoch() == LAST_EPOCH {
             return Err(BeginFault::EpochFull);
         }
-        let site = begun_anew(self.alloc, &self.site)?;
+        self.site.begin_anew();
         let times = keeper.times + 1;
         let beginning = Beginning {
             past: Snapshot::of(&self.history),
@@ -271,8 +270,61 @@ impl<L: Roll> Chronicle<L> {
             .turn::<Beginning, Enter>(&mut self.beside, &beginning);
         keeper.times = times;
         self.times = times;
-        self.site = site;
         Ok(())
+    }
+
+    /// Forgets a session that has ended: no fact of it is held after that, and nothing else changes. It is a deed of the history, and
+    /// the keeper's note gains it. If the session has not ended, or if nothing is known of it, the answer is false and nothing changes.
+    pub fn forget(&mut self, keeper: &mut Keeper<L>, session: &AnySid) -> bool
+        ensures ended { result
+            ≡ has_ended self.old.site.state.holding (session_named session.now) }
+        ensures deed { result ≡ true → self.new
+            ≡ with_forgotten self.old (session_named session.now) }
+        ensures keeper { result ≡ true → keeper.new
+            ≡ forgot_more keeper.old (session_named session.now ∷ []) }
+        ensures same { result ≡ false → self.new ≡ self.old }
+        ensures same_keeper { result ≡ false → keeper.new ≡ keeper.old }
+    {
+        if !self.site.forget(session) {
+            return false;
+        }
+        let forgetting = Forgetting {
+            session: Snapshot::of(session),
+        };
+        self.begun
+            .turn::<Forgetting, Forget>(&mut keeper.begun, &forgetting);
+        self.history
+            .turn::<Forgetting, Enter>(&mut self.beside, &forgetting);
+        true
+    }
+
+    /// Forgets those of these sessions that have ended, one after the other as `forget` does, and answers how many these are.
+    pub fn forget_all(&mut self, keeper: &mut Keeper<L>, sessions: &[AnySid]) -> usize
+        ensures count { result ≡ length (forgettable
+            self.old.site.state.holding (map session_named sessions.now)) }
+        ensures deeds { self.new ≡ with_all_forgotten self.old (forgettable
+            self.old.site.state.holding (map session_named sessions.now)) }
+        ensures keeper { keeper.new ≡ forgot_more keeper.old (forgettable
+            self.old.site.state.holding (map session_named sessions.now)) }
+    {
+        let mut count = 0;
+        let mut left = sessions;
+        while let Some((first, rest)) = left.split_first() {
+            left = rest;
+            if !self.forget(keeper, first) {
+                continue;
+            }
+            count += 1;
+        }
+        count
+    }
+
+    /// Has all sessions wait for a push or an abort, as they do when a site starts, and empties the lists of those that wait. What is
+    /// held, shown and due stays the same.
+    pub fn wait_anew(&mut self)
+        ensures { self.new ≡ self.old }
+    {
+        self.site.wait_anew();
     }
 
     /// Changes nothing, and shows that the seat has just a receipt for each of its entries.
@@ -285,26 +337,29 @@ impl<L: Roll> Chronicle<L> {
         chair.turn::<(), Stay>(&mut seat.receipts, &());
     }
 
-    /// Changes nothing, and shows that the keeper has just the new beginnings.
+    /// Changes nothing, and shows that the keeper has just the new beginnings and the sessions that were forgotten.
     pub fn audit_keeper(&mut self, keeper: &mut Keeper<L>)
         ensures same { self.new ≡ self.old }
         ensures keeper { keeper.new ≡ keeper.old }
         ensures accounts { keeper.old.beginnings ≡ beginnings self.old.history }
+        ensures forgot { keeper.old.forgot ≡ forgotten_in self.old.history }
     {
         self.begun.turn::<(), Stay>(&mut keeper.begun, &());
     }
 
     /// Takes the seats and the keeper back, and shows that the history replays, that each seat has just a receipt for each of
-    /// its entries, in order, and that the keeper has just the new beginnings. It compares nothing.
+    /// its entries, in order, and that the keeper has just the new beginnings and the sessions that were forgotten. It compares
+    /// nothing.
     pub fn settle(self, seats: Vec<Seat<L>>, keeper: Keeper<L>) -> Chronicle<L>
         ensures same { result ≡ self }
         ensures accounts { All (IsAccountOf L.seats self.history) seats.items }
         ensures keeper { keeper.beginnings ≡ beginnings self.history }
+        ensures forgot { keeper.forgot ≡ forgotten_in self.history }
         ensures seated { OfSeats L.seats (calls self.history) }
         ensures settles { length seats.items ≡ L.seats → EachOnce L.seats seats.items
             → Settles (as_book L.seats L.opening self) seats.items }
         ensures replays { LeadsTo L.opening self.history self.site }
-        ensures holds { HoldsAll (as_book L.seats L.opening self) }
+        ensures holds { HoldsWhatIsLeft L.opening self }
     {
         let mut chronicle = self;
         for seat in seats {

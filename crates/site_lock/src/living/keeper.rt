@@ -1,4 +1,4 @@
-//! Who may have the site begin anew.
+//! Who may have the site begin anew, and forget sessions.
 ghost use Rattle.std.specs.Prelude.{◌≡◌, ◌≤◌, []};
 ghost use Rattle.site_lock.specs.Deeds.{epoch_of};
 
@@ -7,8 +7,8 @@ use crate::living::roll::Roll;
 use crate::notes::Duplicate;
 use std::marker::{Model, PhantomData};
 
-/// Who may have the site begin anew: its copy of the note that has each new beginning, and in which epoch the site is. A site has
-/// one keeper, and no seat can do what it does.
+/// Who may have the site begin anew, and forget sessions that have ended: its copy of the note that has each new beginning and each
+/// session that was forgotten, and in which epoch the site is. A site has one keeper, and no seat can do what it does.
 #[derive(Drop)]
 pub struct Keeper<L: Roll> {
     pub(crate) begun: Duplicate<Beginnings>,
@@ -24,9 +24,13 @@ impl<L: Roll> Model for Keeper<L> {
 
     ghost Value = { KeeperValue };
 
-    ghost view = { λ k. record { first = k.first; beginnings = k.begun.note } };
+    ghost view = { λ k. record {
+      first = k.first;
+      beginnings = k.begun.note.beginnings;
+      forgot = k.begun.note.forgot;
+    } };
 
-    ghost invariant = { λ k. (k.begun.name ≡ L.keeper) × (k.times ≡ length k.begun.note)
+    ghost invariant = { λ k. (k.begun.name ≡ L.keeper) × (k.times ≡ length k.begun.note.beginnings)
         × (1 ≤ k.first) × (k.first + k.times ≤ last_epoch) };
 }
 
@@ -36,7 +40,7 @@ impl<L: Roll> Keeper<L> {
     pub fn starting_in(self, epoch: u16) -> Keeper<L>
         requires new { self.beginnings ≡ [] }
         requires counts { 1 ≤ epoch }
-        ensures { result ≡ record { first = epoch; beginnings = [] } }
+        ensures { result ≡ record { first = epoch; beginnings = []; forgot = self.forgot } }
     {
         Keeper {
             begun: self.begun,

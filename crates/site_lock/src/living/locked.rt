@@ -1,14 +1,15 @@
 //! A site under one lock, whose history stands in the proofs alone.
-ghost use Rattle.std.specs.Prelude.{◌≡◌, ◌≢◌, ℕ, List, true, false, [], length, All, Err, IfOk, IfErr, OnOk, OnErr};
+ghost use Rattle.std.specs.Prelude.{◌≡◌, ◌≢◌, ℕ, List, ◌≤◌, true, false, [], length, map, All, Err, IfOk, IfErr, OnOk, OnErr};
 ghost use Rattle.pcrf_values.specs.Limits.{last_epoch};
+ghost use Rattle.site_machine.specs.Ended.{session_named};
 ghost use Rattle.site_machine.specs.Values.{event_value, reply_value};
 ghost use Rattle.site_book.specs.Books.{new_seats};
-ghost use Rattle.site_book.specs.Gains.{HoldsAll};
 ghost use Rattle.site_book.specs.Settling.{EachOnce, Settles};
 ghost use Rattle.site_lock.specs.Calls.{FindsNoneAbandoned, FindsNothingDue, GainsReceipt, TellsPast};
 ghost use Rattle.site_lock.specs.Locked.{beside};
-ghost use Rattle.site_lock.specs.LivingCalls.{GainsBeginning, HoldsWhereLed, IsAccount, IsFound};
-ghost use Rattle.site_lock.specs.Deeds.{IsAccountOf, LeadsTo, OfSeats, as_book, beginnings, calls, epoch_of};
+ghost use Rattle.site_lock.specs.Left.{HoldsWhatIsLeft};
+ghost use Rattle.site_lock.specs.LivingCalls.{GainsBeginning, GainsForgotten, HoldsWhereLed, IsAccount, IsFound};
+ghost use Rattle.site_lock.specs.Deeds.{IsAccountOf, LeadsTo, OfSeats, as_book, beginnings, calls, epoch_of, forgotten_in};
 ghost use Rattle.site_lock.specs.Epochs.{HasBegun, IfBegun, IfTold, IsAnswered};
 ghost use Rattle.site_lock.specs.Sound.{AreNames};
 
@@ -24,7 +25,7 @@ use crate::living::seat::Seat;
 use crate::notes::Original;
 use dia_base::Identity;
 use pcrf_values::{DiameterIdentity, HashSeed};
-use site_machine::{Event, Reply, Site, StepFault};
+use site_machine::{AnySid, Event, Reply, Site, StepFault};
 use std::alloc::{AllocError, Global};
 use std::marker::Model;
 use std::snapshot::Snapshot;
@@ -83,6 +84,7 @@ impl<L: Roll> LivingSite<L> {
         ensures beside { IfOk result (λ r. r.0 ≡ beside site) }
         ensures seats { IfOk result (λ r. r.1.items ≡ new_seats L.seats) }
         ensures keeper { IfOk result (λ r. r.2.beginnings ≡ []) }
+        ensures none { IfOk result (λ r. r.2.forgot ≡ []) }
         ensures first { IfOk result (λ r. r.2.first ≡ 1) }
         ensures roster { IfErr result (λ r. r.1 ≡ roster) }
         ensures site { IfErr result (λ r. r.2 ≡ site) }
@@ -307,19 +309,34 @@ impl<L: Roll> LivingSite<L> {
     }
 
     /// Has the site begin anew, once the lock is free: it forgets which operations it made itself, all that it holds stays, and its
-    /// next epoch begins. The keeper's note gains it. In the last epoch (`EpochFull`), and where memory is refused (`NoMemory`),
-    /// nothing changes. `Chronicle::begin_anew` says what it costs. Whoever waits for the site to grow is woken: in
-    /// `call_grown_since` for being told so, in `call_grown` for waiting on, for as many operations as before.
+    /// next epoch begins. The keeper's note gains it. Only in the last epoch it fails (`EpochFull`), and nothing changes. It takes no
+    /// memory. Whoever waits for the site to grow is woken: in `call_grown_since` for being told so, in `call_grown` for waiting on,
+    /// for as many operations as before.
     pub fn begin_anew<R: Wait>(&self, rt: &R, keeper: &mut Keeper<L>) -> Result<(), BeginFault>
         ensures keeper { OnOk result (GainsBeginning keeper.old keeper.new) }
-        ensures full { IfErr result (λ fault. fault ≡ BeginFault.EpochFull
-            → epoch_of keeper.old ≡ last_epoch) }
+        ensures full { OnErr result (epoch_of keeper.old ≡ last_epoch) }
         ensures last { epoch_of keeper.old ≡ last_epoch → result ≡ Err BeginFault.EpochFull }
         ensures err { OnErr result (keeper.new ≡ keeper.old) }
     {
         let begun = self.chronicle.lock(rt).begin_anew(keeper);
         self.grown.notify_all();
         begun
+    }
+
+    /// Forgets those of these sessions that have ended, once the lock is free, and answers how many these are. No fact of them is held
+    /// after that, and nothing of any other session changes. The keeper's note gains them, and no others. It takes no memory and wakes
+    /// nobody. Everybody else waits meanwhile, so a call takes at most 100 sessions.
+    pub fn forget<R: Wait>(&self, rt: &R, keeper: &mut Keeper<L>, sessions: &[AnySid]) -> usize
+        requires few { length sessions.now ≤ 100 }
+        ensures { GainsForgotten keeper.old (map session_named sessions.now) result keeper.new }
+    {
+        self.chronicle.lock(rt).forget_all(keeper, sessions)
+    }
+
+    /// Has all sessions wait for a push or an abort, once the lock is free, as they do when a site starts, and empties the lists of those
+    /// that wait. The next push to a host, and the next abort, looks at all sessions once.
+    pub fn wait_anew<R: Wait>(&self, rt: &R) {
+        self.chronicle.lock(rt).wait_anew();
     }
 
     /// Shows, at any time, that the seat has just a receipt for each of its entries in a history that replays: that history is
@@ -335,15 +352,17 @@ impl<L: Roll> LivingSite<L> {
     }
 
     /// Takes the seats and the keeper back, and shows that the history replays, that each seat has just a receipt for each of
-    /// its entries, in order, and that the keeper has just the new beginnings. It compares nothing, and waits for nobody.
+    /// its entries, in order, and that the keeper has just the new beginnings and the sessions that were forgotten. It compares
+    /// nothing, and waits for nobody.
     pub fn settle(self, seats: Vec<Seat<L>>, keeper: Keeper<L>) -> Chronicle<L>
         ensures accounts { All (IsAccountOf L.seats result.history) seats.items }
         ensures keeper { keeper.beginnings ≡ beginnings result.history }
+        ensures forgot { keeper.forgot ≡ forgotten_in result.history }
         ensures seated { OfSeats L.seats (calls result.history) }
         ensures settles { length seats.items ≡ L.seats → EachOnce L.seats seats.items
             → Settles (as_book L.seats L.opening result) seats.items }
         ensures replays { LeadsTo L.opening result.history result.site }
-        ensures holds { HoldsAll (as_book L.seats L.opening result) }
+        ensures holds { HoldsWhatIsLeft L.opening result }
     {
         let LivingSite { chronicle, .. } = self;
         chronicle.into_inner().settle(seats, keeper)

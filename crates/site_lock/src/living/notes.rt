@@ -1,11 +1,11 @@
 //! What is noted of calls and new beginnings: clauses alone read it, and nothing of it is there when the program runs. A type
 //! whose clauses see a list stands for what a note of it says; no value of it is made but the empty one.
 use crate::notes::{Original, Turn};
-use site_machine::{Event, Reply};
+use site_machine::{AnySid, Event, Reply};
 use std::marker::Model;
 use std::snapshot::Snapshot;
 
-/// The deeds of a history, in order: calls of seats, and new beginnings.
+/// The deeds of a history, in order: calls of seats, new beginnings, and sessions that were forgotten.
 #[derive(Drop)]
 pub struct Deeds {}
 
@@ -31,16 +31,17 @@ impl Model for Receipts {
     ghost view = { λ r. [] };
 }
 
-/// The new beginnings of a history: of each how many calls came before it.
+/// What the keeper had the site do: of each new beginning how many calls came before it, and the sessions that were forgotten, in order.
 #[derive(Drop)]
 pub struct Beginnings {}
 
 impl Model for Beginnings {
-    ghost use Rattle.std.specs.Prelude.{ℕ, List, []};
+    ghost use Rattle.std.specs.Prelude.{[]};
+    ghost use Rattle.site_lock.specs.Deeds.{KeptValue};
 
-    ghost Value = { List ℕ };
+    ghost Value = { KeptValue };
 
-    ghost view = { λ b. [] };
+    ghost view = { λ b. record { beginnings = []; forgot = [] } };
 }
 
 /// A call that was made: the history before it, who called, what happened and what was replied.
@@ -56,6 +57,12 @@ pub struct Call {
 #[derive(Drop)]
 pub struct Beginning {
     pub past: Snapshot<Original<Deeds>>,
+}
+
+/// A session that was forgotten.
+#[derive(Drop)]
+pub struct Forgetting {
+    pub session: Snapshot<AnySid>,
 }
 
 /// The history gains a deed.
@@ -76,6 +83,14 @@ impl Turn<Deeds, Beginning> for Enter {
     ghost use Rattle.site_lock.specs.Deeds.{BegunAnew};
 
     ghost next = { λ history beginning. history ++ BegunAnew ∷ [] };
+}
+
+impl Turn<Deeds, Forgetting> for Enter {
+    ghost use Rattle.std.specs.Prelude.{[], ◌∷◌, ◌++◌};
+    ghost use Rattle.site_machine.specs.Ended.{session_named};
+    ghost use Rattle.site_lock.specs.Deeds.{Forgot};
+
+    ghost next = { λ history forgetting. history ++ Forgot (session_named forgetting.session.value) ∷ [] };
 }
 
 /// The seat gains a receipt.
@@ -99,7 +114,21 @@ impl Turn<Beginnings, Beginning> for Begin {
     ghost use Rattle.std.specs.Prelude.{[], ◌∷◌, ◌++◌, length};
     ghost use Rattle.site_lock.specs.Deeds.{calls};
 
-    ghost next = { λ list beginning. list ++ length (calls beginning.past.value.note) ∷ [] };
+    ghost next = { λ kept beginning. record kept {
+      beginnings = kept.beginnings ++ length (calls beginning.past.value.note) ∷ [];
+    } };
+}
+
+/// And a session that was forgotten.
+pub struct Forget;
+
+impl Turn<Beginnings, Forgetting> for Forget {
+    ghost use Rattle.std.specs.Prelude.{[], ◌∷◌, ◌++◌};
+    ghost use Rattle.site_machine.specs.Ended.{session_named};
+
+    ghost next = { λ kept forgetting. record kept {
+      forgot = kept.forgot ++ session_named forgetting.session.value ∷ [];
+    } };
 }
 
 /// Nothing changes.

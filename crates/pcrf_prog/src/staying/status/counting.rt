@@ -7,16 +7,12 @@ use crate::staying::working::Shared;
 use log::Log;
 use pcrf_values::{AfSid, GxSid};
 use site_looks::{
-    CallCounts, CallPiece, GatewayCounts, GatewayPiece, KnownSessions, NOTES_BYTES, PIECE,
+    CallCounts, CallPiece, GatewayCounts, GatewayPiece, KnownSessions, NotesRoom, PIECE,
 };
 use std::alloc::{AllocError, Global};
-use std::mem::replace;
 use std::thread;
 use std::time::{Duration, Instant};
 use watched_links::KINDS;
-
-/// How many nanoseconds a second has.
-const NANOS: u64 = 1_000_000_000;
 
 /// How many milliseconds lie between two looks at what there is to do.
 const LOOK_MILLIS: u64 = 250;
@@ -32,19 +28,12 @@ fn read_notes<'s, 'r, S: Looked, M: Machine, G: Log>(
     rt: &'s M,
     all: &'s Shared<'s, 'r, S, M, G>,
     known: &mut KnownSessions,
-    room: &mut Vec<u8>,
+    room: &mut NotesRoom,
 ) -> Result<(), AllocError> {
-    let alloc = all.furniture.alloc;
-    let Some(notes) = &all.furniture.figures.meters.sessions else {
-        return Ok(());
-    };
-    room.clear();
-    if room.capacity() != NOTES_BYTES {
-        *room = Vec::with_capacity(alloc, NOTES_BYTES)?;
+    match &all.furniture.figures.meters.sessions {
+        Some(notes) => known.read(room.take(rt, notes)?),
+        None => Ok(()),
     }
-    let empty = replace(room, Vec::new(alloc));
-    *room = notes.take(rt, empty);
-    known.read(room.as_slice())
 }
 
 /// Counts some sessions of gateways.
@@ -124,7 +113,7 @@ fn pass<'s, 'r, S: Looked, M: Machine, G: Log>(
     rt: &'s M,
     all: &'s Shared<'s, 'r, S, M, G>,
     known: &mut KnownSessions,
-    room: &mut Vec<u8>,
+    room: &mut NotesRoom,
 ) -> Result<(), AllocError> {
     read_notes(rt, all, known, room)?;
     let figures = &all.furniture.figures;
@@ -157,7 +146,7 @@ fn messages_of(figures: &Figures) -> u64 {
 
 /// Notes what is seen, if it is time to.
 fn sample<M: Machine>(rt: &M, figures: &Figures) {
-    let at = figures.uptime(rt) / NANOS;
+    let at = figures.seconds(rt);
     if figures.history.is_due(rt, at) {
         let sample = Sample {
             at,
@@ -201,7 +190,7 @@ pub fn count_sessions<'s, 'r, S: Looked, M: Machine, G: Log>(
 ) {
     let alloc: Global = all.furniture.alloc;
     let mut known = KnownSessions::start(alloc);
-    let mut room = Vec::new(alloc);
+    let mut room = NotesRoom::start(alloc);
     for _ in rt.forever() {
         let begun = Instant::now(rt).ok();
         let _ = pass(rt, all, &mut known, &mut room);

@@ -193,6 +193,30 @@ pub const UNCOUNTED: Family<'static> = Family {
     kind: Kind::Counter,
 };
 
+pub const ENDED_KEPT: Family<'static> = Family {
+    name: "pcrf_sessions_ended_kept",
+    help: "Sessions that ended at this site and are yet to be forgotten.",
+    kind: Kind::Gauge,
+};
+
+pub const ENDED_AGE: Family<'static> = Family {
+    name: "pcrf_sessions_ended_age_seconds",
+    help: "Seconds since the oldest of them ended.",
+    kind: Kind::Gauge,
+};
+
+pub const FORGOTTEN: Family<'static> = Family {
+    name: "pcrf_sessions_forgotten_total",
+    help: "Sessions that ended and that the site forgot.",
+    kind: Kind::Counter,
+};
+
+pub const UNNOTED_ENDS: Family<'static> = Family {
+    name: "pcrf_sessions_ended_unnoted_total",
+    help: "Sessions that ended and could not be noted, so that they are kept for good.",
+    kind: Kind::Counter,
+};
+
 pub const OPERATIONS_TAKEN: Family<'static> = Family {
     name: "pcrf_operations_taken_total",
     help: "Operations of letters that were taken, by the site that made them.",

@@ -9,6 +9,9 @@ use std::alloc::{AllocError, Global};
 use std::time::{Clock, Instant};
 use watched_links::{Cause, MessageCounts};
 
+/// How many nanoseconds a second has.
+const NANOS: u64 = 1_000_000_000;
+
 /// How many numbers sites have.
 const SITES: usize = 16;
 
@@ -54,6 +57,12 @@ pub struct SessionFigures {
     pub calls_live: Gauge,
     pub calls_ended: Gauge,
     pub calls_bound: Gauge,
+    /// Sessions that ended and are yet to be forgotten, and the second of the server's run in which the oldest of them was noted, or in
+    /// which that was looked at last, where there is none.
+    pub ended_kept: Gauge,
+    pub ended_since: Gauge,
+    /// Sessions that were forgotten.
+    pub forgotten: Counter,
 }
 
 /// What is counted of the letters to a peer site.
@@ -146,6 +155,9 @@ impl SessionFigures {
             calls_live: Gauge::start(),
             calls_ended: Gauge::start(),
             calls_bound: Gauge::start(),
+            ended_kept: Gauge::start(),
+            ended_since: Gauge::start(),
+            forgotten: Counter::start(),
         }
     }
 }
@@ -184,11 +196,13 @@ impl Figures {
         is_asked: bool,
     ) -> Result<Figures, AllocError> {
         let site = SiteFigures::start(alloc)?;
+        // who has peers may not forget what they may hold as live
+        let is_alone = peers == 0;
         let peers = peer_figures(alloc, peers)?;
         let senders = sender_figures(alloc)?;
         let asks = CodeCounts::start(alloc)?;
         let messages = MessageCounts::start(alloc)?;
-        let meters = Meters::start(alloc, is_asked)?;
+        let meters = Meters::start(alloc, is_asked, is_alone)?;
         let history = History::start(alloc)?;
         Ok(Figures {
             since: Instant::now(clock).ok(),
@@ -230,5 +244,10 @@ impl Figures {
             Ok(elapsed) => u64::try_from(elapsed.as_nanos()).unwrap_or(u64::MAX),
             Err(_) => 0,
         }
+    }
+
+    /// For how many whole seconds it runs; 0 where the machine told no time.
+    pub fn seconds<C: Clock>(&self, clock: &C) -> u64 {
+        self.uptime(clock) / NANOS
     }
 }

@@ -1,6 +1,7 @@
 //! What is known of how many sessions there are, and of the operations that brought them, as text.
 use crate::staying::status::families::{
-    CALLS_BOUND, COUNT_AGE, OPERATIONS_TAKEN, SESSIONS, UNCOUNTED, WHOLES_TAKEN,
+    CALLS_BOUND, COUNT_AGE, ENDED_AGE, ENDED_KEPT, FORGOTTEN, OPERATIONS_TAKEN, SESSIONS,
+    UNCOUNTED, UNNOTED_ENDS, WHOLES_TAKEN,
 };
 use crate::staying::status::figures::Figures;
 use crate::staying::status::telling::{put, put_labelled};
@@ -48,6 +49,23 @@ pub fn put_sessions(
     put_state(out, "Rx", "ended", sessions.calls_ended.get())?;
     put(out, &CALLS_BOUND, sessions.calls_bound.get())?;
     out.figure(&COUNT_AGE, Number::Nanos(uptime.saturating_sub(since)))
+}
+
+/// Writes how many sessions that ended are kept and were forgotten, where the site forgets any, beside for how many seconds the server runs.
+pub fn put_forgotten(
+    out: &mut Exposition,
+    figures: &Figures,
+    seconds: u64,
+) -> Result<(), AllocError> {
+    let Some(ended) = &figures.meters.ended else {
+        return Ok(());
+    };
+    let sessions = &figures.sessions;
+    put(out, &ENDED_KEPT, sessions.ended_kept.get())?;
+    let since = sessions.ended_since.get();
+    put(out, &ENDED_AGE, seconds.saturating_sub(since))?;
+    put(out, &FORGOTTEN, sessions.forgotten.get())?;
+    put(out, &UNNOTED_ENDS, ended.lost())
 }
 
 /// Writes how many operations of letters were taken, by the site that made them; nothing of sites of which none was.

@@ -8,7 +8,7 @@ use crate::staying::status::families::{
 };
 use crate::staying::status::figures::{Figures, PeerFigures};
 use crate::staying::status::letters::put_traffic;
-use crate::staying::status::sessions::{put_sessions, put_taken};
+use crate::staying::status::sessions::{put_forgotten, put_sessions, put_taken};
 use crate::staying::working::Shared;
 use log::Log;
 use pcrf_serve::SharedSite;
@@ -395,6 +395,7 @@ pub fn figures_of<'s, 'r, S: SharedSite, M: Machine, G: Log>(
     put_letters(&mut out, alloc, figures, all.exchange.peers.as_slice())?;
     put_traffic(&mut out, figures)?;
     put_sessions(&mut out, figures, figures.uptime(rt))?;
+    put_forgotten(&mut out, figures, figures.seconds(rt))?;
     put_taken(&mut out, alloc, figures)?;
     put_codes(&mut out, alloc, &ASKS, &figures.asks)?;
     Ok(out)

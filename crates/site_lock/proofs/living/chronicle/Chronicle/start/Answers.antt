@@ -1,5 +1,6 @@
 use Rattle.std.proofs.Common.{rules, arith, ◌≡◌, length, sym, ap, ◌∙◌}
 use Rattle.pcrf_model.specs.Holdings.{kept_of}
+use Rattle.site_lock.specs.Deeds.{KeptValue}
 use Rattle.site_lock.specs.Sound.{AreNames}
 use Rattle.site_lock.proofs.Opening.{counted, named_notes, opened, names_of}
 use Rattle.site_lock.proofs.living.chronicle.Chronicle.start.Goals as goal
@@ -30,4 +31,4 @@ invariant_of-keeper g c =
     let r = c.roster.inside in
     let is : r.begun.name ≡ g.L.Roll.keeper = search rules in
     let blank = c.roster.invariant.1 in
-    (blank.0 ∙ is, sym (ap length blank.2), omega arith, omega arith)
+    (blank.0 ∙ is, sym (ap (λ (k : KeptValue). length k.beginnings) blank.2), omega arith, omega arith)
